@@ -21,7 +21,7 @@ use Rattle.jc_cache.specs.OutstandingAll.{reserved_keys, with_answers}
 use Rattle.jc_bulk.specs.declared.round.Progress.{Progress}
 use Rattle.jc_bulk.specs.declared.round.Progress.TheVariants as progress
 use Rattle.jc_bulk.specs.KeyProgress.{AreUnasked, StayEnded}
-use Rattle.jc_bulk.specs.Turns.{Turn, turn_keys, turn_progress, open_keys, key_if_open}
+use Rattle.jc_bulk.specs.Turns.{Turn, turn_keys, turn_progress, keys_still_open, key_if_open}
 use Rattle.jc_bulk.proofs.Turns.{not_open, waits_closed}
 use Rattle.jc_bulk.proofs.Places.{all_apart, apart_all}
 
@@ -43,17 +43,17 @@ away_more asked k (t ∷ turns) apart all = (by t.progress all.0, away_more aske
     by (progress.Ended x) h = ap (λ b. b || is_among asked t.key) (nat_list_eq_equiv.symm t.key k ∙ apart.0) ∙ h
 
 -- a key that is over isn't among those that are reserved
-pub away_all : (turns : List Turn) → IsDistinct (pointwise ◌==◌) (turn_keys turns) → AllByRecursion (λ (t : Turn). IsAwayIfEnded (open_keys turns) t.key t.progress) turns
+pub away_all : (turns : List Turn) → IsDistinct (pointwise ◌==◌) (turn_keys turns) → AllByRecursion (λ (t : Turn). IsAwayIfEnded (keys_still_open turns) t.key t.progress) turns
 away_all [] d = tt
 away_all (t ∷ turns) d = by t.progress (away_all turns (IsDistinct-tail (pointwise ◌==◌) t.key (turn_keys turns) d))
   where
     apart : AllByRecursion (λ y. pointwise ◌==◌ t.key y ≡ false) (turn_keys turns)
     apart = IsDistinct-head (pointwise ◌==◌) t.key (turn_keys turns) d
 
-    by : (p : Progress) → AllByRecursion (λ (u : Turn). IsAwayIfEnded (open_keys turns) u.key u.progress) turns
-        → IsAwayIfEnded (cons_option (key_if_open t.key p) (open_keys turns)) t.key p × AllByRecursion (λ (u : Turn). IsAwayIfEnded (cons_option (key_if_open t.key p) (open_keys turns)) u.key u.progress) turns
+    by : (p : Progress) → AllByRecursion (λ (u : Turn). IsAwayIfEnded (keys_still_open turns) u.key u.progress) turns
+        → IsAwayIfEnded (cons_option (key_if_open t.key p) (keys_still_open turns)) t.key p × AllByRecursion (λ (u : Turn). IsAwayIfEnded (cons_option (key_if_open t.key p) (keys_still_open turns)) u.key u.progress) turns
     by progress.Waiting rest = (tt, rest)
-    by progress.Reserved rest = (tt, away_more (open_keys turns) t.key turns apart rest)
+    by progress.Reserved rest = (tt, away_more (keys_still_open turns) t.key turns apart rest)
     by (progress.Ended x) rest = (not_open turns t.key (apart_all t.key (turn_keys turns) apart), rest)
 
 -- 2. Keys among others.
@@ -106,35 +106,35 @@ distinct_both (x ∷ xs) ys dx dy new =
     IsDistinct-cons (pointwise ◌==◌) x (xs ++ ys) (all_both (λ y. pointwise ◌==◌ x y ≡ false) xs ys (IsDistinct-head (pointwise ◌==◌) x xs dx) parts.0)
     (distinct_both xs ys (IsDistinct-tail (pointwise ◌==◌) x xs dx) dy parts.1)
 
-pub open_among : (turns : List Turn) → list_all (is_among (turn_keys turns)) (open_keys turns) ≡ true
+pub open_among : (turns : List Turn) → list_all (is_among (turn_keys turns)) (keys_still_open turns) ≡ true
 open_among [] = refl
 open_among (t ∷ turns) = by t.progress (open_among turns)
   where
-    by : (p : Progress) → list_all (is_among (turn_keys turns)) (open_keys turns) ≡ true
-        → list_all (is_among (t.key ∷ turn_keys turns)) (cons_option (key_if_open t.key p) (open_keys turns)) ≡ true
-    by progress.Waiting rest = among_later t.key (turn_keys turns) (open_keys turns) rest
-    by progress.Reserved rest = among_first t.key (turn_keys turns) (open_keys turns) rest
-    by (progress.Ended x) rest = among_later t.key (turn_keys turns) (open_keys turns) rest
+    by : (p : Progress) → list_all (is_among (turn_keys turns)) (keys_still_open turns) ≡ true
+        → list_all (is_among (t.key ∷ turn_keys turns)) (cons_option (key_if_open t.key p) (keys_still_open turns)) ≡ true
+    by progress.Waiting rest = among_later t.key (turn_keys turns) (keys_still_open turns) rest
+    by progress.Reserved rest = among_first t.key (turn_keys turns) (keys_still_open turns) rest
+    by (progress.Ended x) rest = among_later t.key (turn_keys turns) (keys_still_open turns) rest
 
-pub open_distinct : (turns : List Turn) → IsDistinct (pointwise ◌==◌) (turn_keys turns) → IsDistinct (pointwise ◌==◌) (open_keys turns)
+pub open_distinct : (turns : List Turn) → IsDistinct (pointwise ◌==◌) (turn_keys turns) → IsDistinct (pointwise ◌==◌) (keys_still_open turns)
 open_distinct [] d = d
 open_distinct (t ∷ turns) d = by t.progress (open_distinct turns (IsDistinct-tail (pointwise ◌==◌) t.key (turn_keys turns) d))
   where
-    away : is_among (open_keys turns) t.key ≡ false
+    away : is_among (keys_still_open turns) t.key ≡ false
     away = not_open turns t.key (apart_all t.key (turn_keys turns) (IsDistinct-head (pointwise ◌==◌) t.key (turn_keys turns) d))
 
-    by : (p : Progress) → IsDistinct (pointwise ◌==◌) (open_keys turns) → IsDistinct (pointwise ◌==◌) (cons_option (key_if_open t.key p) (open_keys turns))
+    by : (p : Progress) → IsDistinct (pointwise ◌==◌) (keys_still_open turns) → IsDistinct (pointwise ◌==◌) (cons_option (key_if_open t.key p) (keys_still_open turns))
     by progress.Waiting rest = rest
-    by progress.Reserved rest = IsDistinct-cons (pointwise ◌==◌) t.key (open_keys turns) (all_apart t.key (open_keys turns) away) rest
+    by progress.Reserved rest = IsDistinct-cons (pointwise ◌==◌) t.key (keys_still_open turns) (all_apart t.key (keys_still_open turns) away) rest
     by (progress.Ended x) rest = rest
 
 -- a key that waits is none that was asked for in an earlier round, and none that is reserved
 pub unasked_after : (asked keys : List Bytes) (turns : List Turn) (ps later : List Progress) → IsDistinct (pointwise ◌==◌) keys → turn_keys turns ≡ keys → turn_progress turns ≡ ps → StayEnded ps later → AreUnasked keys ps asked
-    → AreUnasked keys later (asked ++ open_keys turns)
+    → AreUnasked keys later (asked ++ keys_still_open turns)
 unasked_after asked keys turns ps later d keys_are progress_are stay was place key at waits =
     let waited = stay.waited place waits in
     let closed = waits_closed turns place key (subst (IsDistinct (pointwise ◌==◌)) (sym keys_are) d) (ap (λ ks. slice_get ks place) keys_are ∙ at) (ap (λ qs. slice_get qs place) progress_are ∙ waited) in
-    list_any-append (pointwise ◌==◌ key) asked (open_keys turns) ∙ ap (λ b. b || is_among (open_keys turns) key) (was place key at waited) ∙ closed
+    list_any-append (pointwise ◌==◌ key) asked (keys_still_open turns) ∙ ap (λ b. b || is_among (keys_still_open turns) key) (was place key at waited) ∙ closed
 
 pub as_many_answers : {A : Type 0} (said : Bytes → A) (calls : List ReservedState) (loaded : List (AnsweredState A)) → loaded ≡ with_answers said calls → length loaded ≡ length calls
 as_many_answers said calls loaded is = ap length is ∙ length-map calls _

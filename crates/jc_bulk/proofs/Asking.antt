@@ -25,7 +25,7 @@ use Rattle.jc_cache.specs.OutstandingAll.{is_change_of}
 use Rattle.jc_bulk.specs.declared.targets.Targets.{Targets}
 use Rattle.jc_bulk.specs.declared.targets.Targets.TheVariants as targets
 use Rattle.jc_bulk.specs.RoundCalls.{CallKind, Load, Write, AsksAs, AsksFirst, MayAsk, kind_for, ops_of}
-use Rattle.jc_bulk.specs.Starting.{AsksFor, change_wanted}
+use Rattle.jc_bulk.specs.Starting.{AsksFor, op_change}
 use Rattle.jc_bulk.proofs.SoFar.{same_target}
 
 -- 1. A `Get`.
@@ -60,20 +60,20 @@ asks_no test false c first w n is = ap test is ∙ n
 
 -- 3. All of them.
 
-load_asked : (config : Config) (op : Op) (entry : Option Bytes) (kind : CallKind) → AsksAs kind op → first_asked config op entry ≡ Loader → (kind ≡ Load) × (change_asked Loader ≡ change_wanted op)
-load_asked config op entry Load is asked = (refl, ap change_wanted (sym is))
+load_asked : (config : Config) (op : Op) (entry : Option Bytes) (kind : CallKind) → AsksAs kind op → first_asked config op entry ≡ Loader → (kind ≡ Load) × (change_asked Loader ≡ op_change op)
+load_asked config op entry Load is asked = (refl, ap op_change (sym is))
 load_asked config op entry (Write deletes) (inl w) asked = absurd (true≢false (asks_no asks_loader config.write_through (change.Write w.1.0) Loader refl refl (put_first config op w.1.0 entry Loader w.1.1 asked)))
 load_asked config op entry (Write deletes) (inr w) asked = absurd (true≢false (asks_no asks_loader config.write_through change.Delete Loader refl refl (remove_first config op entry Loader w.1 asked)))
 
 write_asked : (config : Config) (op : Op) (entry : Option Bytes) (first : First) (kind : CallKind) → AsksAs kind op → first_asked config op entry ≡ first → asks_writer first ≡ true
-    → AsksFirst kind first × (change_asked first ≡ change_wanted op) × MayAsk kind config
+    → AsksFirst kind first × (change_asked first ≡ op_change op) × MayAsk kind config
 write_asked config op entry first Load is asked asks = absurd (true≢false (sym asks ∙ get_asks asks_writer config op entry first refl refl is asked))
 write_asked config op entry first (Write deletes) (inl w) asked asks =
     let written = writes_for config.write_through (change.Write w.1.0) first (put_first config op w.1.0 entry first w.1.1 asked) asks in
-    (ap (λ f. is_change_of deletes (change_asked f)) written.0 ∙ ap not w.0, ap change_asked written.0 ∙ ap change_wanted (sym w.1.1), written.1)
+    (ap (λ f. is_change_of deletes (change_asked f)) written.0 ∙ ap not w.0, ap change_asked written.0 ∙ ap op_change (sym w.1.1), written.1)
 write_asked config op entry first (Write deletes) (inr w) asked asks =
     let written = writes_for config.write_through change.Delete first (remove_first config op entry first w.1 asked) asks in
-    (ap (λ f. is_change_of deletes (change_asked f)) written.0 ∙ w.0, ap change_asked written.0 ∙ ap change_wanted (sym w.1), written.1)
+    (ap (λ f. is_change_of deletes (change_asked f)) written.0 ∙ w.0, ap change_asked written.0 ∙ ap op_change (sym w.1), written.1)
 
 pub no_processor : (config : Config) (op : Op) (entry : Option Bytes) (first : First) (kind : CallKind) → AsksAs kind op → first_asked config op entry ≡ first → asks_processor first ≡ true → ⊥
 no_processor config op entry first Load is asked asks = true≢false (sym asks ∙ get_asks asks_processor config op entry first refl refl is asked)

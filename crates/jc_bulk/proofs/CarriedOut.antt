@@ -46,7 +46,7 @@ use Rattle.jc_bulk.specs.declared.round.Progress.TheVariants.{Waiting, Reserved,
 use Rattle.jc_bulk.specs.InRounds.{IsInRounds, RunsRounds}
 use Rattle.jc_bulk.specs.KeyProgress.{StillWaits, all_waiting, failures}
 use Rattle.jc_bulk.specs.RoundCalls.{CallKind, Round, said_in}
-use Rattle.jc_bulk.specs.SoFar.{IsTarget, HasEndedAt, AreTurns}
+use Rattle.jc_bulk.specs.SoFar.{IsTarget, HasEndedAt, HaveEnded}
 use Rattle.jc_bulk.specs.Turns.{Turn, AreCounted, ComesAfterAll, turn_keys, turn_progress, own_after_ends}
 use Rattle.jc_bulk.specs.Laws.{StaysUnderway}
 use Rattle.jc_bulk.specs.Phased.{LeavesCalls}
@@ -133,7 +133,7 @@ end_at state caller n rounds key op (Err refusal) h = h
 
 -- `targets` are the last ones of `all`
 each_end : (cache : CacheState) (caller : Caller) (all : List (Bytes × Op)) (rounds : List Round) (targets : List (Bytes × Op)) (turns : List Turn) → ((key : Bytes) (op : Op) → IsTarget targets key op → IsTarget all key op)
-    → turn_keys turns ≡ keys_of targets → AreTurns cache caller all (said_in rounds) turns → (state : State)
+    → turn_keys turns ≡ keys_of targets → HaveEnded cache caller all (said_in rounds) turns → (state : State)
     → All (λ (e : KeyEnd). IsStripeOf cache e.key state → EndsAt state caller (keys_of all) (said_in rounds) e.key e.op e.ended) (key_ends targets (turn_progress turns))
 each_end cache caller all rounds [] turns among keys each state = All-nil _
 each_end cache caller all rounds (t ∷ targets) [] among keys each state = All-nil _

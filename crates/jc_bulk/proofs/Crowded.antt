@@ -22,7 +22,7 @@ use Rattle.jc_cache.proofs.CallerLemmas.{at_key}
 use Rattle.jc_bulk.specs.declared.round.Progress.{Progress}
 use Rattle.jc_bulk.specs.declared.round.Progress.TheVariants.{Waiting, Reserved, Ended}
 use Rattle.jc_bulk.specs.KeyProgress.{IsRoomFor, IsHeldBack}
-use Rattle.jc_bulk.specs.Turns.{Turn, turn_keys, turn_progress, open_keys, key_if_open}
+use Rattle.jc_bulk.specs.Turns.{Turn, turn_keys, turn_progress, keys_still_open, key_if_open}
 use Rattle.jc_bulk.specs.Rounds.{IsCrowded, AreFewEach, in_stripe}
 use Rattle.jc_bulk.specs.Underway.{IsUnder, IsUnderway}
 use Rattle.jc_bulk.proofs.Places.{fewer_open}
@@ -56,32 +56,32 @@ both_less p k xs ys less =
       | false ↦ less
     ]
 
-few_in : (p : Bytes → Bool) (turns : List Turn) → length (filter p (open_keys turns)) ≤ length (filter p (turn_keys turns))
+few_in : (p : Bytes → Bool) (turns : List Turn) → length (filter p (keys_still_open turns)) ≤ length (filter p (turn_keys turns))
 few_in p [] = omega arith
 few_in p (t ∷ turns) = by t.progress (few_in p turns)
   where
-    by : (q : Progress) → length (filter p (open_keys turns)) ≤ length (filter p (turn_keys turns)) → length (filter p (cons_option (key_if_open t.key q) (open_keys turns))) ≤ length (filter p (t.key ∷ turn_keys turns))
+    by : (q : Progress) → length (filter p (keys_still_open turns)) ≤ length (filter p (turn_keys turns)) → length (filter p (cons_option (key_if_open t.key q) (keys_still_open turns))) ≤ length (filter p (t.key ∷ turn_keys turns))
     by Waiting less = omega (arith, less, one_more_in p t.key (turn_keys turns))
-    by Reserved less = both_more p t.key (open_keys turns) (turn_keys turns) less
+    by Reserved less = both_more p t.key (keys_still_open turns) (turn_keys turns) less
     by (Ended e) less = omega (arith, less, one_more_in p t.key (turn_keys turns))
 
 pub fewer_in : (p : Bytes → Bool) (turns : List Turn) (place : ℕ) (key : Bytes) → slice_get (turn_keys turns) place ≡ Some key → slice_get (turn_progress turns) place ≡ Some Waiting → p key ≡ true
-    → length (filter p (open_keys turns)) < length (filter p (turn_keys turns))
+    → length (filter p (keys_still_open turns)) < length (filter p (turn_keys turns))
 fewer_in p [] place key at waits is = cc
 fewer_in p (t ∷ turns) zero key at waits is =
     let same : t.key ≡ key = cc in
     by t.progress waits (few_in p turns) (passes p t.key (turn_keys turns) (ap p same ∙ is))
   where
-    by : (q : Progress) → Some q ≡ Some Waiting → length (filter p (open_keys turns)) ≤ length (filter p (turn_keys turns)) → length (filter p (t.key ∷ turn_keys turns)) ≡ suc (length (filter p (turn_keys turns)))
-        → length (filter p (cons_option (key_if_open t.key q) (open_keys turns))) < length (filter p (t.key ∷ turn_keys turns))
+    by : (q : Progress) → Some q ≡ Some Waiting → length (filter p (keys_still_open turns)) ≤ length (filter p (turn_keys turns)) → length (filter p (t.key ∷ turn_keys turns)) ≡ suc (length (filter p (turn_keys turns)))
+        → length (filter p (cons_option (key_if_open t.key q) (keys_still_open turns))) < length (filter p (t.key ∷ turn_keys turns))
     by Waiting h less one = omega (arith, less, one)
     by Reserved h less one = cc
     by (Ended e) h less one = cc
 fewer_in p (t ∷ turns) (suc place) key at waits is = by t.progress (fewer_in p turns place key at waits is)
   where
-    by : (q : Progress) → length (filter p (open_keys turns)) < length (filter p (turn_keys turns)) → length (filter p (cons_option (key_if_open t.key q) (open_keys turns))) < length (filter p (t.key ∷ turn_keys turns))
+    by : (q : Progress) → length (filter p (keys_still_open turns)) < length (filter p (turn_keys turns)) → length (filter p (cons_option (key_if_open t.key q) (keys_still_open turns))) < length (filter p (t.key ∷ turn_keys turns))
     by Waiting less = omega (arith, less, one_more_in p t.key (turn_keys turns))
-    by Reserved less = both_less p t.key (open_keys turns) (turn_keys turns) less
+    by Reserved less = both_less p t.key (keys_still_open turns) (turn_keys turns) less
     by (Ended e) less = omega (arith, less, one_more_in p t.key (turn_keys turns))
 
 -- 2. All stripes.
@@ -166,7 +166,7 @@ same_stripe : (i : ℕ) → (i == i) ≡ true
 same_stripe i = grind (arith, nat_tests)
 
 pub crowded : (config : Config) (most : ℕ) (turns : List Turn) (keys : List Bytes) (place : ℕ) (key : Bytes) → turn_keys turns ≡ keys → slice_get (turn_keys turns) place ≡ Some key → slice_get (turn_progress turns) place ≡ Some Waiting
-    → IsRoomFor config.stripes most (length keys) → IsHeldBack config most (open_keys turns) key → IsCrowded config keys
+    → IsRoomFor config.stripes most (length keys) → IsHeldBack config most (keys_still_open turns) key → IsCrowded config keys
 crowded config most turns keys place key are at waits room (inl full) few =
     let i = stripe_of key config.stripes in
     let less = fewer_in (λ (k : Bytes). stripe_of k config.stripes == i) turns place key at waits (same_stripe i) in

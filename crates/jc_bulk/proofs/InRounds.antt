@@ -37,7 +37,7 @@ use Rattle.jc_session.specs.declared.mark.Mark.{Mark}
 use Rattle.jc_bulk.specs.declared.round.Progress.{Progress}
 use Rattle.jc_bulk.specs.declared.round.Progress.TheVariants.{Waiting, Reserved, Ended}
 use Rattle.jc_bulk.specs.KeyProgress.{StillWaits, IsRoomFor, IsHeldBack, is_closed, refused_if_waiting}
-use Rattle.jc_bulk.specs.Turns.{Turn, AreCounted, turn_keys, turn_progress, open_keys, key_if_open}
+use Rattle.jc_bulk.specs.Turns.{Turn, AreCounted, turn_keys, turn_progress, keys_still_open, key_if_open}
 use Rattle.jc_bulk.specs.Phased.{AddsSteps}
 use Rattle.jc_bulk.specs.Recorded.{steps_of}
 use Rattle.jc_bulk.specs.InRounds.{IsInRounds}
@@ -72,17 +72,17 @@ committed_counted first counts ps place reply call calls later at is counted =
     let own = own_set first.own ps place Reserved (Ended (Ok reply)) at tt in
     ap counts_ended counted ∙ (λ i. record first { own = sym own i; reservations = one_less call later calls is i })
 
-pub open_some : (turns : List Turn) (place : ℕ) → slice_get (turn_progress turns) place ≡ Some Reserved → open_keys turns ≡ [] → ⊥
+pub open_some : (turns : List Turn) (place : ℕ) → slice_get (turn_progress turns) place ≡ Some Reserved → keys_still_open turns ≡ [] → ⊥
 open_some [] place at none = cc
 open_some (t ∷ turns) zero at none = by t.progress at none
   where
-    by : (p : Progress) → Some p ≡ Some Reserved → cons_option (key_if_open t.key p) (open_keys turns) ≡ [] → ⊥
+    by : (p : Progress) → Some p ≡ Some Reserved → cons_option (key_if_open t.key p) (keys_still_open turns) ≡ [] → ⊥
     by Waiting h empty = cc
     by Reserved h empty = cc
     by (Ended x) h empty = cc
 open_some (t ∷ turns) (suc place) at none = by t.progress none (open_some turns place at)
   where
-    by : (p : Progress) → cons_option (key_if_open t.key p) (open_keys turns) ≡ [] → (open_keys turns ≡ [] → ⊥) → ⊥
+    by : (p : Progress) → cons_option (key_if_open t.key p) (keys_still_open turns) ≡ [] → (keys_still_open turns ≡ [] → ⊥) → ⊥
     by Waiting empty later = later empty
     by Reserved empty later = cc
     by (Ended x) empty later = later empty

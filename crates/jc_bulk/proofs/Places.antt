@@ -29,7 +29,7 @@ use Rattle.jc_outside.proofs.CallerLemmas.{at_place}
 use Rattle.jc_bulk.specs.declared.round.Progress.{Progress}
 use Rattle.jc_bulk.specs.declared.round.Progress.TheVariants.{Waiting, Reserved, Ended}
 use Rattle.jc_bulk.specs.KeyProgress.{StayEnded, StillWaits, is_closed, is_waiting, waiting, all_waiting, refused_if_waiting, failures}
-use Rattle.jc_bulk.specs.Turns.{Turn, turn_keys, turn_progress, open_keys, key_if_open}
+use Rattle.jc_bulk.specs.Turns.{Turn, turn_keys, turn_progress, keys_still_open, key_if_open}
 
 -- 1. What a key may become.
 
@@ -246,20 +246,20 @@ turns_set P Q (t ∷ turns) (suc place) key p d at all other one = (
 
 -- 5. Keys that are reserved.
 
-pub all_closed : (turns : List Turn) → list_all is_closed (turn_progress turns) ≡ true → open_keys turns ≡ []
+pub all_closed : (turns : List Turn) → list_all is_closed (turn_progress turns) ≡ true → keys_still_open turns ≡ []
 all_closed [] all = refl
 all_closed (t ∷ turns) all = by t.progress all (all_closed turns)
   where
-    by : (p : Progress) → (is_closed p && list_all is_closed (turn_progress turns)) ≡ true → (list_all is_closed (turn_progress turns) ≡ true → open_keys turns ≡ []) → cons_option (key_if_open t.key p) (open_keys turns) ≡ []
+    by : (p : Progress) → (is_closed p && list_all is_closed (turn_progress turns)) ≡ true → (list_all is_closed (turn_progress turns) ≡ true → keys_still_open turns ≡ []) → cons_option (key_if_open t.key p) (keys_still_open turns) ≡ []
     by Waiting h rest = rest h
     by Reserved h rest = cc
     by (Ended e) h rest = rest h
 
-pub none_open : (turns : List Turn) → open_keys turns ≡ [] → list_all is_closed (turn_progress turns) ≡ true
+pub none_open : (turns : List Turn) → keys_still_open turns ≡ [] → list_all is_closed (turn_progress turns) ≡ true
 none_open [] none = refl
 none_open (t ∷ turns) none = by t.progress none (none_open turns)
   where
-    by : (p : Progress) → cons_option (key_if_open t.key p) (open_keys turns) ≡ [] → (open_keys turns ≡ [] → list_all is_closed (turn_progress turns) ≡ true) → (is_closed p && list_all is_closed (turn_progress turns)) ≡ true
+    by : (p : Progress) → cons_option (key_if_open t.key p) (keys_still_open turns) ≡ [] → (keys_still_open turns ≡ [] → list_all is_closed (turn_progress turns) ≡ true) → (is_closed p && list_all is_closed (turn_progress turns)) ≡ true
     by Waiting empty rest = rest empty
     by Reserved empty rest = cc
     by (Ended e) empty rest = rest empty
@@ -270,75 +270,75 @@ cons_more (Some x) xs ys = refl
 
 -- a key that waited, before others that aren't reserved
 pub open_begun : (turns : List Turn) (place : ℕ) (key : Bytes) (p : Progress) → slice_get (turn_keys turns) place ≡ Some key → slice_get (turn_progress turns) place ≡ Some Waiting
-    → list_all is_closed (drop place (turn_progress turns)) ≡ true → open_keys (turn_set turns place p) ≡ open_keys turns ++ cons_option (key_if_open key p) []
+    → list_all is_closed (drop place (turn_progress turns)) ≡ true → keys_still_open (turn_set turns place p) ≡ keys_still_open turns ++ cons_option (key_if_open key p) []
 open_begun [] place key p at is behind = cc
 open_begun (t ∷ turns) zero key p at is behind =
     let same : t.key ≡ key = cc in
     let was : t.progress ≡ Waiting = cc in
-    let none : open_keys turns ≡ [] = all_closed turns (and_parts (is_closed t.progress) (list_all is_closed (turn_progress turns)) behind).1 in
+    let none : keys_still_open turns ≡ [] = all_closed turns (and_parts (is_closed t.progress) (list_all is_closed (turn_progress turns)) behind).1 in
     ap (cons_option (key_if_open t.key p)) none
     ∙ ap (λ k. cons_option (key_if_open k p) []) same
-    ∙ sym (ap (λ ks. ks ++ cons_option (key_if_open key p) []) (ap (λ x. cons_option (key_if_open t.key x) (open_keys turns)) was ∙ none))
+    ∙ sym (ap (λ ks. ks ++ cons_option (key_if_open key p) []) (ap (λ x. cons_option (key_if_open t.key x) (keys_still_open turns)) was ∙ none))
 open_begun (t ∷ turns) (suc place) key p at is behind =
-    ap (cons_option (key_if_open t.key t.progress)) (open_begun turns place key p at is behind) ∙ cons_more (key_if_open t.key t.progress) (open_keys turns) (cons_option (key_if_open key p) [])
+    ap (cons_option (key_if_open t.key t.progress)) (open_begun turns place key p at is behind) ∙ cons_more (key_if_open t.key t.progress) (keys_still_open turns) (cons_option (key_if_open key p) [])
 
 -- the first place that is reserved
 pub first_open : (turns : List Turn) (place : ℕ) (k : Bytes) (ks : List Bytes) → list_all is_closed (take place (turn_progress turns)) ≡ true → slice_get (turn_progress turns) place ≡ Some Reserved
-    → open_keys turns ≡ k ∷ ks → slice_get (turn_keys turns) place ≡ Some k
+    → keys_still_open turns ≡ k ∷ ks → slice_get (turn_keys turns) place ≡ Some k
 first_open [] place k ks before at is = cc
 first_open (t ∷ turns) zero k ks before at is = by t.progress at is
   where
-    by : (p : Progress) → Some p ≡ Some Reserved → cons_option (key_if_open t.key p) (open_keys turns) ≡ k ∷ ks → Some t.key ≡ Some k
+    by : (p : Progress) → Some p ≡ Some Reserved → cons_option (key_if_open t.key p) (keys_still_open turns) ≡ k ∷ ks → Some t.key ≡ Some k
     by Waiting h g = cc
     by Reserved h g = cc
     by (Ended e) h g = cc
 first_open (t ∷ turns) (suc place) k ks before at is = by t.progress before is (λ h g. first_open turns place k ks h at g)
   where
-    by : (p : Progress) → (is_closed p && list_all is_closed (take place (turn_progress turns))) ≡ true → cons_option (key_if_open t.key p) (open_keys turns) ≡ k ∷ ks
-        → (list_all is_closed (take place (turn_progress turns)) ≡ true → open_keys turns ≡ k ∷ ks → slice_get (turn_keys turns) place ≡ Some k) → slice_get (turn_keys turns) place ≡ Some k
+    by : (p : Progress) → (is_closed p && list_all is_closed (take place (turn_progress turns))) ≡ true → cons_option (key_if_open t.key p) (keys_still_open turns) ≡ k ∷ ks
+        → (list_all is_closed (take place (turn_progress turns)) ≡ true → keys_still_open turns ≡ k ∷ ks → slice_get (turn_keys turns) place ≡ Some k) → slice_get (turn_keys turns) place ≡ Some k
     by Waiting h g rest = rest h g
     by Reserved h g rest = cc
     by (Ended e) h g rest = rest h g
 
 pub open_ended : (turns : List Turn) (place : ℕ) (e : Result Reply Refusal) (k : Bytes) (ks : List Bytes) → list_all is_closed (take place (turn_progress turns)) ≡ true → slice_get (turn_progress turns) place ≡ Some Reserved
-    → open_keys turns ≡ k ∷ ks → open_keys (turn_set turns place (Ended e)) ≡ ks
+    → keys_still_open turns ≡ k ∷ ks → keys_still_open (turn_set turns place (Ended e)) ≡ ks
 open_ended [] place e k ks before at is = cc
 open_ended (t ∷ turns) zero e k ks before at is = by t.progress at is
   where
-    by : (p : Progress) → Some p ≡ Some Reserved → cons_option (key_if_open t.key p) (open_keys turns) ≡ k ∷ ks → open_keys turns ≡ ks
+    by : (p : Progress) → Some p ≡ Some Reserved → cons_option (key_if_open t.key p) (keys_still_open turns) ≡ k ∷ ks → keys_still_open turns ≡ ks
     by Waiting h g = cc
     by Reserved h g = cc
     by (Ended x) h g = cc
 open_ended (t ∷ turns) (suc place) e k ks before at is = by t.progress before is (λ h g. open_ended turns place e k ks h at g)
   where
-    by : (p : Progress) → (is_closed p && list_all is_closed (take place (turn_progress turns))) ≡ true → cons_option (key_if_open t.key p) (open_keys turns) ≡ k ∷ ks
-        → (list_all is_closed (take place (turn_progress turns)) ≡ true → open_keys turns ≡ k ∷ ks → open_keys (turn_set turns place (Ended e)) ≡ ks) → cons_option (key_if_open t.key p) (open_keys (turn_set turns place (Ended e))) ≡ ks
+    by : (p : Progress) → (is_closed p && list_all is_closed (take place (turn_progress turns))) ≡ true → cons_option (key_if_open t.key p) (keys_still_open turns) ≡ k ∷ ks
+        → (list_all is_closed (take place (turn_progress turns)) ≡ true → keys_still_open turns ≡ k ∷ ks → keys_still_open (turn_set turns place (Ended e)) ≡ ks) → cons_option (key_if_open t.key p) (keys_still_open (turn_set turns place (Ended e))) ≡ ks
     by Waiting h g rest = rest h g
     by Reserved h g rest = cc
     by (Ended x) h g rest = rest h g
 
 -- 6. As many keys are reserved as calls are out, and a key that waits is one more.
 
-pub few_open : (turns : List Turn) → length (open_keys turns) ≤ length (turn_keys turns)
+pub few_open : (turns : List Turn) → length (keys_still_open turns) ≤ length (turn_keys turns)
 few_open [] = omega arith
 few_open (t ∷ turns) = by t.progress (few_open turns)
   where
-    by : (p : Progress) → length (open_keys turns) ≤ length (turn_keys turns) → length (cons_option (key_if_open t.key p) (open_keys turns)) ≤ length (t.key ∷ turn_keys turns)
+    by : (p : Progress) → length (keys_still_open turns) ≤ length (turn_keys turns) → length (cons_option (key_if_open t.key p) (keys_still_open turns)) ≤ length (t.key ∷ turn_keys turns)
     by Waiting less = omega (arith, less)
     by Reserved less = omega (arith, less)
     by (Ended e) less = omega (arith, less)
 
-pub fewer_open : (turns : List Turn) (place : ℕ) → slice_get (turn_progress turns) place ≡ Some Waiting → length (open_keys turns) < length (turn_keys turns)
+pub fewer_open : (turns : List Turn) (place : ℕ) → slice_get (turn_progress turns) place ≡ Some Waiting → length (keys_still_open turns) < length (turn_keys turns)
 fewer_open [] place at = cc
 fewer_open (t ∷ turns) zero at = by t.progress at (few_open turns)
   where
-    by : (p : Progress) → Some p ≡ Some Waiting → length (open_keys turns) ≤ length (turn_keys turns) → length (cons_option (key_if_open t.key p) (open_keys turns)) < length (t.key ∷ turn_keys turns)
+    by : (p : Progress) → Some p ≡ Some Waiting → length (keys_still_open turns) ≤ length (turn_keys turns) → length (cons_option (key_if_open t.key p) (keys_still_open turns)) < length (t.key ∷ turn_keys turns)
     by Waiting h less = omega (arith, less)
     by Reserved h less = cc
     by (Ended e) h less = cc
 fewer_open (t ∷ turns) (suc place) at = by t.progress (fewer_open turns place at)
   where
-    by : (p : Progress) → length (open_keys turns) < length (turn_keys turns) → length (cons_option (key_if_open t.key p) (open_keys turns)) < length (t.key ∷ turn_keys turns)
+    by : (p : Progress) → length (keys_still_open turns) < length (turn_keys turns) → length (cons_option (key_if_open t.key p) (keys_still_open turns)) < length (t.key ∷ turn_keys turns)
     by Waiting less = omega (arith, less)
     by Reserved less = omega (arith, less)
     by (Ended e) less = omega (arith, less)
@@ -374,7 +374,7 @@ pub new_progress : (keys : List Bytes) → turn_progress (new_turns keys) ≡ al
 new_progress [] = refl
 new_progress (k ∷ keys) = ap (λ ps. Waiting ∷ ps) (new_progress keys)
 
-pub new_open : (keys : List Bytes) → open_keys (new_turns keys) ≡ []
+pub new_open : (keys : List Bytes) → keys_still_open (new_turns keys) ≡ []
 new_open [] = refl
 new_open (k ∷ keys) = new_open keys
 
@@ -400,11 +400,11 @@ IsOver Waiting = ⊥
 IsOver Reserved = ⊥
 IsOver (Ended e) = Unit {0}
 
-pub all_over : (turns : List Turn) → open_keys turns ≡ [] → ((place : ℕ) → StillWaits (turn_progress turns) place → ⊥) → AllByRecursion IsOver (turn_progress turns)
+pub all_over : (turns : List Turn) → keys_still_open turns ≡ [] → ((place : ℕ) → StillWaits (turn_progress turns) place → ⊥) → AllByRecursion IsOver (turn_progress turns)
 all_over [] none over = tt
 all_over (t ∷ turns) none over = by t.progress none (over 0) (λ h. all_over turns h (λ place. over (suc place)))
   where
-    by : (p : Progress) → cons_option (key_if_open t.key p) (open_keys turns) ≡ [] → (Some p ≡ Some Waiting → ⊥) → (open_keys turns ≡ [] → AllByRecursion IsOver (turn_progress turns)) → IsOver p × AllByRecursion IsOver (turn_progress turns)
+    by : (p : Progress) → cons_option (key_if_open t.key p) (keys_still_open turns) ≡ [] → (Some p ≡ Some Waiting → ⊥) → (keys_still_open turns ≡ [] → AllByRecursion IsOver (turn_progress turns)) → IsOver p × AllByRecursion IsOver (turn_progress turns)
     by Waiting empty waits rest = absurd (waits refl)
     by Reserved empty waits rest = cc
     by (Ended e) empty waits rest = (tt, rest empty)

@@ -33,9 +33,9 @@ use Rattle.jc_bulk.specs.declared.round.Progress.TheVariants.{Waiting, Reserved,
 use Rattle.jc_bulk.specs.InRounds.{IsInRounds, changes_wanted}
 use Rattle.jc_bulk.specs.KeyProgress.{StayEnded, AreUnasked}
 use Rattle.jc_bulk.specs.RoundCalls.{CallKind, Load, Write, Round, LoadAll, WriteAll, HasOneToAsk, MayAsk, IsAskedOf, IsRoundOf, CallsInRounds, keys_asked, changes_asked, answer_to, with_out, keys_in_all, changes_in_all, said_in}
-use Rattle.jc_bulk.specs.SoFar.{HasEndedAt, IsCallAt, AreTurns, IsSoFar, AreAnsweredIn}
-use Rattle.jc_bulk.specs.Starting.{change_wanted}
-use Rattle.jc_bulk.specs.Turns.{Turn, open_keys}
+use Rattle.jc_bulk.specs.SoFar.{HasEndedAt, IsCallAt, HaveEnded, IsSoFar, AreAnsweredIn}
+use Rattle.jc_bulk.specs.Starting.{op_change}
+use Rattle.jc_bulk.specs.Turns.{Turn, keys_still_open}
 use Rattle.jc_bulk.proofs.AskedKeys.{IsAwayIfEnded, away_all, among_self, is_new, all_both, distinct_both, open_among, open_distinct, unasked_after, answers_same}
 use Rattle.jc_bulk.proofs.SoFar.{same_target}
 
@@ -64,9 +64,9 @@ asks_for Load calls (WriteAll r) is = absurd is
 asks_for (Write deletes) calls (LoadAll r) is = absurd is
 asks_for (Write deletes) calls (WriteAll r) is = ap (map (λ (c : Bytes × Option Change). c.0)) is ∙ wanted_keys calls
 
-among_wanted : (targets : List (Bytes × Op)) (i : ℕ) (key : Bytes) (op : Op) → slice_get targets i ≡ Some (key, op) → IsAmong (changes_wanted targets) (key, change_wanted op)
+among_wanted : (targets : List (Bytes × Op)) (i : ℕ) (key : Bytes) (op : Op) → slice_get targets i ≡ Some (key, op) → IsAmong (changes_wanted targets) (key, op_change op)
 among_wanted [] i key op at = cc
-among_wanted (t ∷ targets) zero key op at = (zero, (omega arith, ap (λ (u : Bytes × Op). (u.0, change_wanted u.1)) (sym (same_target t (key, op) at))))
+among_wanted (t ∷ targets) zero key op at = (zero, (omega arith, ap (λ (u : Bytes × Op). (u.0, op_change u.1)) (sym (same_target t (key, op) at))))
 among_wanted (t ∷ targets) (suc i) key op at = let rest = among_wanted targets i key op at in (suc rest.0, (omega (arith, rest.1.0), rest.1.1))
 
 calls_wanted : (mark : Mark) (caller : Caller) (targets : List (Bytes × Op)) (calls : List ReservedState) → AllByRecursion (IsCallAt mark caller targets) calls → AllByRecursion (IsAmong (changes_wanted targets)) (wanted_changes calls)
@@ -100,7 +100,7 @@ is_round (Write deletes) calls (WriteAll r) is some = λ none. some (no_changes 
 -- 3. The turns.
 
 turns_said : (cache : CacheState) (caller : Caller) (targets : List (Bytes × Op)) (said said' : Bytes → Out) (asked : List Bytes) (turns : List Turn) → ((k : Bytes) → is_among asked k ≡ false → said' k ≡ said k)
-    → AllByRecursion (λ (t : Turn). IsAwayIfEnded asked t.key t.progress) turns → AreTurns cache caller targets said turns → AreTurns cache caller targets said' turns
+    → AllByRecursion (λ (t : Turn). IsAwayIfEnded asked t.key t.progress) turns → HaveEnded cache caller targets said turns → HaveEnded cache caller targets said' turns
 turns_said cache caller targets said said' asked [] same away all = tt
 turns_said cache caller targets said said' asked (t ∷ turns) same away all = (λ op state target is. by op state t.progress away.0 (all.0 op state target is), turns_said cache caller targets said said' asked turns same away.1 all.1)
   where
@@ -114,15 +114,15 @@ asked_so_far : (kind : CallKind) (rounds : List Round) (r : Round) (targets : Li
 asked_so_far kind rounds r targets cache caller ps calls d asks was =
     let so_far = was.so_far in
     let turns = so_far.turns in
-    let asked : keys_asked r ≡ open_keys turns = asks ∙ so_far.keys_open in
-    let same : (k : Bytes) → is_among (open_keys turns) k ≡ false → said_in (rounds ++ r ∷ []) k ≡ said_in rounds k =
+    let asked : keys_asked r ≡ keys_still_open turns = asks ∙ so_far.keys_open in
+    let same : (k : Bytes) → is_among (keys_still_open turns) k ≡ false → said_in (rounds ++ r ∷ []) k ≡ said_in rounds k =
     λ k away. said_before rounds r k (ap (λ ks. is_among ks k) asked ∙ away) in
     record {
       turns = turns;
       keys_are = so_far.keys_are;
       progress_are = so_far.progress_are;
       underway = so_far.underway;
-      each = turns_said cache caller targets (said_in rounds) (said_in (rounds ++ r ∷ [])) (open_keys turns) turns same
+      each = turns_said cache caller targets (said_in rounds) (said_in (rounds ++ r ∷ [])) (keys_still_open turns) turns same
           (away_all turns (subst (IsDistinct (pointwise ◌==◌)) (sym so_far.keys_are) d)) so_far.each;
       others = so_far.others;
       calls_are = so_far.calls_are;
@@ -156,20 +156,20 @@ round_over kind rounds r targets old new caller ps later calls d is some stay wa
     let turns = was.so_far.turns in
     let keys = keys_of targets in
     let asks : keys_asked r ≡ reserved_keys calls = asks_for kind calls r is in
-    let asked : reserved_keys calls ≡ open_keys turns = was.so_far.keys_open in
-    let more : keys_in_all (rounds ++ r ∷ []) ≡ keys_in_all rounds ++ open_keys turns =
+    let asked : reserved_keys calls ≡ keys_still_open turns = was.so_far.keys_open in
+    let more : keys_in_all (rounds ++ r ∷ []) ≡ keys_in_all rounds ++ keys_still_open turns =
     flat_map-append keys_asked rounds (r ∷ []) ∙ ap (λ ks. keys_in_all rounds ++ ks) (append-nil (keys_asked r) ∙ asks ∙ asked) in
     let changed : changes_in_all (rounds ++ r ∷ []) ≡ changes_in_all rounds ++ changes_asked r =
     flat_map-append changes_asked rounds (r ∷ []) ∙ ap (λ cs. changes_in_all rounds ++ cs) (append-nil (changes_asked r)) in
     record {
       so_far = so_far;
       asked = ap (list_all (is_among keys)) more
-          ∙ list_all-append (is_among keys) (keys_in_all rounds) (open_keys turns)
-          ∙ ap (λ b. b && list_all (is_among keys) (open_keys turns)) was.asked
-          ∙ ap (λ ks. list_all (is_among ks) (open_keys turns)) (sym was.so_far.keys_are)
+          ∙ list_all-append (is_among keys) (keys_in_all rounds) (keys_still_open turns)
+          ∙ ap (λ b. b && list_all (is_among keys) (keys_still_open turns)) was.asked
+          ∙ ap (λ ks. list_all (is_among ks) (keys_still_open turns)) (sym was.so_far.keys_are)
           ∙ open_among turns;
       once = subst (IsDistinct (pointwise ◌==◌)) (sym more)
-          (distinct_both (keys_in_all rounds) (open_keys turns) was.once (open_distinct turns (subst (IsDistinct (pointwise ◌==◌)) (sym was.so_far.keys_are) d))
+          (distinct_both (keys_in_all rounds) (keys_still_open turns) was.once (open_distinct turns (subst (IsDistinct (pointwise ◌==◌)) (sym was.so_far.keys_are) d))
           (ap (list_all (λ k. not (is_among (keys_in_all rounds) k))) (sym asked) ∙ was.fresh));
       fresh = refl;
       unasked = subst (AreUnasked keys later) (sym more) (unasked_after (keys_in_all rounds) keys turns ps later d was.so_far.keys_are was.so_far.progress_are stay was.unasked);

@@ -32,7 +32,7 @@ use Rattle.jc_bulk.specs.declared.round.Progress.TheVariants.{Waiting}
 use Rattle.jc_bulk.specs.InRounds.{IsInRounds, RunsRounds}
 use Rattle.jc_bulk.specs.KeyProgress.{StayEnded, StillWaits, IsRoomFor, IsHeldBack, IsCauseIn, IsFirstCause, failures}
 use Rattle.jc_bulk.specs.Phased.{LeavesCalls}
-use Rattle.jc_bulk.specs.RoundCalls.{CallKind, Round, CallsInRounds, fault_of, faults_in}
+use Rattle.jc_bulk.specs.RoundCalls.{CallKind, Round, CallsInRounds, round_fault, faults_in}
 use Rattle.jc_bulk.specs.Rounds.{IsCrowded}
 use Rattle.jc_bulk.specs.SoFar.{IsSoFar}
 use Rattle.jc_bulk.specs.Turns.{AreCounted, ComesAfterAll}
@@ -68,7 +68,7 @@ none_either [] ys none = (refl, none)
 none_either (x ∷ xs) ys none = cc
 
 faults_both : (rounds more : List Round) → faults_in (rounds ++ more) ≡ faults_in rounds ++ faults_in more
-faults_both rounds more = filter_map-append fault_of rounds more
+faults_both rounds more = filter_map-append round_fault rounds more
 
 -- a refusal that a key has ended in, or that was returned, still is one later
 still_among : (ps later : List Progress) (rounds more : List Round) (r : Refusal) → StayEnded ps later → IsAmong (failures ps ++ faults_in rounds) r → IsAmong (failures later ++ faults_in (rounds ++ more)) r

@@ -33,12 +33,12 @@ use Rattle.jc_cache.specs.OutstandingAll.{reserved_keys}
 use Rattle.jc_bulk.specs.declared.round.Progress.{Progress}
 use Rattle.jc_bulk.specs.declared.round.Progress.TheVariants.{Waiting, Reserved, Ended}
 use Rattle.jc_bulk.specs.KeyProgress.{StillWaits, is_closed, refused_if_waiting}
-use Rattle.jc_bulk.specs.Turns.{Turn, turn_keys, turn_progress, open_keys, key_if_open}
+use Rattle.jc_bulk.specs.Turns.{Turn, turn_keys, turn_progress, keys_still_open, key_if_open}
 use Rattle.jc_bulk.specs.Phased.{ComesAfter, AddsSteps}
 use Rattle.jc_bulk.specs.Recorded.{steps_of}
-use Rattle.jc_bulk.specs.Starting.{StartsCall, StartsFor, steps_started, reservations_in, change_wanted}
+use Rattle.jc_bulk.specs.Starting.{StartsCall, StartsFor, steps_started, reservations_in, op_change}
 use Rattle.jc_bulk.specs.Underway.{IsUnderway}
-use Rattle.jc_bulk.specs.SoFar.{IsTarget, HasEndedAt, IsCallAt, AreTurns, IsSoFar}
+use Rattle.jc_bulk.specs.SoFar.{IsTarget, HasEndedAt, IsCallAt, HaveEnded, IsSoFar}
 use Rattle.jc_bulk.specs.Rounds.{IsCrowded}
 use Rattle.jc_bulk.proofs.Crowded.{config_there}
 use Rattle.jc_bulk.proofs.Turns.{IsAway, near_later, may_later, one_state, own_step, no_step, all_push, others_kept, refused_turn, refused_keys, refused_progress, refused_open}
@@ -134,7 +134,7 @@ calls_after mark caller targets key op Reserved old new target h all =
       target = subst (λ k. IsTarget targets k call.reservation.op) (sym asks.0.key_is) (subst (IsTarget targets key) (sym asks.0.op_is) target);
       caller_is = asks.0.caller_is;
       cache_is = asks.1;
-      change_is = asks.2 ∙ ap change_wanted (sym asks.0.op_is);
+      change_is = asks.2 ∙ ap op_change (sym asks.0.op_is);
     } in
     subst (AllByRecursion (IsCallAt mark caller targets)) (sym h.2) (all_push (IsCallAt mark caller targets) old call all one)
 calls_after mark caller targets key op Waiting old new target h all = subst (AllByRecursion (IsCallAt mark caller targets)) (sym h) all
@@ -180,7 +180,7 @@ begun_so_far said targets old new caller progress calls calls' place key op x s 
 
 refused_turns : (cache : CacheState) (caller : Caller) (targets : List (Bytes × Op)) (said : Bytes → Out) (turns : List Turn) → ((key : Bytes) (state : State) → IsStripeOf cache key state → IsCrowded state.config (keys_of targets))
     → ((place : ℕ) (key : Bytes) → slice_get (turn_keys turns) place ≡ Some key → slice_get (turn_progress turns) place ≡ Some Waiting → said key ≡ nothing_said)
-    → AreTurns cache caller targets said turns → AreTurns cache caller targets said (map refused_turn turns)
+    → HaveEnded cache caller targets said turns → HaveEnded cache caller targets said (map refused_turn turns)
 refused_turns cache caller targets said [] many unasked all = tt
 refused_turns cache caller targets said (t ∷ turns) many unasked all =
     (λ op state target is. by op state (many t.key state is) t.progress (unasked 0 t.key refl) (all.0 op state target is), refused_turns cache caller targets said turns many (λ place key. unasked (suc place) key) all.1)
@@ -232,7 +232,7 @@ committed_so_far said targets old new caller progress c rest place reply d was b
     let e : Progress = Ended (Ok reply) in
     let closed : list_all is_closed (take place (turn_progress turns)) ≡ true = ap (λ ps. list_all is_closed (take place ps)) was.progress_are ∙ before in
     let reserved : slice_get (turn_progress turns) place ≡ Some Reserved = ap (λ ps. slice_get ps place) was.progress_are ∙ at in
-    let first : open_keys turns ≡ key ∷ reserved_keys rest = sym was.keys_open in
+    let first : keys_still_open turns ≡ key ∷ reserved_keys rest = sym was.keys_open in
     let there : slice_get (turn_keys turns) place ≡ Some key = first_open turns place key (reserved_keys rest) closed reserved first in
     let key_is : slice_get (keys_of targets) place ≡ Some key = sym (ap (λ ks. slice_get ks place) was.keys_are) ∙ there in
     record {

@@ -47,7 +47,7 @@ use Rattle.jc_bulk.specs.declared.round.Progress.{Progress}
 use Rattle.jc_bulk.specs.declared.round.Progress.TheVariants as progress
 use Rattle.jc_bulk.specs.Ends.{is_near_full, MayRefuse}
 use Rattle.jc_bulk.specs.KeyProgress.{refused_if_waiting}
-use Rattle.jc_bulk.specs.Turns.{Turn, AreCounted, turn_keys, turn_progress, open_keys, key_if_open, own_after_ends, ComesAfterAll}
+use Rattle.jc_bulk.specs.Turns.{Turn, AreCounted, turn_keys, turn_progress, keys_still_open, key_if_open, own_after_ends, ComesAfterAll}
 use Rattle.jc_bulk.specs.Phased.{ComesAfter, AddsSteps, LeavesCalls, counts_started}
 use Rattle.jc_bulk.specs.Recorded.{steps_of}
 use Rattle.jc_bulk.specs.Rounds.{IsCrowded}
@@ -150,24 +150,24 @@ not_here key k progress.Reserved rest apart none = ap (λ b. b || is_among rest 
 not_here key k (progress.Ended e) rest apart none = none
 
 -- a key that isn't the call's isn't reserved
-pub not_open : (turns : List Turn) (key : Bytes) → is_among (turn_keys turns) key ≡ false → is_among (open_keys turns) key ≡ false
+pub not_open : (turns : List Turn) (key : Bytes) → is_among (turn_keys turns) key ≡ false → is_among (keys_still_open turns) key ≡ false
 not_open [] key none = refl
 not_open (t ∷ turns) key none =
     let parts = or_parts (pointwise ◌==◌ key t.key) (is_among (turn_keys turns) key) none in
-    not_here key t.key t.progress (open_keys turns) parts.0 (not_open turns key parts.1)
+    not_here key t.key t.progress (keys_still_open turns) parts.0 (not_open turns key parts.1)
 
 -- and neither is one that waits
 pub waits_closed : (turns : List Turn) (place : ℕ) (key : Bytes) → IsDistinct (pointwise ◌==◌) (turn_keys turns) → slice_get (turn_keys turns) place ≡ Some key → slice_get (turn_progress turns) place ≡ Some progress.Waiting
-    → is_among (open_keys turns) key ≡ false
+    → is_among (keys_still_open turns) key ≡ false
 waits_closed [] place key d at is = refl
 waits_closed (t ∷ turns) zero key d at is =
     let same : t.key ≡ key = cc in
     let was : t.progress ≡ progress.Waiting = cc in
-    ap (λ p. is_among (cons_option (key_if_open t.key p) (open_keys turns)) key) was
-    ∙ ap (is_among (open_keys turns)) (sym same)
+    ap (λ p. is_among (cons_option (key_if_open t.key p) (keys_still_open turns)) key) was
+    ∙ ap (is_among (keys_still_open turns)) (sym same)
     ∙ not_open turns t.key (apart_all t.key (turn_keys turns) (IsDistinct-head (pointwise ◌==◌) t.key (turn_keys turns) d))
 waits_closed (t ∷ turns) (suc place) key d at is =
-    not_here key t.key t.progress (open_keys turns)
+    not_here key t.key t.progress (keys_still_open turns)
     (nat_list_eq_equiv.symm key t.key ∙ at_place (λ y. pointwise ◌==◌ t.key y ≡ false) (turn_keys turns) place key (IsDistinct-head (pointwise ◌==◌) t.key (turn_keys turns) d) at)
     (waits_closed turns place key (IsDistinct-tail (pointwise ◌==◌) t.key (turn_keys turns) d) at is)
 
@@ -304,11 +304,11 @@ pub refused_progress : (turns : List Turn) → turn_progress (map refused_turn t
 refused_progress [] = refl
 refused_progress (t ∷ turns) = ap (λ ps. refused_if_waiting t.progress ∷ ps) (refused_progress turns)
 
-pub refused_open : (turns : List Turn) → open_keys (map refused_turn turns) ≡ open_keys turns
+pub refused_open : (turns : List Turn) → keys_still_open (map refused_turn turns) ≡ keys_still_open turns
 refused_open [] = refl
 refused_open (t ∷ turns) = by t.progress (refused_open turns)
   where
-    by : (p : Progress) → open_keys (map refused_turn turns) ≡ open_keys turns → cons_option (key_if_open t.key (refused_if_waiting p)) (open_keys (map refused_turn turns)) ≡ cons_option (key_if_open t.key p) (open_keys turns)
+    by : (p : Progress) → keys_still_open (map refused_turn turns) ≡ keys_still_open turns → cons_option (key_if_open t.key (refused_if_waiting p)) (keys_still_open (map refused_turn turns)) ≡ cons_option (key_if_open t.key p) (keys_still_open turns)
     by progress.Waiting rest = rest
     by progress.Reserved rest = ap (λ ks. t.key ∷ ks) rest
     by (progress.Ended e) rest = rest
@@ -325,17 +325,17 @@ refused_counted first counts ps out counted = counted ∙ (λ i. record first { 
 -- 8. The first key that is reserved.
 
 -- it is reserved once
-pub open_once : (turns : List Turn) (k : Bytes) (ks : List Bytes) → IsDistinct (pointwise ◌==◌) (turn_keys turns) → open_keys turns ≡ k ∷ ks → is_among ks k ≡ false
+pub open_once : (turns : List Turn) (k : Bytes) (ks : List Bytes) → IsDistinct (pointwise ◌==◌) (turn_keys turns) → keys_still_open turns ≡ k ∷ ks → is_among ks k ≡ false
 open_once [] k ks d is = cc
 open_once (t ∷ turns) k ks d is = by t.progress is (open_once turns k ks (IsDistinct-tail (pointwise ◌==◌) t.key (turn_keys turns) d))
   where
     away : is_among (turn_keys turns) t.key ≡ false
     away = apart_all t.key (turn_keys turns) (IsDistinct-head (pointwise ◌==◌) t.key (turn_keys turns) d)
 
-    by : (p : Progress) → cons_option (key_if_open t.key p) (open_keys turns) ≡ k ∷ ks → (open_keys turns ≡ k ∷ ks → is_among ks k ≡ false) → is_among ks k ≡ false
+    by : (p : Progress) → cons_option (key_if_open t.key p) (keys_still_open turns) ≡ k ∷ ks → (keys_still_open turns ≡ k ∷ ks → is_among ks k ≡ false) → is_among ks k ≡ false
     by progress.Waiting h later = later h
     by progress.Reserved h later =
         let same : t.key ≡ k = cc in
-        let rest : open_keys turns ≡ ks = cc in
-        ap (λ xs. is_among xs k) (sym rest) ∙ ap (is_among (open_keys turns)) (sym same) ∙ not_open turns t.key away
+        let rest : keys_still_open turns ≡ ks = cc in
+        ap (λ xs. is_among xs k) (sym rest) ∙ ap (is_among (keys_still_open turns)) (sym same) ∙ not_open turns t.key away
     by (progress.Ended x) h later = later h

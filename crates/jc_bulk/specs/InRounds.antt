@@ -29,11 +29,11 @@ use Rattle.jc_bulk.specs.Phased.{LeavesCalls}
 use Rattle.jc_bulk.specs.RoundCalls.{CallKind, Round, MayAsk, IsRoundOf, CallsInRounds, keys_in_all, changes_in_all, said_in, faults_in}
 use Rattle.jc_bulk.specs.Rounds.{AreFewEach}
 use Rattle.jc_bulk.specs.SoFar.{IsSoFar}
-use Rattle.jc_bulk.specs.Starting.{change_wanted}
+use Rattle.jc_bulk.specs.Starting.{op_change}
 use Rattle.jc_bulk.specs.Turns.{AreCounted, ComesAfterAll}
 
 abbrev pub changes_wanted : List (Bytes × Op) → List (Bytes × Option Change)
-changes_wanted targets = map (λ (o : Bytes × Op). (o.0, change_wanted o.1)) targets
+changes_wanted targets = map (λ (o : Bytes × Op). (o.0, op_change o.1)) targets
 
 -- `calls` are those that are out
 pub record IsInRounds (kind : CallKind) (rounds : List Round) (targets : List (Bytes × Op)) (cache : CacheState) (caller : Caller) (progress : List Progress) (calls : List ReservedState) : Type 0 where

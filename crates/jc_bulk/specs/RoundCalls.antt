@@ -6,7 +6,7 @@
 --     HasOneToAsk     the session has the one whom calls of that kind ask, if it must
 --     ops_of          the keys that a call works on, with its operations
 --     kind_for        what it asks outside for them
---     kind_of         what the calls of a round ask for
+--     calls_kind         what the calls of a round ask for
 --     items_of        those that have reserved their keys
 --     room_of         for how many more there is room
 --     AreNoCalls      no calls of that kind, with room for so many
@@ -15,7 +15,7 @@
 --     Round           one call outside: of the loader, or of the writer
 --     keys_asked, changes_asked    the keys that it asked for, and the changes of the store
 --     answer_to       what it said of a key
---     fault_of        the fault that it returned, if it was the writer's and failed
+--     round_fault        the fault that it returned, if it was the writer's and failed
 --     IsAskedOf       it is of that kind, and asked for exactly these calls
 --     IsRoundOf       it is of that kind, and asked for a key
 --     CallsOnce       the loader or the writer was called once for it, and the other wasn't
@@ -88,9 +88,9 @@ kind_for (targets.Removes keys) = Write true
 
 -- 2. The calls of a round.
 
-abbrev pub kind_of : Calls → CallKind
-kind_of (Loads calls) = Load
-kind_of (Writes calls) = Write calls.deletes
+abbrev pub calls_kind : Calls → CallKind
+calls_kind (Loads calls) = Load
+calls_kind (Writes calls) = Write calls.deletes
 
 abbrev pub items_of : Calls → List ReservedState
 items_of (Loads calls) = calls.items
@@ -101,7 +101,7 @@ room_of (Loads calls) = calls.room
 room_of (Writes calls) = calls.room
 
 pub record AreNoCalls (kind : CallKind) (calls : Calls) (most : ℕ) : Type 0 where
-  pub kind_is : kind_of calls ≡ kind
+  pub kind_is : calls_kind calls ≡ kind
   pub items : items_of calls ≡ []
   pub room : room_of calls ≡ most
 
@@ -134,9 +134,9 @@ abbrev pub answer_to : Round → Bytes → Out
 answer_to (LoadAll r) key = load_only (r.said key)
 answer_to (WriteAll r) key = write_only (r.said key)
 
-abbrev pub fault_of : Round → Option Refusal
-fault_of (LoadAll r) = None
-fault_of (WriteAll r) = writer_cause r.returned
+abbrev pub round_fault : Round → Option Refusal
+round_fault (LoadAll r) = None
+round_fault (WriteAll r) = writer_cause r.returned
 
 abbrev pub IsAskedOf : CallKind → List ReservedState → Round → Type 0
 IsAskedOf Load calls (LoadAll r) = r.keys ≡ reserved_keys calls
@@ -179,7 +179,7 @@ said_in [] key = nothing_said
 said_in (r ∷ rs) key = if is_among (keys_asked r) key then answer_to r key else said_in rs key
 
 abbrev pub faults_in : List Round → List Refusal
-faults_in rounds = filter_map fault_of rounds
+faults_in rounds = filter_map round_fault rounds
 
 abbrev pub loads_in : List Round → List LoadRound
 loads_in [] = []

@@ -2,7 +2,7 @@
 --     IsTarget        a key is one of the call's, with this operation
 --     HasEndedAt      a key has ended so at its stripe, by what was said of it outside; or it has no step of the call, while it waits or is
 --                     reserved
---     AreTurns        that is so of each of these turns
+--     HaveEnded        that is so of each of these turns
 --     IsCallAt        a call that has reserved its key is of this cache and this caller, has the operation of its key, and asks for its change
 --     IsSoFar         the keys are so far; the call is under way, with those out that are reserved, in the order of the keys; each
 --                     turn is so in the cache, and no other key has a step of the call
@@ -27,8 +27,8 @@ use Rattle.jc_bulk.specs.declared.round.Progress.{Progress}
 use Rattle.jc_bulk.specs.declared.round.Progress.TheVariants.{Waiting, Reserved, Ended}
 use Rattle.jc_bulk.specs.Ends.{EndsAt}
 use Rattle.jc_bulk.specs.Recorded.{steps_of}
-use Rattle.jc_bulk.specs.Starting.{reservations_in, change_wanted}
-use Rattle.jc_bulk.specs.Turns.{Turn, turn_keys, turn_progress, open_keys}
+use Rattle.jc_bulk.specs.Starting.{reservations_in, op_change}
+use Rattle.jc_bulk.specs.Turns.{Turn, turn_keys, turn_progress, keys_still_open}
 use Rattle.jc_bulk.specs.Underway.{IsUnderway}
 
 -- 1. One key.
@@ -46,12 +46,12 @@ pub record IsCallAt (mark : Mark) (caller : Caller) (targets : List (Bytes × Op
   pub target : IsTarget targets call.reservation.key call.reservation.op
   pub caller_is : call.reservation.caller ≡ caller
   pub cache_is : call.cache ≡ mark
-  pub change_is : change_asked call.reservation.first ≡ change_wanted call.reservation.op
+  pub change_is : change_asked call.reservation.first ≡ op_change call.reservation.op
 
 -- 2. The whole call.
 
-abbrev pub AreTurns : CacheState → Caller → List (Bytes × Op) → (Bytes → Out) → List Turn → Type 0
-AreTurns cache caller targets said turns =
+abbrev pub HaveEnded : CacheState → Caller → List (Bytes × Op) → (Bytes → Out) → List Turn → Type 0
+HaveEnded cache caller targets said turns =
     AllByRecursion (λ (t : Turn). (op : Op) (state : State) → IsTarget targets t.key op → IsStripeOf cache t.key state → HasEndedAt state caller (keys_of targets) (said t.key) t.key op t.progress) turns
 
 -- `said` is what was said of each key
@@ -60,10 +60,10 @@ pub record IsSoFar (said : Bytes → Out) (targets : List (Bytes × Op)) (cache 
   pub keys_are : turn_keys turns ≡ keys_of targets
   pub progress_are : turn_progress turns ≡ progress
   pub underway : IsUnderway cache caller (reservations_in calls)
-  pub each : AreTurns cache caller targets said turns
+  pub each : HaveEnded cache caller targets said turns
   pub others : (key : Bytes) (state : State) → is_among (keys_of targets) key ≡ false → IsStripeOf cache key state → steps_of caller key state.history ≡ []
   pub calls_are : AllByRecursion (IsCallAt cache.mark caller targets) calls
-  pub keys_open : reserved_keys calls ≡ open_keys turns
+  pub keys_open : reserved_keys calls ≡ keys_still_open turns
 
 pub record IsAnsweredIn (said : Bytes → Out) (targets : List (Bytes × Op)) (cache : CacheState) (caller : Caller) (progress : List Progress) (call : AnsweredState Out) (rest : List ReservedState) : Type 0 where
   pub distinct : IsDistinct (pointwise ◌==◌) (keys_of targets)

@@ -2,9 +2,9 @@
 --     steps_started     the call's step that a first phase of the key has made, if it made one
 --     reservations_in   the reservations of calls that are out
 --     HasReason         a key is refused, or put off, exactly as its first phase refuses it, by whether a later round tries it again
---     IsCallOf          a call that has reserved this key, of this caller and operation
+--     IsReservedFor          a call that has reserved this key, of this caller and operation
 --     WritesAs          the operation of calls that write is a `Put`, and of calls that delete a `Remove`
---     change_wanted     what an operation asks the writer for at a key without an entry: a `Put` and a `Remove` ask for that at every key
+--     op_change     what an operation asks the writer for at a key without an entry: a `Put` and a `Remove` ask for that at every key
 --     AsksFor           a call on this cache that has reserved this key, and asks the writer for its operation's change, if it has one
 --     StartsCall        what a first phase of the key makes of the calls that are out: one more of this key if it has reserved it, and
 --                       else the same
@@ -52,7 +52,7 @@ HasReason state caller key op Waiting = (refusal : Refusal) × (first_refusal st
 abbrev pub reservations_in : List ReservedState → List Reservation
 reservations_in calls = map (λ (c : ReservedState). c.reservation) calls
 
-pub record IsCallOf (caller : Caller) (key : Bytes) (op : Op) (call : ReservedState) : Type 0 where
+pub record IsReservedFor (caller : Caller) (key : Bytes) (op : Op) (call : ReservedState) : Type 0 where
   pub caller_is : call.reservation.caller ≡ caller
   pub key_is : call.reservation.key ≡ key
   pub op_is : call.reservation.op ≡ op
@@ -60,11 +60,11 @@ pub record IsCallOf (caller : Caller) (key : Bytes) (op : Op) (call : ReservedSt
 abbrev pub WritesAs : Bool → Op → Type 0
 WritesAs deletes op = ((deletes ≡ false) × ((value : Bytes) × (op ≡ Put value))) ⊎ ((deletes ≡ true) × (op ≡ Remove))
 
-abbrev pub change_wanted : Op → Option Change
-change_wanted op = write_ask op None process.NotAsked
+abbrev pub op_change : Op → Option Change
+op_change op = write_ask op None process.NotAsked
 
 abbrev pub AsksFor : Mark → Caller → Bytes → Op → ReservedState → Type 0
-AsksFor mark caller key op call = IsCallOf caller key op call × (call.cache ≡ mark) × (change_asked call.reservation.first ≡ change_wanted op)
+AsksFor mark caller key op call = IsReservedFor caller key op call × (call.cache ≡ mark) × (change_asked call.reservation.first ≡ op_change op)
 
 abbrev pub StartsCall : Mark → Caller → Bytes → Op → Progress → List ReservedState → List ReservedState → Type 0
 StartsCall mark caller key op (Ended ended) old new = new ≡ old

@@ -2,7 +2,7 @@
 --     Turn            a key of the call, and how far the call is there
 --     turn_keys, turn_progress    the keys of these turns, and how far each is
 --     key_if_open     the key, if it is reserved
---     open_keys       the keys of those that are reserved
+--     keys_still_open       the keys of those that are reserved
 --     own_after_ends  how many steps the session has made after keys that are so far
 --     AreCounted      the session counts one step for each key that ended with one, and these reservations
 --     ComesAfterAll   the cache keeps its shape, and each of its stripes comes after an earlier one
@@ -34,8 +34,8 @@ key_if_open key Waiting = None
 key_if_open key Reserved = Some key
 key_if_open key (Ended ended) = None
 
-abbrev pub open_keys : List Turn → List Bytes
-open_keys turns = filter_map (λ (t : Turn). key_if_open t.key t.progress) turns
+abbrev pub keys_still_open : List Turn → List Bytes
+keys_still_open turns = filter_map (λ (t : Turn). key_if_open t.key t.progress) turns
 
 -- 2. The session, and what the calls of others rest on.
 

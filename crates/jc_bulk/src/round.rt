@@ -13,7 +13,7 @@ ghost use Rattle.jc_bulk.specs.KeyProgress.{IsRoomFor};
 ghost use Rattle.jc_bulk.specs.Laws.{keys_out};
 ghost use Rattle.jc_bulk.specs.Phased.{counts_started, LeavesCalls, AddsSteps};
 ghost use Rattle.jc_bulk.specs.Recorded.{steps_of};
-ghost use Rattle.jc_bulk.specs.RoundCalls.{AsksAs, MayAsk, kind_of, items_of, room_of, answered_call};
+ghost use Rattle.jc_bulk.specs.RoundCalls.{AsksAs, MayAsk, calls_kind, items_of, room_of, answered_call};
 ghost use Rattle.jc_bulk.specs.Starting.{steps_started, reservations_in, StartsCall, StartsFor};
 ghost use Rattle.jc_bulk.specs.Underway.{IsUnderway};
 
@@ -64,7 +64,7 @@ pub fn start_key(
     requires own { IsOf cache.old session.old }
     requires underway { IsUnderway cache.old session.old.caller (reservations_in (items_of calls.old)) }
     requires room { 0 < room_of calls.old }
-    requires kind { AsksAs (kind_of calls.old) op.now }
+    requires kind { AsksAs (calls_kind calls.old) op.now }
     requires away { is_among (reserved_keys (items_of calls.old)) key.now ≡ false }
     requires none { (s : State) → IsStripeOf cache.old key.now s
         → steps_of session.old.caller key.now s.history ≡ [] }
@@ -74,8 +74,8 @@ pub fn start_key(
         × StartsFor s session.old.caller (reservations_in (items_of calls.old)) key.now op.now result }
     ensures calls { StartsCall cache.old.mark session.old.caller key.now op.now result
         (items_of calls.old) (items_of calls.new) }
-    ensures through { result ≡ Reserved → MayAsk (kind_of calls.old) cache.old.config }
-    ensures kind { kind_of calls.new ≡ kind_of calls.old }
+    ensures through { result ≡ Reserved → MayAsk (calls_kind calls.old) cache.old.config }
+    ensures kind { calls_kind calls.new ≡ calls_kind calls.old }
     ensures space { length (items_of calls.new) + room_of calls.new
         ≡ length (items_of calls.old) + room_of calls.old }
     ensures underway { IsUnderway cache.new session.old.caller (reservations_in (items_of calls.new)) }

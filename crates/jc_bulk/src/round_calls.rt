@@ -4,8 +4,8 @@ ghost use Rattle.std.specs.Prelude.{◌≡◌, ◌<◌, ◌-◌, ◌++◌, ◌�
 ghost use Rattle.jc_model.specs.Batches.{is_among};
 ghost use Rattle.jc_session.specs.Boxed.{boxed};
 ghost use Rattle.jc_cache.specs.OutstandingAll.{AreOfSession, reserved_keys, with_answers};
-ghost use Rattle.jc_bulk.specs.RoundCalls.{Load, AreNoCalls, AsksFirst, HasOneToAsk, Round, IsAskedOf, CallsOnce, answer_to, fault_of};
-ghost use Rattle.jc_bulk.specs.RoundCalls.{kind_for, kind_of, items_of, room_of, answered_call, answered_calls};
+ghost use Rattle.jc_bulk.specs.RoundCalls.{Load, AreNoCalls, AsksFirst, HasOneToAsk, Round, IsAskedOf, CallsOnce, answer_to, round_fault};
+ghost use Rattle.jc_bulk.specs.RoundCalls.{kind_for, calls_kind, items_of, room_of, answered_call, answered_calls};
 ghost use Rattle.jc_bulk.specs.Rounds.{writer_cause};
 
 use crate::targets::Targets;
@@ -72,10 +72,10 @@ impl Calls {
     ///
     /// Conditions: the calls load, and there is room.
     pub(crate) fn push_load(&mut self, call: LoadCall)
-        requires kind { kind_of self.old ≡ Load }
+        requires kind { calls_kind self.old ≡ Load }
         requires room { 0 < room_of self.old }
         ensures items { items_of self.new ≡ items_of self.old ++ call ∷ [] }
-        ensures kind { kind_of self.new ≡ kind_of self.old }
+        ensures kind { calls_kind self.new ≡ calls_kind self.old }
         ensures room { room_of self.new ≡ room_of self.old - 1 }
     {
         match self {
@@ -88,11 +88,11 @@ impl Calls {
     ///
     /// Conditions: the call asks for a change of the kind that these calls ask for; there is room; its key isn't that of any of them.
     pub(crate) fn push_write(&mut self, call: WriteCall)
-        requires kind { AsksFirst (kind_of self.old) call.reservation.first }
+        requires kind { AsksFirst (calls_kind self.old) call.reservation.first }
         requires room { 0 < room_of self.old }
         requires new { is_among (reserved_keys (items_of self.old)) call.reservation.key ≡ false }
         ensures items { items_of self.new ≡ items_of self.old ++ call ∷ [] }
-        ensures kind { kind_of self.new ≡ kind_of self.old }
+        ensures kind { calls_kind self.new ≡ calls_kind self.old }
         ensures room { room_of self.new ≡ room_of self.old - 1 }
     {
         match self {
@@ -114,13 +114,13 @@ impl Calls {
     ) -> (AnsweredCalls, Option<Refusal>)
         requires own { AreOfSession session.old (items_of self) }
         requires held { session.old.hands.held ≡ 0 }
-        requires asked { HasOneToAsk (kind_of self) session.old }
-        ensures round { (round : Round) × IsAskedOf (kind_of self) (items_of self) round
+        requires asked { HasOneToAsk (calls_kind self) session.old }
+        ensures round { (round : Round) × IsAskedOf (calls_kind self) (items_of self) round
             × CallsOnce (boxed loads_all) (boxed load_state) (boxed writes_all) (boxed deletes_all) (boxed write_state)
             session.old.hands.outside.loader session.old.hands.outside.writer round
             session.new.hands.outside.loader session.new.hands.outside.writer
             × (answered_calls result.0 ≡ with_answers (answer_to round) (items_of self))
-            × (result.1 ≡ fault_of round) }
+            × (result.1 ≡ round_fault round) }
         ensures held { session.new.hands.held ≡ 0 }
         ensures rest { session.new ≡ record session.old { hands = session.new.hands } }
     {

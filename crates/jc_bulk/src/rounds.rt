@@ -20,7 +20,7 @@ ghost use Rattle.jc_bulk.specs.InRounds.{IsInRounds, RunsRounds};
 ghost use Rattle.jc_bulk.specs.KeyProgress.{StayEnded, StillWaits, IsFirstWaiting, IsRoomFor, IsHeldBack};
 ghost use Rattle.jc_bulk.specs.KeyProgress.{is_closed, all_waiting};
 ghost use Rattle.jc_bulk.specs.Phased.{LeavesCalls};
-ghost use Rattle.jc_bulk.specs.RoundCalls.{AreNoCalls, Round, CallsInRounds, kind_for, ops_of, kind_of, items_of, room_of};
+ghost use Rattle.jc_bulk.specs.RoundCalls.{AreNoCalls, Round, CallsInRounds, kind_for, ops_of, calls_kind, items_of, room_of};
 ghost use Rattle.jc_bulk.specs.RoundCalls.{answered_call, answered_calls, faults_in};
 ghost use Rattle.jc_bulk.specs.Rounds.{IsCrowded};
 ghost use Rattle.jc_bulk.specs.SoFar.{IsSoFar, IsAnsweredIn, AreAnsweredIn};
@@ -185,7 +185,7 @@ fn begin_round(
         → IsInRounds (kind_for targets.now) rounds (ops_of targets.now) cache.old session.old.caller progress.old []
         → IsInRounds (kind_for targets.now) rounds (ops_of targets.now)
         cache.new session.old.caller progress.new (items_of calls.new) }
-    ensures kind { kind_of calls.new ≡ kind_for targets.now }
+    ensures kind { calls_kind calls.new ≡ kind_for targets.now }
     ensures stay { StayEnded progress.old progress.new }
     ensures first { from < length progress.old → StillWaits progress.new from → ⊥ }
     ensures waits { (place : ℕ) (key : Bytes) → slice_get (keys_of (ops_of targets.now)) place ≡ Some key
@@ -215,7 +215,7 @@ fn begin_at(
     requires place { place < length progress.old }
     requires behind { list_all is_closed (drop place progress.old) ≡ true }
     requires most { IsRoomFor cache.old.config.stripes most (length (ops_of targets.now)) }
-    requires kind { kind_of calls.old ≡ kind_for targets.now }
+    requires kind { calls_kind calls.old ≡ kind_for targets.now }
     requires space { length (items_of calls.old) + room_of calls.old ≡ most }
     requires rounds { (rounds : List Round) × IsInRounds (kind_for targets.now) rounds (ops_of targets.now)
         cache.old session.old.caller progress.old (items_of calls.old) }
@@ -237,7 +237,7 @@ fn begin_at(
         → IsHeldBack cache.old.config most (reserved_keys (items_of calls.old)) key }
     ensures more { (added : List Bytes)
         × (reserved_keys (items_of calls.new) ≡ reserved_keys (items_of calls.old) ++ added) }
-    ensures kind { kind_of calls.new ≡ kind_of calls.old }
+    ensures kind { calls_kind calls.new ≡ calls_kind calls.old }
     ensures space { length (items_of calls.new) + room_of calls.new ≡ most }
     ensures grows { ComesAfterAll cache.old cache.new }
     ensures others { LeavesCalls session.old.caller.session cache.old cache.new }
@@ -261,7 +261,7 @@ fn end_round<R: Wait>(
     requires own { IsOf cache.old session.old }
     requires rounds { (rounds : List Round) × (targets : List (Bytes × Op))
         × IsDistinct (pointwise ◌==◌) (keys_of targets)
-        × IsInRounds (kind_of calls) rounds targets cache.old session.old.caller progress.old (items_of calls) }
+        × IsInRounds (calls_kind calls) rounds targets cache.old session.old.caller progress.old (items_of calls) }
     ensures own { IsOf cache.new session.new }
     ensures session { session.new ≡ record session.old { counts = session.new.counts; hands = session.new.hands } }
     ensures counts { (first : Counts)
@@ -269,13 +269,13 @@ fn end_round<R: Wait>(
         → AreCounted first progress.new 0 session.new.counts }
     ensures rounds { (rounds : List Round) (targets : List (Bytes × Op))
         → IsDistinct (pointwise ◌==◌) (keys_of targets)
-        → IsInRounds (kind_of calls) rounds targets cache.old session.old.caller progress.old (items_of calls)
+        → IsInRounds (calls_kind calls) rounds targets cache.old session.old.caller progress.old (items_of calls)
         → (more : List Round)
         × CallsInRounds (boxed loads_all) (boxed load_state) (boxed writes_all) (boxed deletes_all) (boxed write_state)
         session.old.hands.outside.loader session.old.hands.outside.writer more
         session.new.hands.outside.loader session.new.hands.outside.writer × (length more ≤ 1)
         × (faults_in more ≡ cons_option result [])
-        × IsInRounds (kind_of calls) (rounds ++ more) targets cache.new session.old.caller progress.new [] }
+        × IsInRounds (calls_kind calls) (rounds ++ more) targets cache.new session.old.caller progress.new [] }
     ensures stay { StayEnded progress.old progress.new }
     ensures grows { ComesAfterAll cache.old cache.new }
     ensures others { LeavesCalls session.old.caller.session cache.old cache.new }

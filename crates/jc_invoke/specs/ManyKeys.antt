@@ -5,7 +5,7 @@
 --                     the one before it left the cache, the session and the processor
 --     result_entry    what the call returns of a key: its processor's result, or why it failed, and nothing if there is no result
 --     result_entries  the same of each key, in their order
---     IsRefusedWhole  the call has too many keys, or an allocation failed, and nothing changes
+--     IsInvokeRefusedWhole  the call has too many keys, or an allocation failed, and nothing changes
 use Rattle.std.specs.Prelude.{◌≡◌, ◌<◌, ◌≤◌, ◌⊎◌, ℕ, List, [], ◌∷◌, ◌++◌, Option, None, Some, Result, Ok, Err, IfErr, false}
 use Rattle.jc_types.specs.declared.limits.TheConstants.{BULK_KEYS_MAX, STEP_PLACES}
 use Rattle.jc_types.specs.declared.refusal.Refusal.{Refusal}
@@ -52,7 +52,7 @@ result_entries (key ∷ keys) [] = []
 result_entries (key ∷ keys) (ended ∷ ends) = result_entry key (value_in ended) ++ result_entries keys ends
 
 -- a call of too many keys is refused before it takes any memory
-abbrev pub IsRefusedWhole : {S P : Type 0} → CacheState → S → P → ℕ → Refusal → CacheState → S → P → Type 0
-IsRefusedWhole cache session processor keys cause cache' session' processor' =
+abbrev pub IsInvokeRefusedWhole : {S P : Type 0} → CacheState → S → P → ℕ → Refusal → CacheState → S → P → Type 0
+IsInvokeRefusedWhole cache session processor keys cause cache' session' processor' =
     ((cause ≡ TooManyKeys) × (BULK_KEYS_MAX < keys) ⊎ (cause ≡ OutOfMemory) × (keys ≤ BULK_KEYS_MAX))
     × (cache' ≡ cache) × (session' ≡ session) × (processor' ≡ processor)

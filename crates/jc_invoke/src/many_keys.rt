@@ -10,7 +10,7 @@ ghost use Rattle.jc_model.specs.declared.event.Reply.{Reply};
 ghost use Rattle.jc_model.specs.Cache.{Bytes};
 ghost use Rattle.jc_cache.specs.Sessions.{MayCall, MayCallAt, LeavesSessions};
 ghost use Rattle.jc_cache.specs.Calls.{next_call};
-ghost use Rattle.jc_invoke.specs.ManyKeys.{InvokesEach, result_entry, result_entries, IsRefusedWhole};
+ghost use Rattle.jc_invoke.specs.ManyKeys.{InvokesEach, result_entry, result_entries, IsInvokeRefusedWhole};
 
 use indexmap::{IndexMap, IndexSet};
 use jc_batch::insert_new;
@@ -51,7 +51,7 @@ pub fn invoke_all<R: Wait>(
         × (results.entries ≡ result_entries keys.now.keys ends)) }
     ensures few { IfOk result (λ results. length keys.now.keys ≤ BULK_KEYS_MAX) }
     ensures sessions { LeavesSessions session.old cache.old cache.new }
-    ensures whole { IfErr result (λ cause. IsRefusedWhole cache.old session.old processor.old
+    ensures whole { IfErr result (λ cause. IsInvokeRefusedWhole cache.old session.old processor.old
         (length keys.now.keys) cause cache.new session.new processor.new) }
 {
     if keys.len() > BULK_KEYS_MAX {

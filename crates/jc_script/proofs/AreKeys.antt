@@ -11,7 +11,7 @@ use Rattle.jc_model.specs.Cache.{Bytes}
 use Rattle.jc_model.specs.Batches.{is_among}
 use Rattle.jc_script.specs.declared.fault.Fault.TheVariants.{BadKey, RepeatedKey}
 use Rattle.jc_script.specs.Words.{is_text, key_of, key_onto, keys_from, distinct_keys_of}
-use Rattle.jc_script.specs.Spelled.{IsKey, AreKeys}
+use Rattle.jc_script.specs.Spelled.{IsKey, AreKeyWords}
 use Rattle.jc_script.proofs.Given.{ok_then, ok_since, ok_weaker}
 use Rattle.jc_script.proofs.ReadWords.{SaysKey, key_read}
 use Rattle.jc_script.proofs.SpelledWords.{AreWords, text_word}
@@ -64,7 +64,7 @@ keys_onto before (key ∷ keys) known d =
     rw (key_taken before key (All-head IsKey key keys known) (fresh before keys key d))
     (keys_onto (before ++ (key ∷ [])) keys (All-tail IsKey key keys known) (rw shifted d) ∙ ap Ok shifted)
 
-pub keys_back : (least : ℕ) (keys : List Bytes) → AreKeys least keys → distinct_keys_of keys ≡ Ok keys
+pub keys_back : (least : ℕ) (keys : List Bytes) → AreKeyWords least keys → distinct_keys_of keys ≡ Ok keys
 keys_back least keys known = keys_onto [] keys known.1 known.2
 
 pub keys_are_words : (keys : List Bytes) → All IsKey keys → AreWords keys

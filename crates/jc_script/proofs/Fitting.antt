@@ -16,13 +16,13 @@ use Rattle.jc_world.specs.declared.event.Part.{Part}
 use Rattle.jc_world.specs.Calls.{CallState, keys_at_work, may_work, open_keys, takes_turns}
 use Rattle.jc_world.specs.declared.event.WorldEvent.TheVariants as event
 use Rattle.jc_world.specs.World.{WorldState, is_joined, open_call, part_of}
-use Rattle.jc_world.specs.Fits.{fits, is_free, may_report, may_start}
+use Rattle.jc_world.specs.Fits.{fits, is_free, may_report, may_start, waits_at}
 use Rattle.jc_world.specs.Events.{AllFit}
 use Rattle.jc_world.specs.Together.{at_call, key_at, looks, AreAt, FitTogether}
 use Rattle.jc_script.specs.declared.line.Act.{Act}
 use Rattle.jc_script.specs.declared.line.Act.TheVariants.{Read, ReadFail, Say, Apply, ApplyFail, ApplyLie, End, Drop, More, Take, Process}
 use Rattle.jc_script.specs.Words.{said_after}
-use Rattle.jc_script.specs.LineEvents.{event_at, events_of_act, is_asked, is_meant, is_started, is_time, key_events, keys_of_act, leaves, left_keys}
+use Rattle.jc_script.specs.LineEvents.{event_at, events_of_act, is_meant, is_started, is_time, key_events, keys_of_act, leaves, left_keys}
 
 -- ---- a call under way
 
@@ -111,16 +111,16 @@ asked_open p u = go (takes_turns u.kind) (open_keys u)
     go true [] h = h
     go true (key ∷ keys) h = or_more (p key) (list_any p keys) h
 
-report_fits : (w : WorldState) (call : ℕ) (u : CallState) (left : List Bytes) (fault : Option ℕ) → open_call w call ≡ Some u → list_any (is_asked w call) (keys_at_work u) ≡ true → fits w (event.Report call left fault) ≡ true
-report_fits w call u left fault here asked = ap (may_report w call) here ∙ asked_open (is_asked w call) u asked
+report_fits : (w : WorldState) (call : ℕ) (u : CallState) (left : List Bytes) (fault : Option ℕ) → open_call w call ≡ Some u → list_any (waits_at w call) (keys_at_work u) ≡ true → fits w (event.Report call left fault) ≡ true
+report_fits w call u left fault here asked = ap (may_report w call) here ∙ asked_open (waits_at w call) u asked
 
 -- the writer's changes, and its return
 writer_fit : (w : WorldState) → FitTogether w → (call : ℕ) (p : Bytes → Bool) (u : CallState) (keys left : List Bytes) (fault : Option ℕ) → ((key : Bytes) → p key ≡ true → fits w (event.Change call key) ≡ true) → open_call w call ≡ Some u
-    → keys ≡ keys_at_work u → IsDistinct (pointwise ◌==◌) keys → list_any (is_asked w call) keys ≡ true → AllFit w (map (event.Change call) (filter p keys) ++ event.Report call left fault ∷ [])
+    → keys ≡ keys_at_work u → IsDistinct (pointwise ◌==◌) keys → list_any (waits_at w call) keys ≡ true → AllFit w (map (event.Change call) (filter p keys) ++ event.Report call left fault ∷ [])
 writer_fit w together call p u keys left fault waits here is differ asked =
     together.report call (filter p keys) left fault (kept_differ p keys differ)
     (sym (all_mapped (event.Change call) (fits w) (filter p keys)) ∙ all_of_kept p (event.Change call) (fits w) waits keys)
-    (report_fits w call u left fault here (ap (list_any (is_asked w call)) (sym is) ∙ asked))
+    (report_fits w call u left fault here (ap (list_any (waits_at w call)) (sym is) ∙ asked))
 
 -- a weaker test
 all_from_more : (q : Bytes → Bool) (r : Bytes → Bool) (keys : List Bytes) → ((key : Bytes) → q key ≡ true → r key ≡ true) → list_all q keys ≡ true → list_all r keys ≡ true
@@ -218,9 +218,9 @@ act_fits w together call Read u keys here is differ time = alone_fit w together 
 act_fits w together call (ReadFail code) u keys here is differ time = alone_fit w together call (ReadFail code) keys differ (all_of_kept _ (event_at call (ReadFail code)) (fits w) (λ key h. h) keys)
 act_fits w together call (Say pairs) u keys here is differ time = alone_fit w together call (Say pairs) keys differ (all_of_kept _ (event_at call (Say pairs)) (fits w) (λ key h. and_from _ _ (said_given pairs key Nothing refl) h) keys)
 act_fits w together call (Apply left) u keys here is differ time =
-    writer_fit w together call (is_meant w call (Apply left)) u keys (left_keys w call (Apply left) keys) None (λ key h. (and_parts (is_asked w call key) (not (leaves (Apply left) key)) h).0) here is differ time
+    writer_fit w together call (is_meant w call (Apply left)) u keys (left_keys w call (Apply left) keys) None (λ key h. (and_parts (waits_at w call key) (not (leaves (Apply left) key)) h).0) here is differ time
 act_fits w together call (ApplyFail code left) u keys here is differ time =
-    writer_fit w together call (is_meant w call (ApplyFail code left)) u keys (left_keys w call (ApplyFail code left) keys) (Some code) (λ key h. (and_parts (is_asked w call key) (not (leaves (ApplyFail code left) key)) h).0) here is differ time
+    writer_fit w together call (is_meant w call (ApplyFail code left)) u keys (left_keys w call (ApplyFail code left) keys) (Some code) (λ key h. (and_parts (waits_at w call key) (not (leaves (ApplyFail code left) key)) h).0) here is differ time
 act_fits w together call (ApplyLie code) u keys here is differ time = writer_fit w together call (is_meant w call (ApplyLie code)) u keys (left_keys w call (ApplyLie code) keys) (Some code) (λ key h. h) here is differ time
 act_fits w together call End u keys here is differ time = alone_fit w together call End keys differ (and_parts _ _ time).1
 act_fits w together call Drop u keys here is differ time =

@@ -7,7 +7,7 @@ pub mod SpelledPairs
 pub mod SpelledLines
 pub mod Given
 pub mod ReadWords
-pub mod AreKeys
+pub mod AreKeyWords
 pub mod AreDistinctPairs
 pub mod ReadProcess
 pub mod ReadLines

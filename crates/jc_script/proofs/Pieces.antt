@@ -6,7 +6,7 @@ use Rattle.std.proofs.lemmas.List.Splits.{slice_split_first}
 use Rattle.std.proofs.lemmas.List.Sums.{position_or_len_is}
 use Rattle.memchr.specs.Find.{IsFirstByte}
 use Rattle.std.specs.List.{onto_first, position, position_or_len}
-use Rattle.jc_script.specs.Transcript.{pieces_of, State, Prints, Transcript, IsTranscript, fault_of}
+use Rattle.jc_script.specs.Transcript.{pieces_of, OpenedWorld, Prints, Transcript, IsTranscript, fault_of}
 use Rattle.jc_script.specs.declared.fault.Fault.{Fault}
 use Rattle.jc_script.specs.declared.run.RunEnd.{RunEnd}
 use Rattle.jc_script.specs.declared.run.RunEnd.TheVariants.{Clean, LineFault}
@@ -77,25 +77,25 @@ pieces_some (b ∷ bs) = first_of (is_feed b) b (pieces_of bs)
 
 -- ---- a transcript from its first line on
 
-pub at_fault : (old : State) (n : ℕ) (line after : List ℕ) (pieces : List (List ℕ)) (f : Fault) → pieces ≡ line ∷ pieces_of after → fault_of old line ≡ Some f → Transcript old n pieces (fault_line n f) (LineFault n)
+pub at_fault : (old : OpenedWorld) (n : ℕ) (line after : List ℕ) (pieces : List (List ℕ)) (f : Fault) → pieces ≡ line ∷ pieces_of after → fault_of old line ≡ Some f → Transcript old n pieces (fault_line n f) (LineFault n)
 at_fault old n line after pieces f e h =
     let s = pieces_some after in
     rw (e, s.2) (inr (f, h, refl, refl))
 
-pub at_line : (old new : State) (n : ℕ) (line after : List ℕ) (pieces : List (List ℕ)) (text rest : List ℕ) (end : RunEnd) → pieces ≡ line ∷ pieces_of after → Prints old line text new → Transcript new (n + 1) (pieces_of after) rest end → Transcript old n pieces (text ++ rest) end
+pub at_line : (old new : OpenedWorld) (n : ℕ) (line after : List ℕ) (pieces : List (List ℕ)) (text rest : List ℕ) (end : RunEnd) → pieces ≡ line ∷ pieces_of after → Prints old line text new → Transcript new (n + 1) (pieces_of after) rest end → Transcript old n pieces (text ++ rest) end
 at_line old new n line after pieces text rest end e h t =
     let s = pieces_some after in
     rw (e, s.2) (inl (text, rest, new, h, rw s.2 at t, refl))
 
 -- what completes the rest after a line completes the rest before it
-pub after_line : (input rest : List ℕ) (old new : State) (n : ℕ) (line after before text printed : List ℕ)
+pub after_line : (input rest : List ℕ) (old new : OpenedWorld) (n : ℕ) (line after before text printed : List ℕ)
     → ((out : List ℕ) (end : RunEnd) → Transcript old n (pieces_of rest) out end → IsTranscript input (before ++ out) end)
     → pieces_of rest ≡ line ∷ pieces_of after → Prints old line text new → printed ≡ before ++ text
     → (out : List ℕ) (end : RunEnd) → Transcript new (n + 1) (pieces_of after) out end → IsTranscript input (printed ++ out) end
 after_line input rest old new n line after before text printed completes cut prints e out end more =
     rw (e, append_assoc before text out) (completes (text ++ out) end (at_line old new n line after (pieces_of rest) text out end cut prints more))
 
-pub at_end : (old : State) (n : ℕ) (rest : List ℕ) → length rest ≡ 0 → Transcript old n (pieces_of rest) [] Clean
+pub at_end : (old : OpenedWorld) (n : ℕ) (rest : List ℕ) → length rest ≡ 0 → Transcript old n (pieces_of rest) [] Clean
 at_end old n [] e = (refl, refl)
 at_end old n (b ∷ bs) e = absurd (omega arith)
 

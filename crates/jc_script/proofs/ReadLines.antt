@@ -31,7 +31,7 @@ use Rattle.jc_script.specs.declared.line.Line.TheVariants.{OfCall}
 use Rattle.jc_script.specs.Printing.{value_text}
 use Rattle.jc_script.specs.Words.{◌>>=◌, words_of, number_of, caller_of, key_of, value_of, value_or_none_of, pairs_of, distinct_pairs_of, distinct_keys_of}
 use Rattle.jc_script.specs.Lines.{form_named, line_named, flags_of, takes_words, bare_op, valued_op, bare_of, valued_of, value_alone_of, replace_if_of, begin_with, bulk_named, bulk_takes, bulk_of, bulk_with, has_but_shape, left_of, apply_of, apply_fail_of, command_of, open_of, set_of, begin_of, number_alone, lone_act, coded_act, coded_of, process_of, say_of, foreign_of, line_of, are_words, parsed, is_plain, is_comment, some_line, read_line}
-use Rattle.jc_script.specs.Spelled.{IsNumber, IsSession, session_text, IsValue, IsKey, AreKeys, AreLeft, HasKeys, IsOperation, SaysWords, IsSpellable, LinesAreSpelled, spelling, line_words, operation_words, bulk_words, left_words, pair_text, flag_words}
+use Rattle.jc_script.specs.Spelled.{IsNumber, IsSession, session_text, IsValue, IsKey, AreKeyWords, AreLeftKeys, HasKeys, IsOperation, SaysWords, IsSpellable, LinesAreSpelled, spelling, line_words, operation_words, bulk_words, left_words, pair_text, flag_words}
 use Rattle.jc_script.specs.ProcessWords.{without_load, has_process_shape, source_of, calls_of, source_words}
 use Rattle.jc_script.proofs.ReadProcess.{SaysSource, source_read, SaysCalls, calls_read}
 use Rattle.jc_script.proofs.Given.{ok_bind, ok_then, ok_if, ok_unless, ok_since, ok_named, ok_weaker}
@@ -176,7 +176,7 @@ operation_read call session form words (Ok command) n s h =
 abbrev SaysBulk : BulkName → List (List ℕ) → BulkCall → Type 0
 SaysBulk n words bulk = HasKeys bulk × (form_word (form.Bulk n) ∷ words ≡ bulk_words bulk)
 
-some_keys : (words keys : List (List ℕ)) → nat_lt 0 (length words) ≡ true → SaysKeys words keys → AreKeys 1 keys
+some_keys : (words keys : List (List ℕ)) → nat_lt 0 (length words) ≡ true → SaysKeys words keys → AreKeyWords 1 keys
 some_keys words keys shaped h =
     let some : 1 ≤ length words = ltb-true 0 (length words) shaped in
     (rw h.1 at some, h.0, h.2)
@@ -299,7 +299,7 @@ coded_read act (n ∷ words) =
     ok_then (number_alone words) _ (λ n. IsNumber n × (words ≡ decimal n ∷ [])) P (number_alone_read words) (λ code b. rw (a.1, b.1) (coded_says act call code a.0 b.0))))
 
 abbrev SaysLeft : ℕ → List (List ℕ) → Option (List Bytes) → Type 0
-SaysLeft least words left = AreLeft least left × (words ≡ left_words left)
+SaysLeft least words left = AreLeftKeys least left × (words ≡ left_words left)
 
 left_read : (least : ℕ) (words : List (List ℕ)) → has_but_shape least words ≡ true → IfOk (left_of words) (SaysLeft least words)
 left_read least [] shaped = (tt, refl)

@@ -16,7 +16,7 @@ use Rattle.jc_world.specs.declared.process.LoadSource.TheVariants.{Store, Stated
 use Rattle.jc_script.specs.declared.fault.Fault.{Fault}
 use Rattle.jc_script.specs.Words.{◌>>=◌, number_of, value_of, value_or_none_of}
 use Rattle.jc_script.specs.ProcessWords.{Calls, begins_with, is_call, is_fail, are_calls_from, without_load, source_of, call_of, calls_from, calls_of, source_words, call_text, fail_words}
-use Rattle.jc_script.specs.Spelled.{IsSource, IsEntryCall, IsCode}
+use Rattle.jc_script.specs.Spelled.{IsSource, IsEntryCall, IsOptionalCode}
 use Rattle.jc_script.proofs.Given.{ok_then, ok_weaker}
 use Rattle.jc_script.proofs.ReadWords.{SaysNumber, number_read, SaysValue, value_read, SaysValueOrNone, value_or_none_read}
 
@@ -66,7 +66,7 @@ call_read w e =
     by false false false false x y z t e = cc
 
 abbrev SaysMore : List EntryCall → List (List ℕ) → Calls → Type 0
-SaysMore before ws all = (calls : List EntryCall) × All IsEntryCall calls × (all.0 ≡ before ++ calls) × IsCode all.1 × (ws ≡ map call_text calls ++ fail_words all.1)
+SaysMore before ws all = (calls : List EntryCall) × All IsEntryCall calls × (all.0 ≡ before ++ calls) × IsOptionalCode all.1 × (ws ≡ map call_text calls ++ fail_words all.1)
 
 -- nothing follows the code
 last_word : (ws : List (List ℕ)) → are_calls_from true ws ≡ true → ws ≡ []
@@ -119,7 +119,7 @@ calls_onto_read before (w ∷ ws) e =
     more_read before w ws (is_fail w) (begun_word (codes "fail=") w) both.0 both.1 (λ call rest. calls_onto_read (before ++ (call ∷ [])) ws rest)
 
 abbrev pub SaysCalls : List (List ℕ) → Calls → Type 0
-SaysCalls ws all = All IsEntryCall all.0 × IsCode all.1 × (ws ≡ map call_text all.0 ++ fail_words all.1)
+SaysCalls ws all = All IsEntryCall all.0 × IsOptionalCode all.1 × (ws ≡ map call_text all.0 ++ fail_words all.1)
 
 pub calls_read : (ws : List (List ℕ)) → are_calls_from false ws ≡ true → IfOk (calls_of ws) (SaysCalls ws)
 calls_read ws e =

@@ -29,7 +29,7 @@ use Rattle.jc_script.specs.ProcessWords.{source_words, call_text, fail_words}
 use Rattle.jc_script.specs.Words.{◌>>=◌, Pairs}
 use Rattle.jc_script.specs.Lines.{form_named, flags_of, takes_words, bare_op, valued_op, bare_of, valued_of, replace_if_of, begin_with, bulk_with, has_but_shape, left_of, apply_of, apply_fail_of, command_of, open_of, set_of, begin_of, lone_act, lone_of, coded_act, coded_of, say_of, foreign_of, read_line}
 use Rattle.jc_script.specs.Printing.{value_text, value_or_none_text}
-use Rattle.jc_script.specs.Spelled.{IsNumber, IsSession, IsKey, IsValue, IsValueOrNone, IsPair, AreLeft, HasKeys, IsOperation, IsAct, LinesReadBack, spelling, session_text, pair_text, flag_words, operation_words, bulk_words, left_words}
+use Rattle.jc_script.specs.Spelled.{IsNumber, IsSession, IsKey, IsValue, IsValueOrNone, IsPair, AreLeftKeys, HasKeys, IsOperation, IsAct, LinesReadBack, spelling, session_text, pair_text, flag_words, operation_words, bulk_words, left_words}
 use Rattle.jc_script.proofs.AreKeys.{key_back, keys_back, keys_are_words}
 use Rattle.jc_script.proofs.AreDistinctPairs.{distinct_pairs_back}
 use Rattle.jc_script.proofs.SpelledPairs.{pairs_back, pairs_are_words}
@@ -154,23 +154,23 @@ coded_back : (act : Coded) (call code : ℕ) → IsNumber call → IsNumber code
 unfolding coded_of
 coded_back act call code n c = rw (number_back call n, number_back code c) refl
 
-left_are_words : (least : ℕ) (left : Option (List Bytes)) → AreLeft least left → AreWords (left_words left)
+left_are_words : (least : ℕ) (left : Option (List Bytes)) → AreLeftKeys least left → AreWords (left_words left)
 left_are_words least None known = refl
 left_are_words least (Some left) known = keys_are_words left known.1
 
-left_shape : (least : ℕ) (left : Option (List Bytes)) → AreLeft least left → has_but_shape least (left_words left) ≡ true
+left_shape : (least : ℕ) (left : Option (List Bytes)) → AreLeftKeys least left → has_but_shape least (left_words left) ≡ true
 left_shape least None known = refl
 left_shape least (Some left) known = le-leb least (length left) known.0
 
-left_back : (least : ℕ) (left : Option (List Bytes)) → AreLeft least left → left_of (left_words left) ≡ Ok left
+left_back : (least : ℕ) (left : Option (List Bytes)) → AreLeftKeys least left → left_of (left_words left) ≡ Ok left
 left_back least None known = refl
 left_back least (Some left) known = ap (λ r. r >>= λ keys. Ok (Some keys)) (keys_back least left known)
 
-apply_back : (call : ℕ) (left : Option (List Bytes)) → IsNumber call → AreLeft 1 left → apply_of (decimal call ∷ left_words left) ≡ Ok (OfCall call (Apply left))
+apply_back : (call : ℕ) (left : Option (List Bytes)) → IsNumber call → AreLeftKeys 1 left → apply_of (decimal call ∷ left_words left) ≡ Ok (OfCall call (Apply left))
 unfolding apply_of
 apply_back call left n known = rw (left_shape 1 left known) (rw (number_back call n, left_back 1 left known) refl)
 
-apply_fail_back : (call code : ℕ) (left : Option (List Bytes)) → IsNumber call → IsNumber code → AreLeft 0 left
+apply_fail_back : (call code : ℕ) (left : Option (List Bytes)) → IsNumber call → IsNumber code → AreLeftKeys 0 left
     → apply_fail_of (decimal call ∷ decimal code ∷ left_words left) ≡ Ok (OfCall call (ApplyFail code left))
 unfolding apply_fail_of
 apply_fail_back call code left n c known =

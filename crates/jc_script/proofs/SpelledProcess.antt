@@ -17,7 +17,7 @@ use Rattle.jc_script.specs.declared.line.Act.TheVariants.{Process}
 use Rattle.jc_script.specs.ProcessWords.{are_calls_from, without_load, source_of, calls_from, source_words, call_text, fail_words}
 use Rattle.jc_script.specs.Lines.{process_of}
 use Rattle.jc_script.specs.Printing.{value_text, value_or_none_text}
-use Rattle.jc_script.specs.Spelled.{IsNumber, IsSource, IsEntryCall, IsCode}
+use Rattle.jc_script.specs.Spelled.{IsNumber, IsSource, IsEntryCall, IsOptionalCode}
 use Rattle.jc_script.proofs.Spelling.{number_back, value_back}
 use Rattle.jc_script.proofs.SpelledValues.{value_or_none_back}
 use Rattle.jc_script.proofs.SpelledWords.{AreWords, is_mark, is_word, word_marks, number_word, value_word, value_or_none_word}
@@ -51,11 +51,11 @@ calls_are_words : (calls : List EntryCall) → All IsEntryCall calls → AreWord
 calls_are_words [] known = refl
 calls_are_words (call ∷ calls) known = and_from _ _ (call_is_word call (All-head IsEntryCall call calls known)) (calls_are_words calls (All-tail IsEntryCall call calls known))
 
-fail_are_words : (fail : Option ℕ) → IsCode fail → AreWords (fail_words fail)
+fail_are_words : (fail : Option ℕ) → IsOptionalCode fail → AreWords (fail_words fail)
 fail_are_words None known = refl
 fail_are_words (Some code) known = and_from _ _ (after (codes "fail=") (decimal code) refl (word_marks (decimal code) (number_word code known))) refl
 
-pub process_words : (source : LoadSource) (calls : List EntryCall) (fail : Option ℕ) → IsSource source → All IsEntryCall calls → IsCode fail → AreWords ((source_words source ++ (map call_text calls ++ fail_words fail)))
+pub process_words : (source : LoadSource) (calls : List EntryCall) (fail : Option ℕ) → IsSource source → All IsEntryCall calls → IsOptionalCode fail → AreWords ((source_words source ++ (map call_text calls ++ fail_words fail)))
 process_words source calls fail s c f =
     list_all-append is_word (source_words source) (rest_words calls fail)
     ∙ and_from _ _ (source_are_words source s) (list_all-append is_word (map call_text calls) (fail_words fail) ∙ and_from _ _ (calls_are_words calls c) (fail_are_words fail f))
@@ -90,7 +90,7 @@ source_back Store (entry.Exists ∷ calls) fail known = refl
 source_back Store (entry.Remove ∷ calls) fail known = refl
 source_back Store ((entry.SetValue value) ∷ calls) fail known = refl
 
-calls_back : (before calls : List EntryCall) (fail : Option ℕ) → All IsEntryCall calls → IsCode fail → calls_from before None (rest_words calls fail) ≡ Ok (before ++ calls, fail)
+calls_back : (before calls : List EntryCall) (fail : Option ℕ) → All IsEntryCall calls → IsOptionalCode fail → calls_from before None (rest_words calls fail) ≡ Ok (before ++ calls, fail)
 calls_back before [] None known code_is = ap (λ cs. Ok (cs, None)) (sym (append-nil before))
 calls_back before [] (Some code) known code_is = rw (number_back code code_is) (ap (λ cs. Ok (cs, Some code)) (sym (append-nil before)))
 calls_back before (entry.GetValue ∷ calls) fail known code_is = calls_back (before ++ entry.GetValue ∷ []) calls fail (All-tail IsEntryCall entry.GetValue calls known) code_is ∙ ap (λ cs. Ok (cs, fail)) (append_assoc before (entry.GetValue ∷ []) calls)
@@ -101,7 +101,7 @@ calls_back before (entry.SetValue value ∷ calls) fail known code_is =
     rw (value_back value (All-head IsEntryCall call calls known))
     (calls_back (before ++ call ∷ []) calls fail (All-tail IsEntryCall call calls known) code_is ∙ ap (λ cs. Ok (cs, fail)) (append_assoc before (call ∷ []) calls))
 
-pub process_back : (call : ℕ) (source : LoadSource) (calls : List EntryCall) (fail : Option ℕ) → IsNumber call → IsSource source → All IsEntryCall calls → IsCode fail
+pub process_back : (call : ℕ) (source : LoadSource) (calls : List EntryCall) (fail : Option ℕ) → IsNumber call → IsSource source → All IsEntryCall calls → IsOptionalCode fail
     → process_of (decimal call ∷ (source_words source ++ (map call_text calls ++ fail_words fail))) ≡ Ok (OfCall call (Process source calls fail))
 unfolding process_of
 process_back call source calls fail n s c f =

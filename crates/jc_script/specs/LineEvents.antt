@@ -4,7 +4,6 @@
 --     is_drop         an act gives its call up
 --     keys_of_act     the keys of a call that an act may be about: those at which the call works; of an act that gives the call up all
 --                     open ones
---     is_asked        the writer was asked for a key by a call, and hasn't returned
 --     is_started      a call has reserved a key
 --     is_listed       a key is among those after `but`, if `but` is there
 --     is_left_failing     a writer that fails leaves a key: one that is listed, and every key if there is no list
@@ -27,7 +26,7 @@
 --     is_time_for     the same, of an act of a call under way
 --     has_but         an act names keys that the writer leaves
 --     allows_but      a call whose writer may leave some of its keys and not others: one that takes its keys all at once
---     load_fault      the code with which an act says that the loader fails
+--     load_code      the code with which an act says that the loader fails
 use Rattle.std.specs.Prelude.{◌&&◌, ℕ, List, [], ◌∷◌, ◌++◌, filter, map, Bool, true, false, not, Option, None, Some, is_some, if◌then◌else◌}
 use Rattle.std.specs.List.{list_all, list_any}
 use Rattle.jc_model.specs.Cache.{Bytes}
@@ -39,8 +38,8 @@ use Rattle.jc_model.specs.Batches.{is_among}
 use Rattle.jc_world.specs.Calls.{CallState, keys_at_work, open_keys, takes_turns}
 use Rattle.jc_world.specs.declared.event.WorldEvent.{WorldEvent}
 use Rattle.jc_world.specs.declared.event.WorldEvent.TheVariants as event
-use Rattle.jc_world.specs.World.{WorldState, has_progress, is_joined, part_of, waits_for_load, waits_for_process, waits_for_report}
-use Rattle.jc_world.specs.Fits.{fits}
+use Rattle.jc_world.specs.World.{WorldState, has_progress, is_joined, part_of, waits_for_load, waits_for_process}
+use Rattle.jc_world.specs.Fits.{fits, waits_at}
 use Rattle.jc_script.specs.declared.line.BulkCall.{BulkCall}
 use Rattle.jc_script.specs.declared.line.BulkCall.TheVariants as bulk
 use Rattle.jc_script.specs.declared.line.Act.{Act}
@@ -78,10 +77,6 @@ is_drop (Process source calls fail) = false
 abbrev pub keys_of_act : Act → CallState → List Bytes
 keys_of_act act u = if is_drop act then open_keys u else keys_at_work u
 
--- the writer was asked, and hasn't returned
-abbrev pub is_asked : WorldState → ℕ → Bytes → Bool
-is_asked w call key = has_progress waits_for_report (part_of w call key)
-
 abbrev pub is_started : WorldState → ℕ → Bytes → Bool
 is_started w call key = is_some (part_of w call key)
 
@@ -110,7 +105,7 @@ leaves Take key = false
 leaves (Process source calls fail) key = false
 
 abbrev pub is_changed : WorldState → ℕ → Act → Bytes → Bool
-is_changed w call act key = is_asked w call key && not (leaves act key)
+is_changed w call act key = waits_at w call key && not (leaves act key)
 
 abbrev pub is_meant : WorldState → ℕ → Act → Bytes → Bool
 is_meant w call Read key = has_progress waits_for_load (part_of w call key)
@@ -118,7 +113,7 @@ is_meant w call (ReadFail code) key = has_progress waits_for_load (part_of w cal
 is_meant w call (Say pairs) key = has_progress waits_for_load (part_of w call key)
 is_meant w call (Apply left) key = is_changed w call (Apply left) key
 is_meant w call (ApplyFail code left) key = is_changed w call (ApplyFail code left) key
-is_meant w call (ApplyLie code) key = is_asked w call key
+is_meant w call (ApplyLie code) key = waits_at w call key
 is_meant w call End key = is_started w call key
 is_meant w call Drop key = is_started w call key
 is_meant w call More key = true
@@ -148,7 +143,7 @@ start_events w number None = []
 start_events w number (Some u) = key_events w number More (keys_at_work u)
 
 abbrev pub is_left : WorldState → ℕ → Act → Bytes → Bool
-is_left w call act key = is_asked w call key && leaves act key
+is_left w call act key = waits_at w call key && leaves act key
 
 abbrev pub left_keys : WorldState → ℕ → Act → List Bytes → List Bytes
 left_keys w call act keys = filter (is_left w call act) keys
@@ -183,9 +178,9 @@ abbrev pub is_time : WorldState → ℕ → Act → List Bytes → List WorldEve
 is_time w call Read keys events = is_about_one events
 is_time w call (ReadFail code) keys events = is_about_one events
 is_time w call (Say pairs) keys events = is_about_one events
-is_time w call (Apply left) keys events = list_any (is_asked w call) keys
-is_time w call (ApplyFail code left) keys events = list_any (is_asked w call) keys
-is_time w call (ApplyLie code) keys events = list_any (is_asked w call) keys
+is_time w call (Apply left) keys events = list_any (waits_at w call) keys
+is_time w call (ApplyFail code left) keys events = list_any (waits_at w call) keys
+is_time w call (ApplyLie code) keys events = list_any (waits_at w call) keys
 is_time w call End keys events = is_about_one events && list_all (fits w) events
 is_time w call Drop keys events = list_all (fits w) events && not (list_any (is_joined w call) keys)
 is_time w call More keys events = is_about_one events && list_all (fits w) events
@@ -215,15 +210,15 @@ abbrev pub allows_but : CallState → Bool
 allows_but u = not (takes_turns u.kind)
 
 -- at all keys that the loader was asked for
-abbrev pub load_fault : Act → Option ℕ
-load_fault Read = None
-load_fault (ReadFail code) = Some code
-load_fault (Say pairs) = None
-load_fault (Apply left) = None
-load_fault (ApplyFail code left) = None
-load_fault (ApplyLie code) = None
-load_fault End = None
-load_fault Drop = None
-load_fault More = None
-load_fault Take = None
-load_fault (Process source calls fail) = None
+abbrev pub load_code : Act → Option ℕ
+load_code Read = None
+load_code (ReadFail code) = Some code
+load_code (Say pairs) = None
+load_code (Apply left) = None
+load_code (ApplyFail code left) = None
+load_code (ApplyLie code) = None
+load_code End = None
+load_code Drop = None
+load_code More = None
+load_code Take = None
+load_code (Process source calls fail) = None

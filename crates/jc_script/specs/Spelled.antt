@@ -13,11 +13,11 @@
 --     act_words                  what happens next to a call
 --     line_words                 the words of what a line asks for
 --     spelling                   the line itself: its words, separated by single spaces
---     IsSource, IsEntryCall, IsCode     how a processor's loader answers; a call of a processor, and its value; a code, or none
+--     IsSource, IsEntryCall, IsOptionalCode     how a processor's loader answers; a call of a processor, and its value; a code, or none
 --     IsOperation, IsAct         an operation that has a name, and its values; an act, and its code or its pairs
---     AreKeys                    at least so many keys, and none twice
+--     AreKeyWords                    at least so many keys, and none twice
 --     AreDistinctPairs           the pairs of a call of many keys: at least one, and no key twice
---     AreLeft                    the keys that the writer leaves, at least so many, if they are named
+--     AreLeftKeys                    the keys that the writer leaves, at least so many, if they are named
 --     HasKeys                    the keys or the pairs of a call of many keys
 --     SaysWords                  what a line asks for consists of what words can say
 --     IsSpellable                that, and the line isn't too long
@@ -181,42 +181,42 @@ IsEntryCall entry.Exists = Unit {0}
 IsEntryCall entry.Remove = Unit {0}
 IsEntryCall (entry.SetValue value) = IsValue value
 
-abbrev pub IsCode : Option ℕ → Type 0
-IsCode None = Unit {0}
-IsCode (Some code) = IsNumber code
+abbrev pub IsOptionalCode : Option ℕ → Type 0
+IsOptionalCode None = Unit {0}
+IsOptionalCode (Some code) = IsNumber code
 
 -- at least so many, and each of them once
-abbrev pub AreKeys : ℕ → List Bytes → Type 0
-AreKeys least keys = (least ≤ length keys) × All IsKey keys × IsDistinct (pointwise ◌==◌) keys
+abbrev pub AreKeyWords : ℕ → List Bytes → Type 0
+AreKeyWords least keys = (least ≤ length keys) × All IsKey keys × IsDistinct (pointwise ◌==◌) keys
 
 -- at least one, and each key once
 abbrev pub AreDistinctPairs : List (Bytes × Bytes) → Type 0
 AreDistinctPairs pairs = (1 ≤ length pairs) × All IsPair pairs × IsDistinct (pointwise ◌==◌) (map (λ pair. pair.0) pairs)
 
-abbrev pub AreLeft : ℕ → Option (List Bytes) → Type 0
-AreLeft least None = Unit {0}
-AreLeft least (Some left) = AreKeys least left
+abbrev pub AreLeftKeys : ℕ → Option (List Bytes) → Type 0
+AreLeftKeys least None = Unit {0}
+AreLeftKeys least (Some left) = AreKeyWords least left
 
 abbrev pub IsAct : Act → Type 0
 IsAct Read = Unit {0}
 IsAct (ReadFail code) = IsNumber code
 IsAct (Say pairs) = All IsPair pairs
-IsAct (Apply left) = AreLeft 1 left
-IsAct (ApplyFail code left) = IsNumber code × AreLeft 0 left
+IsAct (Apply left) = AreLeftKeys 1 left
+IsAct (ApplyFail code left) = IsNumber code × AreLeftKeys 0 left
 IsAct (ApplyLie code) = IsNumber code
 IsAct End = Unit {0}
 IsAct Drop = Unit {0}
 IsAct More = Unit {0}
 IsAct Take = Unit {0}
-IsAct (Process source calls fail) = IsSource source × All IsEntryCall calls × IsCode fail
+IsAct (Process source calls fail) = IsSource source × All IsEntryCall calls × IsOptionalCode fail
 
 abbrev pub HasKeys : BulkCall → Type 0
-HasKeys (bulk.GetAll keys) = AreKeys 1 keys
+HasKeys (bulk.GetAll keys) = AreKeyWords 1 keys
 HasKeys (bulk.PutAll pairs) = AreDistinctPairs pairs
-HasKeys (bulk.RemoveAll keys) = AreKeys 1 keys
+HasKeys (bulk.RemoveAll keys) = AreKeyWords 1 keys
 HasKeys bulk.RemoveEvery = Unit {0}
 HasKeys bulk.Clear = Unit {0}
-HasKeys (bulk.InvokeAll keys) = AreKeys 1 keys
+HasKeys (bulk.InvokeAll keys) = AreKeyWords 1 keys
 
 abbrev pub SaysWords : Line → Type 0
 SaysWords (Open config) = IsNumber config.stripes × IsNumber config.capacity × IsNumber config.history

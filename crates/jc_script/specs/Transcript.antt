@@ -1,6 +1,6 @@
 -- The transcript of a script, as a relation, since the world may choose.
---     State                    a world, once it was opened
---     state_of                 the same, from what a `World` is to its callers
+--     OpenedWorld                    a world, once it was opened
+--     opened_world                 the same, from what a `World` is to its callers
 --     PlaysEvents              the world may take these events, each of them fits when it comes, and this is printed of them
 --     PlaysCall                the same of the events of a call, with the fault that its line says after them
 --     PlaysBegin               the same of a call that begins: its begin, with its looks at the stripes, and then its first phases
@@ -41,16 +41,16 @@ use Rattle.jc_script.specs.declared.run.RunEnd.{RunEnd}
 use Rattle.jc_script.specs.declared.run.RunEnd.TheVariants.{Clean, LineFault}
 use Rattle.jc_script.specs.Lines.{read_line}
 use Rattle.jc_script.specs.Faults.{state_fault}
-use Rattle.jc_script.specs.LineEvents.{single, bulk_call, start_events, events_of_act, keys_of_act, load_fault}
+use Rattle.jc_script.specs.LineEvents.{single, bulk_call, start_events, events_of_act, keys_of_act, load_code}
 use Rattle.jc_script.specs.Printing.{texts, fails_text, audit_text, fault_line}
 
 -- a world, once it was opened
-abbrev pub State : Type 0
-State = Option WorldState
+abbrev pub OpenedWorld : Type 0
+OpenedWorld = Option WorldState
 
-abbrev pub state_of : Option PlayedWorld → State
-state_of None = None
-state_of (Some played) = Some played.world
+abbrev pub opened_world : Option PlayedWorld → OpenedWorld
+opened_world None = None
+opened_world (Some played) = Some played.world
 
 -- 1. What a line prints, and what it leaves.
 
@@ -61,7 +61,7 @@ pub record PlaysEvents (w : WorldState) (events : List WorldEvent) (text : List 
   pub text_is : text ≡ texts events seen
 
 -- after what its events show a line says its fault
-pub record PlaysCall (w : WorldState) (number : ℕ) (events : List WorldEvent) (fault : Option ℕ) (text : List ℕ) (new : State) : Type 0 where
+pub record PlaysCall (w : WorldState) (number : ℕ) (events : List WorldEvent) (fault : Option ℕ) (text : List ℕ) (new : OpenedWorld) : Type 0 where
   pub shown : List ℕ
   pub after : WorldState
   pub plays : PlaysEvents w events shown after
@@ -69,7 +69,7 @@ pub record PlaysCall (w : WorldState) (number : ℕ) (events : List WorldEvent) 
   pub new_is : new ≡ Some after
 
 -- which keys a call that takes the cached ones starts depends on what its looks have found
-pub record PlaysBegin (w : WorldState) (number session : ℕ) (command : Command) (text : List ℕ) (new : State) : Type 0 where
+pub record PlaysBegin (w : WorldState) (number session : ℕ) (command : Command) (text : List ℕ) (new : OpenedWorld) : Type 0 where
   pub opening : List ℕ
   pub begun : WorldState
   pub started : List ℕ
@@ -79,18 +79,18 @@ pub record PlaysBegin (w : WorldState) (number session : ℕ) (command : Command
   pub text_is : text ≡ opening ++ started
   pub new_is : new ≡ Some after
 
-abbrev pub PlaysBulk : WorldState → ℕ → ℕ → BulkCall → List ℕ → State → Type 0
+abbrev pub PlaysBulk : WorldState → ℕ → ℕ → BulkCall → List ℕ → OpenedWorld → Type 0
 PlaysBulk w number session call text new =
     (command : Command) × (bulk_call command ≡ Some call)
     × PlaysBegin w number session command text new
 
 -- a failed load is said once
-abbrev pub PlaysAct : WorldState → ℕ → Act → Option CallState → List ℕ → State → Type 0
+abbrev pub PlaysAct : WorldState → ℕ → Act → Option CallState → List ℕ → OpenedWorld → Type 0
 PlaysAct w number act None text new = ⊥
 PlaysAct w number act (Some u) text new =
-    PlaysCall w number (events_of_act w number act (keys_of_act act u)) (load_fault act) text new
+    PlaysCall w number (events_of_act w number act (keys_of_act act u)) (load_code act) text new
 
-abbrev pub PlaysForeign : WorldState → Bytes → Option Bytes → List ℕ → State → Type 0
+abbrev pub PlaysForeign : WorldState → Bytes → Option Bytes → List ℕ → OpenedWorld → Type 0
 PlaysForeign w key value text None = ⊥
 PlaysForeign w key value text (Some after) = PlaysEvents w (event.Foreign key value ∷ []) text after
 
@@ -106,7 +106,7 @@ pub record Audited (w : WorldState) (text : List ℕ) : Type 0 where
   pub is_coherent : all_hold w ≡ true → keys ≡ []
   pub text_is : text ≡ audit_text cached stored keys events legal
 
-abbrev pub Plays : State → Line → List ℕ → State → Type 0
+abbrev pub Plays : OpenedWorld → Line → List ℕ → OpenedWorld → Type 0
 Plays None (Open config) text new = (text ≡ codes "open\n") × (new ≡ Some (start config))
 Plays (Some w) (Set key value) text new = (text ≡ []) × (new ≡ Some (with_stored w key value))
 Plays (Some w) (Begin number session operation) text new = PlaysBegin w number session (single operation) text new
@@ -123,26 +123,26 @@ Plays None Audit text new = ⊥
 Plays (Some w) (Open config) text new = ⊥
 
 -- printed at the end of what is there already
-abbrev pub PlaysLine : State → Line → Option Fault → List ℕ → List ℕ → State → Type 0
+abbrev pub PlaysLine : OpenedWorld → Line → Option Fault → List ℕ → List ℕ → OpenedWorld → Type 0
 PlaysLine old line None before after new =
     (state_fault old line ≡ None) × ((text : List ℕ) × Plays old line text new × (after ≡ before ++ text))
 PlaysLine old line (Some fault) before after new = (state_fault old line ≡ Some fault) × (after ≡ before)
 
 -- a comment prints nothing and changes nothing; other lines are played if they have no fault
-abbrev pub PlaysRead : State → Result (Option Line) Fault → List ℕ → State → Type 0
+abbrev pub PlaysRead : OpenedWorld → Result (Option Line) Fault → List ℕ → OpenedWorld → Type 0
 PlaysRead old (Ok None) text new = (text ≡ []) × (new ≡ old)
 PlaysRead old (Ok (Some line)) text new = (state_fault old line ≡ None) × Plays old line text new
 PlaysRead old (Err fault) text new = ⊥
 
-abbrev pub fault_read : State → Result (Option Line) Fault → Option Fault
+abbrev pub fault_read : OpenedWorld → Result (Option Line) Fault → Option Fault
 fault_read old (Ok None) = None
 fault_read old (Ok (Some line)) = state_fault old line
 fault_read old (Err fault) = Some fault
 
-abbrev pub Prints : State → List ℕ → List ℕ → State → Type 0
+abbrev pub Prints : OpenedWorld → List ℕ → List ℕ → OpenedWorld → Type 0
 Prints old line text new = PlaysRead old (read_line line) text new
 
-abbrev pub fault_of : State → List ℕ → Option Fault
+abbrev pub fault_of : OpenedWorld → List ℕ → Option Fault
 fault_of old line = fault_read old (read_line line)
 
 -- 2. Whole scripts.
@@ -155,11 +155,11 @@ abbrev pub EndsScript : ℕ → List ℕ → List ℕ → RunEnd → Type 0
 EndsScript n [] out end = (out ≡ []) × (end ≡ Clean)
 EndsScript n (b ∷ bs) out end = (out ≡ fault_line n CutLine) × (end ≡ LineFault n)
 
-abbrev pub Transcript : State → ℕ → List (List ℕ) → List ℕ → RunEnd → Type 0
+abbrev pub Transcript : OpenedWorld → ℕ → List (List ℕ) → List ℕ → RunEnd → Type 0
 Transcript old n [] out end = ⊥
 Transcript old n (last ∷ []) out end = EndsScript n last out end
 Transcript old n (line ∷ next ∷ more) out end =
-    ((text : List ℕ) × (rest : List ℕ) × (new : State) × Prints old line text new × Transcript new (n + 1) (next ∷ more) rest end × (out ≡ text ++ rest))
+    ((text : List ℕ) × (rest : List ℕ) × (new : OpenedWorld) × Prints old line text new × Transcript new (n + 1) (next ∷ more) rest end × (out ≡ text ++ rest))
     ⊎ ((fault : Fault) × (fault_of old line ≡ Some fault) × (out ≡ fault_line n fault) × (end ≡ LineFault n))
 
 abbrev pub IsTranscript : List ℕ → List ℕ → RunEnd → Type 0

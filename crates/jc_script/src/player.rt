@@ -7,7 +7,7 @@ ghost use Rattle.jc_world.specs.Events.{AllFit};
 ghost use Rattle.jc_script.specs.declared.line.Line.TheVariants as lines;
 ghost use Rattle.jc_script.specs.Lines.{is_callable};
 ghost use Rattle.jc_script.specs.Faults.{config_fault};
-ghost use Rattle.jc_script.specs.Transcript.{state_of, PlaysEvents, PlaysCall, PlaysForeign, Audited, PlaysLine, Prints, fault_of};
+ghost use Rattle.jc_script.specs.Transcript.{opened_world, PlaysEvents, PlaysCall, PlaysForeign, Audited, PlaysLine, Prints, fault_of};
 
 mod acting;
 mod beginning;
@@ -70,8 +70,8 @@ impl<'a> Player<'a> {
         out: &mut Vec<u8>,
     ) -> Result<Option<Fault>, AllocError>
         ensures { IfOk result (λ r. MatchOption r
-            ((printed : List ℕ) × Prints (state_of self.old.world) text.now printed (state_of self.new.world) × (out.new.items ≡ out.old.items ++ printed))
-            (λ fault. (fault_of (state_of self.old.world) text.now ≡ Some fault) × (out.new.items ≡ out.old.items))) }
+            ((printed : List ℕ) × Prints (opened_world self.old.world) text.now printed (opened_world self.new.world) × (out.new.items ≡ out.old.items ++ printed))
+            (λ fault. (fault_of (opened_world self.old.world) text.now ≡ Some fault) × (out.new.items ≡ out.old.items))) }
     {
         match read(alloc, text, &mut self.words, &mut self.line) {
             Err(ReadError::Memory) => Err(AllocError),
@@ -102,7 +102,7 @@ fn play_line(
     out: &mut Vec<u8>,
 ) -> Result<Option<Fault>, AllocError>
     requires { is_callable line.now ≡ true }
-    ensures { IfOk result (λ r. PlaysLine (state_of world.old) line.now r out.old.items out.new.items (state_of world.new)) }
+    ensures { IfOk result (λ r. PlaysLine (opened_world world.old) line.now r out.old.items out.new.items (opened_world world.new)) }
 {
     if let Some(world) = world {
         return play_line_on(alloc, world, line, buffers, out);
@@ -163,7 +163,7 @@ fn close(world: Option<World>) {
 }
 
 fn world_of(alloc: Global, config: &Config) -> Result<World, AllocError>
-    ensures { IfOk result (λ world. state_of (Some world) ≡ Some (start config.now)) }
+    ensures { IfOk result (λ world. opened_world (Some world) ≡ Some (start config.now)) }
 {
     match World::new(alloc, config) {
         Ok(world) => Ok(world),
@@ -188,7 +188,7 @@ fn open(
     config: &Config,
     out: &mut Vec<u8>,
 ) -> Result<Option<Fault>, AllocError>
-    ensures { IfOk result (λ r. PlaysLine None (lines.Open config.now) r out.old.items out.new.items (state_of world.new)) }
+    ensures { IfOk result (λ r. PlaysLine None (lines.Open config.now) r out.old.items out.new.items (opened_world world.new)) }
 {
     if let Some(fault) = fault_of_config(config) {
         return Ok(Some(fault));

@@ -2,7 +2,7 @@
 --     LoadsFromAStore        the answer is what some store has at the key; it isn't a failure
 --     LoadsAllFromAStore     the answers are what one store has at all the keys; it isn't a failure
 --     NO_MEMORY              the code of a writer whose store finds no memory
---     report_of              what a writer answers of a change
+--     store_report              what a writer answers of a change
 --     ReportsChange          a write succeeds, or finds no memory; a delete succeeds
 --     WritesAllToAStore      a prefix of the entries is taken out: all of them, or the store finds no memory
 --     DeletesAll             it succeeds, and all keys are taken out
@@ -26,9 +26,9 @@ LoadsAllFromAStore keys answer answers = (store : Cache) × (answer ≡ Ok tt) �
 abbrev pub NO_MEMORY : ℕ
 NO_MEMORY = 999999999
 
-abbrev pub report_of : {E : Type 0} → Result (Unit {0}) E → Result (Unit {0}) ℕ
-report_of (Ok done) = Ok tt
-report_of (Err failed) = Err NO_MEMORY
+abbrev pub store_report : {E : Type 0} → Result (Unit {0}) E → Result (Unit {0}) ℕ
+store_report (Ok done) = Ok tt
+store_report (Err failed) = Err NO_MEMORY
 
 abbrev pub ReportsChange : Change → Result (Unit {0}) ℕ → Type 0
 ReportsChange (Write value) answer = (answer ≡ Ok tt) ⊎ (answer ≡ Err NO_MEMORY)

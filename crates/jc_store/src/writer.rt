@@ -1,6 +1,6 @@
 //! Writers to a shared store.
 ghost use Rattle.std.specs.Prelude.{◌≡◌};
-ghost use Rattle.jc_store.specs.Shared.{report_of};
+ghost use Rattle.jc_store.specs.Shared.{store_report};
 
 use crate::store::{NO_MEMORY, Store};
 use indexmap::{IndexMap, IndexSet};
@@ -59,7 +59,7 @@ impl<R: Wait + Drop> CacheWriter for StoreWriter<R> {
 
 /// What a writer answers of a change.
 fn report(changed: Result<(), AllocError>) -> Result<(), u32>
-    ensures { result ≡ report_of changed }
+    ensures { result ≡ store_report changed }
 {
     match changed {
         Ok(()) => Ok(()),

@@ -7,11 +7,11 @@ ghost use Rattle.jc_world.specs.declared.event.WorldEvent.TheVariants as event;
 ghost use Rattle.jc_world.specs.Calls.{CallState};
 ghost use Rattle.jc_world.specs.World.{open_call};
 ghost use Rattle.jc_world.specs.World.{is_joined};
-ghost use Rattle.jc_world.specs.Fits.{fits};
+ghost use Rattle.jc_world.specs.Fits.{fits, waits_at};
 ghost use Rattle.jc_script.specs.declared.line.Line.TheVariants as lines;
-ghost use Rattle.jc_script.specs.LineEvents.{is_drop, has_but, allows_but, keys_of_act, is_asked, is_started, is_listed, is_left_failing};
+ghost use Rattle.jc_script.specs.LineEvents.{is_drop, has_but, allows_but, keys_of_act, is_started, is_listed, is_left_failing};
 ghost use Rattle.jc_script.specs.LineEvents.{leaves, is_changed, is_meant, is_left, left_keys, event_at, key_events};
-ghost use Rattle.jc_script.specs.LineEvents.{end_of_act, is_about_one, is_time, load_fault};
+ghost use Rattle.jc_script.specs.LineEvents.{end_of_act, is_about_one, is_time, load_code};
 ghost use Rattle.jc_script.specs.Transcript.{PlaysLine};
 
 use super::LineBuffers;
@@ -75,7 +75,7 @@ fn act_at(
     }
     put_end_of_act(alloc, world, call, act, &buffers.keys, &mut buffers.events)?;
     world.lets_keys_go_together();
-    let fault = load_fault(act);
+    let fault = load_code(act);
     buffers.play_call(world, call, fault, out)?;
     Ok(None)
 }
@@ -113,8 +113,8 @@ fn allows_but(open_call: &OpenCall) -> bool
 }
 
 /// The code with which the loader fails, if the act says so.
-fn load_fault(act: &Act) -> Option<u32>
-    ensures { result ≡ load_fault act.now }
+fn load_code(act: &Act) -> Option<u32>
+    ensures { result ≡ load_code act.now }
 {
     match act {
         Act::ReadFail(code) => Some(*code),
@@ -426,7 +426,7 @@ fn all_fit(world: &World, events: &[WorldEvent]) -> bool
 }
 
 fn is_one_asked(world: &World, call: u64, keys: &[Key]) -> bool
-    ensures { result ≡ list_any (is_asked world.now.world call) keys.now }
+    ensures { result ≡ list_any (waits_at world.now.world call) keys.now }
 {
     keys.iter().any(|key| world.waits_for_report(call, key))
 }

@@ -1,7 +1,7 @@
 use Rattle.std.proofs.Common.{false, sym, ap, ◌∙◌, refl, subst}
 use Rattle.jc_model.specs.Batches.{is_among}
 use Rattle.jc_stripe.specs.declared.begun.Begun.TheVariants as begun
-use Rattle.jc_bulk.specs.RoundCalls.{MayAsk, kind_of, items_of}
+use Rattle.jc_bulk.specs.RoundCalls.{MayAsk, calls_kind, items_of}
 use Rattle.jc_bulk.specs.Starting.{reservations_in}
 use Rattle.jc_bulk.proofs.OnePhase.{still_underway, reserved_underway, begun_adds, put_off_for, refused_for}
 use Rattle.jc_bulk.proofs.Starting.{keys_same}
@@ -83,42 +83,42 @@ returns-else-is_put_off-clause-adds g c =
 pub unreachable-requires : goal.unreachable-requires
 unreachable-requires g c =
     let made = c.in-Process.ensures.phase in
-    no_processor made.before.config c.args.op.now (entry_at made.before.cache c.args.key.now) c.in-Process._call.reservation.first (kind_of c.args.calls.now) c.requires.kind made.made.1 made.made.2
+    no_processor made.before.config c.args.op.now (entry_at made.before.cache c.args.key.now) c.in-Process._call.reservation.first (calls_kind c.args.calls.now) c.requires.kind made.made.1 made.made.2
 
 pub push_load-requires-clause-kind : goal.push_load-requires-clause-kind
 push_load-requires-clause-kind g c =
     let made = c.in-Load.ensures.phase in
-    (load_for c.args.cache.now.mark c.args.session.now.caller c.args.key.now c.args.op.now (kind_of c.args.calls.now) made.before made.after c.in-Load.call c.requires.kind c.in-Load.ensures.cache made.made).0
+    (load_for c.args.cache.now.mark c.args.session.now.caller c.args.key.now c.args.op.now (calls_kind c.args.calls.now) made.before made.after c.in-Load.call c.requires.kind c.in-Load.ensures.cache made.made).0
 
 pub returns-in-Load-clause-calls : goal.returns-in-Load-clause-calls
 returns-in-Load-clause-calls g c =
     let made = c.in-Load.ensures.phase in
-    (c.in-Load.call, (load_for c.args.cache.now.mark c.args.session.now.caller c.args.key.now c.args.op.now (kind_of c.args.calls.now) made.before made.after c.in-Load.call c.requires.kind c.in-Load.ensures.cache made.made).1, c.push_load.ensures.items)
+    (c.in-Load.call, (load_for c.args.cache.now.mark c.args.session.now.caller c.args.key.now c.args.op.now (calls_kind c.args.calls.now) made.before made.after c.in-Load.call c.requires.kind c.in-Load.ensures.cache made.made).1, c.push_load.ensures.items)
 
 pub returns-in-Load-clause-through : goal.returns-in-Load-clause-through
 returns-in-Load-clause-through g c is =
     let made = c.in-Load.ensures.phase in
-    subst (λ kind. MayAsk kind c.args.cache.now.config) (sym (load_for c.args.cache.now.mark c.args.session.now.caller c.args.key.now c.args.op.now (kind_of c.args.calls.now) made.before made.after c.in-Load.call c.requires.kind c.in-Load.ensures.cache made.made).0) tt
+    subst (λ kind. MayAsk kind c.args.cache.now.config) (sym (load_for c.args.cache.now.mark c.args.session.now.caller c.args.key.now c.args.op.now (calls_kind c.args.calls.now) made.before made.after c.in-Load.call c.requires.kind c.in-Load.ensures.cache made.made).0) tt
 
 pub push_write-requires-clause-kind : goal.push_write-requires-clause-kind
 push_write-requires-clause-kind g c =
     let made = c.in-Write.ensures.phase in
-    (write_for c.args.cache.now.mark c.args.session.now.caller c.args.key.now c.args.op.now (kind_of c.args.calls.now) made.before made.after c.in-Write.call c.requires.kind c.in-Write.ensures.cache made.made).0
+    (write_for c.args.cache.now.mark c.args.session.now.caller c.args.key.now c.args.op.now (calls_kind c.args.calls.now) made.before made.after c.in-Write.call c.requires.kind c.in-Write.ensures.cache made.made).0
 
 pub push_write-requires-clause-new : goal.push_write-requires-clause-new
 push_write-requires-clause-new g c =
     let made = c.in-Write.ensures.phase in
-    let asks = (write_for c.args.cache.now.mark c.args.session.now.caller c.args.key.now c.args.op.now (kind_of c.args.calls.now) made.before made.after c.in-Write.call c.requires.kind c.in-Write.ensures.cache made.made).2 in
+    let asks = (write_for c.args.cache.now.mark c.args.session.now.caller c.args.key.now c.args.op.now (calls_kind c.args.calls.now) made.before made.after c.in-Write.call c.requires.kind c.in-Write.ensures.cache made.made).2 in
     ap (is_among (reserved_keys (items_of c.args.calls.now))) asks.0.key_is ∙ c.requires.away
 
 pub returns-in-Write-clause-calls : goal.returns-in-Write-clause-calls
 returns-in-Write-clause-calls g c =
     let made = c.in-Write.ensures.phase in
-    (c.in-Write.call, (write_for c.args.cache.now.mark c.args.session.now.caller c.args.key.now c.args.op.now (kind_of c.args.calls.now) made.before made.after c.in-Write.call c.requires.kind c.in-Write.ensures.cache made.made).2, c.push_write.ensures.items)
+    (c.in-Write.call, (write_for c.args.cache.now.mark c.args.session.now.caller c.args.key.now c.args.op.now (calls_kind c.args.calls.now) made.before made.after c.in-Write.call c.requires.kind c.in-Write.ensures.cache made.made).2, c.push_write.ensures.items)
 
 pub returns-in-Write-clause-through : goal.returns-in-Write-clause-through
 returns-in-Write-clause-through g c is =
     let made = c.in-Write.ensures.phase in
     let under = at_key (IsUnder c.args.cache.now.config c.args.session.now.caller (reservations_in (items_of c.args.calls.now))) c.args.cache.now c.args.key.now made.before c.requires.underway.stripes made.at.was in
-    subst (λ (config : Config). MayAsk (kind_of c.args.calls.now) config) under.config_is
-    (write_for c.args.cache.now.mark c.args.session.now.caller c.args.key.now c.args.op.now (kind_of c.args.calls.now) made.before made.after c.in-Write.call c.requires.kind c.in-Write.ensures.cache made.made).1
+    subst (λ (config : Config). MayAsk (calls_kind c.args.calls.now) config) under.config_is
+    (write_for c.args.cache.now.mark c.args.session.now.caller c.args.key.now c.args.op.now (calls_kind c.args.calls.now) made.before made.after c.in-Write.call c.requires.kind c.in-Write.ensures.cache made.made).1

@@ -9,7 +9,7 @@ use Rattle.jc_bulk.specs.KeyProgress.{StayEnded, StillWaits, IsHeldBack, is_clos
 use Rattle.jc_bulk.specs.InRounds.{IsInRounds}
 use Rattle.jc_bulk.specs.Turns.{AreCounted, ComesAfterAll}
 use Rattle.jc_bulk.specs.Phased.{LeavesCalls}
-use Rattle.jc_bulk.specs.RoundCalls.{Round, kind_for, ops_of, kind_of, items_of, room_of}
+use Rattle.jc_bulk.specs.RoundCalls.{Round, kind_for, ops_of, calls_kind, items_of, room_of}
 use Rattle.jc_bulk.proofs.rounds.begin_round.Given as goal
 
 -- each key before this place that waited has had its first phase in this round; `initial` is where the loop begins
@@ -27,7 +27,7 @@ invariant-loop-place g l = record {
   empty : l.place ≡ l.from → length (items_of l.calls) ≡ 0;
   first : l.from < l.place → StillWaits l.progress l.from → ⊥;
   waits : (place : ℕ) → place < l.place → StillWaits l.progress place → (key : Bytes) → slice_get (keys_of (ops_of l.targets)) place ≡ Some key → IsHeldBack l.initial.cache.config l.most (reserved_keys (items_of l.calls)) key;
-  kind : kind_of l.calls ≡ kind_for l.targets;
+  kind : calls_kind l.calls ≡ kind_for l.targets;
   space : length (items_of l.calls) + room_of l.calls ≡ l.most;
   grows : ComesAfterAll l.initial.cache l.cache;
   others : LeavesCalls l.initial.session.caller.session l.initial.cache l.cache;

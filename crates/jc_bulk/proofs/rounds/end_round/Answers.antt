@@ -2,7 +2,7 @@ use Rattle.std.proofs.Common.{◌≡◌, ◌++◌, [], ◌∷◌, refl, sym, ap,
 use Rattle.std.specs.List.{cons_option}
 use Rattle.jc_model.specs.declared.event.Out.{Out}
 use Rattle.jc_model.specs.Cache.{Bytes}
-use Rattle.jc_bulk.specs.RoundCalls.{Round, answer_to, answered_calls, items_of, kind_of, said_in}
+use Rattle.jc_bulk.specs.RoundCalls.{Round, answer_to, answered_calls, items_of, calls_kind, said_in}
 use Rattle.jc_bulk.specs.SoFar.{AreAnsweredIn, IsSoFar}
 use Rattle.jc_bulk.specs.Turns.{AreCounted}
 use Rattle.jc_bulk.proofs.AskedKeys.{as_many_answers}
@@ -15,7 +15,7 @@ use Rattle.jc_bulk.proofs.rounds.end_round.Goals as goal
 pub ask-answered-requires-clause-asked : goal.ask-answered-requires-clause-asked
 ask-answered-requires-clause-asked g c =
     let s = c.requires.rounds in
-    is_asked (kind_of c.args.calls) s.0 s.1 c.args.cache.now c.args.session.now c.args.progress.now (items_of c.args.calls) c.requires.own s.3 (λ none. c.if-len-eq0.false (c.len.ensures ∙ none))
+    is_asked (calls_kind c.args.calls) s.0 s.1 c.args.cache.now c.args.session.now c.args.progress.now (items_of c.args.calls) c.requires.own s.3 (λ none. c.if-len-eq0.false (c.len.ensures ∙ none))
 
 pub commit_round-requires-clause-so_far : goal.commit_round-requires-clause-so_far
 commit_round-requires-clause-so_far g c =
@@ -24,7 +24,7 @@ commit_round-requires-clause-so_far g c =
     let asked = c.ask-answered.ensures.round in
     let r = asked.0 in
     let answered = answered_calls c.ask-answered.result.0 in
-    let all = asked_answered (kind_of c.args.calls) s.0 r s.1 c.args.cache.now c.args.session.now.caller c.args.progress.now calls answered s.2 (asks_for (kind_of c.args.calls) calls r asked.1) asked.3 s.3 in (
+    let all = asked_answered (calls_kind c.args.calls) s.0 r s.1 c.args.cache.now c.args.session.now.caller c.args.progress.now calls answered s.2 (asks_for (calls_kind c.args.calls) calls r asked.1) asked.3 s.3 in (
       said_in (s.0 ++ r ∷ []),
       s.1,
       calls,
@@ -37,7 +37,7 @@ returns-then-len-eq0-clause-rounds g c rounds targets d was = (
   (refl, refl),
   omega arith,
   refl,
-  nothing_asked (kind_of c.args.calls) rounds targets c.args.cache.now c.args.session.now.caller c.args.progress.now (items_of c.args.calls) (none_by_length (items_of c.args.calls) (sym c.len.ensures ∙ c.if-len-eq0.true)) was,
+  nothing_asked (calls_kind c.args.calls) rounds targets c.args.cache.now c.args.session.now.caller c.args.progress.now (items_of c.args.calls) (none_by_length (items_of c.args.calls) (sym c.len.ensures ∙ c.if-len-eq0.true)) was,
 )
 
 pub returns-then-len-eq0-clause-stay : goal.returns-then-len-eq0-clause-stay
@@ -55,7 +55,7 @@ returns-else-len-eq0-clause-counts g c first counted =
 
 pub returns-else-len-eq0-clause-rounds : goal.returns-else-len-eq0-clause-rounds
 returns-else-len-eq0-clause-rounds g c rounds targets d was =
-    let kind = kind_of c.args.calls in
+    let kind = calls_kind c.args.calls in
     let calls = items_of c.args.calls in
     let old = c.args.cache.now in
     let new = c.commit_round.new.cache in

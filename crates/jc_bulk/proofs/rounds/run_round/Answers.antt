@@ -1,6 +1,6 @@
 use Rattle.std.proofs.Common.{sym, ap, subst}
 use Rattle.jc_bulk.specs.InRounds.{IsInRounds}
-use Rattle.jc_bulk.specs.RoundCalls.{kind_for, kind_of, ops_of, items_of}
+use Rattle.jc_bulk.specs.RoundCalls.{kind_for, calls_kind, ops_of, items_of}
 use Rattle.jc_bulk.proofs.RunningRounds.{runs_one, later_round}
 use Rattle.jc_bulk.proofs.rounds.run_round.Goals as goal
 
@@ -20,7 +20,7 @@ pub returns-clause-runs : goal.returns-clause-runs
 returns-clause-runs g c =
     let begun = c.begin_round in
     let ended = c.end_round-returned in
-    runs_one _ _ _ _ _ (kind_for c.args.targets.now) (kind_of begun.new.calls) (ops_of c.args.targets.now) c.args.cache.now begun.new.cache ended.new.cache c.args.session.now begun.new.session ended.new.session
+    runs_one _ _ _ _ _ (kind_for c.args.targets.now) (calls_kind begun.new.calls) (ops_of c.args.targets.now) c.args.cache.now begun.new.cache ended.new.cache c.args.session.now begun.new.session ended.new.session
     c.args.progress.now begun.new.progress ended.new.progress c.args.cause.now c.note_first.new.cause ended.result c.note_fault.new.cause c.note_first-2.new.cause (items_of begun.new.calls)
     c.requires.distinct begun.ensures.kind c.note_first.ensures c.note_fault.ensures c.note_first-2.ensures begun.ensures.session ended.ensures.session
     begun.ensures.counts ended.ensures.counts begun.ensures.rounds ended.ensures.rounds begun.ensures.stay ended.ensures.stay begun.ensures.grows ended.ensures.grows begun.ensures.others ended.ensures.others

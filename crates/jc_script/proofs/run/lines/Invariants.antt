@@ -1,13 +1,13 @@
 use Rattle.std.proofs.Common.{◌≤◌, ◌+◌, ◌++◌, ℕ, List, length}
 use Rattle.jc_script.specs.declared.run.RunEnd.{RunEnd}
-use Rattle.jc_script.specs.Transcript.{Transcript, IsTranscript, pieces_of, state_of}
+use Rattle.jc_script.specs.Transcript.{Transcript, IsTranscript, pieces_of, opened_world}
 use Rattle.jc_script.proofs.run.lines.Given as goal
 
 -- whatever the rest prints completes what was printed so far
 abbrev pub invariant-loop-text : goal.invariant-loop-text
 invariant-loop-text l =
     (l.number + length l.rest ≤ length l.input + 1)
-    × ((out : List ℕ) (end : RunEnd) → Transcript (state_of l.player.world) l.number (pieces_of l.rest) out end → IsTranscript l.input (l.out.items ++ out) end)
+    × ((out : List ℕ) (end : RunEnd) → Transcript (opened_world l.player.world) l.number (pieces_of l.rest) out end → IsTranscript l.input (l.out.items ++ out) end)
 
 abbrev pub decreases-loop-text : goal.decreases-loop-text
 decreases-loop-text l = length l.rest
