@@ -12,7 +12,7 @@ use Rattle.jc_world.proofs.Reservations.{out_reserved, was_free, writer_alone}
 use Rattle.jc_world.proofs.Processors.{processor_free}
 use Rattle.jc_world.proofs.Shares.{is_some_and, set_cases, added, share_grows, share_stays, shape_same, shape_set, AllBy, by_map, by_group, added_order, numbers_added, comes_behind, comes_added, fact_found, each_kept, each_map, each_pushed}
 use Rattle.jc_world.proofs.Underway.{found_number, find_over, fits_found, calls_filter, calls_on, each_found, elsewhere_found, all_owned, others_left, same_bytes, of_call-at}
-use Rattle.jc_world.proofs.Looked.{Taken, taken_of, taken_met, taken_on, calls_replaced, still_replaced}
+use Rattle.jc_world.proofs.Looked.{Taken, taken_of, taken_met, taken_on, calls_taken, still_taken}
 use Rattle.jc_world.proofs.Settling.{open_now, Left, done_for, IsTurnOf, still_called, calls_settled}
 use Rattle.jc_world.proofs.LoadKeys.{key_of_load, each_fits}
 use Rattle.jc_world.proofs.Joiners.{joiner_of, unanswered, told_resolved, told_waiting, told_dissolved, told_pushed, find_kept, each_own, each_caller, each_both, join_at, joined_no_part}
@@ -516,7 +516,7 @@ order_left w call fit old = go (open_call w call) refl fit
 pub looked_called : (w : WorldState) (call stripe : ℕ) (keys : List Bytes) (s : SweepState) (u : CallState) → open_call w call ≡ Some u → u.sweep ≡ Some s → (number session : ℕ) (q : Bytes) (op : Op) → IsSomeAnd (open_call w number) (IsCallOf session q op)
     → IsSomeAnd (open_call (with_look w call stripe keys s) number) (IsCallOf session q op)
 looked_called w call stripe keys s u here sweeps number session q op h =
-    still_replaced call (λ x. going_on (with_found w.config.stripes stripe keys s x)) u number session q op w.calls here (λ v goes. taken_of w.config.stripes stripe keys s u v sweeps goes) (λ is over. taken_on w.config.stripes stripe keys s u q op is over) h
+    still_taken call (λ x. going_on (with_found w.config.stripes stripe keys s x)) u number session q op w.calls here (λ v goes. taken_of w.config.stripes stripe keys s u v sweeps goes) (λ is over. taken_on w.config.stripes stripe keys s u q op is over) h
 
 -- a call has taken keys, or has met something
 order_taken : (w : WorldState) (call : ℕ) (left : CallState → Option CallState) (u : CallState) → open_call w call ≡ Some u → ((v : CallState) → left u ≡ Some v → Taken u v)
@@ -525,7 +525,7 @@ order_taken : (w : WorldState) (call : ℕ) (left : CallState → Option CallSta
 order_taken w call left u here taken called old =
     let new : WorldState = record w { calls = replaced call left w.calls } in
     order_beside w (replaced call left w.calls) w.parts w.store w.premises
-    (calls_replaced w new call left u w.calls here (λ v goes. (taken v goes).caller_is)
+    (calls_taken w new call left u here taken
     (λ x h. fits_same w new x refl refl (λ q op is k. k) h)
     (λ v goes h. fits_taken w new u v (taken v goes) refl refl (λ q op is k. k) h) old.calls)
     (λ r h. record { part = h.part; call = called r.caller.call r.caller.session r.key r.op h.call }) old
@@ -538,7 +538,7 @@ order_looked w call stripe keys s u here sweeps old =
 -- a call that has met something continues at each of its keys
 pub met_called : (w : WorldState) (call : ℕ) (met : Option Refusal) (u : CallState) → open_call w call ≡ Some u → (number session : ℕ) (q : Bytes) (op : Op) → IsSomeAnd (open_call w number) (IsCallOf session q op)
     → IsSomeAnd (open_call (with_met_by w call met) number) (IsCallOf session q op)
-met_called w call met u here number session q op h = still_replaced call (λ x. Some (with_met met x)) u number session q op w.calls here (λ v goes. taken_met met u v goes) (λ is over. cc) h
+met_called w call met u here number session q op h = still_taken call (λ x. Some (with_met met x)) u number session q op w.calls here (λ v goes. taken_met met u v goes) (λ is over. cc) h
 
 pub order_met : (w : WorldState) (call : ℕ) (met : Option Refusal) (u : CallState) → open_call w call ≡ Some u → IsSoundWorld w → HasOrder (with_met_by w call met)
 order_met w call met u here old = order_taken w call (λ x. Some (with_met met x)) u here (λ v goes. taken_met met u v goes) (met_called w call met u here) old
