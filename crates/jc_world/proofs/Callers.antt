@@ -2,7 +2,7 @@
 --     order_key                       after each kind of change at a key
 --     order_happens, order_opened     after any event that fits, and after an entry of the store's opening
 --     order_is, has_shares            the order is one legal history over all stripes, and each stripe's history is its part of it
-use Rattle.jc_world.proofs.Common.{◌≡◌, ℕ, zero, suc, ◌+◌, ◌%◌, ◌<◌, Bool, true, false, cond, not, ◌&&◌, ◌||◌, ◌⊎◌, List, [], ◌∷◌, ◌++◌, length, is_none, IsSomeAnd, nat_lt, ◌==◌, slice_get, slice_set, Some, None, sum, Option, option_map, find, sym, refl, ap, ◌∙◌, subst, inl, inr, arith, not-true, eqb-true, and_parts, false_from_ne_true, nat_list_cmp_total, nat_list_eq_equiv, eq_by_cmp_equiv, pointwise, texts_ties, empty, get, insert, remove, from_entries, get-insert, get-remove, list_all, eq_by_cmp, all_imply, Caller, Config, Refusal, empty_opens, Bytes, Cache, key_cmp, nothing_said, events_of, of_stripe, IsHistory, Event, Op, Get, Out, belongs_to, is_waiting, waits_for, callers_of, after_resolve, JoinState, Again, Answered, Waiting, Joiner, StaysReached, IsSameStripe, Extends, may_come_all, new_group, Steps, with_joiner, Begins, after_commit, Commits, Withdraws, without_joiner, PicksUp, JoinFits, IsReached, reserves, State, is_of, is_key, is_reserved, with_reservation, without_key, IsOut, Ticket, ProcessClaim, JoinClaim, Begun, Picked, StepDone, Loader, Reservation, Outcome, Part, Premises, Progress, Shown, WorldEvent, cache_in, cache_at, IsOrder, HasShares, SweepState, CallState, has_number, op_at, op_for, open_keys, is_turn, going_on, with_met, replaced, settle, drop_call, with_found, with_stripe, with_phase, step_of, fault_in, with_settled, with_met_by, without_call, with_look, new_load, new_write, new_process, new_part, with_part, without_part, with_join, without_join, Starts, Ends, Picks, Happens, is_free, may_leave, fits, IsStripe, is_up_to, has_answer, has_parked_answer, is_served_in, is_served, FitsKey, FitsCall, CallsFit, Each, IsHeld, IsCallOf, IsOwned, AllOwned, IsCalled, IsSoundWorld, Parts, Joins, WorldState, home, stripe_for, open_call, part_of, out_of, join_of, is_joined, with_stored}
+use Rattle.jc_world.proofs.Common.{◌≡◌, ℕ, zero, suc, ◌+◌, ◌%◌, ◌<◌, Bool, true, false, cond, not, ◌&&◌, ◌||◌, ◌⊎◌, List, [], ◌∷◌, ◌++◌, length, is_none, IsSomeAnd, nat_lt, ◌==◌, slice_get, slice_set, Some, None, sum, Option, option_map, find, sym, refl, ap, ◌∙◌, subst, inl, inr, arith, not-true, eqb-true, and_parts, false_from_ne_true, nat_list_cmp_total, nat_list_eq_equiv, eq_by_cmp_equiv, pointwise, texts_ties, empty, get, insert, remove, from_entries, get-insert, get-remove, list_all, eq_by_cmp, all_imply, Caller, Config, Refusal, empty_opens, Bytes, Cache, key_cmp, nothing_said, events_of, of_stripe, IsHistory, Event, Op, Get, Out, belongs_to, is_waiting, waits_for, callers_of, after_resolve, JoinState, Again, Answered, Waiting, Joiner, StaysReached, IsSameStripe, Extends, may_come_all, new_group, Steps, with_joiner, Begins, after_commit, Commits, Withdraws, without_joiner, PicksUp, JoinFits, IsReached, reserves, State, is_of, is_key, is_reserved, with_reservation, without_key, IsOut, Ticket, ProcessClaim, JoinClaim, Begun, Picked, StepDone, Loader, Reservation, Outcome, Part, Premises, Progress, Shown, WorldEvent, cache_in, cache_at, IsOrder, HasShares, SweepState, CallState, has_number, op_at, op_for, open_keys, is_turn, going_on, with_met, replaced, settle, drop_call, with_found, with_stripe, with_phase, step_of, fault_in, with_settled, with_met_by, without_call, with_look, new_load, new_write, new_process, new_part, with_part, without_part, with_join, without_join, Starts, Ends, Picks, Happens, is_free, may_leave, fits, IsWorldStripe, is_up_to, has_answer, has_parked_answer, is_served_in, is_served, FitsKey, FitsCall, CallsFit, Each, IsHeld, IsCallOf, IsOwned, AllOwned, IsCalled, IsSoundWorld, Parts, Joins, WorldState, home, stripe_for, open_call, part_of, out_of, join_of, is_joined, with_stored}
 use Rattle.jc_world.proofs.Numbered.{some_of}
 use Rattle.jc_inflight.specs.Taking.{without_joiner as without}
 use Rattle.jc_world.proofs.Halves.{HasOrder, order_half}
@@ -12,7 +12,7 @@ use Rattle.jc_world.proofs.Reservations.{out_reserved, was_free, writer_alone}
 use Rattle.jc_world.proofs.Processors.{processor_free}
 use Rattle.jc_world.proofs.Shares.{is_some_and, set_cases, added, share_grows, share_stays, shape_same, shape_set, AllBy, by_map, by_group, added_order, numbers_added, comes_behind, comes_added, fact_found, each_kept, each_map, each_pushed}
 use Rattle.jc_world.proofs.Underway.{found_number, find_over, fits_found, calls_filter, calls_on, each_found, elsewhere_found, all_owned, others_left, same_bytes, of_call-at}
-use Rattle.jc_world.proofs.Looked.{Taken, taken_of, taken_met, taken_on, calls_replaced, still_replaced}
+use Rattle.jc_world.proofs.Looked.{Taken, taken_of, taken_met, taken_on, calls_taken, still_taken}
 use Rattle.jc_world.proofs.Settling.{open_now, Left, done_for, IsTurnOf, still_called, calls_settled}
 use Rattle.jc_world.proofs.LoadKeys.{key_of_load, each_fits}
 use Rattle.jc_world.proofs.Joiners.{joiner_of, unanswered, told_resolved, told_waiting, told_dissolved, told_pushed, find_kept, each_own, each_caller, each_both, join_at, joined_no_part}
@@ -274,7 +274,7 @@ part_kept w key r apart h =
     rw (get-remove nat_list_cmp_total w.parts key r.key ∙ ap (λ b. cond b None (get w.parts r.key)) other) h.part
 
 -- the reservations of another stripe are of other keys
-other_stripe : (w : WorldState) (key : Bytes) (n : ℕ) (s : State) (rs : List Reservation) → IsStripe w n s → (home w key ≡ n → ⊥) → list_all (λ r. is_of s r.key) rs ≡ true → list_all (λ r. not (is_key key r)) rs ≡ true
+other_stripe : (w : WorldState) (key : Bytes) (n : ℕ) (s : State) (rs : List Reservation) → IsWorldStripe w n s → (home w key ≡ n → ⊥) → list_all (λ r. is_of s r.key) rs ≡ true → list_all (λ r. not (is_key key r)) rs ≡ true
 other_stripe w key n s rs at apart = all_imply (λ (r : Reservation). is_of s r.key) (λ r. not (is_key key r)) rs (λ r mine. ap not (false_from_ne_true (is_key key r) (λ same.
     let keys = same_bytes key r.key same in
     let number : sum r.key % s.config.stripes ≡ s.stripe = eqb-true (sum r.key % s.config.stripes) s.stripe mine in
@@ -516,7 +516,7 @@ order_left w call fit old = go (open_call w call) refl fit
 pub looked_called : (w : WorldState) (call stripe : ℕ) (keys : List Bytes) (s : SweepState) (u : CallState) → open_call w call ≡ Some u → u.sweep ≡ Some s → (number session : ℕ) (q : Bytes) (op : Op) → IsSomeAnd (open_call w number) (IsCallOf session q op)
     → IsSomeAnd (open_call (with_look w call stripe keys s) number) (IsCallOf session q op)
 looked_called w call stripe keys s u here sweeps number session q op h =
-    still_replaced call (λ x. going_on (with_found w.config.stripes stripe keys s x)) u number session q op w.calls here (λ v goes. taken_of w.config.stripes stripe keys s u v sweeps goes) (λ is over. taken_on w.config.stripes stripe keys s u q op is over) h
+    still_taken call (λ x. going_on (with_found w.config.stripes stripe keys s x)) u number session q op w.calls here (λ v goes. taken_of w.config.stripes stripe keys s u v sweeps goes) (λ is over. taken_on w.config.stripes stripe keys s u q op is over) h
 
 -- a call has taken keys, or has met something
 order_taken : (w : WorldState) (call : ℕ) (left : CallState → Option CallState) (u : CallState) → open_call w call ≡ Some u → ((v : CallState) → left u ≡ Some v → Taken u v)
@@ -525,7 +525,7 @@ order_taken : (w : WorldState) (call : ℕ) (left : CallState → Option CallSta
 order_taken w call left u here taken called old =
     let new : WorldState = record w { calls = replaced call left w.calls } in
     order_beside w (replaced call left w.calls) w.parts w.store w.premises
-    (calls_replaced w new call left u w.calls here (λ v goes. (taken v goes).caller_is)
+    (calls_taken w new call left u here taken
     (λ x h. fits_same w new x refl refl (λ q op is k. k) h)
     (λ v goes h. fits_taken w new u v (taken v goes) refl refl (λ q op is k. k) h) old.calls)
     (λ r h. record { part = h.part; call = called r.caller.call r.caller.session r.key r.op h.call }) old
@@ -538,7 +538,7 @@ order_looked w call stripe keys s u here sweeps old =
 -- a call that has met something continues at each of its keys
 pub met_called : (w : WorldState) (call : ℕ) (met : Option Refusal) (u : CallState) → open_call w call ≡ Some u → (number session : ℕ) (q : Bytes) (op : Op) → IsSomeAnd (open_call w number) (IsCallOf session q op)
     → IsSomeAnd (open_call (with_met_by w call met) number) (IsCallOf session q op)
-met_called w call met u here number session q op h = still_replaced call (λ x. Some (with_met met x)) u number session q op w.calls here (λ v goes. taken_met met u v goes) (λ is over. cc) h
+met_called w call met u here number session q op h = still_taken call (λ x. Some (with_met met x)) u number session q op w.calls here (λ v goes. taken_met met u v goes) (λ is over. cc) h
 
 pub order_met : (w : WorldState) (call : ℕ) (met : Option Refusal) (u : CallState) → open_call w call ≡ Some u → IsSoundWorld w → HasOrder (with_met_by w call met)
 order_met w call met u here old = order_taken w call (λ x. Some (with_met met x)) u here (λ v goes. taken_met met u v goes) (met_called w call met u here) old
@@ -605,7 +605,7 @@ there_is (x ∷ xs) zero h = (x, refl)
 there_is (x ∷ xs) (suc n) h = there_is xs n (omega arith)
 
 -- a stripe's part of the order is a legal history
-history_of_stripe : (w : WorldState) (n : ℕ) (s : State) → slice_get w.stripes n ≡ Some s → IsStripe w n s → IsHistory w.config empty (of_stripe w.config.stripes n w.order) (cache_at w n)
+history_of_stripe : (w : WorldState) (n : ℕ) (s : State) → slice_get w.stripes n ≡ Some s → IsWorldStripe w n s → IsHistory w.config empty (of_stripe w.config.stripes n w.order) (cache_at w n)
 history_of_stripe w n s there at =
     rw there (rw at.share (rw at.reached.opening at (rw at.config_is at at.reached.legal)))
 

@@ -1,5 +1,5 @@
 -- Each event keeps what the parts and the store of a world say.
-use Rattle.jc_world.proofs.Common.{◌≡◌, ℕ, zero, suc, ◌+◌, Bool, true, false, cond, ◌&&◌, List, [], ◌∷◌, ◌++◌, is_some, is_none, IsSomeAnd, slice_get, slice_set, Some, None, Ok, Option, find, sym, refl, ap, ◌∙◌, subst, and_parts, and_from, nat_list_cmp_total, beq, texts_ties, get, insert, remove, get-empty, get-insert, get-remove, eq_by_cmp, T, check, Caller, Config, same_key, get-with_entry, Bytes, Cache, entry_at, with_entry, key_cmp, nothing_said, write_only, found_in, holds, write_ask, is_write_given, entry_after, Change, Event, LoadAnswer, Op, ProcessAnswer, WriteAnswer, EntryCall, callers_of, ProcessResult, Played, asks_invoking, change_due, Steps, Begins, after_commit, Commits, Withdraws, AllAsk, first_asked, reserves, State, is_key, is_reserved, new_reservation, without_key, IsOut, Ticket, ProcessClaim, asks_loader, asks_writer, asks_processor, JoinClaim, Begun, StepDone, First, Loader, Nobody, Processor, Writer, Reservation, Command, Outcome, Part, Premises, Progress, Loading, Processed, Processing, Writing, WritingEffect, Shown, WorldEvent, CallState, new_call, has_number, op_at, opened, settle, drop_call, Coherent, all_hold, with_stripe, with_phase, step_of, fault_in, without_call, new_load, new_write, new_process, new_part, with_part, without_part, Starts, Ends, Picks, after_answer, with_change, after_change, with_report, after_report, run_result, progress_after, after_process, may_leave, fits, changed_to, is_true_load, is_done, is_true_report, with_foreign_write, premises_hold, is_asked, is_due_in, IsHeld, Agrees, IsWrittenFor, LoadAgrees, ProgressAgrees, KeyAgrees, IsSoundWorld, Parts, join_key, Joins, WorldState, home, stripe_for, entry_in, cached_entry, empty_stripes, start, open_call, part_of, has_progress, waits_for_load, waits_for_process, waits_for_report, is_answered, is_untouched, has_changed, writer_change_in, writer_change, out_in, out_of, join_of, with_stored}
+use Rattle.jc_world.proofs.Common.{◌≡◌, ℕ, zero, suc, ◌+◌, Bool, true, false, cond, ◌&&◌, List, [], ◌∷◌, ◌++◌, is_some, is_none, IsSomeAnd, slice_get, slice_set, Some, None, Ok, Option, find, sym, refl, ap, ◌∙◌, subst, and_parts, and_from, nat_list_cmp_total, beq, texts_ties, get, insert, remove, get-empty, get-insert, get-remove, eq_by_cmp, T, check, Caller, Config, same_key, get-with_entry, Bytes, Cache, entry_at, with_entry, key_cmp, nothing_said, write_only, found_in, holds, write_ask, is_write_given, entry_after, Change, Event, LoadAnswer, Op, ProcessAnswer, WriteAnswer, EntryCall, callers_of, ProcessResult, Played, asks_invoking, change_due, Steps, Begins, after_commit, Commits, Withdraws, AllAsk, first_asked, reserves, State, is_key, is_reserved, new_reservation, without_key, IsOut, Ticket, ProcessClaim, asks_loader, asks_writer, asks_processor, JoinClaim, Begun, StepDone, First, Loader, Nobody, Processor, Writer, Reservation, Command, Outcome, Part, Premises, Progress, Loading, Processed, Processing, Writing, WritingEffect, Shown, WorldEvent, CallState, new_call, has_number, op_at, opened, settle, drop_call, Coherent, all_hold, with_stripe, with_phase, step_of, fault_in, without_call, new_load, new_write, new_process, new_part, with_part, without_part, Starts, Ends, Picks, after_answer, with_change, after_change, with_report, after_report, run_result, progress_after, after_process, may_leave, fits, changed_to, is_true_load, is_done, is_true_report, with_foreign_write, premises_hold, is_of_asked, is_due_in, IsHeld, Agrees, IsWrittenFor, LoadAgrees, ProgressAgrees, KeyAgrees, IsSoundWorld, Parts, join_key, Joins, WorldState, home, stripe_for, entry_in, cached_entry, empty_stripes, start, open_call, part_of, has_progress, waits_for_load, waits_for_process, waits_for_report, is_answered, is_untouched, has_changed, writer_change_in, writer_change, out_in, out_of, join_of, with_stored}
 use Rattle.jc_world.proofs.Lemmas.{denied, missing, HasParts, is_some_and, picking, at_stripe, stripe_put, home_stripe, split, tied, agrees_stepped, writes, loads_asked, writes_asked, loads, asks_nobody, found_more, out_reserved, was_free, writer_alone, new_out, found_left, processor_free, invoke_is, write_due, agrees_processed, agrees_effect, KeyChange, by_nothing, by_refusal, by_step, by_reservation, by_join, by_commit, by_withdrawal, by_answer, by_retry, some_of}
 use Rattle.jc_world.proofs.Holding.{call_on, is_part}
 use Rattle.jc_world.proofs.Maps.{keys_ordered, each_put}
@@ -151,20 +151,20 @@ told_insert w parts store key new all one q =
 -- 4. Answers, changes and reports.
 
 -- an answer that was due is of whom was asked, and so is a report
-load_asked_of : (p : Progress) (first : First) (answer : LoadAnswer) → waits_for_load p ≡ true → is_asked p first ≡ true → is_asked (Loading answer) first ≡ true
+load_asked_of : (p : Progress) (first : First) (answer : LoadAnswer) → waits_for_load p ≡ true → is_of_asked p first ≡ true → is_of_asked (Loading answer) first ≡ true
 load_asked_of (Loading was) first answer due h = h
 load_asked_of p first answer due h = cc
 
-run_asked_of : (p : Progress) (first : First) (change : Option Change) (done : ProcessResult Reservation) → waits_for_process p ≡ true → is_asked p first ≡ true → is_asked (progress_after change done) first ≡ true
+run_asked_of : (p : Progress) (first : First) (change : Option Change) (done : ProcessResult Reservation) → waits_for_process p ≡ true → is_of_asked p first ≡ true → is_of_asked (progress_after change done) first ≡ true
 run_asked_of Processing first None done due h = h
 run_asked_of Processing first (Some change) done due h = h
 run_asked_of p first change done due h = cc
 
-change_asked_of : (p : Progress) (first : First) → is_asked p first ≡ true → is_asked (with_change p) first ≡ true
+change_asked_of : (p : Progress) (first : First) → is_of_asked p first ≡ true → is_of_asked (with_change p) first ≡ true
 change_asked_of (Loading answer) first h = h
 change_asked_of p first h = h
 
-report_asked_of : (p : Progress) (first : First) (report : WriteAnswer) → is_asked p first ≡ true → is_asked (with_report p report) first ≡ true
+report_asked_of : (p : Progress) (first : First) (report : WriteAnswer) → is_of_asked p first ≡ true → is_of_asked (with_report p report) first ≡ true
 report_asked_of (Loading answer) first report h = h
 report_asked_of p first report h = h
 
@@ -204,7 +204,7 @@ told_report p first report stored entry due honest h = cc
 
 -- a held key stays held: whom it asked stays, and what is then known of all keys holds
 parts_progressed : (w : WorldState) (call : ℕ) (key : Bytes) (part : Part) (p : Progress) (store : Cache) (premises : Premises) → part_of w call key ≡ Some part
-    → (is_asked part.progress part.reservation.first ≡ true → is_asked p part.reservation.first ≡ true)
+    → (is_of_asked part.progress part.reservation.first ≡ true → is_of_asked p part.reservation.first ≡ true)
     → (all_hold (record w { premises = premises }) ≡ true → AllTold w (insert w.parts key (record part { progress = p })) store) → IsSoundWorld w
     → HasParts (record w { store = store; parts = insert w.parts key (record part { progress = p }); premises = premises })
 parts_progressed w call key part p store premises is asks told old =
@@ -406,7 +406,7 @@ parts_reserving w key from next r part at free reservations cache one new used o
     }
 
 -- a reservation is made of a key that was free: its part has it
-held_new : (key : Bytes) (from next : State) (p : Progress) (r : Reservation) → is_reserved from key ≡ false → r.key ≡ key → next.reservations ≡ from.reservations ++ r ∷ [] → is_asked p r.first ≡ true
+held_new : (key : Bytes) (from next : State) (p : Progress) (r : Reservation) → is_reserved from key ≡ false → r.key ≡ key → next.reservations ≡ from.reservations ++ r ∷ [] → is_of_asked p r.first ≡ true
     → IsHeld next key (new_part p r)
 held_new key from next p r free key_is reservations asked =
     record { key_is = key_is; out = rw reservations (new_out from r (ap (is_reserved from) key_is ∙ free)); asked = asked }
@@ -432,7 +432,7 @@ agrees_written op entry stored change WriteAnswer.Done was asked given written u
     subst (λ o. Agrees o stored) (written (sym honest) ∙ sym (writes op entry change asked)) (agrees_same stored)
 
 -- what a commit leaves agrees with the store: a reservation still asks what it asked
-agrees_ended : (config : Config) (r : Reservation) (p : Progress) (op : Op) (first : First) (entry stored : Option Bytes) → first_asked config op entry ≡ first → is_asked p first ≡ true → is_answered p ≡ true → config.write_through ≡ true → is_due_in config r p ≡ true
+agrees_ended : (config : Config) (r : Reservation) (p : Progress) (op : Op) (first : First) (entry stored : Option Bytes) → first_asked config op entry ≡ first → is_of_asked p first ≡ true → is_answered p ≡ true → config.write_through ≡ true → is_due_in config r p ≡ true
     → ProgressAgrees p first stored entry → Agrees (entry_after op entry (out_in p)) stored
 agrees_ended config r (Loading answer) op Loader entry stored asks asked over on due h = loads op entry answer stored (loads_asked config op entry asks) h.unwritten h.loaded
 agrees_ended config r (Writing is_changed report) op (Writer change) entry stored asks asked over on due h =

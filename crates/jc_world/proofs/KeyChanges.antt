@@ -7,7 +7,7 @@
 --     change_of                 each event that fits makes one of these changes
 --     IsStart, may_of           it is the start of a call at a key; in a sound world the call may start there
 --     Move                      the same, as far as configuration, stripes and order go
-use Rattle.jc_world.proofs.Common.{◌≡◌, ℕ, Bool, true, false, ◌++◌, slice_set, Some, Option, sym, refl, ap, ◌∙◌, inl, inr, Caller, Config, Refusal, Bytes, is_load_given, Op, Begins, Commits, Withdraws, PicksUp, reserves, State, is_reserved, new_reservation, with_reservation, Ticket, ProcessClaim, asks_loader, asks_writer, JoinClaim, Begun, Picked, Loader, Reservation, Outcome, Part, PickedUp, Progress, Shown, Stepped, WorldEvent, CallState, new_call, op_at, with_stripe, with_phase, step_of, not_over, shown_begun, fault_in, with_settled, new_load, new_write, new_process, with_new_part, without_part, with_join, without_join, Starts, Ends, Picks, Happens, Step, fits, ends_load, is_answer_at, is_asked, is_due_in, Agrees, ProgressAgrees, IsSoundWorld, WorldState, home, stripe_for, open_call, part_of, out_in, out_of, join_of}
+use Rattle.jc_world.proofs.Common.{◌≡◌, ℕ, Bool, true, false, ◌++◌, slice_set, Some, Option, sym, refl, ap, ◌∙◌, inl, inr, Caller, Config, Refusal, Bytes, is_load_given, Op, Begins, Commits, Withdraws, PicksUp, reserves, State, is_reserved, new_reservation, with_reservation, Ticket, ProcessClaim, asks_loader, asks_writer, JoinClaim, Begun, Picked, Loader, Reservation, Outcome, Part, PickedUp, Progress, Shown, Stepped, WorldEvent, CallState, new_call, op_at, with_stripe, with_phase, step_of, not_over, shown_begun, fault_in, with_settled, new_load, new_write, new_process, with_new_part, without_part, with_join, without_join, Starts, Ends, Picks, Happens, Step, fits, ends_load, is_answer_at, is_of_asked, is_due_in, Agrees, ProgressAgrees, IsSoundWorld, WorldState, home, stripe_for, open_call, part_of, out_in, out_of, join_of}
 use Rattle.jc_world.proofs.Beginning.{MayStart, may_start_at}
 use Rattle.jc_world.proofs.Shares.{added}
 use Rattle.jc_world.proofs.NewCalls.{begun_cases}
@@ -32,7 +32,7 @@ pub record Reserves (from : State) (caller : Caller) (key : Bytes) (op : Op) (p 
   pub free : is_reserved from key ≡ false
   pub is : r ≡ new_reservation from caller key op r.first
   pub after : to ≡ with_reservation from r
-  pub asked : is_asked p r.first ≡ true
+  pub asked : is_of_asked p r.first ≡ true
   pub untold : (stored entry : Option Bytes) → Agrees entry stored → ProgressAgrees p r.first stored entry
   pub due : (config : Config) → is_due_in config r p ≡ true
   pub unloaded : is_load_given (out_in p).load ≡ false

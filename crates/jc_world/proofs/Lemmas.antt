@@ -5,7 +5,7 @@ pub use Rattle.jc_world.proofs.Shares.{is_some_and, still_at, set_cases, length-
 pub use Rattle.jc_world.proofs.Underway.{found_number, find_over, fits_found, find_pushed, others_left, same_bytes, of_call-at}
 pub use Rattle.jc_world.proofs.Settling.{open_now, done_for, Left, going_is, IsTurnOf, still_called, each_settled}
 pub use Rattle.jc_world.proofs.NewCalls.{opened_cases, begun_cases, begun_shown}
-pub use Rattle.jc_world.proofs.Looked.{Taken, taken_of, taken_met, each_replaced, found_replaced, ended_at, put_at, none_replaced}
+pub use Rattle.jc_world.proofs.Looked.{Taken, taken_of, taken_met, each_taken, found_replaced, ended_at, put_at, none_replaced}
 pub use Rattle.jc_world.proofs.TaskLists.{keys-at_each, at_each-more, put_each_of-more, put_in_place, there_at, absent_same, open_more, open_fails, open_keys-more, open_distinct, first_each, first_put, open_within, first_key_at, first_here, first_next, first_settled, first_fits}
 pub use Rattle.jc_world.proofs.Found.{lookup-found, found_new}
 pub use Rattle.jc_world.proofs.Joiners.{joiner_of, find_kept, joined_resolved, joined_dissolved, joined_front, joined_last, called_resolved, called_dissolved, join_at, join_there, joined_no_part, other_key, none_inserted, none_removed, part_other}

@@ -17,8 +17,8 @@ use Rattle.std.specs.List.{remove}
 use Rattle.jc_world.specs.Calls.{is_at}
 use Rattle.jc_world.proofs.Facts.{same_found}
 use Rattle.jc_world.proofs.Found.{lookup-found, op_of_found, still_done, first_kept}
-use Rattle.jc_world.proofs.Settling.{going_is, none_left, apart_of, apart_from, goes_behind, goes_here}
-use Rattle.jc_world.proofs.Underway.{calls_all}
+use Rattle.jc_world.proofs.Settling.{going_is, none_left, apart_of, apart_from, goes_behind, goes_here, calls_replaced, each_replaced, still_replaced}
+use Rattle.jc_world.proofs.Underway.{calls_all, each_found}
 
 -- 1. A call that has taken keys.
 
@@ -84,83 +84,29 @@ taken_on stripes stripe keys s u q op is over = none_left (with_found stripes st
 
 -- 2. The calls under way.
 
-apart_replaced : (call : ℕ) (left : CallState → Option CallState) (u x : CallState) (calls : List CallState) → find (has_number call) calls ≡ Some u → ((v : CallState) → left u ≡ Some v → v.caller ≡ u.caller) → list_all (is_apart x) calls ≡ true
-    → list_all (is_apart x) (replaced call left calls) ≡ true
-apart_replaced call left u x [] here same h = cc
-apart_replaced call left u x (y ∷ ys) here same h =
-    let parts = and_parts (is_apart x y) (list_all (is_apart x) ys) h in
-    elim (has_number call y) as (λ b. has_number call y ≡ b → cond b (Some y) (find (has_number call) ys) ≡ Some u → list_all (is_apart x) (cond b (cons_option (left y) ys) (y ∷ replaced call left ys)) ≡ true) [
-      | true ↦ λ e here. go (left y) refl (let is : y ≡ u = cc in is) parts.0 parts.1
-      | false ↦ λ e here. and_from _ _ parts.0 (apart_replaced call left u x ys here same parts.1)
-    ] refl here
+-- of the call that is replaced
+pub calls_taken : (w n : WorldState) (call : ℕ) (left : CallState → Option CallState) (u : CallState) → find (has_number call) w.calls ≡ Some u → ((v : CallState) → left u ≡ Some v → Taken u v)
+    → ((x : CallState) → FitsCall w x → FitsCall n x) → ((v : CallState) → left u ≡ Some v → FitsCall w u → FitsCall n v) → CallsFit w w.calls → CallsFit n (replaced call left w.calls)
+calls_taken w n call left u here taken on now fit =
+    calls_replaced w n call left (λ x. find (has_number x.caller.call) w.calls ≡ Some x) w.calls
+    (λ x v at goes. let is = same_found (find (has_number call) w.calls) x u at here in (taken v (ap left (sym is) ∙ goes)).caller_is ∙ ap (λ (c : CallState). c.caller) (sym is))
+    (λ x apart found h. on x h)
+    (λ x v at goes found h. let is = same_found (find (has_number call) w.calls) x u at here in now v (ap left (sym is) ∙ goes) (subst (FitsCall w) is h))
+    (each_found w w.calls fit) fit
+
+pub still_taken : (call : ℕ) (left : CallState → Option CallState) (u : CallState) (number session : ℕ) (q : Bytes) (op : Op) (calls : List CallState) → find (has_number call) calls ≡ Some u → ((v : CallState) → left u ≡ Some v → Taken u v)
+    → (op_at u q ≡ Some op → left u ≡ None → ⊥) → IsSomeAnd (find (has_number number) calls) (IsCallOf session q op) → IsSomeAnd (find (has_number number) (replaced call left calls)) (IsCallOf session q op)
+still_taken call left u number session q op calls here taken over h =
+    still_replaced call left number session q op calls (λ x v at goes. (at_found x v at goes).caller_is)
+    (λ x v at goes mine of. let t = at_found x v at goes in (ap (λ (c : Caller). c.session) t.caller_is ∙ of.0, t.goes q op of.1, t.turns q of.2))
+    (λ x at gone mine of. let is = same_found (find (has_number call) calls) x u at here in over (ap (λ (c : CallState). op_at c q) (sym is) ∙ of.1) (ap left (sym is) ∙ gone)) h
   where
-    go : (o : Option CallState) → left y ≡ o → y ≡ u → is_apart x y ≡ true → list_all (is_apart x) ys ≡ true → list_all (is_apart x) (cons_option o ys) ≡ true
-    go None e is one rest = rest
-    go (Some v) e is one rest = and_from _ _ (apart_of x y v (same v (ap left (sym is) ∙ e) ∙ ap (λ (c : CallState). c.caller) (sym is)) one) rest
+    at_found : (x v : CallState) → find (has_number call) calls ≡ Some x → left x ≡ Some v → Taken x v
+    at_found x v at goes = let is = same_found (find (has_number call) calls) x u at here in subst (λ y. Taken y v) (sym is) (taken v (ap left (sym is) ∙ goes))
 
-pub calls_replaced : (w n : WorldState) (call : ℕ) (left : CallState → Option CallState) (u : CallState) (calls : List CallState) → find (has_number call) calls ≡ Some u → ((v : CallState) → left u ≡ Some v → v.caller ≡ u.caller)
-    → ((x : CallState) → FitsCall w x → FitsCall n x) → ((v : CallState) → left u ≡ Some v → FitsCall w u → FitsCall n v) → CallsFit w calls → CallsFit n (replaced call left calls)
-calls_replaced w n call left u [] here same on now fit = cc
-calls_replaced w n call left u (x ∷ xs) here same on now fit =
-    elim (has_number call x) as (λ b. cond b (Some x) (find (has_number call) xs) ≡ Some u → CallsFit n (cond b (cons_option (left x) xs) (x ∷ replaced call left xs))) [
-      | true ↦ λ here. go (left x) refl (let is : x ≡ u = cc in is)
-      | false ↦ λ here. (on x fit.0, apart_replaced call left u x xs here same fit.1, calls_replaced w n call left u xs here same on now fit.2)
-    ] here
-  where
-    others : CallsFit n xs
-    others = calls_all w n xs on fit.2
-
-    go : (o : Option CallState) → left x ≡ o → x ≡ u → CallsFit n (cons_option o xs)
-    go None e is = others
-    go (Some v) e is =
-        let at = ap left (sym is) ∙ e in
-        (now v at (subst (FitsCall w) is fit.0), apart_from x v xs (same v at ∙ ap (λ (c : CallState). c.caller) (sym is)) fit.1, others)
-
-pub still_replaced : (call : ℕ) (left : CallState → Option CallState) (u : CallState) (number session : ℕ) (q : Bytes) (op : Op) (calls : List CallState) → find (has_number call) calls ≡ Some u → ((v : CallState) → left u ≡ Some v → Taken u v)
-    → (op_at u q ≡ Some op → left u ≡ None → ⊥) → IsSomeAnd (find (has_number number) calls) (IsCallOf session q op)
-    → IsSomeAnd (find (has_number number) (replaced call left calls)) (IsCallOf session q op)
-still_replaced call left u number session q op [] here taken on h = cc
-still_replaced call left u number session q op (x ∷ xs) here taken on h =
-    elim (has_number call x) as (λ b. cond b (Some x) (find (has_number call) xs) ≡ Some u → IsSomeAnd (find (has_number number) (cond b (cons_option (left x) xs) (x ∷ replaced call left xs))) (IsCallOf session q op)) [
-      | true ↦ λ here. go (left x) refl (let is : x ≡ u = cc in is)
-      | false ↦ λ here. elim (has_number number x) as (λ b. IsSomeAnd (cond b (Some x) (find (has_number number) xs)) (IsCallOf session q op) → IsSomeAnd (cond b (Some x) (find (has_number number) (replaced call left xs))) (IsCallOf session q op)) [
-        | true ↦ λ h. h
-        | false ↦ λ h. still_replaced call left u number session q op xs here taken on h
-      ] h
-    ] here
-  where
-    at_head : (o : Option CallState) → left u ≡ o → x ≡ u → has_number number x ≡ true → IsCallOf session q op x → IsSomeAnd (find (has_number number) (cons_option o xs)) (IsCallOf session q op)
-    at_head None e is mine of = absurd (on (ap (λ (c : CallState). op_at c q) (sym is) ∙ of.1) e)
-    at_head (Some v) e is mine of =
-        let t = taken v e in
-        let same : v.caller ≡ x.caller = t.caller_is ∙ ap (λ (c : CallState). c.caller) (sym is) in
-        goes_here number session q op v xs (ap (λ (c : Caller). c.call == number) same ∙ mine)
-        (ap (λ (c : Caller). c.session) same ∙ of.0, t.goes q op (ap (λ (c : CallState). op_at c q) (sym is) ∙ of.1), t.turns q (ap (λ (c : CallState). is_turn c q) (sym is) ∙ of.2))
-
-    passed : (o : Option CallState) → left u ≡ o → x ≡ u → has_number number x ≡ false → IsSomeAnd (find (has_number number) xs) (IsCallOf session q op) → IsSomeAnd (find (has_number number) (cons_option o xs)) (IsCallOf session q op)
-    passed None e is other h = h
-    passed (Some v) e is other h =
-        let same : v.caller ≡ x.caller = (taken v e).caller_is ∙ ap (λ (c : CallState). c.caller) (sym is) in
-        goes_behind number session q op v xs (ap (λ (c : Caller). c.call == number) same ∙ other) h
-
-    go : (o : Option CallState) → left x ≡ o → x ≡ u → IsSomeAnd (find (has_number number) (cons_option o xs)) (IsCallOf session q op)
-    go o e is =
-        elim (has_number number x) as (λ b. has_number number x ≡ b → IsSomeAnd (cond b (Some x) (find (has_number number) xs)) (IsCallOf session q op) → IsSomeAnd (find (has_number number) (cons_option o xs)) (IsCallOf session q op)) [
-          | true ↦ λ mine h. at_head o (ap left (sym is) ∙ e) is mine h
-          | false ↦ λ other h. passed o (ap left (sym is) ∙ e) is other h
-        ] refl h
-
-pub each_replaced : (call : ℕ) (left : CallState → Option CallState) (P : CallState → Type 0) (u : CallState) (calls : List CallState) → find (has_number call) calls ≡ Some u → ((v : CallState) → left u ≡ Some v → P u → P v) → Each P calls → Each P (replaced call left calls)
-each_replaced call left P u [] here f each = cc
-each_replaced call left P u (x ∷ xs) here f each =
-    elim (has_number call x) as (λ b. cond b (Some x) (find (has_number call) xs) ≡ Some u → Each P (cond b (cons_option (left x) xs) (x ∷ replaced call left xs))) [
-      | true ↦ λ here. go (left x) refl (let is : x ≡ u = cc in is)
-      | false ↦ λ here. (each.0, each_replaced call left P u xs here f each.1)
-    ] here
-  where
-    go : (o : Option CallState) → left x ≡ o → x ≡ u → Each P (cons_option o xs)
-    go None e is = each.1
-    go (Some v) e is = (f v (ap left (sym is) ∙ e) (subst P is each.0), each.1)
+pub each_taken : (call : ℕ) (left : CallState → Option CallState) (P : CallState → Type 0) (u : CallState) (calls : List CallState) → find (has_number call) calls ≡ Some u → ((v : CallState) → left u ≡ Some v → P u → P v) → Each P calls → Each P (replaced call left calls)
+each_taken call left P u calls here f each =
+    each_replaced call left P calls (λ x v at goes p. let is = same_found (find (has_number call) calls) x u at here in f v (ap left (sym is) ∙ goes) (subst P is p)) each
 
 -- and the call is found by its number
 pub found_replaced : (call : ℕ) (left : CallState → Option CallState) (u v : CallState) (calls : List CallState) → find (has_number call) calls ≡ Some u → left u ≡ Some v → v.caller ≡ u.caller → find (has_number call) (replaced call left calls) ≡ Some v

@@ -7,9 +7,9 @@
 --     still_called           a call continues at each other key
 --     calls_settled          the calls fit another world
 --     each_settled           a fact of each call
-use Rattle.jc_world.proofs.Common.{◌≡◌, ℕ, Bool, true, false, cond, not, ◌&&◌, ◌||◌, List, [], ◌∷◌, is_some, IsSomeAnd, ◌==◌, Some, None, filter, Option, find, sym, refl, ap, ◌∙◌, subst, not-true, eqb-true, eq-eqb, and_parts, and_from, or_right, false_from_ne_true, pointwise, list_any, list_all, cons_option, keys_of, lookup, set_value, option_flatten, Caller, Refusal, Bytes, Op, Task, takes_turns, CallState, has_number, op_in, op_at, op_or_found, op_for, is_open, open_in, open_keys, current_key, is_turn, is_going, going_on, settled, settle, is_apart, FitsCall, CallsFit, Each, IsCallOf, WorldState}
+use Rattle.jc_world.proofs.Common.{◌≡◌, ℕ, Bool, true, false, cond, not, ◌&&◌, ◌||◌, List, [], ◌∷◌, is_some, IsSomeAnd, ◌==◌, Some, None, filter, Option, find, sym, refl, ap, ◌∙◌, subst, not-true, eqb-true, eq-eqb, and_parts, and_from, or_right, false_from_ne_true, pointwise, list_any, list_all, cons_option, keys_of, lookup, set_value, option_flatten, Caller, Refusal, Bytes, Op, Task, takes_turns, CallState, has_number, op_in, op_at, op_or_found, op_for, is_open, open_in, open_keys, current_key, is_turn, is_going, going_on, settled, replaced, settle, is_apart, FitsCall, CallsFit, Each, IsCallOf, WorldState}
 use Rattle.jc_world.specs.Calls.{is_at}
-use Rattle.jc_world.proofs.Underway.{same_bytes, calls_on}
+use Rattle.jc_world.proofs.Underway.{same_bytes, calls_on, found_number}
 
 -- 1. Open keys.
 
@@ -203,67 +203,64 @@ goes_behind number session q op x calls apart h = let P : Bool → Type 0 = λ b
 pub goes_here : (number session : ℕ) (q : Bytes) (op : Op) (x : CallState) (calls : List CallState) → has_number number x ≡ true → IsCallOf session q op x → Goes number session q op (x ∷ calls)
 goes_here number session q op x calls mine h = let P : Bool → Type 0 = λ b. IsSomeAnd (cond b (Some x) (find (has_number number) calls)) (IsCallOf session q op) in subst P (sym mine) h
 
--- the call that is looked for, once a key is settled
-goes_settled : (key : Bytes) (met : Option Refusal) (number session : ℕ) (q : Bytes) (op : Op) (x : CallState) (calls : List CallState) (o : Option CallState) → going_on (settled key met x) ≡ o → (q ≡ key → ⊥) → is_turn x key ≡ true
-    → has_number number x ≡ true → IsCallOf session q op x → Goes number session q op (cons_option o calls)
-goes_settled key met number session q op x calls o is other turn mine h = go o is
-  where
-    goes : op_at (settled key met x) q ≡ Some op
-    goes = at_other key q x.tasks other ∙ h.1
-
-    go : (o : Option CallState) → going_on (settled key met x) ≡ o → Goes number session q op (cons_option o calls)
-    go None e = absurd (none_left (settled key met x) q op e goes)
-    go (Some v) e =
-        let v_is = going_is (settled key met x) v e in
-        goes_here number session q op v calls (ap (λ (c : CallState). has_number number c) v_is ∙ mine)
-        (ap (λ (c : CallState). c.caller.session) v_is ∙ h.0, ap (λ (c : CallState). op_at c q) v_is ∙ goes, ap (λ (c : CallState). is_turn c q) v_is ∙ turn_left key met x q turn other h.2)
-
--- and a call before it
-goes_passed : (call : ℕ) (key : Bytes) (met : Option Refusal) (number session : ℕ) (q : Bytes) (op : Op) (x : CallState) (calls : List CallState) (o : Option CallState) → going_on (settled key met x) ≡ o → has_number number x ≡ false
-    → Goes number session q op calls → Goes number session q op (cons_option o calls)
-goes_passed call key met number session q op x calls None e apart h = h
-goes_passed call key met number session q op x calls (Some v) e apart h = goes_behind number session q op v calls (ap (λ (c : Caller). c.call == number) (left_of call key met x v e).caller_is ∙ apart) h
-
--- a call continues at each key but the one that is settled
-goes_on : (call : ℕ) (key : Bytes) (met : Option Refusal) (number session : ℕ) (q : Bytes) (op : Op) (calls : List CallState) → (number ≡ call → q ≡ key → ⊥) → (number ≡ call → IsTurnOf calls number key) → Goes number session q op calls
-    → Goes number session q op (settle call key met calls)
-goes_on call key met number session q op [] other turn h = h
-goes_on call key met number session q op (x ∷ xs) other turn h =
-    elim (has_number call x) as (λ b. has_number call x ≡ b → Goes number session q op (cond b (cons_option (going_on (settled key met x)) xs) (x ∷ settle call key met xs))) [
-      | true ↦ λ e. elim (has_number number x) as (λ c. has_number number x ≡ c → IsSomeAnd (cond c (Some x) (find (has_number number) xs)) (IsCallOf session q op) → Goes number session q op (cons_option (going_on (settled key met x)) xs)) [
-        | true ↦ λ f h.
-            let same : number ≡ call = sym (eqb-true x.caller.call number f) ∙ eqb-true x.caller.call call e in
-            goes_settled key met number session q op x xs (going_on (settled key met x)) refl (other same) (turn same x (ap (λ b. cond b (Some x) (find (has_number number) xs)) f)) f h
-        | false ↦ λ f h. goes_passed call key met number session q op x xs (going_on (settled key met x)) refl f h
+-- a call that another has replaced, or none, continues at a key, if what is left of it does
+pub still_replaced : (call : ℕ) (left : CallState → Option CallState) (number session : ℕ) (q : Bytes) (op : Op) (calls : List CallState) → ((u v : CallState) → find (has_number call) calls ≡ Some u → left u ≡ Some v → v.caller ≡ u.caller)
+    → ((u v : CallState) → find (has_number call) calls ≡ Some u → left u ≡ Some v → u.caller.call ≡ number → IsCallOf session q op u → IsCallOf session q op v)
+    → ((u : CallState) → find (has_number call) calls ≡ Some u → left u ≡ None → u.caller.call ≡ number → IsCallOf session q op u → ⊥) → Goes number session q op calls → Goes number session q op (replaced call left calls)
+still_replaced call left number session q op [] same now over h = h
+still_replaced call left number session q op (x ∷ xs) same now over h =
+    elim (has_number call x) as (λ b. has_number call x ≡ b → Goes number session q op (cond b (cons_option (left x) xs) (x ∷ replaced call left xs))) [
+      | true ↦ λ e. elim (has_number number x) as (λ c. has_number number x ≡ c → IsSomeAnd (cond c (Some x) (find (has_number number) xs)) (IsCallOf session q op) → Goes number session q op (cons_option (left x) xs)) [
+        | true ↦ λ f h. here (left x) refl (ap (λ b. cond b (Some x) (find (has_number call) xs)) e) f h
+        | false ↦ λ f h. passed (left x) refl (ap (λ b. cond b (Some x) (find (has_number call) xs)) e) f h
       ] refl h
-      | false ↦ λ e. elim (has_number number x) as (λ c. has_number number x ≡ c → IsSomeAnd (cond c (Some x) (find (has_number number) xs)) (IsCallOf session q op)
-          → IsSomeAnd (cond c (Some x) (find (has_number number) (settle call key met xs))) (IsCallOf session q op)) [
-            | true ↦ λ f h. h
-            | false ↦ λ f h. goes_on call key met number session q op xs other (λ e u is. turn e u (ap (λ b. cond b (Some x) (find (has_number number) xs)) f ∙ is)) h
-          ] refl h
+      | false ↦ λ e.
+          let at = λ (u : CallState) (is : find (has_number call) xs ≡ Some u). ap (λ b. cond b (Some x) (find (has_number call) xs)) e ∙ is in
+          elim (has_number number x) as (λ c. IsSomeAnd (cond c (Some x) (find (has_number number) xs)) (IsCallOf session q op) → IsSomeAnd (cond c (Some x) (find (has_number number) (replaced call left xs))) (IsCallOf session q op)) [
+            | true ↦ λ h. h
+            | false ↦ λ h. still_replaced call left number session q op xs (λ u v is. same u v (at u is)) (λ u v is. now u v (at u is)) (λ u is. over u (at u is)) h
+          ] h
     ] refl
+  where
+    here : (o : Option CallState) → left x ≡ o → find (has_number call) (x ∷ xs) ≡ Some x → has_number number x ≡ true → IsCallOf session q op x → Goes number session q op (cons_option o xs)
+    here None e is mine of = absurd (over x is e (eqb-true x.caller.call number mine) of)
+    here (Some v) e is mine of = goes_here number session q op v xs (ap (λ (c : Caller). c.call == number) (same x v is e) ∙ mine) (now x v is e (eqb-true x.caller.call number mine) of)
+
+    passed : (o : Option CallState) → left x ≡ o → find (has_number call) (x ∷ xs) ≡ Some x → has_number number x ≡ false → Goes number session q op xs → Goes number session q op (cons_option o xs)
+    passed None e is apart h = h
+    passed (Some v) e is apart h = goes_behind number session q op v xs (ap (λ (c : Caller). c.call == number) (same x v is e) ∙ apart) h
 
 -- the settled key is one at which its call may work
 pub still_called : (call : ℕ) (key : Bytes) (met : Option Refusal) (number session : ℕ) (q : Bytes) (op : Op) (calls : List CallState) → (number ≡ call → q ≡ key → ⊥) → IsTurnOf calls call key → IsSomeAnd (find (has_number number) calls) (IsCallOf session q op)
     → IsSomeAnd (find (has_number number) (settle call key met calls)) (IsCallOf session q op)
-still_called call key met number session q op calls other turn h = goes_on call key met number session q op calls other (λ e u is. turn u (ap (λ n. find (has_number n) calls) (sym e) ∙ is)) h
+still_called call key met number session q op calls other turn h =
+    still_replaced call (λ u. going_on (settled key met u)) number session q op calls (λ u v is e. (left_of call key met u v e).caller_is)
+    (λ u v is e mine of.
+    let v_is = going_is (settled key met u) v e in
+    let away = other (sym mine ∙ mine_of u is) in
+    (ap (λ (c : CallState). c.caller.session) v_is ∙ of.0, ap (λ (c : CallState). op_at c q) v_is ∙ at_other key q u.tasks away ∙ of.1, ap (λ (c : CallState). is_turn c q) v_is ∙ turn_left key met u q (turn u is) away of.2))
+    (λ u is e mine of. none_left (settled key met u) q op e (at_other key q u.tasks (other (sym mine ∙ mine_of u is)) ∙ of.1)) h
+  where
+    mine_of : (u : CallState) → find (has_number call) calls ≡ Some u → u.caller.call ≡ call
+    mine_of u is = found_number call calls u is
 
 -- calls that are apart stay so
 pub apart_of : (x y v : CallState) → v.caller ≡ y.caller → is_apart x y ≡ true → is_apart x v ≡ true
 apart_of x y v same h = ap (λ (c : Caller). not (c.session == x.caller.session) && not (c.call == x.caller.call)) same ∙ h
 
-apart_settled : (call : ℕ) (key : Bytes) (met : Option Refusal) (x : CallState) (calls : List CallState) → list_all (is_apart x) calls ≡ true → list_all (is_apart x) (settle call key met calls) ≡ true
-apart_settled call key met x [] h = refl
-apart_settled call key met x (y ∷ ys) h =
+apart_replaced : (call : ℕ) (left : CallState → Option CallState) (x : CallState) (calls : List CallState) → ((u v : CallState) → find (has_number call) calls ≡ Some u → left u ≡ Some v → v.caller ≡ u.caller) → list_all (is_apart x) calls ≡ true
+    → list_all (is_apart x) (replaced call left calls) ≡ true
+apart_replaced call left x [] same h = refl
+apart_replaced call left x (y ∷ ys) same h =
     let parts = and_parts (is_apart x y) (list_all (is_apart x) ys) h in
-    elim (has_number call y) as (λ b. list_all (is_apart x) (cond b (cons_option (going_on (settled key met y)) ys) (y ∷ settle call key met ys)) ≡ true) [
-      | true ↦ go (going_on (settled key met y)) refl parts.0 parts.1
-      | false ↦ and_from _ _ parts.0 (apart_settled call key met x ys parts.1)
-    ]
+    elim (has_number call y) as (λ b. has_number call y ≡ b → list_all (is_apart x) (cond b (cons_option (left y) ys) (y ∷ replaced call left ys)) ≡ true) [
+      | true ↦ λ e. go (left y) refl (ap (λ b. cond b (Some y) (find (has_number call) ys)) e) parts.0 parts.1
+      | false ↦ λ e. and_from _ _ parts.0 (apart_replaced call left x ys (λ u v is. same u v (ap (λ b. cond b (Some y) (find (has_number call) ys)) e ∙ is)) parts.1)
+    ] refl
   where
-    go : (o : Option CallState) → going_on (settled key met y) ≡ o → is_apart x y ≡ true → list_all (is_apart x) ys ≡ true → list_all (is_apart x) (cons_option o ys) ≡ true
-    go None e apart rest = rest
-    go (Some v) e apart rest = and_from _ _ (apart_of x y v (left_of call key met y v e).caller_is apart) rest
+    go : (o : Option CallState) → left y ≡ o → find (has_number call) (y ∷ ys) ≡ Some y → is_apart x y ≡ true → list_all (is_apart x) ys ≡ true → list_all (is_apart x) (cons_option o ys) ≡ true
+    go None e is apart rest = rest
+    go (Some v) e is apart rest = and_from _ _ (apart_of x y v (same y v is e) apart) rest
 
 -- so they are apart from what is left of a call
 pub apart_from : (x v : CallState) (calls : List CallState) → v.caller ≡ x.caller → list_all (is_apart x) calls ≡ true → list_all (is_apart v) calls ≡ true
@@ -275,14 +272,17 @@ other_number call x y mine apart =
     ap (λ n. y.caller.call == n) (sym (eqb-true x.caller.call call mine))
     ∙ not-true (y.caller.call == x.caller.call) (and_parts (not (y.caller.session == x.caller.session)) (not (y.caller.call == x.caller.call)) apart).1
 
--- the calls fit another world
-pub calls_settled : (w n : WorldState) (call : ℕ) (key : Bytes) (met : Option Refusal) (P : CallState → Type 0) (calls : List CallState) → ((u v : CallState) → Left call key u v → P u → FitsCall w u → FitsCall n v) → Each P calls → CallsFit w calls
-    → CallsFit n (settle call key met calls)
-calls_settled w n call key met P [] f each fit = tt
-calls_settled w n call key met P (x ∷ xs) f each fit =
-    elim (has_number call x) as (λ b. has_number call x ≡ b → CallsFit n (cond b (cons_option (going_on (settled key met x)) xs) (x ∷ settle call key met xs))) [
-      | true ↦ λ e. go (going_on (settled key met x)) refl (calls_on w n (λ y. P y × (has_number call y ≡ false)) xs (λ y h fits. f y y (left_same call key y h.1) h.0 fits) (both e xs each.1 fit.1) fit.2)
-      | false ↦ λ e. (f x x (left_same call key x e) each.0 fit.0, apart_settled call key met x xs fit.1, calls_settled w n call key met P xs f each.1 fit.2)
+-- the calls fit another world, once one of them is replaced
+pub calls_replaced : (w n : WorldState) (call : ℕ) (left : CallState → Option CallState) (P : CallState → Type 0) (calls : List CallState) → ((u v : CallState) → find (has_number call) calls ≡ Some u → left u ≡ Some v → v.caller ≡ u.caller)
+    → ((x : CallState) → has_number call x ≡ false → P x → FitsCall w x → FitsCall n x) → ((u v : CallState) → find (has_number call) calls ≡ Some u → left u ≡ Some v → P u → FitsCall w u → FitsCall n v)
+    → Each P calls → CallsFit w calls → CallsFit n (replaced call left calls)
+calls_replaced w n call left P [] same on now each fit = tt
+calls_replaced w n call left P (x ∷ xs) same on now each fit =
+    elim (has_number call x) as (λ b. has_number call x ≡ b → CallsFit n (cond b (cons_option (left x) xs) (x ∷ replaced call left xs))) [
+      | true ↦ λ e. go (left x) refl (ap (λ b. cond b (Some x) (find (has_number call) xs)) e) (calls_on w n (λ y. P y × (has_number call y ≡ false)) xs (λ y h fits. on y h.1 h.0 fits) (both e xs each.1 fit.1) fit.2)
+      | false ↦ λ e.
+          let at = λ (u : CallState) (is : find (has_number call) xs ≡ Some u). ap (λ b. cond b (Some x) (find (has_number call) xs)) e ∙ is in
+          (on x e each.0 fit.0, apart_replaced call left x xs (λ u v is. same u v (at u is)) fit.1, calls_replaced w n call left P xs (λ u v is. same u v (at u is)) on (λ u v is. now u v (at u is)) each.1 fit.2)
     ] refl
   where
     both : has_number call x ≡ true → (ys : List CallState) → Each P ys → list_all (is_apart x) ys ≡ true → Each (λ y. P y × (has_number call y ≡ false)) ys
@@ -291,19 +291,28 @@ calls_settled w n call key met P (x ∷ xs) f each fit =
         let parts = and_parts (is_apart x y) (list_all (is_apart x) ys) apart in
         ((each.0, other_number call x y mine parts.0), both mine ys each.1 parts.1)
 
-    go : (o : Option CallState) → going_on (settled key met x) ≡ o → CallsFit n xs → CallsFit n (cons_option o xs)
-    go None e rest = rest
-    go (Some v) e rest = let left = left_of call key met x v e in (f x v left each.0 fit.0, apart_from x v xs left.caller_is fit.1, rest)
+    go : (o : Option CallState) → left x ≡ o → find (has_number call) (x ∷ xs) ≡ Some x → CallsFit n xs → CallsFit n (cons_option o xs)
+    go None e is rest = rest
+    go (Some v) e is rest = (now x v is e each.0 fit.0, apart_from x v xs (same x v is e) fit.1, rest)
 
--- a fact of each call holds of what is left
-pub each_settled : (call : ℕ) (key : Bytes) (met : Option Refusal) (P : CallState → Type 0) (calls : List CallState) → ((u v : CallState) → Left call key u v → P u → P v) → Each P calls → Each P (settle call key met calls)
-each_settled call key met P [] f each = tt
-each_settled call key met P (x ∷ xs) f each =
-    elim (has_number call x) as (λ b. Each P (cond b (cons_option (going_on (settled key met x)) xs) (x ∷ settle call key met xs))) [
-      | true ↦ go (going_on (settled key met x)) refl
-      | false ↦ (each.0, each_settled call key met P xs f each.1)
-    ]
+pub calls_settled : (w n : WorldState) (call : ℕ) (key : Bytes) (met : Option Refusal) (P : CallState → Type 0) (calls : List CallState) → ((u v : CallState) → Left call key u v → P u → FitsCall w u → FitsCall n v) → Each P calls → CallsFit w calls
+    → CallsFit n (settle call key met calls)
+calls_settled w n call key met P calls f each fit =
+    calls_replaced w n call (λ u. going_on (settled key met u)) P calls (λ u v is e. (left_of call key met u v e).caller_is)
+    (λ x apart p h. f x x (left_same call key x apart) p h) (λ u v is e p h. f u v (left_of call key met u v e) p h) each fit
+
+-- a fact of each call holds of what is left of one
+pub each_replaced : (call : ℕ) (left : CallState → Option CallState) (P : CallState → Type 0) (calls : List CallState) → ((u v : CallState) → find (has_number call) calls ≡ Some u → left u ≡ Some v → P u → P v) → Each P calls → Each P (replaced call left calls)
+each_replaced call left P [] f each = tt
+each_replaced call left P (x ∷ xs) f each =
+    elim (has_number call x) as (λ b. has_number call x ≡ b → Each P (cond b (cons_option (left x) xs) (x ∷ replaced call left xs))) [
+      | true ↦ λ e. go (left x) refl (ap (λ b. cond b (Some x) (find (has_number call) xs)) e)
+      | false ↦ λ e. (each.0, each_replaced call left P xs (λ u v is. f u v (ap (λ b. cond b (Some x) (find (has_number call) xs)) e ∙ is)) each.1)
+    ] refl
   where
-    go : (o : Option CallState) → going_on (settled key met x) ≡ o → Each P (cons_option o xs)
-    go None e = each.1
-    go (Some v) e = (f x v (left_of call key met x v e) each.0, each.1)
+    go : (o : Option CallState) → left x ≡ o → find (has_number call) (x ∷ xs) ≡ Some x → Each P (cons_option o xs)
+    go None e is = each.1
+    go (Some v) e is = (f x v is e each.0, each.1)
+
+pub each_settled : (call : ℕ) (key : Bytes) (met : Option Refusal) (P : CallState → Type 0) (calls : List CallState) → ((u v : CallState) → Left call key u v → P u → P v) → Each P calls → Each P (settle call key met calls)
+each_settled call key met P calls f each = each_replaced call (λ u. going_on (settled key met u)) P calls (λ u v is e p. f u v (left_of call key met u v e) p) each

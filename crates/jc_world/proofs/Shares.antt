@@ -3,7 +3,7 @@
 --     AllBy          each step among events is of such a caller at such a key
 --     added_order    steps that may come after an order are at its end
 --     comes_added    a step may still come, if it may after each that is added
-use Rattle.jc_world.proofs.Common.{◌≡◌, ℕ, zero, suc, Bool, true, false, cond, not, ◌&&◌, ◌||◌, List, [], ◌∷◌, ◌++◌, map, length, drop, IsSomeAnd, nat_lt, ◌==◌, slice_get, slice_set, Some, None, filter, Option, find, sym, refl, ap, ◌∙◌, subst, append-nil, arith, drop-append_seam, eqb-true, ne_eqb, and_parts, and_from, filter-append, list_all-append, pointwise, list_all, check, stripe_of, Caller, Config, Bytes, Group, victim_events, evicted_events, step_event, shared_event, step_place, events_of, may_come, may_follow, in_order, event_key, is_of_stripe, of_stripe, Cause, Event, Evict, LoadAnswer, Op, Out, Reply, Extends, may_come_all, IsReached, State, IsStripe, IsShaped, is_up_to, number_up_to, Each, WorldState, home, stripe_for}
+use Rattle.jc_world.proofs.Common.{◌≡◌, ℕ, zero, suc, Bool, true, false, cond, not, ◌&&◌, ◌||◌, List, [], ◌∷◌, ◌++◌, map, length, drop, IsSomeAnd, nat_lt, ◌==◌, slice_get, slice_set, Some, None, filter, Option, find, sym, refl, ap, ◌∙◌, subst, append-nil, arith, drop-append_seam, eqb-true, ne_eqb, and_parts, and_from, filter-append, list_all-append, pointwise, list_all, check, stripe_of, Caller, Config, Bytes, Group, victim_events, evicted_events, step_event, shared_event, step_place, events_of, may_come, may_follow, in_order, event_key, is_of_stripe, of_stripe, Cause, Event, Evict, LoadAnswer, Op, Out, Reply, Extends, may_come_all, IsReached, State, IsWorldStripe, IsShaped, is_up_to, number_up_to, Each, WorldState, home, stripe_for}
 use Rattle.jc_model.specs.declared.event.Event.TheVariants.{Step}
 
 -- 1. Small facts.
@@ -102,7 +102,7 @@ none_kept p q [] f h = refl
 none_kept p q (x ∷ xs) f h = let parts = and_parts (p x) (list_all p xs) h in ap (λ b. cond b (x ∷ filter q xs) (filter q xs)) (f x parts.0) ∙ none_kept p q xs f parts.1
 
 -- what a stripe that is reached appends is of its keys
-own_added : (w : WorldState) (n : ℕ) (from to : State) (g : Extends from to) → IsStripe w n from → IsReached to → list_all (is_of_stripe w.config.stripes n) g.more ≡ true
+own_added : (w : WorldState) (n : ℕ) (from to : State) (g : Extends from to) → IsWorldStripe w n from → IsReached to → list_all (is_of_stripe w.config.stripes n) g.more ≡ true
 own_added w n from to g at reached =
     let s : to.config.stripes ≡ w.config.stripes = ap (λ (c : Config). c.stripes) (g.same.config ∙ at.config_is) in
     let m : to.stripe ≡ n = g.same.stripe ∙ at.number_is in
@@ -110,7 +110,7 @@ own_added w n from to g at reached =
     all_back (is_of_stripe w.config.stripes n) from.history g.more (sym e ∙ reached.own)
 
 -- so the stripe's part of the order grows by it
-pub share_grows : (w : WorldState) (n : ℕ) (from to : State) → Extends from to → IsStripe w n from → IsReached to → of_stripe w.config.stripes n (w.order ++ added from to) ≡ to.history
+pub share_grows : (w : WorldState) (n : ℕ) (from to : State) → Extends from to → IsWorldStripe w n from → IsReached to → of_stripe w.config.stripes n (w.order ++ added from to) ≡ to.history
 share_grows w n from to g at reached =
     ap (λ more. of_stripe w.config.stripes n (w.order ++ more)) (added_is from to g)
     ∙ filter-append (is_of_stripe w.config.stripes n) w.order g.more
@@ -123,7 +123,7 @@ one_stripe : (stripes n m : ℕ) (e : Event) → (n ≡ m → ⊥) → is_of_str
 one_stripe stripes n m e apart h = ne_eqb (stripe_of (event_key e) stripes) m (λ is. apart (sym (eqb-true (stripe_of (event_key e) stripes) n h) ∙ is))
 
 -- and the others' parts stay
-pub share_stays : (w : WorldState) (n m : ℕ) (from to : State) → Extends from to → IsStripe w n from → IsReached to → (n ≡ m → ⊥) → of_stripe w.config.stripes m (w.order ++ added from to) ≡ of_stripe w.config.stripes m w.order
+pub share_stays : (w : WorldState) (n m : ℕ) (from to : State) → Extends from to → IsWorldStripe w n from → IsReached to → (n ≡ m → ⊥) → of_stripe w.config.stripes m (w.order ++ added from to) ≡ of_stripe w.config.stripes m w.order
 share_stays w n m from to g at reached apart =
     ap (λ more. of_stripe w.config.stripes m (w.order ++ more)) (added_is from to g)
     ∙ filter-append (is_of_stripe w.config.stripes m) w.order g.more
@@ -152,13 +152,13 @@ pub shape_set : (w n : WorldState) (key : Bytes) (from to : State) → n.config 
 shape_set w n key from to config_is stripes_are shape there config number origin reached share rest =
     let old = shape.each (home w key) from there in
     let count_is : n.config.stripes ≡ w.config.stripes = ap (λ (c : Config). c.stripes) config_is in
-    let mine : IsStripe n (home w key) to =
+    let mine : IsWorldStripe n (home w key) to =
     record { config_is = config ∙ old.config_is ∙ sym config_is; number_is = number ∙ old.number_is; origin_is = origin ∙ old.origin_is; reached = reached; share = ap (λ c. of_stripe c (home w key) n.order) count_is ∙ share } in
     record {
       config_fits = ap check config_is ∙ shape.config_fits;
       count = ap length stripes_are ∙ length-slice_set w.stripes (home w key) to ∙ shape.count ∙ sym count_is;
       each = λ m s here. set_cases w.stripes (home w key) m to s
-          (λ same is. let P : ℕ → Type 0 = λ m. IsStripe n m s in let Q : State → Type 0 = λ s. IsStripe n (home w key) s in subst P same (subst Q is mine))
+          (λ same is. let P : ℕ → Type 0 = λ m. IsWorldStripe n m s in let Q : State → Type 0 = λ s. IsWorldStripe n (home w key) s in subst P same (subst Q is mine))
           (λ apart here.
           let h = shape.each m s here in
           record { config_is = h.config_is ∙ sym config_is; number_is = h.number_is; origin_is = h.origin_is; reached = h.reached; share = ap (λ c. of_stripe c m n.order) count_is ∙ rest m apart ∙ h.share })

@@ -6,7 +6,7 @@
 --     stands_run     so a run of events keeps that
 use Rattle.jc_world.proofs.Common.{◌≡◌, ℕ, zero, suc, true, false, cond, not, List, [], ◌∷◌, ◌++◌, length, take, slice_get, slice_set, Some, None, Option, option_map, zip, sym, refl, ap, ◌∙◌, subst, subst₂, inl, inr, append_assoc, append-nil, arith, take-append_seam, and_from, nat_eq_equiv, take-append-le, filter-append, slice_get_within, get, insert, remove, get-empty, stripe_of, Caller, Config, Refusal, WriterFailed, Bytes, key_cmp, nothing_said, is_of_stripe, of_stripe, Op, Get, Out, Reply, callers_of, step_at, after_commit, State, Ticket, ProcessClaim, JoinClaim, Reservation, Command, Outcome, Part, Shown, WorldEvent, CallState, new_call, has_number, op_for, open_keys, is_going, has_too_many_keys, opened, going_on, with_met, settle, with_found, step_of, with_met_by, new_load, new_write, new_process, new_part, Starts, Ends, Picks, reported_keys, keys_reported, Happens, Step, Run, fits, start_with, report_for, IsReplyOfStep, Stands, is_answer_at, Each, IsSoundWorld, Parts, JoinKey, join_cmp, join_key, Joins, WorldState, home, stripe_for, open_call, part_of, out_of, join_of}
 use Rattle.jc_model.specs.declared.event.Event.{Event as StripeEvent}
-use Rattle.jc_world.proofs.Lemmas.{still_at, each_map, fact_found, each_pushed, each_filter, added, found_number, of_call-at, done_for, Left, each_settled, begun_cases, begun_shown, Taken, taken_of, taken_met, each_replaced, join_at, joins_get, part_key, stripe_put, AnswersNone, IsStart, KeyChange, by_nothing, by_refusal, by_step, by_reservation, by_join, by_commit, by_withdrawal, by_answer, by_retry, key_change, StripeChange, by_key, beside_stripes, change_of, Move, no_move, quiet_move, step_move, move_step, each_report, beside}
+use Rattle.jc_world.proofs.Lemmas.{still_at, each_map, fact_found, each_pushed, each_filter, added, found_number, of_call-at, done_for, Left, each_settled, begun_cases, begun_shown, Taken, taken_of, taken_met, each_taken, join_at, joins_get, part_key, stripe_put, AnswersNone, IsStart, KeyChange, by_nothing, by_refusal, by_step, by_reservation, by_join, by_commit, by_withdrawal, by_answer, by_retry, key_change, StripeChange, by_key, beside_stripes, change_of, Move, no_move, quiet_move, step_move, move_step, each_report, beside}
 use Rattle.jc_world.proofs.Maps.{keys_ordered, joins_ordered, each_put, each_left}
 use Rattle.jc_world.proofs.Sounding.{Laws, sound_step}
 
@@ -197,7 +197,7 @@ begun_happens shows w new (WorldEvent.Look call stripe) seen last h old =
     let stripes = w.config.stripes in
     subst (AllBegun shows) (sym h.9)
     (record {
-      calls = each_replaced call (λ u. going_on (with_found stripes stripe h.6 h.1 u)) (IsBegun shows) h.0 w.calls h.2 (λ v goes b. begun_taken shows h.0 v (taken_of stripes stripe h.6 h.1 h.0 v h.3 goes) b) old.calls;
+      calls = each_taken call (λ u. going_on (with_found stripes stripe h.6 h.1 u)) (IsBegun shows) h.0 w.calls h.2 (λ v goes b. begun_taken shows h.0 v (taken_of stripes stripe h.6 h.1 h.0 v h.3 goes) b) old.calls;
       parts = old.parts;
       joins = old.joins;
     })
@@ -215,7 +215,7 @@ begun_happens shows w new (WorldEvent.Report call left fault) seen last h old =
     (each_report (AllBegun shows) call (report_for h.0.kind left fault)
     (λ v key part at waits o. record { calls = o.calls; parts = parts_put shows v.parts key _ (part_begun shows v call key part at o) o.parts; joins = o.joins })
     (with_met_by w call met) (keys_reported (reported_keys w.parts call (open_keys h.0)))
-    (record { calls = each_replaced call (λ x. Some (with_met met x)) (IsBegun shows) h.0 w.calls h.1 (λ v goes b. begun_taken shows h.0 v (taken_met met h.0 v goes) b) old.calls; parts = old.parts; joins = old.joins }))
+    (record { calls = each_taken call (λ x. Some (with_met met x)) (IsBegun shows) h.0 w.calls h.1 (λ v goes b. begun_taken shows h.0 v (taken_met met h.0 v goes) b) old.calls; parts = old.parts; joins = old.joins }))
 begun_happens shows w new (WorldEvent.Leave call) seen last h old =
     subst (AllBegun shows) (sym h.1) (record { calls = each_filter (IsBegun shows) (λ x. not (has_number call x)) w.calls old.calls; parts = old.parts; joins = old.joins })
 begun_happens shows w new (WorldEvent.Foreign key value) seen last h old = subst (AllBegun shows) (sym h.1) (record { calls = old.calls; parts = old.parts; joins = old.joins })

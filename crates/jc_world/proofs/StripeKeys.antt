@@ -4,12 +4,12 @@
 --     stripe_at      the stripe that is read
 --     look_found, look_takes
 --                    a call whose look fits hasn't looked at that stripe, which is there, and may take its keys
-use Rattle.jc_world.proofs.Common.{◌≡◌, ℕ, ◌<◌, true, false, List, [], ◌∷◌, length, get_or, is_some, is_none, IsSomeAnd, nat_lt, ◌==◌, slice_get, Some, None, Option, sym, refl, ap, ◌∙◌, subst, not-true, ltb-true, eqb-true, and_parts, and_from, slice_get_read, pointwise, list_all, lookup, stripe_of, Bytes, keys_once, keys_own, AreKeys, State, WorldEvent, Task, SweepState, CallState, has_number, has_looked, is_to_look, may_look, fits, are_new, TakesKeys, IsStripe, Sweeps, IsSoundWorld, WorldState, open_call}
+use Rattle.jc_world.proofs.Common.{◌≡◌, ℕ, ◌<◌, true, false, List, [], ◌∷◌, length, get_or, is_some, is_none, IsSomeAnd, nat_lt, ◌==◌, slice_get, Some, None, Option, sym, refl, ap, ◌∙◌, subst, not-true, ltb-true, eqb-true, and_parts, and_from, slice_get_read, pointwise, list_all, lookup, stripe_of, Bytes, keys_once, keys_own, AreKeys, State, WorldEvent, Task, SweepState, CallState, has_number, has_looked, is_to_look, may_look, fits, are_new, TakesKeys, IsWorldStripe, Sweeps, IsSoundWorld, WorldState, open_call}
 use Rattle.jc_world.proofs.Shares.{fact_found, is_some_and}
 
 -- 1. The keys of a stripe belong to it.
 
-pub all_here : (w : WorldState) (i : ℕ) (s : State) (found : List Bytes) → IsStripe w i s → AreKeys s found → list_all (λ k. stripe_of k w.config.stripes == i) found ≡ true
+pub all_here : (w : WorldState) (i : ℕ) (s : State) (found : List Bytes) → IsWorldStripe w i s → AreKeys s found → list_all (λ k. stripe_of k w.config.stripes == i) found ≡ true
 all_here w i s found at are = sym (λ j. list_all (λ k. stripe_of k (at.config_is j).stripes == at.number_is j) found) ∙ keys_own s found at.reached are
 
 -- 2. A call hasn't taken them.

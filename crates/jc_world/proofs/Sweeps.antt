@@ -2,7 +2,7 @@
 --     sweeps_left, sweep_found      what is left of a call once a key is settled, and once it has taken keys
 --     sweeps_happens                any event that fits
 use Rattle.jc_world.proofs.Common.{◌≡◌, ℕ, true, false, cond, not, ◌||◌, List, [], ◌∷◌, ◌++◌, is_some, ◌==◌, Some, None, Option, find, sym, refl, ap, ◌∙◌, subst, append-nil, eqb-true, and_parts, or_right, nat_eq_equiv, list_any-append, is_some-lookup, pointwise, list_any, list_all, lookup, option_or, stripe_of, Caller, Config, Refusal, Bytes, Op, State, JoinClaim, Command, Outcome, Part, Shown, WorldEvent, at_each, SweepState, CallState, new_call, has_number, opened, going_on, with_met, settle, has_looked, has_looked_at_each, next_sweep, with_found, look, fault_in, with_met_by, Starts, Ends, Picks, Happens, fits, Each, Sweeps, IsSoundWorld, WorldState, open_call}
-use Rattle.jc_world.proofs.Lemmas.{each_pushed, each_filter, same_bytes, Left, going_is, each_settled, opened_cases, each_replaced, keys-at_each, lookup-found, KeyChange, by_nothing, by_refusal, by_step, by_reservation, by_join, by_commit, by_withdrawal, by_answer, by_retry, key_change, IsReport}
+use Rattle.jc_world.proofs.Lemmas.{each_pushed, each_filter, same_bytes, Left, going_is, each_settled, opened_cases, each_taken, keys-at_each, lookup-found, KeyChange, by_nothing, by_refusal, by_step, by_reservation, by_join, by_commit, by_withdrawal, by_answer, by_retry, key_change, IsReport}
 use Rattle.jc_world.proofs.StripeKeys.{all_here}
 
 -- 1. One call.
@@ -84,10 +84,10 @@ sweeps_called w call session c old =
 sweeps_looked : (w : WorldState) (call stripe : ℕ) (keys : List Bytes) (s : SweepState) (u : CallState) → find (has_number call) w.calls ≡ Some u → u.sweep ≡ Some s → list_all (λ k. stripe_of k w.config.stripes == stripe) keys ≡ true → AllSweep w
     → Each (Sweeps w.config) (look call w.config.stripes stripe keys s w.calls)
 sweeps_looked w call stripe keys s u here sweeps own old =
-    each_replaced call (λ u. going_on (with_found w.config.stripes stripe keys s u)) (Sweeps w.config) u w.calls here (λ v goes h. sweep_found w.config stripe keys s u v sweeps own goes h) old
+    each_taken call (λ u. going_on (with_found w.config.stripes stripe keys s u)) (Sweeps w.config) u w.calls here (λ v goes h. sweep_found w.config stripe keys s u v sweeps own goes h) old
 
 pub sweeps_met : (w : WorldState) (call : ℕ) (met : Option Refusal) (u : CallState) → open_call w call ≡ Some u → AllSweep w → AllSweep (with_met_by w call met)
-sweeps_met w call met u here old = each_replaced call (λ x. Some (with_met met x)) (Sweeps w.config) u w.calls here (λ v goes h. let is : with_met met u ≡ v = cc in subst (Sweeps w.config) is h) old
+sweeps_met w call met u here old = each_taken call (λ x. Some (with_met met x)) (Sweeps w.config) u w.calls here (λ v goes h. let is : with_met met u ≡ v = cc in subst (Sweeps w.config) is h) old
 
 pub sweeps_happens : (w new : WorldState) (e : WorldEvent) (seen : Shown) → fits w e ≡ true → Happens w e seen new → (IsReport e → IsSoundWorld new) → IsSoundWorld w → AllSweep new
 sweeps_happens w new (WorldEvent.Call call session command) seen fit h back old = subst AllSweep (sym h.1) (sweeps_called w call session command old)

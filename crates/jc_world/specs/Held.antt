@@ -5,12 +5,12 @@
 --     progress_of_run        how far a key is whose processor has run
 --     progress_in            how far a key is whose processor was asked
 --     part_in                what was asked and answered for a key, as data
---     IsLoadOf, IsReportOf   a done value is the played one of a reservation's ask, and holds the answer that is kept beside it
+--     IsLoadOf, IsPlayedReport   a done value is the played one of a reservation's ask, and holds the answer that is kept beside it
 --     IsEffectReportOf       the same of a writer that is asked after a processor, for the processor's net effect
 --     IsLoad, IsWrite        a ticket asks the loader, and the writer; either it was not asked yet, or its own answer is there
 --     IsEffectReport, IsEffect
 --                            the same of the writer that a processor's ticket asks
---     IsRun, IsProcess       a ticket asks the processor; either it was not asked yet, or its own run is there
+--     IsPlayedRun, IsProcess       a ticket asks the processor; either it was not asked yet, or its own run is there
 --     IsAnswerable           one of these
 --     parts_of               by key, what was asked and answered: the map that an index map means
 --     joins_of               by call and key, the joins: the same of the joins
@@ -74,7 +74,7 @@ pub record IsLoadOf (r : Reservation) (loaded : Loaded) : Type 0 where
   pub done_is : loaded.done ≡ record { ask = r; origin = Played; answer = loaded.answer }
   pub given : is_load_given loaded.answer ≡ true
 
-pub record IsReportOf (r : Reservation) (written : Written) : Type 0 where
+pub record IsPlayedReport (r : Reservation) (written : Written) : Type 0 where
   pub done_is : written.done ≡ record { ask = r; origin = Played; answer = written.report }
   pub given : is_write_given written.report ≡ true
 
@@ -86,7 +86,7 @@ IsLoad ticket (Some loaded) =
 abbrev pub IsWrite : Ticket → Option Written → Type 0
 IsWrite ticket None = (asks_writer ticket.reservation.first ≡ true) × (ticket.asked ≡ false)
 IsWrite ticket (Some written) =
-    (asks_writer ticket.reservation.first ≡ true) × IsReportOf ticket.reservation written
+    (asks_writer ticket.reservation.first ≡ true) × IsPlayedReport ticket.reservation written
 
 pub record IsEffectReportOf (done : ProcessResult Reservation) (written : EffectWritten) : Type 0 where
   pub ask_is : Some written.done.ask
@@ -104,7 +104,7 @@ IsEffect ticket done None = Unit {0}
 IsEffect ticket done (Some effect) =
     (is_some (effect_change done.load done.process) ≡ true) × IsEffectReport ticket done effect.written
 
-pub record IsRun (ticket : ProcessClaim) (run : Run) : Type 0 where
+pub record IsPlayedRun (ticket : ProcessClaim) (run : Run) : Type 0 where
   pub asked : ticket.asked ≡ true
   pub ask_is : run.done.ask ≡ ticket.reservation
   pub origin_is : run.done.origin ≡ Played
@@ -113,7 +113,7 @@ pub record IsRun (ticket : ProcessClaim) (run : Run) : Type 0 where
 abbrev pub IsProcess : ProcessClaim → Option Run → Type 0
 IsProcess ticket None =
     (asks_processor ticket.reservation.first ≡ true) × (ticket.asked ≡ false) × (ticket.writer_asked ≡ false)
-IsProcess ticket (Some run) = (asks_processor ticket.reservation.first ≡ true) × IsRun ticket run
+IsProcess ticket (Some run) = (asks_processor ticket.reservation.first ≡ true) × IsPlayedRun ticket run
 
 abbrev pub IsAnswerable : Asked → Type 0
 IsAnswerable (asked.Loader ticket loaded) = IsLoad ticket loaded

@@ -1,7 +1,7 @@
 -- How a call keeps what it does at its keys. No contract of a public call cites this.
 --     tasks_of       what a call does, as data
 --     first_open     how many tasks come before the first one whose key is open: all, if none is
---     IsPlaced       of a call of many keys, the place of the first open one is kept
+--     IsFirstKept       of a call of many keys, the place of the first open one is kept
 --     IsMany         what a call does is kept as that of a call of many keys
 --     IsSwept        so it is of a call that is to look at a stripe
 --     are_new        keys of which no task is
@@ -23,9 +23,9 @@ abbrev pub first_open : List Task → ℕ
 first_open [] = 0
 first_open (task ∷ tasks) = if is_open task then 0 else suc (first_open tasks)
 
-abbrev pub IsPlaced : Tasks → Type 0
-IsPlaced (One key op) = Unit {0}
-IsPlaced (Many ops first) = first ≡ first_open ops.entries
+abbrev pub IsFirstKept : Tasks → Type 0
+IsFirstKept (One key op) = Unit {0}
+IsFirstKept (Many ops first) = first ≡ first_open ops.entries
 
 abbrev pub IsMany : Tasks → Type 0
 IsMany (One key op) = ⊥

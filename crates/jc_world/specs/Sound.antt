@@ -1,5 +1,5 @@
 -- What is true of every world that a run reaches. The contracts of public calls hand out what callers need of it.
---     IsStripe                      a stripe of the world: it is reached, and its history is its part of the order
+--     IsWorldStripe                      a stripe of the world: it is reached, and its history is its part of the order
 --     IsShaped                      there is a stripe for each number
 --     is_up_to, number_up_to        a number is at most the last call's, and so is the number of an event's step
 --     has_answer, has_parked_answer  an answer is parked for a joiner in this state, and for a joiner that is there
@@ -10,7 +10,7 @@
 --                                   that it may still find
 --     CallsFit                      that is so of all calls under way, and no two are of one session or have one number
 --     Each                          a fact is true of each of a list
---     is_asked                      the progress of a key is that of one who was asked: a load's of the loader, a write's of the
+--     is_of_asked                      the progress of a key is that of one who was asked: a load's of the loader, a write's of the
 --                                   writer, a run's of the processor
 --     is_due_in, is_due             after a processor the writer is asked exactly if it has to be
 --     AllDue                        that is so of all parts
@@ -73,7 +73,7 @@ use Rattle.jc_world.specs.Coherent.{all_hold}
 
 -- 1. The stripes and the order.
 
-pub record IsStripe (w : WorldState) (number : ℕ) (s : State) : Type 0 where
+pub record IsWorldStripe (w : WorldState) (number : ℕ) (s : State) : Type 0 where
   pub config_is : s.config ≡ w.config
   pub number_is : s.stripe ≡ number
   pub origin_is : s.origin ≡ Played
@@ -83,7 +83,7 @@ pub record IsStripe (w : WorldState) (number : ℕ) (s : State) : Type 0 where
 pub record IsShaped (w : WorldState) : Type 0 where
   pub config_fits : check w.config ≡ Ok tt
   pub count : length w.stripes ≡ w.config.stripes
-  pub each : (number : ℕ) (s : State) → slice_get w.stripes number ≡ Some s → IsStripe w number s
+  pub each : (number : ℕ) (s : State) → slice_get w.stripes number ≡ Some s → IsWorldStripe w number s
 
 -- 2. The calls.
 
@@ -138,12 +138,12 @@ abbrev pub Each : {A : Type 0} → (A → Type 0) → List A → Type 0
 Each P [] = Unit {0}
 Each P (x ∷ xs) = P x × Each P xs
 
-abbrev pub is_asked : Progress → First → Bool
-is_asked (Loading answer) first = asks_loader first
-is_asked (Writing is_changed report) first = asks_writer first
-is_asked Processing first = asks_processor first
-is_asked (Processed loaded process) first = asks_processor first
-is_asked (WritingEffect loaded process is_changed report) first = asks_processor first
+abbrev pub is_of_asked : Progress → First → Bool
+is_of_asked (Loading answer) first = asks_loader first
+is_of_asked (Writing is_changed report) first = asks_writer first
+is_of_asked Processing first = asks_processor first
+is_of_asked (Processed loaded process) first = asks_processor first
+is_of_asked (WritingEffect loaded process is_changed report) first = asks_processor first
 
 -- after a processor the writer is asked exactly if it has to be
 abbrev pub is_due_in : Config → Reservation → Progress → Bool
@@ -165,7 +165,7 @@ AllDue config parts = (key : Bytes) (part : Part) → get parts key ≡ Some par
 pub record IsHeld (s : State) (key : Bytes) (part : Part) : Type 0 where
   pub key_is : part.reservation.key ≡ key
   pub out : IsOut s part.reservation
-  pub asked : is_asked part.progress part.reservation.first ≡ true
+  pub asked : is_of_asked part.progress part.reservation.first ≡ true
 
 -- a call is of this session, and this operation is open in it at this key, at which it may work
 abbrev pub IsCallOf : ℕ → Bytes → Op → CallState → Type 0

@@ -39,13 +39,13 @@ pub struct OpenCall {
 
 impl Model for OpenCall {
     ghost use Rattle.jc_world.specs.Calls.{CallState};
-    ghost use Rattle.jc_world.specs.OpenCalls.{tasks_of, IsPlaced, IsSwept};
+    ghost use Rattle.jc_world.specs.OpenCalls.{tasks_of, IsFirstKept, IsSwept};
 
     ghost Value = { CallState };
 
     ghost view = { λ u. record { caller = u.caller; kind = u.kind; tasks = tasks_of u.tasks; sweep = u.sweep; cause = u.cause } };
 
-    ghost invariant = { λ u. IsPlaced u.tasks × IsSwept u.sweep u.tasks };
+    ghost invariant = { λ u. IsFirstKept u.tasks × IsSwept u.sweep u.tasks };
 }
 
 impl OpenCall {

@@ -5,7 +5,7 @@ ghost use Rattle.std.specs.List.{list_all, list_any, IsDistinct};
 ghost use Rattle.std.specs.Map.{keys_of, lookup, set_value};
 ghost use Rattle.std.specs.Cmp.Lexicographic.{pointwise};
 ghost use Rattle.jc_world.specs.Calls.{at_each, put_each_of, tasks, op_in, is_open, open_in, sweep_of};
-ghost use Rattle.jc_world.specs.OpenCalls.{tasks_of, first_open, are_new, IsPlaced, IsMany, IsSwept};
+ghost use Rattle.jc_world.specs.OpenCalls.{tasks_of, first_open, are_new, IsFirstKept, IsMany, IsSwept};
 ghost use Rattle.indexmap.specs.IndexMap.{spare};
 ghost use Rattle.jc_world.specs.World.{is_free_of};
 ghost use Rattle.jc_world.specs.Fits.{waits_in};
@@ -39,7 +39,7 @@ pub(crate) enum Tasks {
 /// What a command does, at keys that are all open.
 pub(crate) fn tasks_for(alloc: Global, command: &Command) -> Result<Tasks, AllocError>
     ensures tasks { IfOk result (λ t. tasks_of t ≡ tasks command.now) }
-    ensures placed { IfOk result (λ t. IsPlaced t) }
+    ensures placed { IfOk result (λ t. IsFirstKept t) }
     ensures swept { IfOk result (λ t. IsSwept (sweep_of command.now) t) }
 {
     match command {
@@ -64,7 +64,7 @@ pub(crate) fn tasks_for(alloc: Global, command: &Command) -> Result<Tasks, Alloc
 /// One operation at each of some keys.
 fn at_each(alloc: Global, keys: &IndexSet<Key>, op: &Op) -> Result<Tasks, AllocError>
     ensures tasks { IfOk result (λ t. tasks_of t ≡ at_each op.now keys.now.keys) }
-    ensures placed { IfOk result (λ t. IsPlaced t) }
+    ensures placed { IfOk result (λ t. IsFirstKept t) }
 {
     let mut ops = IndexMap::with_capacity(alloc, keys.len())?;
     put_each(&mut ops, keys.as_slice(), op)?;
@@ -85,7 +85,7 @@ fn put_each(ops: &mut IndexMap<Key, Option<Op>>, keys: &[Key], op: &Op) -> Resul
 /// A `Put` of each of some entries.
 fn puts(alloc: Global, entries: &IndexMap<Key, Value>) -> Result<Tasks, AllocError>
     ensures tasks { IfOk result (λ t. tasks_of t ≡ put_each_of entries.now.entries) }
-    ensures placed { IfOk result (λ t. IsPlaced t) }
+    ensures placed { IfOk result (λ t. IsFirstKept t) }
 {
     let mut ops = IndexMap::with_capacity(alloc, entries.len())?;
     put_values(&mut ops, entries)?;
@@ -124,7 +124,7 @@ pub(crate) fn names_each_once(tasks: &Tasks)
 
 /// The first key that is open.
 pub(crate) fn first_key(tasks: &Tasks) -> Option<&Key>
-    requires { IsPlaced tasks.now }
+    requires { IsFirstKept tasks.now }
     ensures { option_copied result ≡ slice_get (open_in (tasks_of tasks.now)) 0 }
 {
     match tasks {
@@ -277,13 +277,13 @@ pub(crate) fn push_each(
 /// Adds an operation at each of some new keys.
 #[tactic(auto, using(crate::proofs::Found::first_found))]
 pub(crate) fn take_keys(tasks: &mut Tasks, keys: &[Key], op: &Op) -> Result<(), AllocError>
-    requires placed { IsPlaced tasks.old }
+    requires placed { IsFirstKept tasks.old }
     requires many { IsMany tasks.old }
     requires new { are_new (tasks_of tasks.old) keys.now ≡ true }
     requires distinct { IsDistinct (pointwise ◌==◌) keys.now }
     ensures ok { OnOk result (tasks_of tasks.new ≡ tasks_of tasks.old ++ at_each op.now keys.now) }
     ensures err { OnErr result (tasks_of tasks.new ≡ tasks_of tasks.old) }
-    ensures placed { IsPlaced tasks.new }
+    ensures placed { IsFirstKept tasks.new }
     ensures many { IsMany tasks.new }
 {
     match tasks {
@@ -323,9 +323,9 @@ fn add_one(ops: &mut IndexMap<Key, Option<Op>>, key: &Key, op: &Op)
 
 /// A key is settled.
 pub(crate) fn settle_at(tasks: &mut Tasks, key: &Key)
-    requires placed { IsPlaced tasks.old }
+    requires placed { IsFirstKept tasks.old }
     ensures tasks { tasks_of tasks.new ≡ set_value (pointwise ◌==◌ key.now) (tasks_of tasks.old) None }
-    ensures placed { IsPlaced tasks.new }
+    ensures placed { IsFirstKept tasks.new }
     ensures many { IsMany tasks.old → IsMany tasks.new }
 {
     match tasks {
@@ -372,7 +372,7 @@ fn first_from(ops: &IndexMap<Key, Option<Op>>, from: usize) -> usize
 
 /// Whether a key is open.
 pub(crate) fn are_open(tasks: &Tasks) -> bool
-    requires { IsPlaced tasks.now }
+    requires { IsFirstKept tasks.now }
     ensures { result ≡ list_any is_open (tasks_of tasks.now) }
 {
     match tasks {
