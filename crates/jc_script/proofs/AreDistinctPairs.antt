@@ -7,7 +7,7 @@ use Rattle.jc_model.specs.Cache.{Bytes}
 use Rattle.jc_script.specs.declared.fault.Fault.TheVariants.{RepeatedKey}
 use Rattle.jc_script.specs.Words.{◌>>=◌, key_of, value_of, Pairs, equals_at, key_part, value_part, names_key, distinct_pair_onto, distinct_pairs_from, distinct_pairs_of}
 use Rattle.jc_script.specs.Spelled.{IsPair, AreDistinctPairs, pair_text}
-use Rattle.jc_script.proofs.AreKeys.{same, fresh, one_more}
+use Rattle.jc_script.proofs.AreKeyWords.{same, fresh, one_more}
 use Rattle.jc_script.proofs.Given.{ok_bind, ok_then, ok_since, ok_weaker}
 use Rattle.jc_script.proofs.ReadWords.{SaysKey, key_read, SaysValue, value_read, SaysPair, pair_spelled}
 use Rattle.jc_script.proofs.SpelledPairs.{parts_back}

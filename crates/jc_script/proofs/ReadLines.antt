@@ -35,7 +35,7 @@ use Rattle.jc_script.specs.Spelled.{IsNumber, IsSession, session_text, IsValue, 
 use Rattle.jc_script.specs.ProcessWords.{without_load, has_process_shape, source_of, calls_of, source_words}
 use Rattle.jc_script.proofs.ReadProcess.{SaysSource, source_read, SaysCalls, calls_read}
 use Rattle.jc_script.proofs.Given.{ok_bind, ok_then, ok_if, ok_unless, ok_since, ok_named, ok_weaker}
-use Rattle.jc_script.proofs.AreKeys.{SaysKeys, keys_read}
+use Rattle.jc_script.proofs.AreKeyWords.{SaysKeys, keys_read}
 use Rattle.jc_script.proofs.AreDistinctPairs.{SaysDistinctPairs, distinct_pairs_read}
 use Rattle.jc_script.proofs.ReadWords.{SaysNumber, number_read, SaysSession, session_read, SaysKey, key_read, SaysValue, value_read, SaysValueOrNone, value_or_none_read, ArePairs, pairs_read}
 

@@ -30,7 +30,7 @@ use Rattle.jc_script.specs.Words.{◌>>=◌, Pairs}
 use Rattle.jc_script.specs.Lines.{form_named, flags_of, takes_words, bare_op, valued_op, bare_of, valued_of, replace_if_of, begin_with, bulk_with, has_but_shape, left_of, apply_of, apply_fail_of, command_of, open_of, set_of, begin_of, lone_act, lone_of, coded_act, coded_of, say_of, foreign_of, read_line}
 use Rattle.jc_script.specs.Printing.{value_text, value_or_none_text}
 use Rattle.jc_script.specs.Spelled.{IsNumber, IsSession, IsKey, IsValue, IsValueOrNone, IsPair, AreLeftKeys, HasKeys, IsOperation, IsAct, LinesReadBack, spelling, session_text, pair_text, flag_words, operation_words, bulk_words, left_words}
-use Rattle.jc_script.proofs.AreKeys.{key_back, keys_back, keys_are_words}
+use Rattle.jc_script.proofs.AreKeyWords.{key_back, keys_back, keys_are_words}
 use Rattle.jc_script.proofs.AreDistinctPairs.{distinct_pairs_back}
 use Rattle.jc_script.proofs.SpelledPairs.{pairs_back, pairs_are_words}
 use Rattle.jc_script.proofs.Spelling.{number_back, caller_back, value_back}

@@ -12,7 +12,7 @@ use Rattle.jc_model.specs.Cache.{Bytes}
 use Rattle.jc_script.specs.Words.{is_letter, key_of, Pairs, equals_at, key_part, value_part, pair_onto, pairs_from, pairs_of}
 use Rattle.jc_script.specs.Printing.{value_text}
 use Rattle.jc_script.specs.Spelled.{IsKey, IsPair, pair_text}
-use Rattle.jc_script.proofs.AreKeys.{key_back}
+use Rattle.jc_script.proofs.AreKeyWords.{key_back}
 use Rattle.jc_script.proofs.Spelling.{value_back}
 use Rattle.jc_script.proofs.SpelledWords.{AreWords, pair_word, pair_parts}
 
