@@ -3,7 +3,7 @@
 --     order_start, order_called      at the start, and once a call has begun
 --     may_start_at, begins_at        the conditions on a first phase
 --     may_turn, part_turn            a call may work at a key that it starts, and at one that it has reserved
-use Rattle.jc_world.proofs.Common.{◌≡◌, ℕ, zero, suc, ◌+◌, Bool, true, false, cond, not, ◌&&◌, ◌||◌, List, [], ◌∷◌, ◌++◌, length, is_some, is_none, IsSomeAnd, ◌==◌, slice_get, Some, None, Ok, Option, find, sym, refl, ap, ◌∙◌, subst, append-nil, add-zero, zero-add, arith, not-true, eqb-true, eq-eqb, and_parts, and_from, or_left, or_right, false_from_ne_true, nat_list_cmp_total, pointwise, get, insert, len-empty, get-insert, all_filter, is_session, check, stripe_of, Caller, Config, Bytes, Cache, key_cmp, may_come, is_of_stripe, of_stripe, Op, Get, belongs_to, Joiner, may_come_all, is_other_call, is_other_join, MayBegin, IsReached, State, is_of, is_key, Reservation, Command, Part, Premises, WorldEvent, CallState, new_call, has_number, op_at, op_for, is_turn, opened, is_playable, is_new, is_free, may_start, fits, IsWorldStripe, is_up_to, has_parked_answer, is_served_in, is_served, FitsKey, FitsCall, CallsFit, IsHeld, IsCallOf, IsOwned, AllOwned, IsCalled, AllCalled, IsSoundWorld, Parts, WorldState, home, stripe_for, empty_stripe, empty_stripes, start, is_busy, open_call, part_of, is_joined}
+use Rattle.jc_world.proofs.Common.{◌≡◌, ℕ, zero, suc, ◌+◌, Bool, true, false, cond, not, ◌&&◌, ◌||◌, List, [], ◌∷◌, ◌++◌, length, is_some, is_none, IsSomeAnd, ◌==◌, slice_get, Some, None, Ok, Option, find, sym, refl, ap, ◌∙◌, subst, append-nil, add-zero, zero-add, arith, not-true, eqb-true, eq-eqb, and_parts, and_from, or_left, or_right, false_from_ne_true, nat_list_cmp_total, pointwise, get, insert, len-empty, get-insert, all_filter, is_session, check, stripe_of, Caller, Config, Bytes, Cache, key_cmp, may_come, is_of_stripe, Op, Get, belongs_to, Joiner, may_come_all, is_other_call, is_other_join, MayBegin, IsReached, State, is_of, is_key, Reservation, Command, Part, Premises, WorldEvent, CallState, new_call, has_number, op_at, op_for, is_turn, opened, is_playable, is_new, is_free, may_start, fits, IsWorldStripe, is_up_to, has_parked_answer, is_served_in, is_served, FitsKey, FitsCall, CallsFit, IsHeld, IsCallOf, IsOwned, AllOwned, IsCalled, AllCalled, IsSoundWorld, Parts, WorldState, home, stripe_for, empty_stripe, empty_stripes, start, is_busy, open_call, part_of, is_joined}
 use Rattle.jc_world.proofs.Numbered.{some_of}
 use Rattle.jc_world.proofs.Halves.{HasOrder}
 use Rattle.jc_world.proofs.Shares.{found_test, shape_same, fact_found, each_map, each_test}

@@ -2,21 +2,20 @@
 --     order_key                       after each kind of change at a key
 --     order_happens, order_opened     after any event that fits, and after an entry of the store's opening
 --     order_is, has_shares            the order is one legal history over all stripes, and each stripe's history is its part of it
-use Rattle.jc_world.proofs.Common.{◌≡◌, ℕ, zero, suc, ◌+◌, ◌%◌, ◌<◌, Bool, true, false, cond, not, ◌&&◌, ◌||◌, ◌⊎◌, List, [], ◌∷◌, ◌++◌, length, is_none, IsSomeAnd, nat_lt, ◌==◌, slice_get, slice_set, Some, None, sum, Option, option_map, find, sym, refl, ap, ◌∙◌, subst, inl, inr, arith, not-true, eqb-true, and_parts, false_from_ne_true, nat_list_cmp_total, nat_list_eq_equiv, eq_by_cmp_equiv, pointwise, texts_ties, empty, get, insert, remove, from_entries, get-insert, get-remove, list_all, eq_by_cmp, all_imply, Caller, Config, Refusal, empty_opens, Bytes, Cache, key_cmp, nothing_said, events_of, of_stripe, IsHistory, Event, Op, Get, Out, belongs_to, is_waiting, waits_for, callers_of, after_resolve, JoinState, Again, Answered, Waiting, Joiner, StaysReached, IsSameStripe, Extends, may_come_all, new_group, Steps, with_joiner, Begins, after_commit, Commits, Withdraws, without_joiner, PicksUp, JoinFits, IsReached, reserves, State, is_of, is_key, is_reserved, with_reservation, without_key, IsOut, Ticket, ProcessClaim, JoinClaim, Begun, Picked, StepDone, Loader, Reservation, Outcome, Part, Premises, Progress, Shown, WorldEvent, cache_in, cache_at, IsOrder, HasShares, SweepState, CallState, has_number, op_at, op_for, open_keys, is_turn, going_on, with_met, replaced, settle, drop_call, with_found, with_stripe, with_phase, step_of, fault_in, with_settled, with_met_by, without_call, with_look, new_load, new_write, new_process, new_part, with_part, without_part, with_join, without_join, Starts, Ends, Picks, Happens, is_free, may_leave, fits, IsWorldStripe, is_up_to, has_answer, has_parked_answer, is_served_in, is_served, FitsKey, FitsCall, CallsFit, Each, IsHeld, IsCallOf, IsOwned, AllOwned, IsCalled, IsSoundWorld, Parts, Joins, WorldState, home, stripe_for, open_call, part_of, out_of, join_of, is_joined, with_stored}
+use Rattle.jc_world.proofs.Common.{◌≡◌, ℕ, zero, suc, ◌+◌, ◌%◌, ◌<◌, Bool, true, false, cond, not, ◌&&◌, ◌||◌, ◌⊎◌, List, [], ◌∷◌, ◌++◌, length, is_none, IsSomeAnd, nat_lt, ◌==◌, slice_get, slice_set, Some, None, sum, Option, option_map, find, sym, refl, ap, ◌∙◌, subst, inl, inr, arith, not-true, eqb-true, and_parts, false_from_ne_true, nat_list_cmp_total, nat_list_eq_equiv, eq_by_cmp_equiv, pointwise, texts_ties, empty, get, insert, remove, get-insert, get-remove, list_all, eq_by_cmp, all_imply, Caller, Config, Refusal, empty_opens, Bytes, Cache, key_cmp, nothing_said, events_of, of_stripe, IsHistory, Op, Get, Out, belongs_to, is_waiting, waits_for, callers_of, after_resolve, JoinState, Again, Answered, Waiting, Joiner, StaysReached, IsSameStripe, Extends, may_come_all, new_group, Steps, with_joiner, Begins, after_commit, Commits, Withdraws, without_joiner, PicksUp, JoinFits, IsReached, State, is_of, is_key, is_reserved, with_reservation, without_key, IsOut, JoinClaim, Begun, Picked, StepDone, Reservation, Part, Premises, Progress, Shown, WorldEvent, cache_at, IsOrder, HasShares, SweepState, CallState, has_number, op_at, op_for, open_keys, is_turn, going_on, with_met, replaced, settle, drop_call, with_found, with_stripe, with_phase, step_of, fault_in, with_settled, with_met_by, without_call, with_look, new_part, with_part, without_part, with_join, without_join, Happens, is_free, may_leave, fits, IsWorldStripe, is_up_to, has_answer, has_parked_answer, is_served_in, is_served, FitsCall, CallsFit, Each, IsHeld, IsCallOf, IsOwned, AllOwned, IsCalled, IsSoundWorld, Parts, Joins, WorldState, home, stripe_for, open_call, part_of, out_of, join_of, is_joined, with_stored}
 use Rattle.jc_world.proofs.Numbered.{some_of}
 use Rattle.jc_inflight.specs.Taking.{without_joiner as without}
 use Rattle.jc_world.proofs.Halves.{HasOrder, order_half}
 use Rattle.jc_world.proofs.Returns.{IsReport}
 use Rattle.jc_world.proofs.Places.{at_stripe, stripe_put}
-use Rattle.jc_world.proofs.Reservations.{out_reserved, was_free, writer_alone}
-use Rattle.jc_world.proofs.Processors.{processor_free}
-use Rattle.jc_world.proofs.Shares.{is_some_and, set_cases, added, share_grows, share_stays, shape_same, shape_set, AllBy, by_map, by_group, added_order, numbers_added, comes_behind, comes_added, fact_found, each_kept, each_map, each_pushed}
+use Rattle.jc_world.proofs.Reservations.{out_reserved}
+use Rattle.jc_world.proofs.Shares.{is_some_and, set_cases, added, share_grows, share_stays, shape_set, AllBy, by_map, by_group, added_order, numbers_added, comes_behind, comes_added, fact_found, each_kept, each_map, each_pushed}
 use Rattle.jc_world.proofs.Underway.{found_number, find_over, fits_found, calls_filter, calls_on, each_found, elsewhere_found, all_owned, others_left, same_bytes, of_call-at}
 use Rattle.jc_world.proofs.Looked.{Taken, taken_of, taken_met, taken_on, calls_taken, still_taken}
 use Rattle.jc_world.proofs.Settling.{open_now, Left, done_for, IsTurnOf, still_called, calls_settled}
 use Rattle.jc_world.proofs.LoadKeys.{key_of_load, each_fits}
 use Rattle.jc_world.proofs.Joiners.{joiner_of, unanswered, told_resolved, told_waiting, told_dissolved, told_pushed, find_kept, each_own, each_caller, each_both, join_at, joined_no_part}
-use Rattle.jc_world.proofs.Beginning.{unless, fits_left, fits_same, fits_taken, calls_same, order_stored, owned_part, order_parted, order_called, MayStart, may_start_at, may_turn, part_turn, not_own, apart_or, unserved, begins_with, order_beside}
+use Rattle.jc_world.proofs.Beginning.{unless, fits_left, fits_same, fits_taken, calls_same, order_stored, owned_part, order_parted, order_called, MayStart, may_turn, part_turn, not_own, apart_or, unserved, begins_with, order_beside}
 use Rattle.jc_world.proofs.Facts.{same_found}
 use Rattle.jc_world.proofs.Entries.{tied}
 use Rattle.jc_world.proofs.KeyChanges.{KeyChange, by_answer, by_commit, by_join, by_nothing, by_refusal, by_reservation, by_retry, by_step, by_withdrawal, key_change, may_of}

@@ -12,13 +12,13 @@
 --                      a call that has changed is put in its place, or taken out if it is over, and what is said of its end
 --     put_at           one that stays under way is put in its place
 --     none_replaced    where no call has the number, nothing changes
-use Rattle.jc_world.proofs.Common.{◌≡◌, ℕ, zero, suc, ◌+◌, Bool, true, false, cond, List, [], ◌∷◌, ◌++◌, IsSomeAnd, ◌==◌, slice_get, slice_set, Some, None, Option, position, find, sym, refl, ap, ◌∙◌, subst, arith, and_parts, and_from, position_from-zero, pointwise, list_all, cons_option, position_from, lookup, option_or, Caller, Refusal, Bytes, Op, Over, at_each, SweepState, takes_turns, CallState, has_number, op_at, op_found, op_or_found, op_for, open_in, open_keys, is_turn, is_going, going_on, over_of, with_met, replaced, has_looked_at_each, next_sweep, with_found, is_apart, FitsCall, CallsFit, Each, IsCallOf, WorldState}
+use Rattle.jc_world.proofs.Common.{◌≡◌, ℕ, zero, suc, ◌+◌, Bool, true, false, cond, List, [], ◌∷◌, ◌++◌, IsSomeAnd, ◌==◌, slice_get, slice_set, Some, None, Option, position, find, sym, refl, ap, ◌∙◌, subst, arith, position_from-zero, pointwise, cons_option, position_from, lookup, option_or, Caller, Refusal, Bytes, Op, Over, at_each, SweepState, takes_turns, CallState, has_number, op_at, op_found, op_or_found, op_for, open_in, open_keys, is_turn, is_going, going_on, over_of, with_met, replaced, has_looked_at_each, next_sweep, with_found, FitsCall, CallsFit, Each, IsCallOf, WorldState}
 use Rattle.std.specs.List.{remove}
 use Rattle.jc_world.specs.Calls.{is_at}
 use Rattle.jc_world.proofs.Facts.{same_found}
 use Rattle.jc_world.proofs.Found.{lookup-found, op_of_found, still_done, first_kept}
-use Rattle.jc_world.proofs.Settling.{going_is, none_left, apart_of, apart_from, goes_behind, goes_here, calls_replaced, each_replaced, still_replaced}
-use Rattle.jc_world.proofs.Underway.{calls_all, each_found}
+use Rattle.jc_world.proofs.Settling.{going_is, none_left, calls_replaced, each_replaced, still_replaced}
+use Rattle.jc_world.proofs.Underway.{each_found}
 
 -- 1. A call that has taken keys.
 

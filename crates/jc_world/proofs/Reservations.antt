@@ -1,5 +1,5 @@
 -- A reservation stays out when the stripe's reservations change.
-use Rattle.jc_world.proofs.Common.{◌≡◌, ℕ, Bool, true, false, cond, not, ◌&&◌, ◌||◌, List, [], ◌∷◌, ◌++◌, is_some, is_none, ◌==◌, Some, None, Option, find, sym, refl, ap, ◌∙◌, false_from_ne_true, nat_list_eq_equiv, find-append, pointwise, texts_ties, list_any, option_or, eq_by_cmp, Caller, Config, Refusal, same_key, Bytes, entry_at, key_cmp, always_if, Op, ContainsKey, Get, writer_for, first_by, first_asked, reserves, answers_at_once, load_joined, needs_free_key, places_needed, first_refusal, State, is_key, is_reserved, without_key, asks_writer, First, Loader, Nobody, Reservation}
+use Rattle.jc_world.proofs.Common.{◌≡◌, ℕ, Bool, true, false, cond, not, ◌&&◌, ◌||◌, List, [], ◌∷◌, ◌++◌, is_some, is_none, ◌==◌, Some, None, Option, find, sym, refl, ap, ◌∙◌, false_from_ne_true, nat_list_eq_equiv, find-append, pointwise, texts_ties, list_any, option_or, eq_by_cmp, Caller, Refusal, same_key, Bytes, entry_at, key_cmp, always_if, Op, Get, first_by, first_asked, reserves, answers_at_once, load_joined, needs_free_key, places_needed, first_refusal, State, is_key, is_reserved, without_key, asks_writer, First, Loader, Nobody, Reservation}
 use Rattle.jc_stripe.specs.Refusals.{has_room}
 use Rattle.jc_stripe.proofs.CallerLemmas.{asks_none, answering_asks}
 use Rattle.jc_world.proofs.Joiners.{find_kept}

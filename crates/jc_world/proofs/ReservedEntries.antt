@@ -6,8 +6,8 @@
 --     StayOut         from one world to a later one: that is so of all stripes
 --     stay_run        so it is in every run
 --     stays_held      so the entry of a key stays, if its reservation is the same
-use Rattle.jc_world.proofs.Common.{◌≡◌, ℕ, ◌<◌, ◌≤◌, Bool, true, false, cond, not, ◌⊎◌, List, [], ◌∷◌, ◌++◌, slice_get, slice_set, Some, None, filter, find, sym, refl, ap, ◌∙◌, subst, inl, inr, arith, get, stripe_of, Config, Bytes, entry_at, Op, KeepsReserved, IsReached, State, is_key, is_reserved, with_reservation, without_key, without_reservation, IsOut, Ticket, ProcessClaim, JoinClaim, Begun, Reservation, Outcome, Part, Shown, WorldEvent, CallState, step_of, Starts, Ends, Picks, Happens, Step, Run, is_appended, IsHeld, IsSoundWorld, WorldState, home, stripe_for, entry_in, cached_entry, out_of}
-use Rattle.jc_world.proofs.Lemmas.{found_holds, at_stripe, split, out_reserved, found_left, KeyChange, by_nothing, by_refusal, by_step, by_reservation, by_join, by_commit, by_withdrawal, by_answer, by_retry, StripeChange, by_key, beside_stripes, change_of, Move, no_move, quiet_move, step_move, move_step, some_of, beside}
+use Rattle.jc_world.proofs.Common.{◌≡◌, ℕ, ◌<◌, ◌≤◌, Bool, true, false, cond, not, ◌⊎◌, List, [], ◌∷◌, ◌++◌, slice_get, slice_set, Some, None, filter, find, sym, refl, ap, ◌∙◌, subst, inl, inr, arith, get, stripe_of, Config, Bytes, entry_at, KeepsReserved, State, is_key, is_reserved, with_reservation, without_key, without_reservation, IsOut, Begun, Reservation, Outcome, Part, Shown, WorldEvent, step_of, Step, Run, is_appended, IsHeld, IsSoundWorld, WorldState, home, stripe_for, entry_in, cached_entry, out_of}
+use Rattle.jc_world.proofs.Lemmas.{found_holds, at_stripe, split, out_reserved, found_left, KeyChange, by_nothing, by_refusal, by_step, by_reservation, by_join, by_commit, by_withdrawal, by_answer, by_retry, StripeChange, by_key, beside_stripes, change_of, Move, no_move, quiet_move, step_move, move_step, some_of}
 use Rattle.jc_world.proofs.Sounding.{Laws, sound_step}
 
 -- 1. Events that append no step.

@@ -1,7 +1,7 @@
 -- Each call that looks at the stripes has taken keys of those at which it has looked: each event keeps that.
 --     sweeps_left, sweep_found      what is left of a call once a key is settled, and once it has taken keys
 --     sweeps_happens                any event that fits
-use Rattle.jc_world.proofs.Common.{◌≡◌, ℕ, true, false, cond, not, ◌||◌, List, [], ◌∷◌, ◌++◌, is_some, ◌==◌, Some, None, Option, find, sym, refl, ap, ◌∙◌, subst, append-nil, eqb-true, and_parts, or_right, nat_eq_equiv, list_any-append, is_some-lookup, pointwise, list_any, list_all, lookup, option_or, stripe_of, Caller, Config, Refusal, Bytes, Op, State, JoinClaim, Command, Outcome, Part, Shown, WorldEvent, at_each, SweepState, CallState, new_call, has_number, opened, going_on, with_met, settle, has_looked, has_looked_at_each, next_sweep, with_found, look, fault_in, with_met_by, Starts, Ends, Picks, Happens, fits, Each, Sweeps, IsSoundWorld, WorldState, open_call}
+use Rattle.jc_world.proofs.Common.{◌≡◌, ℕ, true, false, cond, not, ◌||◌, List, [], ◌∷◌, ◌++◌, is_some, ◌==◌, Some, None, Option, find, sym, refl, ap, ◌∙◌, subst, append-nil, eqb-true, and_parts, or_right, nat_eq_equiv, list_any-append, is_some-lookup, pointwise, list_any, list_all, lookup, option_or, stripe_of, Config, Refusal, Bytes, Op, Command, Shown, WorldEvent, at_each, SweepState, CallState, new_call, has_number, opened, going_on, with_met, settle, has_looked, has_looked_at_each, next_sweep, with_found, look, with_met_by, Happens, fits, Each, Sweeps, IsSoundWorld, WorldState, open_call}
 use Rattle.jc_world.proofs.Lemmas.{each_pushed, each_filter, same_bytes, Left, going_is, each_settled, opened_cases, each_taken, keys-at_each, lookup-found, KeyChange, by_nothing, by_refusal, by_step, by_reservation, by_join, by_commit, by_withdrawal, by_answer, by_retry, key_change, IsReport}
 use Rattle.jc_world.proofs.StripeKeys.{all_here}
 

@@ -14,7 +14,7 @@
 --                             the first open key from a place on
 --     first_settled, first_fits
 --                             once a key is settled, the first open one is found from where it was
-use Rattle.jc_world.proofs.Common.{◌≡◌, ℕ, zero, suc, ◌+◌, ◌<◌, ◌≤◌, Bool, true, false, cond, not, ◌&&◌, ◌||◌, List, [], ◌∷◌, ◌++◌, length, get_or, take, drop, is_some, ◌==◌, slice_get, Some, None, filter, Option, option_map, sym, refl, ap, ◌∙◌, subst, true≢false, zero-add, arith, and_parts, and_from, and_right, false_from_ne_true, nat_tests, map-append, take_more, IsDistinct-head, IsDistinct-tail, is_some-lookup, IsDistinct-keys_filter, slice_get_within, slice_get_read, get_or_from_slice_get, pointwise, list_any, list_all, AllByRecursion, IsDistinct, keys_of, lookup, set_value, option_flatten, insert_entry-new, IndexMap, insert_entry, Bytes, Op, Task, at_each, put_each_of, op_in, is_open, open_in, first_open}
+use Rattle.jc_world.proofs.Common.{◌≡◌, ℕ, zero, suc, ◌+◌, ◌<◌, ◌≤◌, Bool, true, false, cond, not, ◌&&◌, ◌||◌, List, [], ◌∷◌, ◌++◌, length, get_or, take, drop, is_some, ◌==◌, slice_get, Some, None, filter, Option, option_map, sym, refl, ap, ◌∙◌, subst, zero-add, arith, and_parts, and_from, and_right, nat_tests, map-append, take_more, IsDistinct-keys_filter, slice_get_within, slice_get_read, get_or_from_slice_get, pointwise, list_any, list_all, IsDistinct, keys_of, lookup, set_value, option_flatten, IndexMap, insert_entry, Bytes, Op, Task, at_each, put_each_of, op_in, is_open, open_in, first_open}
 use Rattle.jc_outside.proofs.CallerLemmas.{not_before, entry_last}
 
 -- 1. New keys.

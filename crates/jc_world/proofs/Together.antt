@@ -3,8 +3,8 @@
 --     kept_fit        what fits at such a key fits in either
 --     keeps_other     what happens at a key keeps every other key of the call
 --     fit_together    what fits at keys that differ fits one after the other
-use Rattle.jc_world.proofs.Common.{◌≡◌, ℕ, Bool, true, false, cond, not, ◌&&◌, ◌||◌, List, [], ◌∷◌, ◌++◌, map, is_some, is_none, IsSomeAnd, ◌==◌, Some, None, Option, find, sym, refl, ap, ◌∙◌, subst, inl, append-nil, eqb-true, and_parts, and_from, or_right, nat_eq_equiv, nat_list_cmp_total, nat_list_eq_equiv, IsDistinct-head, IsDistinct-tail, pointwise, get, insert, remove, get-insert, list_any, list_all, AllByRecursion, IsDistinct, Refusal, is_among, Bytes, Cache, is_load_given, Change, Op, State, JoinClaim, Outcome, Part, Premises, Shown, WorldEvent, CallState, has_number, op_at, open_keys, is_turn, settle, Starts, Ends, Picks, with_change, after_change, Happens, AllFit, is_free, may_start, may_leave, waits_at, may_report, fits, Each, IsCallOf, IsSoundWorld, at_call, key_at, AreAt, FitTogether, Parts, JoinKey, join_key, WorldState, open_call, of_call, part_of, has_progress, waits_for_load, waits_for_report, has_joined, is_joined}
-use Rattle.jc_world.proofs.Lemmas.{is_some_and, found_number, same_bytes, of_call-at, IsTurnOf, still_called, may_start_at, may_turn, part_turn, picking, picking_turn, split, KeyChange, by_nothing, by_refusal, by_step, by_reservation, by_join, by_commit, by_withdrawal, by_answer, by_retry, start_change, end_change, pick_change, may_of, some_of}
+use Rattle.jc_world.proofs.Common.{◌≡◌, ℕ, Bool, true, false, cond, not, ◌&&◌, ◌||◌, List, [], ◌∷◌, ◌++◌, map, is_some, is_none, IsSomeAnd, ◌==◌, Some, None, Option, find, sym, refl, ap, ◌∙◌, subst, inl, append-nil, eqb-true, and_parts, and_from, or_right, nat_eq_equiv, nat_list_cmp_total, nat_list_eq_equiv, IsDistinct-head, IsDistinct-tail, pointwise, get, insert, remove, get-insert, list_any, list_all, AllByRecursion, IsDistinct, Refusal, is_among, Bytes, Cache, is_load_given, Change, Op, JoinClaim, Part, Premises, Shown, WorldEvent, CallState, has_number, op_at, open_keys, is_turn, settle, with_change, after_change, Happens, AllFit, is_free, may_start, may_leave, waits_at, may_report, fits, Each, IsCallOf, IsSoundWorld, at_call, key_at, AreAt, FitTogether, Parts, JoinKey, join_key, WorldState, open_call, of_call, part_of, has_progress, waits_for_load, waits_for_report, has_joined, is_joined}
+use Rattle.jc_world.proofs.Lemmas.{is_some_and, same_bytes, of_call-at, IsTurnOf, still_called, may_turn, part_turn, picking, picking_turn, split, KeyChange, by_nothing, by_refusal, by_step, by_reservation, by_join, by_commit, by_withdrawal, by_answer, by_retry, start_change, end_change, pick_change, may_of, some_of}
 use Rattle.jc_world.proofs.Fitting.{none_fit, fits_then, one_fits, still_waits, unjoined_held}
 use Rattle.jc_world.proofs.Maps.{keys_ordered, joins_ordered, get-beside, get-left, get-gone}
 use Rattle.jc_world.proofs.Sounding.{Laws, sound_step}

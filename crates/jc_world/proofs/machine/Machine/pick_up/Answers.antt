@@ -1,4 +1,4 @@
-use Rattle.jc_world.proofs.Common.{◌≡◌, ℕ, true, Some, sym, refl, ap, ◌∙◌, subst, get, insert, remove, Bytes, JoinClaim, Picked, Outcome, PickedUp, Shown, WorldEvent, settle, over_settled, not_over, Happens, fits, joins_of, world_of, IsSoundWorld, OrderedStripes, IsQuietPhase, JoinKey, join_key, Joins, WorldState, join_of, has_joined}
+use Rattle.jc_world.proofs.Common.{◌≡◌, true, Some, sym, refl, ap, ◌∙◌, subst, get, insert, remove, JoinClaim, Picked, PickedUp, WorldEvent, settle, over_settled, fits, joins_of, world_of, IsSoundWorld, IsQuietPhase, JoinKey, join_key, Joins, WorldState, join_of, has_joined}
 use Rattle.jc_world.proofs.Maps.{joins_ordered, get-gone, insert-back}
 use Rattle.jc_world.proofs.Phased.{changed_from, PicksAs, joiner_at, picked_answer, picked_again, picked_nothing, Changed, shown_as}
 use Rattle.jc_world.proofs.machine.Machine.pick_up.Goals.{After-take_join-join, After-pick_up}

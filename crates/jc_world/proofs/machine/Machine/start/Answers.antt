@@ -1,4 +1,4 @@
-use Rattle.jc_world.proofs.Common.{◌≡◌, ℕ, true, cond, List, IsSomeAnd, slice_get, Some, None, Option, find, option_copied, sym, refl, ap, ◌∙◌, subst, subst₂, get, insert, stripe_of, Caller, Bytes, Op, MayBegin, Begun, Outcome, Shown, WorldEvent, puts_off, CallState, has_number, op_at, settle, over_settled, not_over, new_load, new_write, new_process, new_part, BeginsAs, Happens, fits, world_of, IsSoundWorld, OrderedStripes, IsPhase, join_key, WorldState, open_call}
+use Rattle.jc_world.proofs.Common.{◌≡◌, ℕ, true, cond, IsSomeAnd, slice_get, Some, find, option_copied, sym, refl, ap, ◌∙◌, subst, subst₂, get, insert, stripe_of, Caller, MayBegin, Begun, Outcome, WorldEvent, puts_off, has_number, settle, over_settled, not_over, BeginsAs, fits, world_of, IsSoundWorld, OrderedStripes, IsPhase, join_key, WorldState, open_call}
 use Rattle.jc_world.proofs.Phased.{start_open, may_begin_at, here, phased_from, shown_as, StartPhase, started_done, started_refused, started_joins, started_ticket, new_ticket, free_join}
 use Rattle.jc_world.specs.NewTickets.{IsNewTicket, HoldsTicket}
 use Rattle.jc_world.proofs.machine.Machine.start.Goals.{In-Some, After-begin}
