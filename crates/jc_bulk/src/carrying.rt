@@ -90,7 +90,7 @@ pub(crate) fn carry_out<R: Wait>(
     ensures failed { result.failed.entries ≡ failed_entries (key_ends (ops_of targets.now) result.progress.items) }
     ensures whole { length result.progress.items ≡ length (ops_of targets.now) }
 {
-    let _types: Option<(Reply, Value)> = None;
+    let _types: Option<&(Reply, Value)> = None;
     let Room {
         progress,
         failed,
@@ -140,7 +140,7 @@ fn begin_and_run<R: Wait>(
         cache.old session.old rounds progress.new result cache.new session.new }
     ensures whole { length progress.new ≡ length (ops_of targets.now) }
 {
-    let _types: Option<(Reply, Value)> = None;
+    let _types: Option<&(Reply, Value)> = None;
     stays_underway();
     let _stripes = cache.config().stripes;
     cache.begin_call(session);

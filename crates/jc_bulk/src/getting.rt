@@ -107,7 +107,7 @@ fn get_keys<R: Wait>(
         fault.cause fault.failed.entries fault.found.entries cache.new session.new) }
     ensures sessions { LeavesSessions session.old cache.old cache.new }
 {
-    let _types: Option<(Reply, Value)> = None;
+    let _types: Option<&(Reply, Value)> = None;
     let mut found = found;
     let outcome = carry_out(alloc, rt, cache, session, &Targets::Gets(keys), room);
     let CallEnd {

@@ -65,7 +65,7 @@ pub(crate) fn first_waiting(progress: &[Progress]) -> Option<usize>
 pub(crate) fn all_waiting(alloc: Global, keys: usize) -> Result<Vec<Progress>, AllocError>
     ensures { IfOk result (λ progress. progress.items ≡ all_waiting keys) }
 {
-    let _types: Option<(Reply, Refusal, Value)> = None;
+    let _types: Option<&(Reply, Refusal, Value)> = None;
     let mut progress = Vec::with_capacity(alloc, keys)?;
     for place in 0..keys {
         progress.push_reserved(Progress::Waiting);

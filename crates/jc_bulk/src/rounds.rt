@@ -62,7 +62,7 @@ pub(crate) fn run_rounds<R: Wait>(
         cache.new session.new progress.new result }
     ensures over { (place : ℕ) → StillWaits progress.new place → ⊥ }
 {
-    let _types: Option<(Reply, Value)> = None;
+    let _types: Option<&(Reply, Value)> = None;
     let mut cause = None;
     run_round(
         rt, cache, session, targets, progress, 0, calls, most, &mut cause,
@@ -100,7 +100,7 @@ fn run_later_round<R: Wait>(
         cache.new session.new progress.new cause.new }
     ensures first { StillWaits progress.new from → ⊥ }
 {
-    let _types: Option<(Reply, Value)> = None;
+    let _types: Option<&(Reply, Value)> = None;
     match Calls::with_capacity(alloc, targets, most) {
         Ok(calls) => run_round(
             rt, cache, session, targets, progress, from, calls, most, cause,
@@ -140,7 +140,7 @@ fn run_round<R: Wait>(
     ensures waits { (place : ℕ) → StillWaits progress.new place
         → IsCrowded cache.old.config (keys_of (ops_of targets.now)) }
 {
-    let _types: Option<(Reply, Value)> = None;
+    let _types: Option<&(Reply, Value)> = None;
     let mut calls = calls;
     begin_round(cache, session, targets, progress, from, &mut calls, most);
     note_first(cause, progress);
@@ -194,7 +194,7 @@ fn begin_round(
     ensures grows { ComesAfterAll cache.old cache.new }
     ensures others { LeavesCalls session.old.caller.session cache.old cache.new }
 {
-    let _types: Option<(Reply, Value)> = None;
+    let _types: Option<&(Reply, Value)> = None;
     for place in from..progress.len() {
         begin_at(cache, session, targets, progress, place, calls, most);
     }
@@ -242,7 +242,7 @@ fn begin_at(
     ensures grows { ComesAfterAll cache.old cache.new }
     ensures others { LeavesCalls session.old.caller.session cache.old cache.new }
 {
-    let _types: Option<(Reply, Value)> = None;
+    let _types: Option<&(Reply, Value)> = None;
     if is_waiting(&progress[place]) && calls.len() < most {
         let target = targets.at(place);
         progress[place] = start_key(cache, session, &target.0, &target.1, calls);
@@ -280,7 +280,7 @@ fn end_round<R: Wait>(
     ensures grows { ComesAfterAll cache.old cache.new }
     ensures others { LeavesCalls session.old.caller.session cache.old cache.new }
 {
-    let _types: Option<(Reply, Value)> = None;
+    let _types: Option<&(Reply, Value)> = None;
     if calls.len() == 0 {
         calls.end();
         None
@@ -313,7 +313,7 @@ fn commit_round(
     ensures grows { ComesAfterAll cache.old cache.new }
     ensures others { LeavesCalls session.old.caller.session cache.old cache.new }
 {
-    let _types: Option<(Reply, Value)> = None;
+    let _types: Option<&(Reply, Value)> = None;
     let mut calls = calls;
     for place in 0..progress.len() {
         commit_at(cache, session, progress, place, &mut calls);
@@ -348,7 +348,7 @@ fn commit_at(
     ensures grows { ComesAfterAll cache.old cache.new }
     ensures others { LeavesCalls session.old.caller.session cache.old cache.new }
 {
-    let _types: Option<(Reply, Value)> = None;
+    let _types: Option<&(Reply, Value)> = None;
     if is_reserved(&progress[place]) {
         match calls.pop_front() {
             Some(call) => commit_next(cache, session, progress, place, call),
@@ -381,7 +381,7 @@ fn commit_next(
     ensures grows { ComesAfterAll cache.old cache.new }
     ensures others { LeavesCalls session.old.caller.session cache.old cache.new }
 {
-    let _types: Option<(Reply, Value)> = None;
+    let _types: Option<&(Reply, Value)> = None;
     let reply = commit_first(cache, session, call);
     progress[place] = Progress::Ended(Ok(reply));
 }

@@ -188,7 +188,7 @@ fn write_keys<R: Wait>(
     ensures found { IfErr result (λ fault. fault.found.entries ≡ []) }
     ensures sessions { LeavesSessions session.old cache.old cache.new }
 {
-    let _types: Option<(Reply, Value)> = None;
+    let _types: Option<&(Reply, Value)> = None;
     let outcome = carry_out(alloc, rt, cache, session, targets, room);
     let CallEnd {
         cause,

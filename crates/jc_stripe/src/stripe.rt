@@ -348,7 +348,7 @@ impl Stripe {
         requires answers { AnswersFirst self.old.config reservation.now.first out.now }
         ensures { Commits self.old reservation.now out.now result self.new }
     {
-        let _types: Option<Change> = None;
+        let _types: Option<&Change> = None;
         let key = reservation.key;
         let load = reservation.number;
         let _ = self.reservations.release(&key);
@@ -374,7 +374,7 @@ impl Stripe {
         requires { IsOut self.old reservation.now }
         ensures { Withdraws self.old reservation.now self.new }
     {
-        let _types: Option<Change> = None;
+        let _types: Option<&Change> = None;
         let _ = self.reservations.release(&reservation.key);
         let waiting = self.joiners.dissolve(reservation.number);
         self.history.unpromise(STEP_PLACES + waiting as usize);

@@ -105,7 +105,7 @@ pub(crate) fn begin(
     ensures err { OnErr result (calls.new.items ≡ calls.old.items) }
 {
     // Names the types that the prover looks for: see docs/CONTRIBUTING.md, "Idioms that the prover asks for".
-    let _types: Option<(Op, Value)> = None;
+    let _types: Option<&(Op, Value)> = None;
     if let Command::Single { op, key } = command {
         calls.push(OpenCall::single(caller, op, key))?;
         show(seen, Outcome::Begun);
@@ -129,7 +129,7 @@ fn begin_any(
     ensures err { OnErr result (calls.new.items ≡ calls.old.items) }
 {
     // Names the types that the prover looks for: see docs/CONTRIBUTING.md, "Idioms that the prover asks for".
-    let _types: Option<(Op, Value)> = None;
+    let _types: Option<&(Op, Value)> = None;
     if command.has_too_many_keys() {
         show(seen, Outcome::Refused(Refusal::TooManyKeys));
         return Ok(());

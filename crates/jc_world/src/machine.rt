@@ -240,7 +240,7 @@ impl Machine {
         ensures err { OnErr result (self.new ≡ self.old) }
     {
         // Names the types that the prover looks for: see docs/CONTRIBUTING.md, "Idioms that the prover asks for".
-        let _types: Option<Change> = None;
+        let _types: Option<&Change> = None;
         make_room(&mut self.held)?;
         make_join_room(&mut self.joins)?;
         self.stripes.reserve()?;

@@ -246,7 +246,7 @@ pub(crate) fn push_reported(
     ensures { OnOk result (reported.new.items ≡ reported.old.items
         ++ reported_keys (parts_of held.now) call (open_in ((key.now, op.now) ∷ []))) }
 {
-    let _types: Option<(Change, Value)> = None;
+    let _types: Option<&(Change, Value)> = None;
     if op.is_some() {
         if let Some(one) = reported_key(held, call, key) {
             reported.push(one)?;

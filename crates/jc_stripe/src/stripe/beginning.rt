@@ -136,7 +136,7 @@ impl Stripe {
     {
         // Names the types of the values that a generic call moves here: the prover looks for their models in the types that a
         // function names. So do the others of this name below.
-        let _types: Option<Change> = None;
+        let _types: Option<&Change> = None;
         // Copied first: a value counts as moved by the call that takes it.
         let asked = first;
         let note = Note {

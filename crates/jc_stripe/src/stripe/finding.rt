@@ -57,7 +57,7 @@ impl Stripe {
     {
         // Names the types of the values that a generic call moves here: the prover looks for their models in the types that a
         // function names.
-        let _types: Option<Change> = None;
+        let _types: Option<&Change> = None;
         match self.reservations.find(key) {
             Some((number, note)) => (true, load_of(&note.first, number)),
             None => (false, None),

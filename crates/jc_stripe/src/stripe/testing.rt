@@ -176,7 +176,7 @@ impl Stripe {
         ensures { result ≡ reservation_of self.now key.now }
     {
         // Names a type that a generic call moves here, so that the prover finds its model.
-        let _types: Option<Change> = None;
+        let _types: Option<&Change> = None;
         match self.reservations.find(key) {
             Some((number, note)) => Some(Reservation {
                 caller: note.caller,
