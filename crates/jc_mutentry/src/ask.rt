@@ -17,8 +17,8 @@ pub trait AskProcess: Ask {
     ghost may_load: { Self → Bool };
 
     /// The value of the entry, or none if it is missing.
-    fn initial(&self) -> &Option<Value>
-        ensures { result.now ≡ initial self.now };
+    fn initial(&self) -> Option<Value>
+        ensures { result ≡ initial self.now };
 
     /// Whether the loader may be asked: read-through is on, and the entry is missing.
     fn may_load(&self) -> bool

@@ -66,11 +66,10 @@ impl<A: AskProcess> ProcDone<A> {
         }
     }
 
-    /// The receipt of the ask, what the loader answered, and what the processor did. The value is spent.
-    pub fn into_parts(self) -> (A::Receipt, LoadAnswer, ProcessAnswer)
-        ensures receipt { result.0 ≡ A.receipt self.ask }
-        ensures load { result.1 ≡ self.load }
-        ensures process { result.2 ≡ self.process }
+    /// What the loader answered, and what the processor did. The value and its ask are spent.
+    pub fn into_answers(self) -> (LoadAnswer, ProcessAnswer)
+        ensures load { result.0 ≡ self.load }
+        ensures process { result.1 ≡ self.process }
         ensures given { is_process_given self.process ≡ true }
         ensures fits { load_fits (wanted_if (A.may_load self.ask)) (is_load_given self.load) ≡ true }
     {
@@ -80,7 +79,8 @@ impl<A: AskProcess> ProcDone<A> {
             load,
             process,
         } = self;
-        (ask.into_receipt(), load, process)
+        ask.spend();
+        (load, process)
     }
 
     /// The done value of an ask.

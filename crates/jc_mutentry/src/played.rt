@@ -39,7 +39,7 @@ pub fn played_process<A: AskProcess>(
     ensures process { result.process ≡ played_outcome (A.may_load ask) (A.initial ask) load calls.now fail }
     ensures answers { answers.new.items ≡ answers.old.items ++ played_answers (A.may_load ask) (A.initial ask) load calls.now }
 {
-    let mut entry = EntryCore::new(*ask.initial(), ask.may_load());
+    let mut entry = EntryCore::new(ask.initial(), ask.may_load());
     let last = play_calls(&mut entry, calls, &load, answers);
     let returned = match fail {
         Some(code) => Err(code),

@@ -41,7 +41,7 @@ pub fn run_processor<A: AskProcess, R: Wait>(
     ensures writer { hands.new.outside.writer ≡ hands.old.outside.writer }
     ensures held { hands.new.held ≡ 0 }
 {
-    let mut entry = MutableEntry::new(*ask.key(), *ask.initial(), ask.may_load());
+    let mut entry = MutableEntry::new(*ask.key(), ask.initial(), ask.may_load());
     let mut loader = hands.take_loader();
     let returned = run_on(processor, &mut entry, &mut loader, args);
     hands.put_loader(loader);

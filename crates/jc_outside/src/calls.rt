@@ -1,5 +1,5 @@
 //! Calls of a loader and a writer, while no stripe is held.
-ghost use Rattle.std.specs.Prelude.{◌≡◌, true, IsSome, Some};
+ghost use Rattle.std.specs.Prelude.{◌≡◌, true, IsSome, Some, is_some};
 ghost use Rattle.jc_model.specs.Table.{is_load_given, is_write_given};
 ghost use Rattle.jc_outside.specs.declared.done.Origin.TheVariants.{Live};
 ghost use Rattle.jc_outside.specs.Calling.{load_answer, write_answer, LoadsOnce, WritesOnce};
@@ -35,7 +35,7 @@ pub fn call_loader<A: Ask, R: Wait>(_rt: &R, hands: &mut Hands<Outside>, ask: A)
 ///
 /// It may wait, as long as the writer does.
 ///
-/// Conditions: the session holds no stripe, and has brought a writer.
+/// Conditions: the session holds no stripe, and has brought a writer, and the writer is asked.
 pub fn call_writer<A: AskWrite, R: Wait>(
     _rt: &R,
     hands: &mut Hands<Outside>,
@@ -43,6 +43,7 @@ pub fn call_writer<A: AskWrite, R: Wait>(
 ) -> WriteDone<A>
     requires held { hands.old.held ≡ 0 }
     requires writer { IsSome hands.old.outside.writer }
+    requires change { is_some (A.change ask) ≡ true }
     ensures ask { result.ask ≡ ask }
     ensures origin { result.origin ≡ Live }
     ensures given { is_write_given result.answer ≡ true }

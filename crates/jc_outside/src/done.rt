@@ -39,10 +39,9 @@ impl<A> Model for LoadDone<A> {
 }
 
 impl<A: Ask> LoadDone<A> {
-    /// The receipt of the ask, and what was answered. The value is spent.
-    pub fn into_parts(self) -> (A::Receipt, LoadAnswer)
-        ensures receipt { result.0 ≡ A.receipt self.ask }
-        ensures answer { result.1 ≡ self.answer }
+    /// What was answered. The value and its ask are spent.
+    pub fn into_answer(self) -> LoadAnswer
+        ensures answer { result ≡ self.answer }
         ensures given { is_load_given self.answer ≡ true }
     {
         let LoadDone {
@@ -50,7 +49,8 @@ impl<A: Ask> LoadDone<A> {
             origin: _,
             answer,
         } = self;
-        (ask.into_receipt(), answer)
+        ask.spend();
+        answer
     }
 
     /// The done value of an ask.
@@ -86,10 +86,9 @@ impl<A> Model for WriteDone<A> {
 }
 
 impl<A: AskWrite> WriteDone<A> {
-    /// The receipt of the ask, and what was reported. The value is spent.
-    pub fn into_parts(self) -> (A::Receipt, WriteAnswer)
-        ensures receipt { result.0 ≡ A.receipt self.ask }
-        ensures answer { result.1 ≡ self.answer }
+    /// What was reported. The value and its ask are spent.
+    pub fn into_answer(self) -> WriteAnswer
+        ensures answer { result ≡ self.answer }
         ensures given { is_write_given self.answer ≡ true }
     {
         let WriteDone {
@@ -97,7 +96,8 @@ impl<A: AskWrite> WriteDone<A> {
             origin: _,
             answer,
         } = self;
-        (ask.into_receipt(), answer)
+        ask.spend();
+        answer
     }
 
     /// The done value of an ask.

@@ -12,7 +12,6 @@
 --     invokes                             only an `Invoke` is given a processor's ticket
 --     asks_none, answering_asks           where there is nothing to write, and what answers at once, asks nobody
 --     loads_asked                         what asks the loader first loads a key whole
---     writer_reserves, processor_reserves what asks a writer or a processor first reserves its key
 --     next_begun                          a first phase doesn't make the next number of a reservation less
 --     without_none                        the reservations without a key that none of them has
 --     none_twice                          no key of an empty list stands twice
@@ -48,7 +47,7 @@ use Rattle.jc_inflight.specs.Resolving.{after_resolve}
 use Rattle.jc_inflight.specs.Taking as taking
 use Rattle.jc_stripe.specs.declared.begun.StepDone.{StepDone}
 use Rattle.jc_stripe.specs.declared.ticket.Reservation.{Reservation}
-use Rattle.jc_stripe.specs.Tickets.{JoinClaim, ProcessClaim, asks_processor}
+use Rattle.jc_stripe.specs.Tickets.{JoinClaim, TicketClaim, asks_processor}
 use Rattle.jc_stripe.specs.Refusals.{first_asked, first_by}
 use Rattle.jc_stripe.specs.declared.begun.Begun.TheVariants as begun
 use Rattle.jc_stripe.specs.State.{State, IsOut, waits, is_of}
@@ -58,7 +57,7 @@ use Rattle.jc_stripe.specs.Phases.{MayBegin, Begins, Steps, new_group, with_join
 use Rattle.jc_stripe.specs.Reached.{IsReached, may_share}
 use Rattle.jc_stripe.specs.OnePhase.{is_parked}
 use Rattle.jc_stripe.proofs.Settled.{claim_left, keyed_callers}
-pub use Rattle.jc_stripe.proofs.Refusing.{asks_none, answering_asks, writer_reserves, processor_reserves}
+pub use Rattle.jc_stripe.proofs.Refusing.{asks_none, answering_asks}
 pub use Rattle.jc_stripe.proofs.Settled.{loads_asked}
 pub use Rattle.jc_stripe.proofs.Numbering.{without_none}
 pub use Rattle.jc_stripe.proofs.Uniform.{next_begun}
@@ -175,8 +174,8 @@ asks_invoking config Get entry h = no_processor (config.read_through && is_none 
 asks_invoking config (LoadAll replace) entry h = no_processor (replace || is_none entry) config.write_through None h _
 asks_invoking config op entry h = no_processor false config.write_through (write_ask op entry process.NotAsked) h _
 
-pub invokes : (old new : State) (caller : Caller) (key : Bytes) (op : Op) (ticket : ProcessClaim) → Begins old caller key op (begun.Process ticket) new → is_invoke op ≡ true
-invokes old new caller key op ticket begins = asks_invoking old.config op (entry_at old.cache key) (ap asks_processor begins.1 ∙ begins.2)
+pub invokes : (old new : State) (caller : Caller) (key : Bytes) (op : Op) (ticket : TicketClaim) → Begins old caller key op (begun.Asks ticket) new → asks_processor ticket.reservation.first ≡ true → is_invoke op ≡ true
+invokes old new caller key op ticket begins runs = asks_invoking old.config op (entry_at old.cache key) (ap asks_processor begins.2 ∙ runs)
 
 -- 6. The keys of a stripe.
 

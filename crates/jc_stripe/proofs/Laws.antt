@@ -42,9 +42,7 @@ steps_on old new caller key op out callers done steps = record {
 pub begins_on : (old new : State) (caller : Caller) (key : Bytes) (op : Op) (b : Begun) → Begins old caller key op b new → Extends old new
 begins_on old new caller key op (begun.Refused refusal) h = same_on old new _ h.1 (record { config = refl; stripe = refl; origin = refl; opening = refl }) refl
 begins_on old new caller key op (begun.Done done) h = steps_on old new caller key op nothing_said [] done h.2
-begins_on old new caller key op (begun.Load ticket) h = same_on old new _ h.4 (record { config = refl; stripe = refl; origin = refl; opening = refl }) refl
-begins_on old new caller key op (begun.Write ticket) h = same_on old new _ h.4 (record { config = refl; stripe = refl; origin = refl; opening = refl }) refl
-begins_on old new caller key op (begun.Process ticket) h = same_on old new _ h.4 (record { config = refl; stripe = refl; origin = refl; opening = refl }) refl
+begins_on old new caller key op (begun.Asks ticket) h = same_on old new _ h.5 (record { config = refl; stripe = refl; origin = refl; opening = refl }) refl
 begins_on old new caller key op (begun.Joined join) h = same_on old new _ h.3 (record { config = refl; stripe = refl; origin = refl; opening = refl }) refl
 
 pub commits_on : (old new : State) (r : Reservation) (out : Out) (done : StepDone) → Commits old r out done new → Extends old new
@@ -71,9 +69,7 @@ begins_keeps old new caller key op (begun.Done done) q reached h there =
     ap (λ (s : State). entry_at s.cache q) h.2.after
     ∙ kept_on old caller key op nothing_said [] h.2.short q reached.used there
     (λ is. answering_keeps old.config op (entry_at old.cache key) (alone_passes old key op h.1 ((not_refused old caller key op h.0).free (ap (is_reserved old) (sym is) ∙ there))))
-begins_keeps old new caller key op (begun.Load ticket) q reached h there = ap (λ (s : State). entry_at s.cache q) h.4
-begins_keeps old new caller key op (begun.Write ticket) q reached h there = ap (λ (s : State). entry_at s.cache q) h.4
-begins_keeps old new caller key op (begun.Process ticket) q reached h there = ap (λ (s : State). entry_at s.cache q) h.4
+begins_keeps old new caller key op (begun.Asks ticket) q reached h there = ap (λ (s : State). entry_at s.cache q) h.5
 begins_keeps old new caller key op (begun.Joined join) q reached h there = ap (λ (s : State). entry_at s.cache q) h.3
 
 pub commits_keeps : (old new : State) (r : Reservation) (out : Out) (done : StepDone) (q : Bytes) → IsReached old → Commits old r out done new → is_reserved (without_reservation old r.key) q ≡ true

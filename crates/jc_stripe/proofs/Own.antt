@@ -139,9 +139,7 @@ own_left = record {
   done = λ old new caller key op done may h. adds old new caller key op nothing_said [] done h.2 (unparked caller key old.joiners may.apart) refl;
   commits = λ old new r out done reached h. commits_own old new r out done reached h;
   refused = λ old new caller key op refusal h. ap (λ (s : State). own_steps caller.session s) h.1;
-  loads = λ old new caller key op ticket h. ap (λ (s : State). own_steps caller.session s) h.4;
-  writes = λ old new caller key op ticket h. ap (λ (s : State). own_steps caller.session s) h.4;
-  processes = λ old new caller key op ticket h. ap (λ (s : State). own_steps caller.session s) h.4;
+  reserves = λ old new caller key op ticket h. ap (λ (s : State). own_steps caller.session s) h.5;
   joins = λ old new caller key op join h.
       ap (λ (s : State). own_steps caller.session s) h.3
       ∙ own-parked caller.session old.joiners (joining.with_joiner join.caller join.key join.load old.joiners) old.history (λ c k e. parked-joined join.caller join.load join.key old.joiners c k);

@@ -21,12 +21,12 @@ use Rattle.jc_inflight.specs.Joining.{callers_of}
 use Rattle.jc_inflight.specs.Resolving.{after_resolve}
 use Rattle.jc_stripe.specs.declared.ticket.First.{First}
 use Rattle.jc_stripe.specs.declared.ticket.First.TheVariants.{Nobody, Loader}
-use Rattle.jc_stripe.specs.Tickets.{Ticket, ProcessClaim}
+use Rattle.jc_stripe.specs.Tickets.{TicketClaim}
 use Rattle.jc_stripe.specs.State.{State, is_key, is_reserved, IsOut, new_reservation, with_reservation, without_key, waits}
 use Rattle.jc_stripe.specs.Refusals.{first_refusal, first_asked, needs_free_key, places_needed, needs_reservation}
 use Rattle.jc_stripe.specs.Phases.{MayBegin, is_other_call, is_other_join, new_group, after_group, Steps, Begins, Commits, with_joiner, after_commit}
 use Rattle.jc_stripe.specs.Reached.{IsReached, IsUsed}
-use Rattle.jc_stripe.proofs.Refusing.{not_refused, roomy, alone_passes, answering_keeps, was_free, ticket_places, few_out, join_places, few_joined, loader_needs, writer_needs, processor_needs}
+use Rattle.jc_stripe.proofs.Refusing.{not_refused, roomy, alone_passes, answering_keeps, was_free, ticket_places, few_out, join_places, few_joined, asking_needs}
 use Rattle.jc_stripe.proofs.Tables.{reached_reserved, reached_joined}
 use Rattle.jc_stripe.proofs.Beside.{ask_same, none_left}
 use Rattle.jc_stripe.proofs.Settled.{SharedAt, joins_same, joins_settled, remains_settled, may_commit, beside_found, callers_behind, callers_other, callers_apart, callers_beside, callers_left, claim_left_waiting, one_less_claimed, count_left, length_left}
@@ -167,13 +167,8 @@ begins_ticket old caller key op first reached may none needs asks =
 pub reached_begins : (old new : State) (caller : Caller) (key : Bytes) (op : Op) (b : Begun) → IsReached old → MayBegin old caller key → Begins old caller key op b new → IsReached new
 reached_begins old new caller key op (begun.Refused refusal) reached may h = subst IsReached (sym h.1) reached
 reached_begins old new caller key op (begun.Done done) reached may h = begins_done old new caller key op done reached may h.0 h.1 h.2
-reached_begins old new caller key op (begun.Load ticket) reached may h =
-    subst IsReached (sym (h.4 ∙ ap (λ (t : Ticket). with_reservation old t.reservation) h.3)) (begins_ticket old caller key op Loader reached may h.0 (loader_needs old key op h.1 h.2) h.2)
-reached_begins old new caller key op (begun.Write ticket) reached may h =
+reached_begins old new caller key op (begun.Asks ticket) reached may h =
     let first : First = ticket.reservation.first in
-    subst IsReached (sym (h.4 ∙ ap (λ (t : Ticket). with_reservation old t.reservation) h.3)) (begins_ticket old caller key op first reached may h.0 (writer_needs old key op first h.2 h.1) h.1)
-reached_begins old new caller key op (begun.Process ticket) reached may h =
-    let first : First = ticket.reservation.first in
-    subst IsReached (sym (h.4 ∙ ap (λ (t : ProcessClaim). with_reservation old t.reservation) h.3)) (begins_ticket old caller key op first reached may h.0 (processor_needs old key op first h.2 h.1) h.1)
+    subst IsReached (sym (h.5 ∙ ap (λ (t : TicketClaim). with_reservation old t.reservation) h.4)) (begins_ticket old caller key op first reached may h.0 (asking_needs old key op first h.1 h.2 h.3) h.2)
 reached_begins old new caller key op (begun.Joined join) reached may h =
     subst IsReached (sym (h.3 ∙ ap (with_joiner old) h.2)) (reached_joined old caller key op join.load reached may h.1 (few_joined old caller key op join.load h.0 h.1) (join_places old caller key op join.load h.0 h.1))

@@ -14,7 +14,6 @@ use Rattle.jc_model.specs.Table.{entry_after, always_if}
 use Rattle.jc_model.specs.Group.{nothing_said}
 use Rattle.jc_stripe.specs.declared.ticket.First.{First}
 use Rattle.jc_stripe.specs.declared.ticket.First.TheVariants.{Nobody, Loader, Writer, Processor}
-use Rattle.jc_stripe.specs.Tickets.{asks_writer, asks_processor}
 use Rattle.jc_stripe.specs.State.{State, is_key, is_reserved, reservation_of, promised}
 use Rattle.jc_stripe.specs.Refusals.{first_asked, first_by, first_refusal, needs_free_key, may_join, has_room, last_number, load_at, load_joined, needs_reservation, answers_at_once, places_needed, reserves, writer_for}
 use Rattle.jc_types.proofs.CallerLemmas.{found_any}
@@ -208,39 +207,6 @@ join_places s caller key op load none joins =
 pub few_joined : (s : State) (caller : Caller) (key : Bytes) (op : Op) (load : ℕ) → first_refusal s caller key op ≡ None → load_joined s key op ≡ Some load → length s.joiners < JOINERS_MAX
 few_joined s caller key op load none joins = fewer_than JOINERS_MAX (length s.joiners) ((not_refused s caller key op none).few_joined (ap is_some joins))
 
--- a writer and a processor that are asked first reserve the key
-pub writer_reserves : (first : First) → asks_writer first ≡ true → reserves first ≡ true
-writer_reserves Nobody h = cc
-writer_reserves Loader h = refl
-writer_reserves (Writer change) h = refl
-writer_reserves (Processor seen loads) h = refl
-
-pub processor_reserves : (first : First) → asks_processor first ≡ true → reserves first ≡ true
-processor_reserves Nobody h = cc
-processor_reserves Loader h = refl
-processor_reserves (Writer change) h = refl
-processor_reserves (Processor seen loads) h = refl
-
--- a loader that is asked alone, a writer, and a processor need a reservation
-pub loader_needs : (s : State) (key : Bytes) (op : Op) → load_joined s key op ≡ None → first_asked s.config op (entry_at s.cache key) ≡ Loader → needs_reservation s key op ≡ true
-loader_needs s key op alone asks = ap (λ f. reserves f && is_none (load_joined s key op)) asks ∙ ap is_none alone
-
-pub writer_needs : (s : State) (key : Bytes) (op : Op) (first : First) → asks_writer first ≡ true → first_asked s.config op (entry_at s.cache key) ≡ first → needs_reservation s key op ≡ true
-writer_needs s key op (Writer change) writes asks = ap (λ f. reserves f && is_none (load_joined s key op)) asks ∙ nobody (load_joined s key op) refl
-  where
-    nobody : (o : Option ℕ) → load_joined s key op ≡ o → is_none o ≡ true
-    nobody None h = refl
-    nobody (Some load) h = let e : Writer change ≡ Loader = sym asks ∙ (joins_known s key op load h).asks in cc
-writer_needs s key op Nobody writes asks = cc
-writer_needs s key op Loader writes asks = cc
-writer_needs s key op (Processor seen loads) writes asks = cc
-
-pub processor_needs : (s : State) (key : Bytes) (op : Op) (first : First) → asks_processor first ≡ true → first_asked s.config op (entry_at s.cache key) ≡ first → needs_reservation s key op ≡ true
-processor_needs s key op (Processor seen loads) runs asks = ap (λ f. reserves f && is_none (load_joined s key op)) asks ∙ nobody (load_joined s key op) refl
-  where
-    nobody : (o : Option ℕ) → load_joined s key op ≡ o → is_none o ≡ true
-    nobody None h = refl
-    nobody (Some load) h = let e : Processor seen loads ≡ Loader = sym asks ∙ (joins_known s key op load h).asks in cc
-processor_needs s key op Nobody runs asks = cc
-processor_needs s key op Loader runs asks = cc
-processor_needs s key op (Writer change) runs asks = cc
+-- a call that asks somebody and does not join needs a reservation
+pub asking_needs : (s : State) (key : Bytes) (op : Op) (first : First) → load_joined s key op ≡ None → first_asked s.config op (entry_at s.cache key) ≡ first → reserves first ≡ true → needs_reservation s key op ≡ true
+asking_needs s key op first alone asks some = λ i. ((λ j. reserves (asks j)) ∙ some) i && is_none (alone i)

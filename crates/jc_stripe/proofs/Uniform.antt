@@ -64,9 +64,7 @@ others_done other old new caller key op done differs steps =
 others_begun : (other : ℕ) (old new : State) (caller : Caller) (key : Bytes) (op : Op) (begun : Begun) → (other == caller.session) ≡ false → Begins old caller key op begun new → own_steps other new ≡ own_steps other old
 others_begun other old new caller key op (first.Refused refusal) differs h = ap (λ (s : State). own_steps other s) h.1
 others_begun other old new caller key op (first.Done done) differs h = others_done other old new caller key op done differs h.2
-others_begun other old new caller key op (first.Load ticket) differs h = ap (λ (s : State). own_steps other s) h.4
-others_begun other old new caller key op (first.Write ticket) differs h = ap (λ (s : State). own_steps other s) h.4
-others_begun other old new caller key op (first.Process ticket) differs h = ap (λ (s : State). own_steps other s) h.4
+others_begun other old new caller key op (first.Asks ticket) differs h = ap (λ (s : State). own_steps other s) h.5
 others_begun other old new caller key op (first.Joined join) differs h =
     ap (λ (s : State). own_steps other s) h.3
     ∙ own-parked other old.joiners (joining.with_joiner join.caller join.key join.load old.joiners) old.history (λ c k e. parked-joined join.caller join.load join.key old.joiners c k)
@@ -74,9 +72,7 @@ others_begun other old new caller key op (first.Joined join) differs h =
 pub next_begun : (old new : State) (caller : Caller) (key : Bytes) (op : Op) (begun : Begun) → Begins old caller key op begun new → old.next ≤ new.next
 next_begun old new caller key op (first.Refused refusal) h = let n = ap (λ (s : State). s.next) h.1 in omega arith
 next_begun old new caller key op (first.Done done) h = let n = ap (λ (s : State). s.next) h.2.after in omega arith
-next_begun old new caller key op (first.Load ticket) h = let n = ap (λ (s : State). s.next) h.4 in omega arith
-next_begun old new caller key op (first.Write ticket) h = let n = ap (λ (s : State). s.next) h.4 in omega arith
-next_begun old new caller key op (first.Process ticket) h = let n = ap (λ (s : State). s.next) h.4 in omega arith
+next_begun old new caller key op (first.Asks ticket) h = let n = ap (λ (s : State). s.next) h.5 in omega arith
 next_begun old new caller key op (first.Joined join) h = let n = ap (λ (s : State). s.next) h.3 in omega arith
 
 -- a first phase

@@ -25,7 +25,7 @@ use Rattle.jc_stripe.specs.declared.begun.Begun.{Begun}
 use Rattle.jc_stripe.specs.declared.begun.Begun.TheVariants as begun
 use Rattle.jc_stripe.specs.declared.begun.Picked.{Picked}
 use Rattle.jc_stripe.specs.declared.begun.Picked.TheVariants as picked
-use Rattle.jc_stripe.specs.Tickets.{Ticket, ProcessClaim, JoinClaim}
+use Rattle.jc_stripe.specs.Tickets.{TicketClaim, JoinClaim}
 use Rattle.jc_stripe.specs.State.{State, is_key, is_reserved, without_key}
 use Rattle.jc_stripe.specs.Phases.{MayBegin, Begins, PicksUp}
 use Rattle.jc_stripe.specs.Reached.{IsReached}
@@ -45,9 +45,7 @@ gains session old new event place a = inr (event, place, record { there = a.ther
 
 own_begun : OwnSteps → (old new : State) (caller : Caller) (key : Bytes) (op : Op) (b : Begun) → MayBegin old caller key → Begins old caller key op b new → Own caller.session old new
 own_begun law old new caller key op (begun.Done done) may h = gains caller.session old new _ _ (law.done old new caller key op done may h)
-own_begun law old new caller key op (begun.Load ticket) may h = inl (law.loads old new caller key op ticket h)
-own_begun law old new caller key op (begun.Write ticket) may h = inl (law.writes old new caller key op ticket h)
-own_begun law old new caller key op (begun.Process ticket) may h = inl (law.processes old new caller key op ticket h)
+own_begun law old new caller key op (begun.Asks ticket) may h = inl (law.reserves old new caller key op ticket h)
 own_begun law old new caller key op (begun.Joined join) may h = inl (law.joins old new caller key op join h)
 own_begun law old new caller key op (begun.Refused refusal) may h = inl (law.refused old new caller key op refusal h)
 
@@ -126,12 +124,8 @@ only_found session key (x ∷ xs) r once found own =
 
 held_begun : (session : ℕ) (old new : State) (caller : Caller) (key : Bytes) (op : Op) (b : Begun) → caller.session ≡ session → Begins old caller key op b new → others_held session new.reservations ≡ others_held session old.reservations
 held_begun session old new caller key op (begun.Done done) own h = ap (λ (s : State). others_held session s.reservations) h.2.after
-held_begun session old new caller key op (begun.Load ticket) own h =
-    ap (λ (s : State). others_held session s.reservations) h.4 ∙ held_pushed session old.reservations ticket.reservation (ap (λ (t : Ticket). t.reservation.caller.session) h.3 ∙ own)
-held_begun session old new caller key op (begun.Write ticket) own h =
-    ap (λ (s : State). others_held session s.reservations) h.4 ∙ held_pushed session old.reservations ticket.reservation (ap (λ (t : Ticket). t.reservation.caller.session) h.3 ∙ own)
-held_begun session old new caller key op (begun.Process ticket) own h =
-    ap (λ (s : State). others_held session s.reservations) h.4 ∙ held_pushed session old.reservations ticket.reservation (ap (λ (t : ProcessClaim). t.reservation.caller.session) h.3 ∙ own)
+held_begun session old new caller key op (begun.Asks ticket) own h =
+    ap (λ (s : State). others_held session s.reservations) h.5 ∙ held_pushed session old.reservations ticket.reservation (ap (λ (t : TicketClaim). t.reservation.caller.session) h.4 ∙ own)
 held_begun session old new caller key op (begun.Joined join) own h = ap (λ (s : State). others_held session s.reservations) h.3
 held_begun session old new caller key op (begun.Refused refusal) own h = ap (λ (s : State). others_held session s.reservations) h.1
 
@@ -191,9 +185,7 @@ joined_without session caller key (j ∷ js) own =
 
 joins_begun : (session : ℕ) (old new : State) (caller : Caller) (key : Bytes) (op : Op) (b : Begun) → caller.session ≡ session → Begins old caller key op b new → others_joined session new.joiners ≡ others_joined session old.joiners
 joins_begun session old new caller key op (begun.Done done) own h = ap (λ (s : State). others_joined session s.joiners) h.2.after
-joins_begun session old new caller key op (begun.Load ticket) own h = ap (λ (s : State). others_joined session s.joiners) h.4
-joins_begun session old new caller key op (begun.Write ticket) own h = ap (λ (s : State). others_joined session s.joiners) h.4
-joins_begun session old new caller key op (begun.Process ticket) own h = ap (λ (s : State). others_joined session s.joiners) h.4
+joins_begun session old new caller key op (begun.Asks ticket) own h = ap (λ (s : State). others_joined session s.joiners) h.5
 joins_begun session old new caller key op (begun.Joined join) own h =
     ap (λ (s : State). others_joined session s.joiners) h.3 ∙ joined_pushed session join.caller join.key join.load old.joiners (ap (λ (j : JoinClaim). j.caller.session) h.2 ∙ own)
 joins_begun session old new caller key op (begun.Refused refusal) own h = ap (λ (s : State). others_joined session s.joiners) h.1

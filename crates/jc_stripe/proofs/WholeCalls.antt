@@ -25,17 +25,16 @@ use Rattle.jc_inflight.specs.declared.joiner.Joiner.{Joiner}
 use Rattle.jc_inflight.specs.Joining.{is_waiting, waits_for, callers_of}
 use Rattle.jc_inflight.specs.Resolving.{with_answer, answered_from}
 use Rattle.jc_stripe.specs.declared.ticket.First.{First}
-use Rattle.jc_stripe.specs.declared.ticket.First.TheVariants.{Loader}
 use Rattle.jc_stripe.specs.declared.ticket.Reservation.{Reservation}
 use Rattle.jc_stripe.specs.declared.begun.StepDone.{StepDone}
-use Rattle.jc_stripe.specs.Tickets.{Ticket, ProcessClaim, asks_writer}
+use Rattle.jc_stripe.specs.Tickets.{TicketClaim}
 use Rattle.jc_stripe.specs.State.{State, is_key, is_reserved, reservation_of, new_reservation, with_reservation, without_key}
 use Rattle.jc_stripe.specs.Refusals.{first_by, first_asked, reserves, load_at, may_join, load_joined, needs_reservation}
 use Rattle.jc_stripe.specs.Phases.{is_other_call, is_other_join, new_group, after_commit, Steps, Commits}
 use Rattle.jc_stripe.specs.Reached.{IsReached, JoinFits, AllJoin}
 use Rattle.jc_stripe.specs.OwnSteps.{is_before_call, HasNoCallFrom, CallerNumbers, WholeCall, JoinsOnlyLoads}
 use Rattle.jc_stripe.proofs.Joining.{loaded_at}
-use Rattle.jc_stripe.proofs.Refusing.{was_free, writer_reserves, processor_needs}
+use Rattle.jc_stripe.proofs.Refusing.{was_free, asking_needs}
 use Rattle.jc_stripe.proofs.Settled.{waiting_finds}
 use Rattle.jc_stripe.proofs.OwnPick.{all_behind}
 use Rattle.jc_stripe.proofs.ParkedSteps.{filter-append}
@@ -98,44 +97,10 @@ one_step old mid new caller key op first r out done reached free is goes commits
     let Q : State × List Caller → Type 0 = λ x. Steps x.0 caller key op out x.1 done new in
     subst Q (λ i. (state i, none_called old old.joiners reached reached.joins i)) steps
 
--- a call that asks the writer joins nothing
-no_writer : (asked through : Bool) → asks_writer (first_by (always_if asked) (cond through None None)) ≡ true → (A : Type 0) → A
-no_writer true true h A = cc
-no_writer true false h A = cc
-no_writer false true h A = cc
-no_writer false false h A = cc
-
-writers_join_not : (config : Config) (op : Op) (entry : Option Bytes) → asks_writer (first_asked config op entry) ≡ true → may_join op ≡ false
-writers_join_not config Get entry h = no_writer _ _ h _
-writers_join_not config ContainsKey entry h = refl
-writers_join_not config (Put value) entry h = refl
-writers_join_not config (GetAndPut value) entry h = refl
-writers_join_not config (PutIfAbsent value) entry h = refl
-writers_join_not config Remove entry h = refl
-writers_join_not config (RemoveIf other) entry h = refl
-writers_join_not config GetAndRemove entry h = refl
-writers_join_not config (Replace value) entry h = refl
-writers_join_not config (ReplaceIf other value) entry h = refl
-writers_join_not config (GetAndReplace value) entry h = refl
-writers_join_not config Clear entry h = refl
-writers_join_not config (LoadAll replace) entry h = refl
-writers_join_not config Invoke entry h = refl
-
 pub whole_call : WholeCall
-whole_call = record {
-  loads = λ old mid new caller key op ticket out done reached begins commits.
-      let asks : needs_reservation old key op ≡ true = λ i. reserves (begins.2 i) && is_none (begins.1 i) in
-      one_step old mid new caller key op Loader ticket.reservation out done reached (was_free old caller key op begins.0 asks) (ap (λ (t : Ticket). t.reservation) begins.3) begins.4 commits;
-  writes = λ old mid new caller key op ticket out done reached begins commits.
-      let writer : asks_writer (first_asked old.config op (entry_at old.cache key)) ≡ true = ap asks_writer begins.1 ∙ begins.2 in
-      let alone : load_joined old key op ≡ None =
-      ap (λ b. cond (b && old.config.read_through && is_none (entry_at old.cache key)) (load_at (reservation_of old key)) None) (writers_join_not old.config op (entry_at old.cache key) writer) in
-      let asks : needs_reservation old key op ≡ true = λ i. writer_reserves (first_asked old.config op (entry_at old.cache key)) writer i && is_none (alone i) in
-      one_step old mid new caller key op ticket.reservation.first ticket.reservation out done reached (was_free old caller key op begins.0 asks) (ap (λ (t : Ticket). t.reservation) begins.3) begins.4 commits;
-  processes = λ old mid new caller key op ticket out done reached begins commits.
-      let asks = processor_needs old key op ticket.reservation.first begins.2 begins.1 in
-      one_step old mid new caller key op ticket.reservation.first ticket.reservation out done reached (was_free old caller key op begins.0 asks) (ap (λ (t : ProcessClaim). t.reservation) begins.3) begins.4 commits;
-}
+whole_call old mid new caller key op ticket out done reached begins commits =
+    let asks : needs_reservation old key op ≡ true = asking_needs old key op ticket.reservation.first begins.1 begins.2 begins.3 in
+    one_step old mid new caller key op ticket.reservation.first ticket.reservation out done reached (was_free old caller key op begins.0 asks) (ap (λ (t : TicketClaim). t.reservation) begins.4) begins.5 commits
 
 pub joins_loads : JoinsOnlyLoads
 joins_loads old new caller key op join none begins = some_not join.load (sym none ∙ begins.1)
@@ -205,10 +170,6 @@ caller_numbers =
       clear = λ state caller key apart own. all_behind caller key state.joiners state.history apart own;
       done = λ old new caller key op done h begins. numbers_step old new caller key op nothing_said done begins.2 h;
       refused = λ old new caller key op refusal h begins. same_numbers old new caller.session caller.call begins.1 h;
-      loaded = λ old mid new caller key op ticket out done reached h begins commits.
-          numbers_step (record old { next = old.next + 1 }) new caller key op out done (whole.loads old mid new caller key op ticket out done reached begins commits) (record { steps = h.steps; reservations = h.reservations; joins = h.joins });
-      written = λ old mid new caller key op ticket out done reached h begins commits.
-          numbers_step (record old { next = old.next + 1 }) new caller key op out done (whole.writes old mid new caller key op ticket out done reached begins commits) (record { steps = h.steps; reservations = h.reservations; joins = h.joins });
-      processed = λ old mid new caller key op ticket out done reached h begins commits.
-          numbers_step (record old { next = old.next + 1 }) new caller key op out done (whole.processes old mid new caller key op ticket out done reached begins commits) (record { steps = h.steps; reservations = h.reservations; joins = h.joins });
+      committed = λ old mid new caller key op ticket out done reached h begins commits.
+          numbers_step (record old { next = old.next + 1 }) new caller key op out done (whole old mid new caller key op ticket out done reached begins commits) (record { steps = h.steps; reservations = h.reservations; joins = h.joins });
     }

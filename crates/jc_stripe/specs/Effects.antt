@@ -16,20 +16,20 @@ use Rattle.jc_outside.specs.Done.{WriteResult}
 use Rattle.jc_mutentry.specs.Done.{ProcessResult}
 use Rattle.jc_mutentry.specs.Done as processed
 use Rattle.jc_stripe.specs.declared.ticket.Reservation.{Reservation}
-use Rattle.jc_stripe.specs.Tickets.{EffectClaim}
+use Rattle.jc_stripe.specs.Tickets.{Claim}
 
-abbrev pub change_due : Config → ProcessResult Reservation → Option Change
+abbrev pub change_due : Config → ProcessResult Claim → Option Change
 change_due config done = if config.write_through then processed.effect_change done.load done.process else None
 
-abbrev pub HasReport : Origin → Reservation → Option Change → Option (WriteResult EffectClaim) → Type 0
+abbrev pub HasReport : Origin → Reservation → Option Change → Option (WriteResult Claim) → Type 0
 HasReport origin r None None = Unit {0}
 HasReport origin r None (Some report) = ⊥
 HasReport origin r (Some change) None = ⊥
-HasReport origin r (Some change) (Some report) = (report.ask ≡ record { reservation = r; change = change }) × (report.origin ≡ origin)
+HasReport origin r (Some change) (Some report) = (report.ask ≡ record { reservation = r; change = Some change }) × (report.origin ≡ origin)
 
-abbrev pub report_answer : Option (WriteResult EffectClaim) → WriteAnswer
+abbrev pub report_answer : Option (WriteResult Claim) → WriteAnswer
 report_answer None = NotAsked
 report_answer (Some report) = report.answer
 
-abbrev pub process_out : ProcessResult Reservation → Option (WriteResult EffectClaim) → Out
+abbrev pub process_out : ProcessResult Claim → Option (WriteResult Claim) → Out
 process_out done report = record { load = done.load; write = report_answer report; process = done.process }

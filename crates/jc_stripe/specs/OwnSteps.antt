@@ -27,9 +27,9 @@ use Rattle.jc_model.specs.Legal.{may_come}
 use Rattle.jc_types.specs.declared.refusal.Refusal.{Refusal}
 use Rattle.jc_stripe.specs.declared.ticket.Reservation.{Reservation}
 use Rattle.jc_stripe.specs.declared.begun.StepDone.{StepDone}
-use Rattle.jc_stripe.specs.declared.begun.Begun.TheVariants.{Done, Load, Write, Process, Joined, Refused}
+use Rattle.jc_stripe.specs.declared.begun.Begun.TheVariants.{Done, Asks, Joined, Refused}
 use Rattle.jc_stripe.specs.declared.begun.Picked.TheVariants.{Answer, Again, NotYet}
-use Rattle.jc_stripe.specs.Tickets.{Ticket, ProcessClaim, JoinClaim}
+use Rattle.jc_stripe.specs.Tickets.{TicketClaim, JoinClaim}
 use Rattle.jc_stripe.specs.State.{State, is_of}
 use Rattle.jc_stripe.specs.Refusals.{load_joined}
 use Rattle.jc_stripe.specs.Phases.{is_other_join, MayBegin, Steps, Begins, Commits, Withdraws, PicksUp}
@@ -49,9 +49,7 @@ pub record OwnSteps : Type 0 where
   pub commits : (old new : State) (r : Reservation) (out : Out) (done : StepDone) → IsReached old → Commits old r out done new
       → AddsOwn r.caller.session old new (Step r.caller r.op r.key out None done.reply) done.place
   pub refused : (old new : State) (caller : Caller) (key : Bytes) (op : Op) (refusal : Refusal) → Begins old caller key op (Refused refusal) new → own_steps caller.session new ≡ own_steps caller.session old
-  pub loads : (old new : State) (caller : Caller) (key : Bytes) (op : Op) (ticket : Ticket) → Begins old caller key op (Load ticket) new → own_steps caller.session new ≡ own_steps caller.session old
-  pub writes : (old new : State) (caller : Caller) (key : Bytes) (op : Op) (ticket : Ticket) → Begins old caller key op (Write ticket) new → own_steps caller.session new ≡ own_steps caller.session old
-  pub processes : (old new : State) (caller : Caller) (key : Bytes) (op : Op) (ticket : ProcessClaim) → Begins old caller key op (Process ticket) new → own_steps caller.session new ≡ own_steps caller.session old
+  pub reserves : (old new : State) (caller : Caller) (key : Bytes) (op : Op) (ticket : TicketClaim) → Begins old caller key op (Asks ticket) new → own_steps caller.session new ≡ own_steps caller.session old
   pub joins : (old new : State) (caller : Caller) (key : Bytes) (op : Op) (join : JoinClaim) → Begins old caller key op (Joined join) new → own_steps caller.session new ≡ own_steps caller.session old
   pub withdraws : (old new : State) (session : ℕ) (r : Reservation) → Withdraws old r new → own_steps session new ≡ own_steps session old
   pub picks_up : (old new : State) (join : JoinClaim) (reply : Reply) (place shared_with : ℕ) → IsReached old → PicksUp old join (Answer reply place shared_with) new
@@ -78,12 +76,8 @@ pub record CallerNumbers : Type 0 where
   pub clear : (state : State) (caller : Caller) (key : Bytes) → IsTrue (list_all (is_other_join caller key) state.joiners) → may_come_all (own_steps caller.session state) caller key ≡ true → may_come_all state.history caller key ≡ true
   pub done : (old new : State) (caller : Caller) (key : Bytes) (op : Op) (done : StepDone) → HasNoCallFrom old caller.session caller.call → Begins old caller key op (Done done) new → HasNoCallFrom new caller.session (caller.call + 1)
   pub refused : (old new : State) (caller : Caller) (key : Bytes) (op : Op) (refusal : Refusal) → HasNoCallFrom old caller.session caller.call → Begins old caller key op (Refused refusal) new → HasNoCallFrom new caller.session (caller.call + 1)
-  pub loaded : (old mid new : State) (caller : Caller) (key : Bytes) (op : Op) (ticket : Ticket) (out : Out) (done : StepDone) → IsReached old → HasNoCallFrom old caller.session caller.call
-      → Begins old caller key op (Load ticket) mid → Commits mid ticket.reservation out done new → HasNoCallFrom new caller.session (caller.call + 1)
-  pub written : (old mid new : State) (caller : Caller) (key : Bytes) (op : Op) (ticket : Ticket) (out : Out) (done : StepDone) → IsReached old → HasNoCallFrom old caller.session caller.call
-      → Begins old caller key op (Write ticket) mid → Commits mid ticket.reservation out done new → HasNoCallFrom new caller.session (caller.call + 1)
-  pub processed : (old mid new : State) (caller : Caller) (key : Bytes) (op : Op) (ticket : ProcessClaim) (out : Out) (done : StepDone) → IsReached old → HasNoCallFrom old caller.session caller.call
-      → Begins old caller key op (Process ticket) mid → Commits mid ticket.reservation out done new → HasNoCallFrom new caller.session (caller.call + 1)
+  pub committed : (old mid new : State) (caller : Caller) (key : Bytes) (op : Op) (ticket : TicketClaim) (out : Out) (done : StepDone) → IsReached old → HasNoCallFrom old caller.session caller.call
+      → Begins old caller key op (Asks ticket) mid → Commits mid ticket.reservation out done new → HasNoCallFrom new caller.session (caller.call + 1)
 
 abbrev pub StepsBehind : Type 0
 StepsBehind = (history more : List Event) (caller : Caller) (op : Op) (key : Bytes) (out : Out) (shared_with : Option ℕ) (reply : Reply) (place : ℕ) → may_come_all history caller key ≡ true
@@ -91,13 +85,9 @@ StepsBehind = (history more : List Event) (caller : Caller) (op : Op) (key : Byt
 
 -- 3. Whole calls.
 
-pub record WholeCall : Type 0 where
-  pub loads : (old mid new : State) (caller : Caller) (key : Bytes) (op : Op) (ticket : Ticket) (out : Out) (done : StepDone) → IsReached old
-      → Begins old caller key op (Load ticket) mid → Commits mid ticket.reservation out done new → Steps (record old { next = old.next + 1 }) caller key op out [] done new
-  pub writes : (old mid new : State) (caller : Caller) (key : Bytes) (op : Op) (ticket : Ticket) (out : Out) (done : StepDone) → IsReached old
-      → Begins old caller key op (Write ticket) mid → Commits mid ticket.reservation out done new → Steps (record old { next = old.next + 1 }) caller key op out [] done new
-  pub processes : (old mid new : State) (caller : Caller) (key : Bytes) (op : Op) (ticket : ProcessClaim) (out : Out) (done : StepDone) → IsReached old
-      → Begins old caller key op (Process ticket) mid → Commits mid ticket.reservation out done new → Steps (record old { next = old.next + 1 }) caller key op out [] done new
+abbrev pub WholeCall : Type 0
+WholeCall = (old mid new : State) (caller : Caller) (key : Bytes) (op : Op) (ticket : TicketClaim) (out : Out) (done : StepDone) → IsReached old
+    → Begins old caller key op (Asks ticket) mid → Commits mid ticket.reservation out done new → Steps (record old { next = old.next + 1 }) caller key op out [] done new
 
 abbrev pub JoinsOnlyLoads : Type 0
 JoinsOnlyLoads = (old new : State) (caller : Caller) (key : Bytes) (op : Op) (join : JoinClaim) → load_joined old key op ≡ None → Begins old caller key op (Joined join) new → ⊥

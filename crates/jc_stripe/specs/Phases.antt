@@ -45,7 +45,7 @@ use Rattle.jc_inflight.specs.Joining as joining
 use Rattle.jc_inflight.specs.Resolving.{after_resolve}
 use Rattle.jc_inflight.specs.Dissolving.{after_dissolve}
 use Rattle.jc_inflight.specs.Taking as taking
-use Rattle.jc_stripe.specs.declared.ticket.First.TheVariants.{Nobody, Loader}
+use Rattle.jc_stripe.specs.declared.ticket.First.TheVariants.{Nobody}
 use Rattle.jc_stripe.specs.declared.ticket.Reservation.{Reservation}
 use Rattle.jc_stripe.specs.declared.begun.Eviction.{Eviction}
 use Rattle.jc_stripe.specs.declared.begun.StepDone.{StepDone}
@@ -53,9 +53,9 @@ use Rattle.jc_stripe.specs.declared.begun.Begun.{Begun}
 use Rattle.jc_stripe.specs.declared.begun.Begun.TheVariants as begun
 use Rattle.jc_stripe.specs.declared.begun.Picked.{Picked}
 use Rattle.jc_stripe.specs.declared.begun.Picked.TheVariants as picked
-use Rattle.jc_stripe.specs.Tickets.{JoinClaim, asks_writer, asks_processor}
+use Rattle.jc_stripe.specs.Tickets.{JoinClaim}
 use Rattle.jc_stripe.specs.State.{State, is_of, new_reservation, with_reservation, without_reservation, IsOut, IsJoined}
-use Rattle.jc_stripe.specs.Refusals.{first_refusal, first_asked, load_joined}
+use Rattle.jc_stripe.specs.Refusals.{first_refusal, first_asked, load_joined, reserves}
 use Rattle.jc_stripe.specs.OrderOfUse.{least_used}
 
 -- 1. Who may begin.
@@ -134,16 +134,9 @@ Begins old caller key op (begun.Refused refusal) new = (first_refusal old caller
 Begins old caller key op (begun.Done done) new =
     (first_refusal old caller key op ≡ None) × (first_asked old.config op (entry_at old.cache key) ≡ Nobody)
     × Steps old caller key op nothing_said [] done new
-Begins old caller key op (begun.Load ticket) new =
-    (first_refusal old caller key op ≡ None) × (load_joined old key op ≡ None) × (first_asked old.config op (entry_at old.cache key) ≡ Loader)
-    × (ticket ≡ record { reservation = new_reservation old caller key op Loader; asked = false }) × (new ≡ with_reservation old ticket.reservation)
-Begins old caller key op (begun.Write ticket) new =
-    (first_refusal old caller key op ≡ None) × (first_asked old.config op (entry_at old.cache key) ≡ ticket.reservation.first)
-    × (asks_writer ticket.reservation.first ≡ true)
-    × (ticket ≡ record { reservation = new_reservation old caller key op ticket.reservation.first; asked = false }) × (new ≡ with_reservation old ticket.reservation)
-Begins old caller key op (begun.Process ticket) new =
-    (first_refusal old caller key op ≡ None) × (first_asked old.config op (entry_at old.cache key) ≡ ticket.reservation.first)
-    × (asks_processor ticket.reservation.first ≡ true)
+Begins old caller key op (begun.Asks ticket) new =
+    (first_refusal old caller key op ≡ None) × (load_joined old key op ≡ None) × (first_asked old.config op (entry_at old.cache key) ≡ ticket.reservation.first)
+    × (reserves ticket.reservation.first ≡ true)
     × (ticket ≡ record { reservation = new_reservation old caller key op ticket.reservation.first; asked = false; writer_asked = false })
     × (new ≡ with_reservation old ticket.reservation)
 Begins old caller key op (begun.Joined join) new =

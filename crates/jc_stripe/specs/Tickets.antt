@@ -1,8 +1,8 @@
 -- What tickets and joins are, as data.
---     Ticket            the ticket of a reservation: the whole reservation, and whether its loader or writer was asked
---     ProcessClaim      the ticket of a reservation that asks the processor: the whole reservation, whether the processor was asked, and
---                       whether the writer was asked after it
---     EffectClaim       what the writer is asked for after a processor: the whole reservation, and the change of the store
+--     TicketClaim       the ticket of a reservation: the whole reservation, whether the one whom it asks first was asked, and whether the
+--                       writer was asked after a processor
+--     Claim             what is asked for a reservation: the whole reservation, and for a writer the change of the store
+--     claim_of          what is asked first for a reservation
 --     asks_loader       the one whom a reservation asks first is the loader
 --     asks_writer       the one whom a reservation asks first is the writer
 --     asks_processor    the one whom a reservation asks first is the processor
@@ -18,18 +18,14 @@ use Rattle.jc_stripe.specs.declared.ticket.First.{First}
 use Rattle.jc_stripe.specs.declared.ticket.First.TheVariants.{Nobody, Loader, Writer, Processor}
 use Rattle.jc_stripe.specs.declared.ticket.Reservation.{Reservation}
 
-pub record Ticket : Type 0 where
+pub record TicketClaim : Type 0 where
   pub reservation : Reservation
   pub asked : Bool
+  pub writer_asked : Bool  -- after the processor
 
-pub record ProcessClaim : Type 0 where
+pub record Claim : Type 0 where
   pub reservation : Reservation
-  pub asked : Bool  -- the processor
-  pub writer_asked : Bool  -- the writer was asked
-
-pub record EffectClaim : Type 0 where
-  pub reservation : Reservation
-  pub change : Change
+  pub change : Option Change
 
 abbrev pub asks_loader : First → Bool
 asks_loader Nobody = false
@@ -54,6 +50,9 @@ change_asked Nobody = None
 change_asked Loader = None
 change_asked (Writer change) = Some change
 change_asked (Processor entry loads) = None
+
+abbrev pub claim_of : Reservation → Claim
+claim_of r = record { reservation = r; change = change_asked r.first }
 
 abbrev pub entry_seen : First → Option Bytes
 entry_seen Nobody = None

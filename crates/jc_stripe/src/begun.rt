@@ -1,5 +1,5 @@
 //! What a first phase gives, what a step was, and what a joiner is told.
-use crate::ticket::{Join, LoadTicket, ProcessTicket, WriteTicket};
+use crate::ticket::{Join, Ticket};
 use jc_model::{Cause, Reply};
 use jc_types::{Key, Refusal};
 
@@ -29,12 +29,8 @@ pub struct StepDone {
 pub enum Begun {
     /// The call is done.
     Done(StepDone),
-    /// The key is reserved, and the loader is to be asked.
-    Load(LoadTicket),
-    /// The key is reserved, and the writer is to be asked.
-    Write(WriteTicket),
-    /// The key is reserved, and the processor is to run on the entry that the ticket has.
-    Process(ProcessTicket),
+    /// The key is reserved, and the one is to be asked whom the ticket's reservation asks first.
+    Asks(Ticket),
     /// The key is being loaded by another call: the call has joined that load, and its answer is to be picked up.
     Joined(Join),
     /// Nothing was done.

@@ -14,7 +14,4 @@ pub use begun::{Begun, Eviction, Picked, StepDone};
 pub use jc_mutentry::{AskProcess, ProcDone};
 pub use jc_outside::{LoadDone, Origin, WriteDone, played_load, played_write};
 pub use stripe::Stripe;
-pub use ticket::{
-    EffectAsk, First, Join, LoadAsk, LoadTicket, ProcessAsk, ProcessTicket, Receipt, Reservation,
-    WriteAsk, WriteTicket,
-};
+pub use ticket::{Ask, First, Join, Reservation, Ticket};

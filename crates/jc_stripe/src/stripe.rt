@@ -9,7 +9,7 @@ ghost use Rattle.jc_model.specs.Listed.{has_distinct_keys};
 ghost use Rattle.jc_model.specs.Table.{is_write_given};
 ghost use Rattle.jc_model.specs.Group.{load_only, write_only};
 ghost use Rattle.jc_model.specs.Legal.{Legal};
-ghost use Rattle.jc_stripe.specs.Tickets.{JoinClaim};
+ghost use Rattle.jc_stripe.specs.Tickets.{JoinClaim, asks_loader, asks_writer, asks_processor, claim_of};
 ghost use Rattle.jc_types.specs.declared.limits.TheConstants.{RESERVATIONS_MAX, JOINERS_MAX};
 ghost use Rattle.jc_stripe.specs.State.{IsOut, IsJoined, IsIdle};
 ghost use Rattle.jc_stripe.specs.OrderOfUse.{by_use};
@@ -25,10 +25,7 @@ mod testing;
 
 use crate::appending::{append_group, make_step};
 use crate::begun::{Begun, Picked, StepDone};
-use crate::ticket::{
-    EffectAsk, Join, LoadAsk, LoadTicket, Note, ProcessAsk, ProcessTicket, Reservation, WriteAsk,
-    WriteTicket,
-};
+use crate::ticket::{Ask, Join, Note, Reservation, Ticket};
 use jc_entries::Entries;
 use jc_history::History;
 use jc_inflight::{JoinState, Joiners};
@@ -41,16 +38,12 @@ use std::alloc::{AllocError, Global};
 use std::marker::Model;
 
 /// What the writer answered, if it was asked. The report is spent.
-fn report_answer(report: Option<WriteDone<EffectAsk>>) -> WriteAnswer
+fn report_answer(report: Option<WriteDone<Ask>>) -> WriteAnswer
     ensures answer { result ≡ report_answer report }
     ensures given { is_write_given result ≡ is_some report }
 {
     match report {
-        Some(done) => {
-            let (receipt, answer) = done.into_parts();
-            receipt.spend();
-            answer
-        }
+        Some(done) => done.into_answer(),
         None => WriteAnswer::NotAsked,
     }
 }
@@ -154,35 +147,33 @@ impl Stripe {
     /// waits shares it: its step is appended directly behind, in the order of joining, and its answer stays until it is picked
     /// up.
     ///
-    /// Conditions: the ticket's reservation is out here: it is this stripe's of its key. `done` was made of this ticket's ask,
+    /// Conditions: the ticket's reservation is out here, and asks this one first. `done` was made of this ticket's ask,
     /// and has this stripe's origin.
-    pub fn commit_load(&mut self, ticket: LoadTicket, done: LoadDone<LoadAsk>) -> StepDone
+    pub fn commit_load(&mut self, ticket: Ticket, done: LoadDone<Ask>) -> StepDone
         requires out { IsOut self.old ticket.reservation }
-        requires claim { done.ask ≡ ticket.reservation }
+        requires first { asks_loader ticket.reservation.first ≡ true }
+        requires claim { done.ask ≡ claim_of ticket.reservation }
         requires origin { done.origin ≡ self.old.origin }
         ensures commits { Commits self.old ticket.reservation (load_only done.answer) result self.new }
         ensures phase { IsPhaseOf ticket.reservation.caller.session self.old self.new }
     {
-        let (receipt, answer) = done.into_parts();
-        receipt.spend();
-        self.commit(&ticket.spend(), &Out::load_only(answer))
+        self.commit(&ticket.spend(), &Out::load_only(done.into_answer()))
     }
 
     /// The last phase of a call whose writer was asked: its reservation ends, and its step is appended with the writer's report.
     /// A failed write leaves the entry as it was, and is the step's reply (`WriterFailed`).
     ///
-    /// Conditions: the ticket's reservation is out here: it is this stripe's of its key. `done` was made of this ticket's ask,
+    /// Conditions: the ticket's reservation is out here, and asks this one first. `done` was made of this ticket's ask,
     /// and has this stripe's origin.
-    pub fn commit_write(&mut self, ticket: WriteTicket, done: WriteDone<WriteAsk>) -> StepDone
+    pub fn commit_write(&mut self, ticket: Ticket, done: WriteDone<Ask>) -> StepDone
         requires out { IsOut self.old ticket.reservation }
-        requires claim { done.ask ≡ ticket.reservation }
+        requires first { asks_writer ticket.reservation.first ≡ true }
+        requires claim { done.ask ≡ claim_of ticket.reservation }
         requires origin { done.origin ≡ self.old.origin }
         ensures commits { Commits self.old ticket.reservation (write_only done.answer) result self.new }
         ensures phase { IsPhaseOf ticket.reservation.caller.session self.old self.new }
     {
-        let (receipt, answer) = done.into_parts();
-        receipt.spend();
-        self.commit(&ticket.spend(), &Out::write_only(answer))
+        self.commit(&ticket.spend(), &Out::write_only(done.into_answer()))
     }
 
     /// The last phase of a call whose processor ran: its reservation ends, and its step is appended with what the loader, the
@@ -190,25 +181,25 @@ impl Stripe {
     /// failed load, processor or write leaves the entry as it was, also a missing one whose key was loaded, and the first of these
     /// faults is the step's reply (JSR 107, "Entry Processors").
     ///
-    /// Conditions: the ticket's reservation is out here: it is this stripe's of its key. `done` was made of this ticket's ask. With
+    /// Conditions: the ticket's reservation is out here, and asks this one first. `done` was made of this ticket's ask. With
     /// write-through on, and if `done` has a change to ask for, `report` is there and was made of this ticket's ask of the writer
     /// for that change; else it isn't. Both have this stripe's origin.
     pub fn commit_process(
         &mut self,
-        ticket: ProcessTicket,
-        done: ProcDone<ProcessAsk>,
-        report: Option<WriteDone<EffectAsk>>,
+        ticket: Ticket,
+        done: ProcDone<Ask>,
+        report: Option<WriteDone<Ask>>,
     ) -> StepDone
         requires out { IsOut self.old ticket.reservation }
-        requires claim { done.ask ≡ ticket.reservation }
+        requires first { asks_processor ticket.reservation.first ≡ true }
+        requires claim { done.ask ≡ claim_of ticket.reservation }
         requires origin { done.origin ≡ self.old.origin }
         requires report { HasReport self.old.origin ticket.reservation (change_due self.old.config done) report }
         ensures commits { Commits self.old ticket.reservation (process_out done report) result self.new }
         ensures phase { IsPhaseOf ticket.reservation.caller.session self.old self.new }
     {
         let write = report_answer(report);
-        let (receipt, load, process) = done.into_parts();
-        receipt.spend();
+        let (load, process) = done.into_answers();
         let out = Out {
             load,
             write,
@@ -217,43 +208,17 @@ impl Stripe {
         self.commit(&ticket.spend(), &out)
     }
 
-    /// Gives a loader's ticket back that was not asked: nothing is appended, and the entry stays. Each call that has joined the
+    /// Gives a ticket back that asked nobody: nothing is appended, and the entry and the store stay. Each call that has joined a
     /// load and waits is told to retry.
     ///
-    /// Conditions: the ticket's reservation is out here: it is this stripe's of its key. The ticket has not asked the loader.
-    pub fn withdraw_load(&mut self, ticket: LoadTicket)
+    /// Conditions: the ticket's reservation is out here: it is this stripe's of its key. The ticket has asked nobody.
+    pub fn withdraw(&mut self, ticket: Ticket)
         requires out { IsOut self.old ticket.reservation }
         requires unasked { ticket.asked ≡ false }
         ensures withdraws { Withdraws self.old ticket.reservation self.new }
         ensures phase { IsPhaseOf ticket.reservation.caller.session self.old self.new }
     {
         self.give_back(&ticket.spend());
-    }
-
-    /// Gives a writer's ticket back that was not asked: nothing is appended, and the entry stays.
-    ///
-    /// Conditions: the ticket's reservation is out here: it is this stripe's of its key. The ticket has not asked the writer, so
-    /// the store is as it was.
-    pub fn withdraw_write(&mut self, ticket: WriteTicket)
-        requires out { IsOut self.old ticket.reservation }
-        requires unasked { ticket.asked ≡ false }
-        ensures withdraws { Withdraws self.old ticket.reservation self.new }
-        ensures phase { IsPhaseOf ticket.reservation.caller.session self.old self.new }
-    {
-        self.give_back(&ticket.spend());
-    }
-
-    /// Gives a processor's ticket back that was not asked: nothing is appended, and the entry stays.
-    ///
-    /// Conditions: the ticket's reservation is out here: it is this stripe's of its key. The ticket has not asked the processor.
-    pub fn withdraw_process(&mut self, ticket: ProcessTicket)
-        requires out { IsOut self.old ticket.reservation }
-        requires unasked { ticket.asked ≡ false }
-        ensures withdraws { Withdraws self.old ticket.reservation self.new }
-        ensures phase { IsPhaseOf ticket.reservation.caller.session self.old self.new }
-    {
-        let reservation = ticket.spend();
-        self.give_back(&reservation);
     }
 
     /// Picks up the answer of the load that a call has joined. If the load isn't over, the join comes back and nothing changes;

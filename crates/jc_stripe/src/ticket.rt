@@ -1,21 +1,19 @@
 //! Reservations, the tickets that stand for them, and what is asked outside for them.
 //!
 //! A ticket is the caller's part of a reservation. It can't be dropped or copied: one commit or one withdrawal spends
-//! it. It asks the loader, the writer or the processor at most once, by an ask that can't be copied either; a done value of
-//! `jc_outside` or `jc_mutentry` is made of that ask and says what was answered, and the commit spends both. A processor's ticket
-//! may ask the writer after it, once. A join stands for a call that shares another call's load; picking up its answer spends it.
-ghost use Rattle.std.specs.Prelude.{◌≡◌, true, false};
+//! it. It asks the one whom the reservation asks first at most once, by an ask that can't be copied either; a done value of
+//! `jc_outside` or `jc_mutentry` is made of that ask and says what was answered, and the commit spends both. After a processor
+//! it may ask the writer, once. A join stands for a call that shares another call's load; picking up its answer spends it.
+ghost use Rattle.std.specs.Prelude.{◌≡◌, true, false, Some, is_some};
+ghost use Rattle.jc_mutentry.specs.Done as processed;
 ghost use Rattle.jc_stripe.specs.declared.ticket.First.TheVariants.{Nobody};
-ghost use Rattle.jc_stripe.specs.Tickets.{asks_loader, asks_writer, asks_processor, entry_seen};
+ghost use Rattle.jc_stripe.specs.Tickets.{change_asked, claim_of, entry_seen};
 
 use jc_model::{Change, Op};
-use jc_outside::{Ask, AskWrite};
+use jc_mutentry::{AskProcess, ProcDone};
+use jc_outside::AskWrite;
 use jc_types::{Caller, Key, Value};
 use std::marker::Model;
-
-mod process;
-
-pub use process::{EffectAsk, ProcessAsk, ProcessTicket};
 
 /// Whom a call asks first.
 #[derive(Clone, Copy, Debug, PartialEq, Eq)]
@@ -74,237 +72,164 @@ pub struct Reservation {
     pub first: First,
 }
 
-impl Reservation {
-    /// The entry that a processor is asked about. Condition: it is the processor who is asked first.
-    fn entry(&self) -> &Option<Value>
-        requires { asks_processor self.now.first ≡ true }
-        ensures { result.now ≡ entry_seen self.now.first }
+impl First {
+    /// The change of the store that the writer is asked for, if it is asked first.
+    fn change(&self) -> Option<Change>
+        ensures { result ≡ change_asked self.now }
     {
-        match &self.first {
-            First::Processor { entry, may_load: _ } => entry,
-            First::Nobody | First::Loader | First::Writer(_) => unreachable!(),
+        match self {
+            First::Writer(change) => Some(*change),
+            First::Nobody | First::Loader | First::Processor { .. } => None,
+        }
+    }
+
+    /// The entry that the processor is asked about, if it is asked first.
+    pub fn entry(&self) -> Option<Value>
+        ensures { result ≡ entry_seen self.now }
+    {
+        match self {
+            First::Processor { entry, may_load: _ } => *entry,
+            First::Nobody | First::Loader | First::Writer(_) => None,
         }
     }
 }
 
-/// A call has reserved its key, and the loader is to be asked.
-pub struct LoadTicket {
+/// A call has reserved its key, and the one whom it asks first is to be asked.
+pub struct Ticket {
     reservation: Reservation,
     is_asked: bool,
+    is_writer_asked: bool,
 }
 
-impl Model for LoadTicket {
-    ghost use Rattle.std.specs.Prelude.{◌≡◌, true};
-    ghost use Rattle.jc_stripe.specs.Tickets.{Ticket, asks_loader};
+impl Model for Ticket {
+    ghost use Rattle.jc_stripe.specs.Tickets.{TicketClaim};
 
-    ghost Value = { Ticket };
+    ghost Value = { TicketClaim };
 
-    ghost view = { λ t. record { reservation = t.reservation; asked = t.is_asked } };
-
-    ghost invariant = { λ t. asks_loader t.reservation.first ≡ true };
+    ghost view = { λ t. record { reservation = t.reservation; asked = t.is_asked; writer_asked = t.is_writer_asked } };
 }
 
-impl LoadTicket {
-    /// The ticket of a reservation that was made. The loader was not asked yet.
+impl Ticket {
+    /// The ticket of a reservation that was made. Nobody was asked yet.
     pub(crate) fn new(reservation: Reservation) -> Self
-        requires { asks_loader reservation.first ≡ true }
-        ensures { result ≡ record { reservation = reservation; asked = false } }
+        ensures { result ≡ record { reservation = reservation; asked = false; writer_asked = false } }
     {
-        LoadTicket {
+        Ticket {
             reservation,
             is_asked: false,
+            is_writer_asked: false,
         }
     }
 
-    /// The reservation that the ticket stands for.
+    /// The reservation that the ticket stands for. Its `first` says whom to ask.
     pub fn reservation(&self) -> &Reservation
-        ensures reservation { result.now ≡ self.now.reservation }
-        ensures loader { asks_loader self.now.reservation.first ≡ true }
+        ensures { result.now ≡ self.now.reservation }
     {
         &self.reservation
     }
 
-    /// What to ask the loader for: the reservation's key. A ticket asks once.
-    pub fn ask(&mut self) -> LoadAsk
+    /// What to ask the loader, the writer or the processor for. A ticket asks once.
+    pub fn ask(&mut self) -> Ask
         requires { self.old.asked ≡ false }
-        ensures ask { result ≡ self.old.reservation }
+        ensures ask { result ≡ claim_of self.old.reservation }
         ensures asked { self.new ≡ record self.old { asked = true } }
     {
         self.is_asked = true;
-        LoadAsk {
+        Ask {
             reservation: self.reservation,
+            change: self.reservation.first.change(),
+        }
+    }
+
+    /// What to ask the writer for after the processor: the reservation's key, and the change of the store that is the processor's
+    /// net effect. It is for a stripe with write-through on alone, and a ticket asks once.
+    ///
+    /// Conditions: the ticket's processor was asked, and its writer was not. `done` was made of this ticket's ask, and there is a
+    /// change to ask for: neither the loader nor the processor failed, and the processor set or removed the entry.
+    pub fn ask_writer(&mut self, done: &ProcDone<Ask>) -> Ask
+        requires asked { self.old.asked ≡ true }
+        requires writer { self.old.writer_asked ≡ false }
+        requires claim { done.now.ask ≡ claim_of self.old.reservation }
+        requires change { is_some (processed.effect_change done.now.load done.now.process) ≡ true }
+        ensures ask { result ≡ record { reservation = self.old.reservation; change = processed.effect_change done.now.load done.now.process } }
+        ensures writer_asked { self.new ≡ record self.old { writer_asked = true } }
+    {
+        self.is_writer_asked = true;
+        Ask {
+            reservation: self.reservation,
+            change: done.change(),
         }
     }
 
     /// The ticket is spent.
     pub(crate) fn spend(self) -> Reservation
-        ensures reservation { result ≡ self.reservation }
-        ensures loader { asks_loader self.reservation.first ≡ true }
+        ensures { result ≡ self.reservation }
     {
-        let LoadTicket {
+        let Ticket {
             reservation,
             is_asked: _,
+            is_writer_asked: _,
         } = self;
         reservation
     }
 }
 
-/// A call has reserved its key, and the writer is to be asked.
-pub struct WriteTicket {
+/// What the loader, the writer or the processor is asked for. It is made by a ticket alone, and one done value is made of it.
+pub struct Ask {
     reservation: Reservation,
-    is_asked: bool,
+    change: Option<Change>,
 }
 
-impl Model for WriteTicket {
-    ghost use Rattle.std.specs.Prelude.{◌≡◌, true};
-    ghost use Rattle.jc_stripe.specs.Tickets.{Ticket, asks_writer};
+impl Model for Ask {
+    ghost use Rattle.jc_stripe.specs.Tickets.{Claim};
 
-    ghost Value = { Ticket };
+    ghost Value = { Claim };
 
-    ghost view = { λ t. record { reservation = t.reservation; asked = t.is_asked } };
-
-    ghost invariant = { λ t. asks_writer t.reservation.first ≡ true };
+    ghost view = { λ a. record { reservation = a.reservation; change = a.change } };
 }
 
-impl WriteTicket {
-    /// The ticket of a reservation that was made. The writer was not asked yet.
-    pub(crate) fn new(reservation: Reservation) -> Self
-        requires { asks_writer reservation.first ≡ true }
-        ensures { result ≡ record { reservation = reservation; asked = false } }
-    {
-        WriteTicket {
-            reservation,
-            is_asked: false,
-        }
+impl jc_outside::Ask for Ask {
+    ghost key = { λ a. a.reservation.key };
+
+    fn key(&self) -> &Key {
+        &self.reservation.key
     }
 
-    /// The reservation that the ticket stands for.
-    pub fn reservation(&self) -> &Reservation
-        ensures reservation { result.now ≡ self.now.reservation }
-        ensures writer { asks_writer self.now.reservation.first ≡ true }
-    {
-        &self.reservation
-    }
-
-    /// What to ask the writer for: the reservation's key, and the change of the store. A ticket asks once.
-    pub fn ask(&mut self) -> WriteAsk
-        requires { self.old.asked ≡ false }
-        ensures ask { result ≡ self.old.reservation }
-        ensures asked { self.new ≡ record self.old { asked = true } }
-    {
-        self.is_asked = true;
-        WriteAsk {
-            reservation: self.reservation,
-        }
-    }
-
-    /// The ticket is spent.
-    pub(crate) fn spend(self) -> Reservation
-        ensures reservation { result ≡ self.reservation }
-        ensures writer { asks_writer self.reservation.first ≡ true }
-    {
-        let WriteTicket {
-            reservation,
-            is_asked: _,
+    fn spend(self) {
+        let Ask {
+            reservation: _,
+            change: _,
         } = self;
-        reservation
     }
 }
 
-/// What the loader is asked for. It is made by a ticket alone, and one done value is made of it.
-pub struct LoadAsk {
-    reservation: Reservation,
-}
-
-impl Model for LoadAsk {
-    ghost use Rattle.jc_stripe.specs.declared.ticket.Reservation.{Reservation};
-
-    ghost Value = { Reservation };
-
-    ghost view = { λ a. a.reservation };
-}
-
-impl Ask for LoadAsk {
-    type Receipt = Receipt;
-
-    ghost key = { λ a. a.key };
-
-    ghost receipt = { λ a. a };
-
-    fn key(&self) -> &Key {
-        &self.reservation.key
-    }
-
-    fn into_receipt(self) -> Receipt {
-        let LoadAsk { reservation } = self;
-        Receipt { reservation }
-    }
-}
-
-/// What the writer is asked for. It is made by a ticket alone, and one done value is made of it.
-pub struct WriteAsk {
-    reservation: Reservation,
-}
-
-impl Model for WriteAsk {
-    ghost use Rattle.std.specs.Prelude.{◌≡◌, true};
-    ghost use Rattle.jc_stripe.specs.Tickets.{asks_writer};
-    ghost use Rattle.jc_stripe.specs.declared.ticket.Reservation.{Reservation};
-
-    ghost Value = { Reservation };
-
-    ghost view = { λ a. a.reservation };
-
-    ghost invariant = { λ a. asks_writer a.reservation.first ≡ true };
-}
-
-impl Ask for WriteAsk {
-    type Receipt = Receipt;
-
-    ghost key = { λ a. a.key };
-
-    ghost receipt = { λ a. a };
-
-    fn key(&self) -> &Key {
-        &self.reservation.key
-    }
-
-    fn into_receipt(self) -> Receipt {
-        let WriteAsk { reservation } = self;
-        Receipt { reservation }
-    }
-}
-
-impl AskWrite for WriteAsk {
-    ghost use Rattle.jc_stripe.specs.Tickets.{change_asked};
-
-    ghost change = { λ a. change_asked a.first };
+impl AskWrite for Ask {
+    ghost change = { λ a. a.change };
 
     fn change(&self) -> Change {
-        match self.reservation.first {
-            First::Writer(change) => change,
-            First::Nobody | First::Loader | First::Processor { .. } => unreachable!(),
+        match self.change {
+            Some(change) => change,
+            None => unreachable!(),
         }
     }
 }
 
-/// What is left of an ask that was answered. Its reservation's commit spends it.
-pub struct Receipt {
-    reservation: Reservation,
-}
+impl AskProcess for Ask {
+    ghost use Rattle.jc_stripe.specs.Tickets.{entry_seen, is_loadable};
 
-impl Model for Receipt {
-    ghost use Rattle.jc_stripe.specs.declared.ticket.Reservation.{Reservation};
+    ghost initial = { λ a. entry_seen a.reservation.first };
 
-    ghost Value = { Reservation };
+    ghost may_load = { λ a. is_loadable a.reservation.first };
 
-    ghost view = { λ r. r.reservation };
-}
+    fn initial(&self) -> Option<Value> {
+        self.reservation.first.entry()
+    }
 
-impl Receipt {
-    /// The receipt is spent.
-    pub(crate) fn spend(self) {
-        let Receipt { reservation: _ } = self;
+    fn may_load(&self) -> bool {
+        match self.reservation.first {
+            First::Processor { entry: _, may_load } => may_load,
+            First::Nobody | First::Loader | First::Writer(_) => false,
+        }
     }
 }
 

@@ -8,14 +8,14 @@ ghost use Rattle.jc_stripe.specs.State.{new_reservation, with_reservation};
 ghost use Rattle.jc_stripe.specs.Refusals.{has_room, first_refusal, first_asked, load_joined, needs_reservation};
 ghost use Rattle.jc_stripe.specs.Finding.{found_at};
 ghost use Rattle.jc_stripe.specs.Phases.{MayBegin, Steps, Begins, with_joiner};
-ghost use Rattle.jc_stripe.specs.declared.ticket.First.TheVariants.{Nobody, Loader, Writer, Processor};
+ghost use Rattle.jc_stripe.specs.declared.ticket.First.TheVariants.{Nobody};
 ghost use Rattle.jc_stripe.specs.declared.begun.Begun.TheVariants.{Done};
 
 use super::Stripe;
 use crate::appending::{append_group, make_step, touching_step};
 use crate::begun::{Begun, StepDone};
 use crate::needs::{Found, places_needed};
-use crate::ticket::{First, Join, LoadTicket, Note, ProcessTicket, Reservation, WriteTicket};
+use crate::ticket::{First, Join, Note, Reservation, Ticket};
 use jc_model::{Change, Op, Out};
 use jc_types::{Caller, HIT_PLACES, Key, STEP_PLACES, Value};
 
@@ -50,10 +50,8 @@ impl Stripe {
         }
         match found.first {
             First::Nobody => Begun::Done(self.finish(caller, key, op, &found)),
-            First::Loader => self.begin_load(caller, key, op),
-            First::Writer(change) => self.begin_write(caller, key, op, change),
-            First::Processor { entry, may_load } => {
-                self.begin_process(caller, key, op, entry, may_load)
+            First::Loader | First::Writer(_) | First::Processor { .. } => {
+                Begun::Asks(Ticket::new(self.reserve(caller, key, op, found.first)))
             }
         }
     }
@@ -78,53 +76,8 @@ impl Stripe {
         Some(append_group(&mut self.history, &self.joiners, None, &group, HIT_PLACES))
     }
 
-    /// Reserves a key, and gives the ticket with which the loader is asked.
-    #[inline(never)]
-    fn begin_load(&mut self, caller: Caller, key: &Key, op: &Op) -> Begun
-        requires free { first_refusal self.old caller key.now op.now ≡ None }
-        requires alone { load_joined self.old key.now op.now ≡ None }
-        requires asks { first_asked self.old.config op.now (entry_at self.old.cache key.now) ≡ Loader }
-        requires begins { MayBegin self.old caller key.now }
-        ensures { Begins self.old caller key.now op.now result self.new }
-    {
-        let reservation = self.reserve(caller, key, op, First::Loader);
-        Begun::Load(LoadTicket::new(reservation))
-    }
-
-    /// Reserves a key, and gives the ticket with which the writer is asked for this change.
-    #[inline(never)]
-    fn begin_write(&mut self, caller: Caller, key: &Key, op: &Op, change: Change) -> Begun
-        requires free { first_refusal self.old caller key.now op.now ≡ None }
-        requires alone { load_joined self.old key.now op.now ≡ None }
-        requires asks { first_asked self.old.config op.now (entry_at self.old.cache key.now) ≡ Writer change }
-        requires begins { MayBegin self.old caller key.now }
-        ensures { Begins self.old caller key.now op.now result self.new }
-    {
-        let reservation = self.reserve(caller, key, op, First::Writer(change));
-        Begun::Write(WriteTicket::new(reservation))
-    }
-
-    /// Reserves a key, and gives the ticket with which the processor is asked about this entry.
-    #[inline(never)]
-    fn begin_process(
-        &mut self,
-        caller: Caller,
-        key: &Key,
-        op: &Op,
-        entry: Option<Value>,
-        may_load: bool,
-    ) -> Begun
-        requires free { first_refusal self.old caller key.now op.now ≡ None }
-        requires alone { load_joined self.old key.now op.now ≡ None }
-        requires asks { first_asked self.old.config op.now (entry_at self.old.cache key.now) ≡ Processor entry may_load }
-        requires begins { MayBegin self.old caller key.now }
-        ensures { Begins self.old caller key.now op.now result self.new }
-    {
-        let reservation = self.reserve(caller, key, op, First::Processor { entry, may_load });
-        Begun::Process(ProcessTicket::new(reservation))
-    }
-
     /// Reserves a key, and keeps room in the history for its commit.
+    #[inline(never)]
     fn reserve(&mut self, caller: Caller, key: &Key, op: &Op, first: First) -> Reservation
         requires free { first_refusal self.old caller key.now op.now ≡ None }
         requires alone { load_joined self.old key.now op.now ≡ None }

@@ -8,8 +8,8 @@ use Rattle.jc_stripe.proofs.stripe.Stripe.commit_process.Goals as goal
 commits : (c : goal.After-commit) → Commits c.args.self.now c.args.ticket.reservation (process_out c.args.done c.args.report) c.commit.result c.commit.new.self
 commits c =
     let P : Reservation × Out → Type 0 = λ x. Commits c.args.self.now x.0 x.1 c.commit.result c.commit.new.self in
-    let answers = c.into_parts-receipt.ensures in
-    subst P (λ i. (c.spend-2.ensures.reservation i, record { load = answers.load i; write = c.report_answer-write.ensures.answer i; process = answers.process i })) c.commit.ensures
+    let answers = c.into_answers-load.ensures in
+    subst P (λ i. (c.spend.ensures i, record { load = answers.load i; write = c.report_answer-write.ensures.answer i; process = answers.process i })) c.commit.ensures
 
 pub returns-clause-commits : goal.returns-clause-commits
 returns-clause-commits c = commits c
