@@ -8,6 +8,7 @@ ghost use Rattle.jc_model.specs.declared.event.LoadAnswer.{LoadAnswer as LoadAns
 ghost use Rattle.jc_model.specs.declared.event.WriteAnswer.{WriteAnswer as WriteAnswerState};
 ghost use Rattle.jc_batch.specs.Changes.{changes_of};
 ghost use Rattle.jc_outside.specs.Answers.{no_answers};
+ghost use Rattle.jc_outside.specs.Calling.{KeepsType};
 ghost use Rattle.jc_outside.specs.CallingAll.{load_all_answer, found_or_nothing, returned_fault, LoadsKeys, WritesEntries};
 ghost use Rattle.jc_outside.specs.CallingAll.{DeletesKeys, LoadsAllOnce, WritesAllOnce, loads_done, writes_done, asked_changes};
 
@@ -44,6 +45,7 @@ pub fn call_loader_all<A: Ask, R: Wait>(
         × LoadsAllOnce loads_all load_state hands.old.outside.loader batch.items said hands.new.outside.loader
         × (done.new.items ≡ done.old.items ++ loads_done A.key said asks.items) }
     ensures room { vec_capacity done.new ≡ vec_capacity done.old }
+    ensures loader_type { KeepsType hands.old.outside.loader hands.new.outside.loader }
     ensures writer { hands.new.outside.writer ≡ hands.old.outside.writer }
     ensures held { hands.new.held ≡ 0 }
 {
@@ -77,6 +79,7 @@ pub fn call_writer_all<A: AskWrite, R: Wait>(
         × WritesAllOnce writes_all deletes_all write_state hands.old.outside.writer batch result said hands.new.outside.writer
         × (done.new.items ≡ done.old.items ++ writes_done A.key said asks.items) }
     ensures room { vec_capacity done.new ≡ vec_capacity done.old }
+    ensures writer_type { KeepsType hands.old.outside.writer hands.new.outside.writer }
     ensures loader { hands.new.outside.loader ≡ hands.old.outside.loader }
     ensures held { hands.new.held ≡ 0 }
 {
@@ -102,7 +105,8 @@ fn load_keys(
     answers: &mut Answers,
 ) -> Result<(), u32>
     requires { answers.old ≡ no_answers keys.now }
-    ensures { LoadsKeys loads_all load_state loader.old keys.now result answers.new loader.new }
+    ensures loader_type { KeepsType loader.old loader.new }
+    ensures load { LoadsKeys loads_all load_state loader.old keys.now result answers.new loader.new }
 {
     match loader {
         Some(loader) => loader.load_all(keys, answers),
@@ -115,7 +119,8 @@ fn write_entries(
     entries: &mut IndexMap<Key, Value>,
 ) -> Result<(), u32>
     requires { IsSome writer.old }
-    ensures { WritesEntries writes_all write_state writer.old entries.old.entries result entries.new.entries writer.new }
+    ensures writer_type { KeepsType writer.old writer.new }
+    ensures write { WritesEntries writes_all write_state writer.old entries.old.entries result entries.new.entries writer.new }
 {
     match writer {
         Some(writer) => writer.write_all(entries),
@@ -128,7 +133,8 @@ fn delete_keys(
     keys: &mut IndexSet<Key>,
 ) -> Result<(), u32>
     requires { IsSome writer.old }
-    ensures { DeletesKeys deletes_all write_state writer.old keys.old.keys result keys.new.keys writer.new }
+    ensures writer_type { KeepsType writer.old writer.new }
+    ensures delete { DeletesKeys deletes_all write_state writer.old keys.old.keys result keys.new.keys writer.new }
 {
     match writer {
         Some(writer) => writer.delete_all(keys),

@@ -14,7 +14,7 @@ returns-in-Writes-clause-writer g c =
           (λ z. (g.dyn-2.0.entry z.vtable).1.write_state z.value)
           c.hands.inside.outside.writer c.args.hands.now.outside.writer (ap (λ h. h.outside.writer) c.hands.view_is)
           c.args.batch w.result w.new.writer c.in-Writes.batch _ w.new.entries.entries c.in-Writes.is
-          c.into_parts-entries.ensures.entries w.ensures,
+          c.into_parts-entries.ensures.entries w.ensures.write,
       c.end_writes.ensures.items
           ∙ ap (λ fault. c.args.done.now.items ++ writes_done g.A.Ask.key (answer_in_batch left fault) c.args.asks.items) c.returned_fault.ensures,
     )
@@ -28,7 +28,7 @@ returns-in-Deletes-clause-writer g c =
           (λ z. (g.dyn-2.0.entry z.vtable).1.write_state z.value)
           c.hands.inside.outside.writer c.args.hands.now.outside.writer (ap (λ h. h.outside.writer) c.hands.view_is)
           c.args.batch w.result w.new.writer c.in-Deletes.batch _ left c.in-Deletes.is
-          c.into_parts-keys.ensures.deletes w.ensures,
+          c.into_parts-keys.ensures.deletes w.ensures.delete,
       c.end_writes-in-Deletes.ensures.items
           ∙ ap (λ fault. c.args.done.now.items ++ writes_done g.A.Ask.key (answer_in_batch left fault) c.args.asks.items) c.returned_fault-in-Deletes.ensures,
     )
