@@ -6,16 +6,20 @@
 //! returns of its keys is filled in the same way ([`insert_new`]).
 #![tactic(auto)]
 
+mod answers;
 mod batch;
 mod batch_keys;
 mod delete_batch;
 mod leftover;
+mod load_batch;
 mod new_entry;
 mod write_batch;
 
+pub use answers::Answers;
 pub use batch::Batch;
 pub use batch_keys::{BatchKeys, Split};
 pub use delete_batch::DeleteBatch;
 pub use leftover::Leftover;
+pub use load_batch::LoadBatch;
 pub use new_entry::insert_new;
 pub use write_batch::WriteBatch;

@@ -7,7 +7,7 @@ use Rattle.jc_batch.specs.Batch.{BatchState}
 use Rattle.jc_batch.specs.declared.batch.Batch.{Batch}
 use Rattle.jc_batch.specs.declared.batch.Batch.TheVariants.{Writes, Deletes}
 use Rattle.jc_outside.specs.CallingAll.{LoadAllRelation, LoadsKeys, LoadsAllOnce, load_all_answer, WriteAllRelation, DeleteAllRelation, WritesEntries, DeletesKeys, WritesAllOnce, returned_fault}
-use Rattle.jc_outside.specs.Answers.{AnswersByKey}
+use Rattle.jc_batch.specs.Answers.{AnswersByKey}
 
 module _ {W : Type 0} (writes_all : WriteAllRelation W) (deletes_all : DeleteAllRelation W) (state : W → List ℕ)
     (old was : Option W) (same : old ≡ was) (batch : Batch) (returned : Result (Unit {0}) ℕ) (new : Option W) where
