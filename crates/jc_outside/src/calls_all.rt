@@ -3,7 +3,7 @@ ghost use Rattle.std.specs.Prelude.{◌≡◌, ◌≤◌, ◌+◌, ◌++◌, Lis
 ghost use Rattle.std.specs.Map.{keys_of};
 ghost use Rattle.jc_model.specs.Cache.{Bytes};
 ghost use Rattle.jc_model.specs.Batches.{answer_in_batch};
-ghost use Rattle.jc_model.specs.Table.{is_load_given, is_write_given};
+ghost use Rattle.jc_model.specs.Table.{is_load_given};
 ghost use Rattle.jc_model.specs.declared.event.LoadAnswer.{LoadAnswer as LoadAnswerState};
 ghost use Rattle.jc_model.specs.declared.event.WriteAnswer.{WriteAnswer as WriteAnswerState};
 ghost use Rattle.jc_batch.specs.Changes.{changes_of};
@@ -18,8 +18,8 @@ use crate::hands::{Hands, Outside};
 use crate::loader::CacheLoader;
 use crate::writer::CacheWriter;
 use indexmap::{IndexMap, IndexSet};
-use jc_batch::{Answers, Batch, Leftover, LoadBatch};
-use jc_model::{LoadAnswer, WriteAnswer, batch_answer};
+use jc_batch::{Answers, Batch, BatchKeys, Leftover, LoadBatch};
+use jc_model::LoadAnswer;
 use jc_types::{Key, Value};
 use std::sync::Wait;
 
@@ -83,15 +83,15 @@ pub fn call_writer_all<A: AskWrite, R: Wait>(
 {
     match batch {
         Batch::Writes(batch) => {
-            let (mut entries, _batch_keys) = batch.into_parts();
+            let (mut entries, written) = batch.into_parts();
             let returned = write_entries(&mut hands.outside.writer, &mut entries);
-            end_writes(asks, &entries, returned_fault(&returned), done);
+            end_writes(asks, written, &entries, returned_fault(&returned), done);
             returned
         }
         Batch::Deletes(batch) => {
-            let (mut keys, _batch_keys) = batch.into_parts();
+            let (mut keys, deleted) = batch.into_parts();
             let returned = delete_keys(&mut hands.outside.writer, &mut keys);
-            end_writes(asks, &keys, returned_fault(&returned), done);
+            end_writes(asks, deleted, &keys, returned_fault(&returned), done);
             returned
         }
     }
@@ -183,30 +183,26 @@ fn end_loads<A: Ask>(
     asks.destroy_empty();
 }
 
-/// What a writer's call says of one key, by what it left.
-fn write_all_answer<C: Leftover>(left: &C, fault: Option<u32>, key: &Key) -> WriteAnswer
-    ensures answer { result ≡ answer_in_batch (C.leftover_keys left.now) fault key.now }
-    ensures given { is_write_given result ≡ true }
-{
-    batch_answer(left.is_left(key), fault)
-}
-
-/// Ends the asks by what the writer left.
+/// Ends the asks by what became of the batch's keys.
 fn end_writes<A: AskWrite, C: Leftover>(
     asks: Vec<A>,
+    keys: BatchKeys,
     left: &C,
     fault: Option<u32>,
     done: &mut Vec<WriteDone<A>>,
 )
-    requires { vec_len done.old + vec_len asks ≤ vec_capacity done.old }
+    requires keys { keys.items ≡ map A.key asks.items }
+    requires room { vec_len done.old + vec_len asks ≤ vec_capacity done.old }
     ensures items { done.new.items ≡ done.old.items
         ++ writes_done A.key (answer_in_batch (C.leftover_keys left.now) fault) asks.items }
     ensures room { vec_capacity done.new ≡ vec_capacity done.old }
 {
+    let split = keys.split(left, fault);
+    let mut outcomes = split.outcomes();
     let mut asks = asks;
     asks.reverse();
     'ending: while let Some(ask) = asks.pop() {
-        let answer = write_all_answer(left, fault, ask.key());
+        let answer = outcomes.next(ask.key());
         done.push_reserved(WriteDone::new(ask, Origin::Live, answer));
     }
     asks.destroy_empty();

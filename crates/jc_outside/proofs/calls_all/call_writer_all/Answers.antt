@@ -2,7 +2,7 @@ use Rattle.std.proofs.Common.{◌++◌, ap, ◌∙◌}
 use Rattle.std.specs.Map.{keys_of}
 use Rattle.jc_model.specs.Batches.{answer_in_batch}
 use Rattle.jc_outside.specs.CallingAll.{returned_fault, writes_done}
-use Rattle.jc_outside.proofs.Batches.{writes-batch, deletes-batch}
+use Rattle.jc_outside.proofs.Batches.{writes-batch, deletes-batch, written-keys, deleted-keys}
 use Rattle.jc_outside.proofs.calls_all.call_writer_all.Goals as goal
 
 pub returns-in-Writes-clause-writer : goal.returns-in-Writes-clause-writer
@@ -32,3 +32,11 @@ returns-in-Deletes-clause-writer g c =
       c.end_writes-in-Deletes.ensures.items
           ∙ ap (λ fault. c.args.done.now.items ++ writes_done g.A.Ask.key (answer_in_batch left fault) c.args.asks.items) c.returned_fault-in-Deletes.ensures,
     )
+
+pub end_writes-requires-clause-keys : goal.end_writes-requires-clause-keys
+end_writes-requires-clause-keys g c =
+    c.into_parts-entries.ensures.keys ∙ written-keys g.A.Ask.key g.A.AskWrite.change c.args.batch c.args.asks.items c.in-Writes.batch c.in-Writes.is c.requires.batch
+
+pub end_writes-requires-in-Deletes-clause-keys : goal.end_writes-requires-in-Deletes-clause-keys
+end_writes-requires-in-Deletes-clause-keys g c =
+    c.into_parts-keys.ensures.keys ∙ deleted-keys g.A.Ask.key g.A.AskWrite.change c.args.batch c.args.asks.items c.in-Deletes.batch c.in-Deletes.is c.requires.batch
