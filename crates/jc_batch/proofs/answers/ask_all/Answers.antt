@@ -2,10 +2,10 @@ use Rattle.std.proofs.Common.{◌++◌, [], ◌∷◌, None, take, ap, sym, ◌�
 use Rattle.std.proofs.lemmas.List.{take_more}
 use Rattle.std.specs.FinMap.{insert}
 use Rattle.jc_model.specs.Cache.{Bytes}
-use Rattle.jc_outside.specs.Answers.{AnswersByKey, no_answers}
-use Rattle.jc_outside.proofs.CallerLemmas.{insert-entries}
-use Rattle.jc_outside.proofs.Answering.{answers-push}
-use Rattle.jc_outside.proofs.answers.ask_all.Goals as goal
+use Rattle.jc_batch.specs.Answers.{AnswersByKey, no_answers}
+use Rattle.jc_batch.proofs.CallerLemmas.{insert-entries}
+use Rattle.jc_batch.proofs.Answering.{answers-push}
+use Rattle.jc_batch.proofs.answers.ask_all.Goals as goal
 
 pub loop-key-preserved : goal.loop-key-preserved
 loop-key-preserved c =

@@ -1,9 +1,9 @@
 use Rattle.std.proofs.Common.{Option, None, ap, ◌∙◌}
 use Rattle.std.specs.Option.{option_map_or}
 use Rattle.jc_model.specs.Cache.{Bytes}
-use Rattle.jc_outside.specs.Answers.{AnswersByKey, answer_of}
-use Rattle.jc_outside.proofs.CallerLemmas.{get-entries}
-use Rattle.jc_outside.proofs.answers.Answers.get.Goals as goal
+use Rattle.jc_batch.specs.Answers.{AnswersByKey, answer_of}
+use Rattle.jc_batch.proofs.CallerLemmas.{get-entries}
+use Rattle.jc_batch.proofs.answers.Answers.get.Goals as goal
 
 pub returns-in-Some : goal.returns-in-Some
 returns-in-Some c =

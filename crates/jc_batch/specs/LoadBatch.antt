@@ -3,7 +3,7 @@
 use Rattle.std.specs.Prelude.{◌≡◌, ◌≤◌, ◌+◌, ℕ, vec_len, vec_capacity}
 use Rattle.std.specs.Global.{Vec}
 use Rattle.jc_model.specs.Cache.{Bytes}
-use Rattle.jc_outside.specs.Answers.{AnswersByKey, no_answers}
+use Rattle.jc_batch.specs.Answers.{AnswersByKey, no_answers}
 
 pub record IsLoadBatch (room spare : ℕ) (keys : Vec Bytes) (answers : AnswersByKey) : Type 0 where
   pub keys_room : vec_len keys + room ≤ vec_capacity keys

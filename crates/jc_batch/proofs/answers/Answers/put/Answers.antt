@@ -2,9 +2,9 @@ use Rattle.std.proofs.Common.{◌≡◌, Bool, Option, Some, true, false, is_som
 use Rattle.std.specs.FinMap as finite
 use Rattle.std.specs.FinMap.{from_entries}
 use Rattle.jc_model.specs.Cache.{Bytes, key_cmp}
-use Rattle.jc_outside.specs.Answers.{AnswersByKey, is_asked}
-use Rattle.jc_outside.proofs.CallerLemmas.{get-entries, insert-entries}
-use Rattle.jc_outside.proofs.answers.Answers.put.Goals as goal
+use Rattle.jc_batch.specs.Answers.{AnswersByKey, is_asked}
+use Rattle.jc_batch.proofs.CallerLemmas.{get-entries, insert-entries}
+use Rattle.jc_batch.proofs.answers.Answers.put.Goals as goal
 
 pub returns-clause-asked : goal.returns-clause-asked
 returns-clause-asked c =

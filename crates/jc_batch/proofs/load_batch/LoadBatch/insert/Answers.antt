@@ -1,9 +1,9 @@
 use Rattle.std.proofs.Common.{None, ap, sym, ◌∙◌, arith}
 use Rattle.std.specs.FinMap.{insert}
-use Rattle.jc_outside.specs.Answers.{AnswersByKey, no_answers}
-use Rattle.jc_outside.proofs.CallerLemmas.{insert-entries}
-use Rattle.jc_outside.proofs.Answering.{answers-push}
-use Rattle.jc_outside.proofs.load_batch.LoadBatch.insert.Goals as goal
+use Rattle.jc_batch.specs.Answers.{AnswersByKey, no_answers}
+use Rattle.jc_batch.proofs.CallerLemmas.{insert-entries}
+use Rattle.jc_batch.proofs.Answering.{answers-push}
+use Rattle.jc_batch.proofs.load_batch.LoadBatch.insert.Goals as goal
 
 pub invariant_of-self : goal.invariant_of-self
 invariant_of-self c =

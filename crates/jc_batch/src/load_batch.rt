@@ -3,7 +3,7 @@ ghost use Rattle.std.specs.Prelude.{◌≡◌, ◌<◌, IfOk, length};
 ghost use Rattle.std.specs.FinMap.{from_entries};
 ghost use Rattle.jc_model.specs.Cache.{key_cmp};
 ghost use Rattle.jc_batch.specs.Batch.{with_item, empty_batch};
-ghost use Rattle.jc_outside.specs.Answers.{no_answers};
+ghost use Rattle.jc_batch.specs.Answers.{no_answers};
 
 use crate::answers::Answers;
 use indexmap::IndexMap;
@@ -25,7 +25,7 @@ impl Model for LoadBatch {
     ghost use Rattle.indexmap.specs.IndexMap.{spare};
     ghost use Rattle.jc_model.specs.Cache.{Bytes, key_cmp};
     ghost use Rattle.jc_batch.specs.Batch.{BatchState};
-    ghost use Rattle.jc_outside.specs.LoadBatch.{IsLoadBatch};
+    ghost use Rattle.jc_batch.specs.LoadBatch.{IsLoadBatch};
 
     ghost Value = { BatchState Bytes };
 

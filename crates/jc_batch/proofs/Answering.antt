@@ -6,7 +6,7 @@ use Rattle.std.proofs.lemmas.Map.Lookups.{exact_bytes}
 use Rattle.std.specs.FinMap as finite
 use Rattle.std.specs.FinMap.{same_map, get-insert}
 use Rattle.jc_model.specs.Cache.{Bytes, key_cmp}
-use Rattle.jc_outside.specs.Answers.{AnswersByKey, no_answers}
+use Rattle.jc_batch.specs.Answers.{AnswersByKey, no_answers}
 
 -- two insertions of one value may change places
 swapped : (b c : Bool) (x y : Option (Option Bytes)) → cond b x (cond c x y) ≡ cond c x (cond b x y)

@@ -2,7 +2,7 @@
 ghost use Rattle.std.specs.Prelude.{◌≡◌, [], IfOk, OnOk};
 ghost use Rattle.std.specs.FinMap.{from_entries};
 ghost use Rattle.jc_model.specs.Cache.{key_cmp};
-ghost use Rattle.jc_outside.specs.Answers.{no_answers, is_asked, answers_with, answer_of};
+ghost use Rattle.jc_batch.specs.Answers.{no_answers, is_asked, answers_with, answer_of};
 
 use indexmap::IndexMap;
 use jc_types::{Key, Value};
@@ -21,7 +21,7 @@ impl Model for Answers {
     ghost use Rattle.std.specs.Coded.{codes};
     ghost use Rattle.std.specs.FinMap.{from_entries};
     ghost use Rattle.jc_model.specs.Cache.{key_cmp};
-    ghost use Rattle.jc_outside.specs.Answers.{AnswersByKey, answers_code};
+    ghost use Rattle.jc_batch.specs.Answers.{AnswersByKey, answers_code};
 
     ghost Value = { AnswersByKey };
 
