@@ -1,4 +1,4 @@
-use Rattle.std.proofs.Common.{◌≡◌, ◌++◌, ◌≤◌, ap, ◌∙◌, sym, subst, append-nil}
+use Rattle.std.proofs.Common.{◌++◌, ◌≤◌, ap, ◌∙◌, sym, subst, append-nil}
 use Rattle.jc_script.proofs.Texts.{texts_over}
 use Rattle.jc_script.proofs.print_shown.put_texts.Goals as goal
 
