@@ -344,15 +344,8 @@ fn put_event(out: &mut Vec<u8>, event: &WorldEvent, seen: &Shown) -> Result<(), 
 pub fn put_texts(out: &mut Vec<u8>, events: &[WorldEvent], seen: &[Shown]) -> Result<(), AllocError>
     ensures { OnOk result (out.new.items ≡ out.old.items ++ texts events.now seen.now) }
 {
-    let mut rest = seen;
-    for event in events {
-        match rest {
-            [] => return Ok(()),
-            [first, more @ ..] => {
-                put_event(out, event, first)?;
-                rest = more;
-            }
-        }
+    for place in 0..events.len().min(seen.len()) {
+        put_event(out, &events[place], &seen[place])?;
     }
     Ok(())
 }
