@@ -25,7 +25,7 @@ mod testing;
 
 use crate::appending::{append_group, make_step};
 use crate::begun::{Begun, Picked, StepDone};
-use crate::ticket::{Ask, Join, Note, Reservation, Ticket};
+use crate::ticket::{Ask, Join, Reservation, Ticket};
 use jc_entries::Entries;
 use jc_history::History;
 use jc_inflight::{JoinState, Joiners};
@@ -57,7 +57,7 @@ pub struct Stripe {
     number: usize,
     origin: Origin,
     entries: Entries,
-    reservations: Reservations<Note>,
+    reservations: Reservations<Reservation>,
     joiners: Joiners,
     history: History,
 }

@@ -11,7 +11,7 @@ use super::Stripe;
 use crate::needs::{
     Found, answers_at_once, first_asked, is_to_reserve, load_of, may_join, places_needed,
 };
-use jc_model::{Change, Op};
+use jc_model::Op;
 use jc_types::{Caller, JOINERS_MAX, Key, LAST_NUMBER, RESERVATIONS_MAX, Refusal, Value};
 
 impl Stripe {
@@ -55,11 +55,8 @@ impl Stripe {
         ensures reserved { result.0 ≡ is_reserved self.now key.now }
         ensures load { result.1 ≡ load_at (reservation_of self.now key.now) }
     {
-        // Names the types of the values that a generic call moves here: the prover looks for their models in the types that a
-        // function names.
-        let _types: Option<&Change> = None;
         match self.reservations.find(key) {
-            Some((number, note)) => (true, load_of(&note.first, number)),
+            Some(held) => (true, load_of(&held.first, held.number)),
             None => (false, None),
         }
     }
