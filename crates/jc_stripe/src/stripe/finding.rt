@@ -89,7 +89,8 @@ impl Stripe {
     pub(super) fn refusal(&self, caller: Caller, found: &Found) -> Option<Refusal>
         ensures { (key : Bytes) (op : Op) → found.now ≡ found_at self.now key op → result ≡ first_refusal self.now caller key op }
     {
-        if !self.has_room(caller.call, places_needed(found.needs_free_key)) {
+        let needed = places_needed(found.needs_free_key);
+        if !self.has_room(caller.call, needed) {
             return Some(Refusal::HistoryFull);
         }
         if found.is_busy {
