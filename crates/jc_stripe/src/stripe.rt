@@ -19,9 +19,9 @@ ghost use Rattle.jc_stripe.specs.Effects.{HasReport, change_due, report_answer, 
 ghost use Rattle.jc_stripe.specs.OnePhase.{IsPhaseOf};
 
 mod beginning;
+mod conditions;
 mod finding;
 mod looking;
-mod testing;
 
 use crate::appending::{append_group, make_step};
 use crate::begun::{Begun, Picked, StepDone};

@@ -14,7 +14,7 @@ ghost use Rattle.jc_stripe.specs.declared.begun.Begun.TheVariants.{Done};
 use super::Stripe;
 use crate::appending::{append_group, make_step, touching_step};
 use crate::begun::{Begun, StepDone};
-use crate::needs::{Found, places_needed};
+use crate::call_rules::{Found, places_needed};
 use crate::ticket::{First, Join, Reservation, Ticket};
 use jc_model::{Op, Out};
 use jc_types::{Caller, HIT_PLACES, Key, STEP_PLACES, Value};

@@ -8,7 +8,7 @@ ghost use Rattle.jc_stripe.specs.Refusals.{has_room, first_refusal, load_at};
 ghost use Rattle.jc_stripe.specs.Finding.{found_at};
 
 use super::Stripe;
-use crate::needs::{
+use crate::call_rules::{
     Found, answers_at_once, first_asked, is_to_reserve, load_of, may_join, places_needed,
 };
 use jc_model::Op;

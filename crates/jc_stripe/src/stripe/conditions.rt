@@ -9,7 +9,7 @@ ghost use Rattle.jc_stripe.specs.OwnSteps.{may_come_all};
 ghost use Rattle.jc_stripe.specs.Tests.{is_clear, may_begin, asks_outside};
 
 use super::Stripe;
-use crate::needs::{first_asked, reserves};
+use crate::call_rules::{first_asked, reserves};
 use crate::ticket::{First, Join, Reservation};
 use jc_history::History;
 use jc_inflight::Joiner;
