@@ -1,5 +1,4 @@
 pub mod Beside
-pub mod Fields
 pub mod Finishing
 pub mod Fitting
 pub mod Inner

@@ -12,6 +12,7 @@ ghost use Rattle.jc_stripe.specs.Tickets.{change_asked, claim_of, entry_seen, id
 use jc_model::{Change, Op};
 use jc_mutentry::{AskProcess, ProcDone};
 use jc_outside::AskWrite;
+use jc_reserve::Reserved;
 use jc_types::{Caller, Key, Value};
 use std::marker::Model;
 
@@ -33,30 +34,6 @@ pub enum First {
     },
 }
 
-/// What a stripe keeps of a reservation beside its key and number.
-#[derive(Clone, Copy, Debug, PartialEq, Eq)]
-pub(crate) struct Note {
-    pub(crate) caller: Caller,
-    pub(crate) op: Op,
-    pub(crate) first: First,
-}
-
-/// A note that nobody reads, with which a table of a fixed size fills its free places.
-impl Default for Note {
-    ghost is_default = { λ note. note.first ≡ Nobody };
-
-    fn default() -> Note {
-        Note {
-            caller: Caller {
-                session: 0,
-                call: 0,
-            },
-            op: Op::Get,
-            first: First::Nobody,
-        }
-    }
-}
-
 /// A key that a call has reserved.
 #[derive(Clone, Copy, Debug, PartialEq, Eq)]
 pub struct Reservation {
@@ -70,6 +47,34 @@ pub struct Reservation {
     pub number: u64,
     /// Whom the call asks first.
     pub first: First,
+}
+
+/// No reservation: it asks nobody. A table fills its free places with it.
+impl Default for Reservation {
+    ghost is_default = { λ r. r.first ≡ Nobody };
+
+    fn default() -> Reservation {
+        Reservation {
+            caller: Caller {
+                session: 0,
+                call: 0,
+            },
+            key: Key::default(),
+            op: Op::Get,
+            number: 0,
+            first: First::Nobody,
+        }
+    }
+}
+
+impl Reserved for Reservation {
+    ghost key = { λ r. r.key };
+
+    ghost number = { λ r. r.number };
+
+    fn key(&self) -> &Key {
+        &self.key
+    }
 }
 
 impl First {

@@ -1,4 +1,4 @@
-//! What a call needs of a stripe.
+//! The rules by which a first phase decides: whether a call answers at once or may join a load, whom it asks first, what it needs.
 ghost use Rattle.std.specs.Prelude.{◌≡◌};
 ghost use Rattle.jc_stripe.specs.Refusals.{answers_at_once, may_join, places_needed, first_asked, is_wanted, writer_for, load_of, reserves, change_for};
 ghost use Rattle.jc_stripe.specs.Finding.{is_to_reserve};

@@ -3,7 +3,7 @@ use Rattle.jc_model.specs.declared.event.Event.{Event}
 use Rattle.jc_model.specs.Legal.{may_come}
 use Rattle.jc_stripe.specs.OwnSteps.{may_come_all}
 use Rattle.jc_stripe.proofs.Testing.{all_not, all_more}
-use Rattle.jc_stripe.proofs.stripe.testing.may_come_all.Goals as goal
+use Rattle.jc_stripe.proofs.stripe.conditions.may_come_all.Goals as goal
 
 pub returns-then-not-may_come : goal.returns-then-not-may_come
 returns-then-not-may_come c =

@@ -1,28 +1,26 @@
 //! Tests of a stripe, by which a driver that had let it go sees whether a condition of a phase still holds. They change
 //! nothing.
-ghost use Rattle.std.specs.Prelude.{◌≡◌, ◌↔◌, IsTrue, find, map, option_map};
+ghost use Rattle.std.specs.Prelude.{◌≡◌, ◌↔◌, IsTrue, find, option_map};
 ghost use Rattle.std.specs.List.{list_all};
 ghost use Rattle.jc_inflight.specs.Joining.{belongs_to};
-ghost use Rattle.jc_stripe.specs.Inside.{note_reservation};
-ghost use Rattle.jc_stripe.specs.State.{is_of, reservation_of, IsOut, IsJoined};
+ghost use Rattle.jc_stripe.specs.State.{is_of, IsOut, IsJoined};
 ghost use Rattle.jc_stripe.specs.Phases.{MayBegin, is_other_call, is_other_join};
 ghost use Rattle.jc_stripe.specs.OwnSteps.{may_come_all};
 ghost use Rattle.jc_stripe.specs.Tests.{is_clear, may_begin, asks_outside};
 
 use super::Stripe;
-use crate::needs::{first_asked, reserves};
-use crate::ticket::{First, Join, Note, Reservation};
+use crate::call_rules::{first_asked, reserves};
+use crate::ticket::{First, Join, Reservation};
 use jc_history::History;
 use jc_inflight::Joiner;
-use jc_model::{Change, Op};
-use jc_reserve::Held;
+use jc_model::Op;
 use jc_types::{Caller, Key, stripe_of};
 
 /// Whether a reservation is another session's, or the same call's of another key.
-fn is_other_call(held: &Held<Note>, caller: Caller, key: &Key) -> bool
-    ensures { result ≡ is_other_call caller key.now (note_reservation held.now) }
+fn is_other_call(held: &Reservation, caller: Caller, key: &Key) -> bool
+    ensures { result ≡ is_other_call caller key.now held.now }
 {
-    let who = held.note.caller;
+    let who = held.caller;
     who.session != caller.session || (who.call == caller.call && held.key != *key)
 }
 
@@ -34,16 +32,10 @@ fn is_other_join(joiner: &Joiner, caller: Caller, key: &Key) -> bool
     who.session != caller.session || (who.call == caller.call && joiner.key != *key)
 }
 
-fn all_held_are_other(held: &[Held<Note>], caller: Caller, key: &Key) -> bool
-    ensures { result ≡ list_all (λ h. is_other_call caller key.now (note_reservation h)) held.now }
+fn are_other_calls(held: &[Reservation], caller: Caller, key: &Key) -> bool
+    ensures { result ≡ list_all (is_other_call caller key.now) held.now }
 {
-    held.iter().all(|h| is_other_call(h, caller, key))
-}
-
-fn are_other_calls(held: &[Held<Note>], caller: Caller, key: &Key) -> bool
-    ensures { result ≡ list_all (is_other_call caller key.now) (map note_reservation held.now) }
-{
-    all_held_are_other(held, caller, key)
+    held.iter().all(|r| is_other_call(r, caller, key))
 }
 
 fn are_other_joins(joiners: &[Joiner], caller: Caller, key: &Key) -> bool
@@ -66,29 +58,18 @@ fn is_same_first(first: &First, second: &First) -> bool
     *first == *second
 }
 
-/// Whether two callers are one.
-fn is_same_caller(first: &Caller, second: &Caller) -> bool
-    ensures { IsTrue result ↔ (first.now ≡ second.now) }
-{
-    first.session == second.session && first.call == second.call
-}
-
-/// Whether two keys are one.
-fn is_same_key(first: &Key, second: &Key) -> bool
-    ensures { IsTrue result ↔ (first.now ≡ second.now) }
-{
-    *first == *second
-}
-
 /// Whether two reservations are one.
 fn is_same(first: &Reservation, second: &Reservation) -> bool
     ensures { IsTrue result ↔ (first.now ≡ second.now) }
 {
-    first.number == second.number
-        && is_same_caller(&first.caller, &second.caller)
-        && is_same_key(&first.key, &second.key)
-        && is_same_op(&first.op, &second.op)
-        && is_same_first(&first.first, &second.first)
+    let (one, other) = (first.caller, second.caller);
+    if first.number != second.number || one.session != other.session || one.call != other.call {
+        return false;
+    }
+    if first.key != second.key || !is_same_op(&first.op, &second.op) {
+        return false;
+    }
+    is_same_first(&first.first, &second.first)
 }
 
 /// The call's joiner at a key, if it is among the joiners.
@@ -165,27 +146,9 @@ impl Stripe {
     pub fn holds(&self, reservation: &Reservation) -> bool
         ensures { IsTrue result ↔ IsOut self.now reservation.now }
     {
-        match self.reservation(&reservation.key) {
-            Some(held) => is_same(&held, reservation),
+        match self.reservations.find(&reservation.key) {
+            Some(held) => is_same(held, reservation),
             None => false,
-        }
-    }
-
-    /// The reservation of a key, if it has one.
-    fn reservation(&self, key: &Key) -> Option<Reservation>
-        ensures { result ≡ reservation_of self.now key.now }
-    {
-        // Names a type that a generic call moves here, so that the prover finds its model.
-        let _types: Option<&Change> = None;
-        match self.reservations.find(key) {
-            Some((number, note)) => Some(Reservation {
-                caller: note.caller,
-                key: *key,
-                op: note.op,
-                number,
-                first: note.first,
-            }),
-            None => None,
         }
     }
 
