@@ -31,9 +31,7 @@ impl Cache {
         match self.start(session, key, &Op::Clear) {
             Started::Done(step) => Ok(step.reply),
             Started::Refused(refusal) => Err(refusal),
-            Started::Load(_call) => unreachable!(),
-            Started::Write(_call) => unreachable!(),
-            Started::Process(_call) => unreachable!(),
+            Started::Asks(_call) => unreachable!(),
             Started::Joined(_call) => unreachable!(),
         }
     }
