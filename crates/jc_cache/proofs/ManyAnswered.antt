@@ -5,6 +5,7 @@
 --     all_done                    the done values of one call outside are those of its tickets
 --     calls_said                  they give each call its answer
 --     none_done                   calls of which none is left have neither ticket nor done value
+--     first_done, first_answered  the first of them, of lists that are kept last first
 --     loads_are, loaded_said, writes_are, written_said    these of a loader and of a writer
 --     loads_keys                  one call outside, whose keys are said in another way
 --     none_answered               calls of which none is left have no ticket
@@ -13,7 +14,7 @@
 --     none_asked                  calls of which none is left have neither ticket nor ask
 --     all_write                   calls that write or delete ask the writer
 use Rattle.std.proofs.Common.{◌≡◌, ◌++◌, ℕ, List, [], ◌∷◌, Bool, true, Option, Some, length, map, reverse, refl, sym, ap, ◌∙◌, subst}
-use Rattle.std.proofs.lemmas.List.{length-map}
+use Rattle.std.proofs.lemmas.List.{length-map, reverse-append}
 use Rattle.std.specs.List.{AllByRecursion}
 use Rattle.jc_model.specs.Cache.{Bytes}
 use Rattle.std.specs.Map.{keys_of}
@@ -86,6 +87,19 @@ module _ {D : Type 0} (asks : First → Bool) (ask : D → Claim) (origin : D �
   none_done [] (d ∷ ds) are none = absurd are
   none_done (t ∷ ts) [] are none = absurd are
   none_done (t ∷ ts) (d ∷ ds) are none = cc
+
+-- the first call, of lists that are kept last first
+module _ {D : Type 0} (asks : First → Bool) (ask : D → Claim) (origin : D → Origin) (answer : D → Out) (tickets rest : List (Mark × TicketClaim)) (t : Mark × TicketClaim) (done more : List D) (d : D) where
+  pub first_done : tickets ≡ rest ++ t ∷ [] → done ≡ more ++ d ∷ [] → AreDone asks ask origin (reverse tickets) (reverse done)
+      → ((asks t.1.reservation.first ≡ true) × (ask d ≡ claim_of t.1.reservation) × (origin d ≡ Live)) × AreDone asks ask origin (reverse rest) (reverse more)
+  first_done tickets_are done_are all =
+      subst (λ (x : List (Mark × TicketClaim) × List D). AreDone asks ask origin x.0 x.1)
+      (λ i. ((ap reverse tickets_are ∙ reverse-append rest (t ∷ [])) i, (ap reverse done_are ∙ reverse-append more (d ∷ [])) i)) all
+
+  pub first_answered : tickets ≡ rest ++ t ∷ [] → done ≡ more ++ d ∷ []
+      → done_calls answer (reverse tickets) (reverse done) ≡ record { cache = t.0; reservation = t.1.reservation; answer = answer d } ∷ done_calls answer (reverse rest) (reverse more)
+  first_answered tickets_are done_are =
+      λ i. done_calls answer ((ap reverse tickets_are ∙ reverse-append rest (t ∷ [])) i) ((ap reverse done_are ∙ reverse-append more (d ∷ [])) i)
 
 pub loads_are : (said : Bytes → LoadAnswer) (tickets : List (Mark × TicketClaim)) → AllByRecursion (λ (t : Mark × TicketClaim). asks_loader t.1.reservation.first ≡ true) tickets
     → AreDone asks_loader (λ (d : LoadResult Claim). d.ask) (λ (d : LoadResult Claim). d.origin) tickets (loads_done (λ (c : Claim). c.reservation.key) said (map (λ t. claim_of t.1.reservation) tickets))
