@@ -1,14 +1,17 @@
-//! What a line may be, how a run ends, and streams that fail. Scripts with their whole transcripts are beside this file; the faults
-//! of a line have a file of their own.
+//! Faults of lines, and streams that fail.
 mod faults;
 
-use super::{is, played};
 use jc_script::run::run;
 use jc_script::{Noted, RunEnd, RunFault};
-use jc_types::SCRIPT_MAX;
 use std::alloc::Global;
+use std::fmt::Debug;
 use std::io;
 use std::process::Abort;
+
+/// Asserts a value.
+fn is<T: Copy + Debug + PartialEq>(rt: &impl Abort, at: &str, found: T, want: T) {
+    assert_eq!(rt; found, want, "{at}");
+}
 
 // The lines of a text that separates them by `; `, each with a line feed.
 fn lines(rt: &impl Abort, alloc: Global, text: &str) -> Vec<u8> {
@@ -22,7 +25,8 @@ fn lines(rt: &impl Abort, alloc: Global, text: &str) -> Vec<u8> {
 
 // Plays a script that ends at this line, with this fault.
 fn ends_with_fault(rt: &impl Abort, alloc: Global, script: &[u8], line: usize, fault: &str) {
-    let (found, end) = played(rt, alloc, script);
+    let mut found = Vec::new(alloc);
+    let end = run(alloc, &mut Noted::new(script), &mut Noted::new(&mut found)).expect(rt, "a run");
     is(rt, fault, end, RunEnd::LineFault(line as u64));
     let wanted = format!(in alloc; "line {line}: {fault}\n").expect(rt, "memory");
     assert!(rt; found.ends_with(wanted.as_bytes()), "at {script:?}");
@@ -42,56 +46,6 @@ fn all_end_with_faults(rt: &impl Abort, alloc: Global, parts: &str) {
     for part in parts.split("==\n") {
         end_with_fault(rt, alloc, part);
     }
-}
-
-// A script whose last line ends it with a fault, and the number of that line.
-const BAD_ENDS: &[(&str, usize, &str)] = &[
-    ("# comment", 1, "cut line"),
-    ("open 1 2 100\nbegin 1 s1 ge", 2, "cut line"),
-    ("# \t\n", 1, "bad byte"),
-    ("frob\x7f\n", 1, "bad byte"),
-    ("audit\r\n", 1, "bad byte"),
-    (" \n", 1, "bad line"),
-    (" # comment\n", 1, "bad line"),
-    ("set a 1 \n", 1, "bad line"),
-];
-
-#[test]
-fn tells_cut_lines_and_bad_bytes_and_spaces(rt: HostRuntime) {
-    for (script, line, fault) in BAD_ENDS {
-        ends_with_fault(&rt, rt.alloc(), script.as_bytes(), *line, fault);
-    }
-}
-
-// A comment of this many bytes, and a line feed.
-fn comment(rt: &impl Abort, alloc: Global, bytes: usize) -> Vec<u8> {
-    let mut text = Vec::new(alloc);
-    text.resize(bytes, b'#').expect(rt, "memory");
-    text.push(10).expect(rt, "memory");
-    text
-}
-
-#[test]
-fn takes_long_lines_up_to_a_limit(rt: HostRuntime) {
-    let alloc = rt.alloc();
-    let (out, end) = played(&rt, alloc, &comment(&rt, alloc, 65536));
-    is(&rt, "the longest line", out.len(), 0);
-    is(&rt, "the longest line", end, RunEnd::Clean);
-    let long = comment(&rt, alloc, 65537);
-    ends_with_fault(&rt, alloc, &long, 1, "line too long");
-    let longest = comment(&rt, alloc, SCRIPT_MAX - 1);
-    ends_with_fault(&rt, alloc, &longest, 1, "line too long");
-}
-
-#[test]
-fn takes_no_input_over_a_limit(rt: HostRuntime) {
-    let alloc = rt.alloc();
-    let long = comment(&rt, alloc, SCRIPT_MAX);
-    let mut out = Vec::new(alloc);
-    let mut reader = Noted::new(long.as_slice());
-    let ended = run(alloc, &mut reader, &mut Noted::new(&mut out));
-    is(&rt, "too long", ended, Err(RunFault::TooLong));
-    is(&rt, "too long", out.len(), 0);
 }
 
 // A reader that gives one line, and then fails.
