@@ -17,7 +17,7 @@ use Rattle.jc_mutentry.specs.Running.{ProcessRelation, RunsOnce}
 use Rattle.jc_stripe.specs.declared.ticket.First.{First}
 use Rattle.jc_stripe.specs.declared.ticket.Reservation.{Reservation}
 use Rattle.jc_stripe.specs.State.{State}
-use Rattle.jc_stripe.specs.Tickets.{TicketClaim, Claim, entry_seen, is_loadable}
+use Rattle.jc_stripe.specs.Tickets.{TicketClaim, Claim, id_of, entry_seen, is_loadable}
 use Rattle.jc_stripe.specs.Effects.{HasReport}
 use Rattle.jc_stripe.specs.Refusals.{first_asked, is_wanted}
 use Rattle.jc_cache.specs.Answered.{IsAnswered, out_of}
@@ -54,7 +54,7 @@ none_due r true true (Some change) g h = cc
 none_due r true false (Some change) g h = cc
 
 some_due : (r : Reservation) (through given : Bool) (change : Option Change) (report : WriteResult Claim) → given ≡ true → change ≡ report.ask.change → (not given || beq true (through && is_some change)) ≡ true
-    → report.ask.reservation ≡ r → report.origin ≡ Live → HasReport Live r (cond through change None) (Some report)
+    → report.ask.reservation ≡ id_of r → report.origin ≡ Live → HasReport Live r (cond through change None) (Some report)
 some_due r false true change report g is h its from = cc
 some_due r false false change report g is h its from = cc
 some_due r true true None report g is h its from = cc

@@ -10,7 +10,7 @@ use Rattle.jc_outside.specs.Done.{WriteResult}
 use Rattle.jc_outside.specs.declared.done.Origin.TheVariants.{Live}
 use Rattle.jc_mutentry.specs.Done.{ProcessResult, effect_change}
 use Rattle.jc_stripe.specs.Effects.{process_out}
-use Rattle.jc_stripe.specs.Tickets.{TicketClaim, Claim, claim_of, asks_loader, asks_writer, asks_processor}
+use Rattle.jc_stripe.specs.Tickets.{TicketClaim, Claim, claim_of, id_of, asks_loader, asks_writer, asks_processor}
 use Rattle.jc_cache.specs.declared.answered.Answered.{Answered}
 use Rattle.jc_cache.specs.declared.answered.Answered.TheVariants.{Loaded, Written, Processed}
 
@@ -22,7 +22,7 @@ out_of (Processed done report) = process_out done report
 abbrev pub IsReportOf : TicketClaim → ProcessResult Claim → Option (WriteResult Claim) → Type 0
 IsReportOf ticket done None = ticket.writer_asked ≡ false
 IsReportOf ticket done (Some report) =
-    (effect_change done.load done.process ≡ report.ask.change) × (report.ask.reservation ≡ ticket.reservation) × (report.origin ≡ Live)
+    (effect_change done.load done.process ≡ report.ask.change) × (report.ask.reservation ≡ id_of ticket.reservation) × (report.origin ≡ Live)
     × (is_write_given report.answer ≡ true)
 
 pub record IsProcessed (ticket : TicketClaim) (done : ProcessResult Claim) (report : Option (WriteResult Claim)) : Type 0 where

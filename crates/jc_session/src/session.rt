@@ -2,7 +2,7 @@
 ghost use Rattle.std.specs.Prelude.{◌≡◌, ℕ, true, is_some, IsSome, IfSome, IfNone};
 ghost use Rattle.jc_model.specs.Table.{is_load_given, is_write_given, is_process_given};
 ghost use Rattle.jc_outside.specs.declared.done.Origin.TheVariants.{Live};
-ghost use Rattle.jc_outside.specs.Calling.{LoadsOnce, WritesOnce};
+ghost use Rattle.jc_outside.specs.Calling.{KeepsType, LoadsOnce, WritesOnce};
 ghost use Rattle.jc_mutentry.specs.Running.{RunsOnce, LoadsIfGiven};
 ghost use Rattle.jc_stripe.specs.State.{State};
 ghost use Rattle.jc_stripe.specs.Tickets.{asks_loader, asks_processor, entry_seen, is_loadable};
@@ -147,6 +147,7 @@ impl Session {
         ensures given { is_load_given result.answer ≡ true }
         ensures loader { LoadsOnce (boxed loads) (boxed load_state)
             self.old.hands.outside.loader ask.reservation.key result.answer self.new.hands.outside.loader }
+        ensures loader_type { KeepsType self.old.hands.outside.loader self.new.hands.outside.loader }
         ensures writer { self.new.hands.outside.writer ≡ self.old.hands.outside.writer }
         ensures held { self.new.hands.held ≡ 0 }
         ensures rest { self.new ≡ record self.old { hands = self.new.hands } }
@@ -169,6 +170,7 @@ impl Session {
         ensures writer { WritesOnce (boxed writes) (boxed write_state)
             self.old.hands.outside.writer ask.reservation.key ask.change
             result.answer self.new.hands.outside.writer }
+        ensures writer_type { KeepsType self.old.hands.outside.writer self.new.hands.outside.writer }
         ensures loader { self.new.hands.outside.loader ≡ self.old.hands.outside.loader }
         ensures held { self.new.hands.held ≡ 0 }
         ensures rest { self.new ≡ record self.old { hands = self.new.hands } }
@@ -200,6 +202,8 @@ impl Session {
             result.load result.process processor.new }
         ensures loader { LoadsIfGiven (boxed loads) (boxed load_state)
             self.old.hands.outside.loader ask.reservation.key result.load self.new.hands.outside.loader }
+        ensures loader_type { KeepsType self.old.hands.outside.loader self.new.hands.outside.loader }
+        ensures processor_type { processor.new.vtable ≡ processor.old.vtable }
         ensures writer { self.new.hands.outside.writer ≡ self.old.hands.outside.writer }
         ensures held { self.new.hands.held ≡ 0 }
         ensures rest { self.new ≡ record self.old { hands = self.new.hands } }
