@@ -3,7 +3,7 @@
 --     first_call      nothing was asked: the call is what its first phase made
 --     refused_call    one that is refused
 --     reserved_call   one that reserves its key, asks, and commits
-use Rattle.std.proofs.Common.{◌≡◌, ◌+◌, ◌∙◌, ℕ, List, Result, Ok, Err, refl, ap, subst}
+use Rattle.std.proofs.Common.{◌≡◌, ◌+◌, ◌∙◌, ℕ, List, Result, Ok, Err, option_map, refl, ap, subst}
 use Rattle.jc_types.specs.declared.caller.Caller.{Caller}
 use Rattle.jc_types.specs.declared.refusal.Refusal.{Refusal}
 use Rattle.jc_model.specs.declared.event.Op.{Op}
@@ -27,7 +27,7 @@ use Rattle.jc_session.specs.Boxed.{boxed}
 use Rattle.jc_session.specs.Counting.{counts_begun, counts_ended}
 use Rattle.jc_session.specs.declared.session.Session.{Session}
 use Rattle.jc_cache.specs.OnePhase.{MakesPhase}
-use Rattle.jc_cache.specs.Whole.{AsksLoader, AsksWriter, EndsCall, IsCall, change_wanted, own_after}
+use Rattle.jc_cache.specs.Whole.{AsksLoader, AsksWriter, EndsCall, IsCall, KeepsTypes, change_wanted, own_after}
 use Rattle.jc_cache.proofs.Asking.{loader_for, writer_for}
 use Rattle.jc_cache.proofs.Others.{leaves_others, leaves_both}
 use Rattle.jc_cache.proofs.SessionAfter.{after_first, after_both}
@@ -54,6 +54,7 @@ module _ {I J : Type 0} {D : I → Type 0} {E : J → Type 0}
     ends = ends;
     loader = ap (λ s. s.hands.outside.loader) e;
     writer = ap (λ s. s.hands.outside.writer) e;
+    types = (ap (λ s. option_map (λ b. b.vtable) s.hands.outside.loader) e, ap (λ s. option_map (λ b. b.vtable) s.hands.outside.writer) e);
     held = ap (λ s. s.hands.held) e ∙ held;
     session = after_first old new _ e;
     others = leaves_others _ _ _ (uniform _ _ _ h.reached h.one);
@@ -73,8 +74,9 @@ module _ {I J : Type 0} {D : I → Type 0} {E : J → Type 0}
       → old.counts.reservations ≡ 0 → mid ≡ record old { counts = counts_begun old.counts (Asks ticket) } → asked ≡ record mid { hands = asked.hands } → asked.hands.held ≡ 0 → new ≡ record asked { counts = counts_ended asked.counts }
       → AsksLoader (boxed loads) (boxed load_state) mid.hands.outside.loader ticket.reservation.key out.load asked.hands.outside.loader
       → AsksWriter (boxed writes) (boxed write_state) mid.hands.outside.writer ticket.reservation.key (change_wanted h.before key op out.process) out.write asked.hands.outside.writer
+      → KeepsTypes mid asked
       → IsCall loads load_state writes write_state finds left old key op (Ok done.reply) new
-  reserved_call old mid asked new key op ticket r out done uniform whole numbers stays h k who its same may none first rest held last loader writer =
+  reserved_call old mid asked new key op ticket r out done uniform whole numbers stays h k who its same may none first rest held last loader writer types =
       let key_is : ticket.reservation.key ≡ key = ap (λ (t : TicketClaim). t.reservation.key) h.made.4 in
       let commits : Commits h.after ticket.reservation out done k.after =
       subst (λ q. Commits h.after q out done k.after) its (subst (λ m. Commits m r out done k.after) same k.made) in
@@ -89,6 +91,10 @@ module _ {I J : Type 0} {D : I → Type 0} {E : J → Type 0}
         ends = (h.made.0, reserved_step whole _ _ _ old.caller key op ticket out done h.reached h.made commits);
         loader = loader_for (boxed loads) (boxed load_state) _ _ _ _ _ _ _ (ap (λ s. s.hands.outside.loader) first) key_is loader (ap (λ s. s.hands.outside.loader) last);
         writer = writer_for (boxed writes) (boxed write_state) _ _ _ _ _ _ _ _ (ap (λ s. s.hands.outside.writer) first) key_is writer (ap (λ s. s.hands.outside.writer) last);
+        types = (
+          ap (λ s. option_map (λ b. b.vtable) s.hands.outside.loader) last ∙ types.0 ∙ ap (λ s. option_map (λ b. b.vtable) s.hands.outside.loader) first,
+          ap (λ s. option_map (λ b. b.vtable) s.hands.outside.writer) last ∙ types.1 ∙ ap (λ s. option_map (λ b. b.vtable) s.hands.outside.writer) first,
+        );
         held = ap (λ s. s.hands.held) last ∙ held;
         session = after_both old mid asked new none first rest last;
         others = leaves_both _ _ _ _ (leaves_others _ _ _ (uniform _ _ _ h.reached h.one)) (leaves_others _ _ _ (uniform _ _ _ reached one));

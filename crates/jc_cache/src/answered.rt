@@ -1,7 +1,7 @@
 //! A call whose loader, writer or processor has answered.
 ghost use Rattle.std.specs.Prelude.{◌≡◌, IsSome};
 ghost use Rattle.jc_model.specs.declared.event.WriteAnswer.TheVariants.{NotAsked};
-ghost use Rattle.jc_outside.specs.Calling.{WritesOnce};
+ghost use Rattle.jc_outside.specs.Calling.{KeepsType, WritesOnce};
 ghost use Rattle.jc_mutentry.specs.Done.{effect_change};
 ghost use Rattle.jc_session.specs.Boxed.{boxed};
 ghost use Rattle.jc_cache.specs.Answered.{IsAnswered, out_of};
@@ -94,6 +94,7 @@ impl AnsweredCall {
             session.old.hands.outside.writer self.reservation.key
             (effect_change self.answer.load self.answer.process)
             result.answer.write session.new.hands.outside.writer }
+        ensures writer_type { KeepsType session.old.hands.outside.writer session.new.hands.outside.writer }
         ensures loader { session.new.hands.outside.loader ≡ session.old.hands.outside.loader }
         ensures held { session.new.hands.held ≡ 0 }
         ensures rest { session.new ≡ record session.old { hands = session.new.hands } }

@@ -14,7 +14,7 @@ ghost use Rattle.jc_stripe.specs.Phases.{MayBegin};
 ghost use Rattle.jc_session.specs.Boxed.{boxed};
 ghost use Rattle.jc_cache.specs.Answered.{IsAnswered, out_of};
 ghost use Rattle.jc_cache.specs.OnePhase.{IsReported};
-ghost use Rattle.jc_cache.specs.Whole.{AsksLoader, AsksWriter, IsCall, IsInvocation};
+ghost use Rattle.jc_cache.specs.Whole.{AsksLoader, AsksWriter, IsCall, IsInvocation, KeepsTypes};
 
 use crate::answered::Answered;
 use crate::phase::make_phase;
@@ -94,6 +94,7 @@ fn ask<R: Wait>(rt: &R, session: &mut Session, ticket: Ticket) -> Commit
         → AsksWriter (boxed writes) (boxed write_state)
         session.old.hands.outside.writer ticket.reservation.key wanted
         (out_of result.answered).write session.new.hands.outside.writer }
+    ensures types { KeepsTypes session.old session.new }
     ensures process { (out_of result.answered).process ≡ NotAsked }
     ensures held { session.new.hands.held ≡ 0 }
     ensures rest { session.new ≡ record session.old { hands = session.new.hands } }
@@ -179,10 +180,12 @@ fn run<R: Wait>(
         session.old.hands.outside.writer ticket.reservation.key
         (if write_through then process_ask (out_of result.answered).process else None)
         (out_of result.answered).write session.new.hands.outside.writer }
+    ensures types { KeepsTypes session.old session.new }
     ensures run { RunsOnce processes process_state
         processor.old ticket.reservation.key args.now
         (is_loadable ticket.reservation.first) (entry_seen ticket.reservation.first)
         (out_of result.answered).load (out_of result.answered).process processor.new }
+    ensures processor_type { processor.new.vtable ≡ processor.old.vtable }
     ensures given { is_process_given (out_of result.answered).process ≡ true }
     ensures held { session.new.hands.held ≡ 0 }
     ensures rest { session.new ≡ record session.old { hands = session.new.hands } }
@@ -215,6 +218,7 @@ fn write_effect<R: Wait>(
         session.old.hands.outside.writer ticket.old.reservation.key
         (if write_through then process_ask done.now.process else None)
         (report_answer result) session.new.hands.outside.writer }
+    ensures types { KeepsTypes session.old session.new }
     ensures ticket { ticket.new ≡ record ticket.old { writer_asked = is_some result } }
     ensures loader { session.new.hands.outside.loader ≡ session.old.hands.outside.loader }
     ensures held { session.new.hands.held ≡ 0 }

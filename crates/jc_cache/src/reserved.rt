@@ -3,7 +3,7 @@ ghost use Rattle.std.specs.Prelude.{◌≡◌, true, false, IsSome};
 ghost use Rattle.jc_model.specs.Group.{load_only, write_only};
 ghost use Rattle.jc_model.specs.Table.{is_process_given};
 ghost use Rattle.jc_model.specs.declared.event.WriteAnswer.TheVariants.{NotAsked};
-ghost use Rattle.jc_outside.specs.Calling.{LoadsOnce, WritesOnce};
+ghost use Rattle.jc_outside.specs.Calling.{KeepsType, LoadsOnce, WritesOnce};
 ghost use Rattle.jc_mutentry.specs.Running.{RunsOnce, LoadsIfGiven};
 ghost use Rattle.jc_stripe.specs.Tickets.{asks_loader, asks_writer, asks_processor, change_asked, entry_seen, is_loadable};
 ghost use Rattle.jc_session.specs.Boxed.{boxed};
@@ -68,6 +68,7 @@ impl ReservedCall {
         ensures loader { LoadsOnce (boxed loads) (boxed load_state)
             session.old.hands.outside.loader self.reservation.key
             result.answer.load session.new.hands.outside.loader }
+        ensures loader_type { KeepsType session.old.hands.outside.loader session.new.hands.outside.loader }
         ensures writer { session.new.hands.outside.writer ≡ session.old.hands.outside.writer }
         ensures held { session.new.hands.held ≡ 0 }
         ensures rest { session.new ≡ record session.old { hands = session.new.hands } }
@@ -94,6 +95,7 @@ impl ReservedCall {
         ensures writer { WritesOnce (boxed writes) (boxed write_state)
             session.old.hands.outside.writer self.reservation.key (change_asked self.reservation.first)
             result.answer.write session.new.hands.outside.writer }
+        ensures writer_type { KeepsType session.old.hands.outside.writer session.new.hands.outside.writer }
         ensures loader { session.new.hands.outside.loader ≡ session.old.hands.outside.loader }
         ensures held { session.new.hands.held ≡ 0 }
         ensures rest { session.new ≡ record session.old { hands = session.new.hands } }
@@ -125,11 +127,13 @@ impl ReservedCall {
         ensures run { RunsOnce processes process_state
             processor.old self.reservation.key args.now (is_loadable self.reservation.first) (entry_seen self.reservation.first)
             result.answer.load result.answer.process processor.new }
+        ensures processor_type { processor.new.vtable ≡ processor.old.vtable }
         ensures given { is_process_given result.answer.process ≡ true }
         ensures write { result.answer.write ≡ NotAsked }
         ensures loader { LoadsIfGiven (boxed loads) (boxed load_state)
             session.old.hands.outside.loader self.reservation.key
             result.answer.load session.new.hands.outside.loader }
+        ensures loader_type { KeepsType session.old.hands.outside.loader session.new.hands.outside.loader }
         ensures writer { session.new.hands.outside.writer ≡ session.old.hands.outside.writer }
         ensures held { session.new.hands.held ≡ 0 }
         ensures rest { session.new ≡ record session.old { hands = session.new.hands } }

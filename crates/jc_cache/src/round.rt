@@ -7,6 +7,7 @@ ghost use Rattle.jc_cache.specs.OutstandingAll.{Load, Write, AreOfSession, HasOn
 ghost use Rattle.jc_cache.specs.OutstandingAll.{with_answers, with_call};
 ghost use Rattle.jc_cache.specs.OutstandingInside.{batch_room};
 ghost use Rattle.jc_cache.specs.Rounds.{Round, CallsOnce, IsAskedOf, answer_to, is_delete, round_returned};
+ghost use Rattle.jc_cache.specs.Whole.{KeepsTypes};
 
 use crate::answered::{Answered, AnsweredCall};
 use crate::reserved::ReservedCall;
@@ -144,6 +145,7 @@ impl Calls {
             session.new.hands.outside.loader session.new.hands.outside.writer
             × (result.0 ≡ with_answers (answer_to round) self.items)
             × (result.1 ≡ round_returned round) }
+        ensures types { KeepsTypes session.old session.new }
         ensures held { session.new.hands.held ≡ 0 }
         ensures rest { session.new ≡ record session.old { hands = session.new.hands } }
     {
@@ -244,14 +246,14 @@ impl AnsweredCalls {
 impl ToAsk {
     ghost use Rattle.std.specs.Prelude.{◌≡◌, ◌<◌, ◌-◌, ◌+◌, ◌++◌, ◌∷◌, [], List, ℕ, true, false};
     ghost use Rattle.jc_model.specs.Batches.{is_among};
-    ghost use Rattle.jc_stripe.specs.Tickets.{Claim, claim_of};
+    ghost use Rattle.jc_stripe.specs.Tickets.{Claim, change_asked};
     ghost use Rattle.jc_cache.specs.OutstandingAll.{asks_as};
     ghost use Rattle.jc_cache.specs.OutstandingInside.{HasSpace, IsBatchOf, keys_in, kind_in, room_in};
 
     /// Adds what an ask asks for, which is of the kind that is asked here.
     fn add(&mut self, ask: &Ask)
         requires room { 0 < room_in self.old }
-        requires claim { ask.now ≡ claim_of ask.now.reservation }
+        requires change { ask.now.change ≡ change_asked ask.now.reservation.first }
         requires kind { asks_as (kind_in self.old) ask.now.reservation.first ≡ true }
         requires new { is_among (keys_in self.old) ask.now.reservation.key ≡ false }
         ensures batch { (asks : List Claim) → IsBatchOf asks self.old → IsBatchOf (asks ++ ask.now ∷ []) self.new }

@@ -33,4 +33,4 @@ returns-in-Asks-clause-call g c =
     c.is_uniform.ensures c.whole_call.ensures c.caller_numbers.ensures c.stays_reached.ensures h k
     (ap (λ s. s.caller.session) d.rest ∙ ap (λ s. s.caller.session) c.in-Asks.ensures.session) d.ticket (c.requires.alone _ _ _ _ h.left k.found) (c.requires.may _ h.found)
     c.requires.own.0 c.in-Asks.ensures.session d.rest d.held c.make_phase-step.ensures.session
-    d.loader (d.writer _ (λ asks. wanted_is_asked h.before.config c.args.op.now _ _ _ d.process h.made.2 asks))
+    d.loader (d.writer _ (λ asks. wanted_is_asked h.before.config c.args.op.now _ _ _ d.process h.made.2 asks)) d.types

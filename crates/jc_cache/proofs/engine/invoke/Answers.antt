@@ -27,6 +27,7 @@ returns-in-Refused-clause-call g c =
     record {
       call = refused_call _ _ _ _ c.args.session.now c.make_phase.new.session c.args.key.now Invoke c.in-Refused.refusal c.is_uniform.ensures c.caller_numbers.ensures h c.in-Refused.ensures.session c.requires.held;
       run = refl;
+      type = refl;
     }
 
 pub returns-in-Asks-clause-call : goal.returns-in-Asks-clause-call
@@ -39,7 +40,8 @@ returns-in-Asks-clause-call g c =
           c.is_uniform.ensures c.whole_call.ensures c.caller_numbers.ensures c.stays_reached.ensures h k
           (ap (λ s. s.caller.session) d.rest ∙ ap (λ s. s.caller.session) c.in-Asks.ensures.session) d.ticket (c.requires.alone _ _ _ _ h.left k.found) (c.requires.may _ h.found)
           c.requires.own.0 c.in-Asks.ensures.session d.rest d.held c.make_phase-step.ensures.session
-          d.loader (rw (c.requires.through h.before h.found) d.writer);
+          d.loader (rw (c.requires.through h.before h.found) d.writer) d.types;
       run = ran (λ b. (goal.EntryProcessor-dyn g (b.vtable, b.value)).processes b.value) (λ b. (goal.EntryProcessor-dyn g (b.vtable, b.value)).process_state b.value) h.before c.args.key.now c.in-Asks.ticket.reservation.key c.args.args.now c.in-Asks.ticket.reservation.first _ _ c.args.processor.now c.run-answered.new.processor
           h.made.2 (ap (λ (t : TicketClaim). t.reservation.key) h.made.4) d.given d.run;
+      type = d.processor_type;
     }
