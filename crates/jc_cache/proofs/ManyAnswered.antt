@@ -25,7 +25,6 @@ use Rattle.jc_model.specs.declared.event.Out.{Out}
 use Rattle.jc_model.specs.declared.event.WriteAnswer.{WriteAnswer}
 use Rattle.jc_model.specs.Group.{load_only, write_only}
 use Rattle.jc_outside.specs.CallingAll.{asked_changes, loads_done, writes_done, LoadAllRelation, LoadsAllOnce}
-use Rattle.jc_batch.specs.Changes.{changes_of}
 use Rattle.jc_outside.specs.Done.{LoadResult, WriteResult}
 use Rattle.jc_outside.specs.declared.done.Origin.{Origin}
 use Rattle.jc_outside.specs.declared.done.Origin.TheVariants.{Live}
@@ -34,7 +33,7 @@ use Rattle.jc_stripe.specs.declared.ticket.First.TheVariants.{Nobody, Loader, Wr
 use Rattle.jc_stripe.specs.Tickets.{TicketClaim, Claim, claim_of, change_asked, asks_loader, asks_writer}
 use Rattle.jc_session.specs.declared.mark.Mark.{Mark}
 use Rattle.jc_cache.specs.Outstanding.{ReservedState}
-use Rattle.jc_cache.specs.OutstandingAll.{Load, Write, asks_as, is_change_of, reserved_keys, wanted_changes, with_answers}
+use Rattle.jc_cache.specs.OutstandingAll.{Write, asks_as, reserved_keys, wanted_changes, with_answers}
 use Rattle.jc_cache.specs.OutstandingInside.{AreAnswered, AreDone, IsBatchOf, answered_calls, done_calls, keys_in, reserved_by}
 use Rattle.jc_cache.specs.declared.round.DoneValues.{DoneValues}
 use Rattle.jc_cache.specs.declared.round.DoneValues.TheVariants as values

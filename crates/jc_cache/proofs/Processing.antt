@@ -1,7 +1,7 @@
 -- What a call that runs a processor says of the processor, and when the writer's report is among its answers.
 --     ran              the processor was run once, on the entry that the first phase found
 --     reported         a call's report is there exactly if it is due
-use Rattle.std.proofs.Common.{◌≡◌, ◌&&◌, ℕ, List, Bool, true, false, cond, Option, None, Some, is_none, is_some, MatchBool, refl, sym, ◌∙◌, subst, not, ◌||◌}
+use Rattle.std.proofs.Common.{◌≡◌, ◌&&◌, ℕ, List, Bool, true, false, cond, Option, None, Some, is_none, is_some, MatchBool, refl, sym, subst, not, ◌||◌}
 use Rattle.std.specs.Bool.{beq}
 use Rattle.jc_types.specs.declared.config.Config.{Config}
 use Rattle.jc_model.specs.Cache.{Bytes, entry_at}
@@ -12,7 +12,7 @@ use Rattle.jc_model.specs.declared.event.ProcessAnswer.{ProcessAnswer}
 use Rattle.jc_model.specs.Table.{wanted_if, is_process_given}
 use Rattle.jc_outside.specs.declared.done.Origin.TheVariants.{Live}
 use Rattle.jc_outside.specs.Done.{WriteResult}
-use Rattle.jc_mutentry.specs.Done.{ProcessResult, effect_change}
+use Rattle.jc_mutentry.specs.Done.{effect_change}
 use Rattle.jc_mutentry.specs.Running.{ProcessRelation, RunsOnce}
 use Rattle.jc_stripe.specs.declared.ticket.First.{First}
 use Rattle.jc_stripe.specs.declared.ticket.Reservation.{Reservation}

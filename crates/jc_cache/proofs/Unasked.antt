@@ -3,7 +3,7 @@
 --     asks_one            a call that runs no processor asks the loader or the writer
 --     runs_processor      an `Invoke` asks its processor
 --     no_done, no_join    and it is given nothing else, unless it is refused
-use Rattle.std.proofs.Common.{◌≡◌, ◌||◌, Bool, true, false, Option, cond, refl, sym, ap, ◌∙◌}
+use Rattle.std.proofs.Common.{◌≡◌, ◌||◌, Bool, true, false, refl, sym, ap}
 use Rattle.jc_types.specs.declared.caller.Caller.{Caller}
 use Rattle.jc_model.specs.declared.event.Op.{Op}
 use Rattle.jc_model.specs.declared.event.Op.TheVariants.{Invoke}

@@ -19,7 +19,7 @@ use Rattle.jc_model.specs.Group.{nothing_said}
 use Rattle.jc_stripe.specs.declared.begun.StepDone.{StepDone}
 use Rattle.jc_stripe.specs.declared.begun.Begun.TheVariants.{Done, Asks}
 use Rattle.jc_stripe.specs.declared.ticket.First.{First}
-use Rattle.jc_stripe.specs.declared.ticket.First.TheVariants.{Nobody, Loader, Writer, Processor}
+use Rattle.jc_stripe.specs.declared.ticket.First.TheVariants.{Nobody, Processor}
 use Rattle.jc_stripe.specs.State.{State}
 use Rattle.jc_stripe.specs.Tickets.{TicketClaim, asks_writer, change_asked}
 use Rattle.jc_stripe.specs.Refusals.{first_asked, first_by, is_wanted, reserves}

@@ -290,10 +290,7 @@ fn insert_change(batch: &mut Batch, key: Key, change: Change)
 }
 
 /// Three empty vectors, each with room for `n`, of values that can't be dropped. An `Err` says that an allocation failed.
-fn three_vectors<A, B, C>(
-    alloc: Global,
-    n: usize,
-) -> Result<(Vec<A>, Vec<B>, Vec<C>), AllocError>
+fn three_vectors<A, B, C>(alloc: Global, n: usize) -> Result<(Vec<A>, Vec<B>, Vec<C>), AllocError>
     ensures first { IfOk result (λ r. (r.0.items ≡ []) × (n ≤ vec_capacity r.0)) }
     ensures second { IfOk result (λ r. (r.1.items ≡ []) × (n ≤ vec_capacity r.1)) }
     ensures third { IfOk result (λ r. (r.2.items ≡ []) × (n ≤ vec_capacity r.2)) }

@@ -7,9 +7,7 @@ mod increment;
 
 use increment::Increment;
 use indexmap::IndexSet;
-use jc_cache::{
-    Cache, CacheLoader, CacheWriter, Config, EntryProcessor, Key, Session, Value,
-};
+use jc_cache::{Cache, CacheLoader, CacheWriter, Config, EntryProcessor, Key, Session, Value};
 use jc_invoke::{invoke, invoke_all};
 use jc_store::{SharedCounts, SharedStore, Store};
 use std::alloc::Global;

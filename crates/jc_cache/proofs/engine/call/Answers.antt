@@ -1,4 +1,4 @@
-use Rattle.std.proofs.Common.{◌≡◌, ◌∙◌, sym, ap, subst, IsSome}
+use Rattle.std.proofs.Common.{◌∙◌, sym, ap, subst, IsSome}
 use Rattle.jc_stripe.specs.declared.begun.Begun.TheVariants.{Done, Asks, Refused}
 use Rattle.jc_cache.proofs.FromPhases.{by_caller, first_call, refused_call, reserved_call}
 use Rattle.jc_cache.proofs.Unasked.{asks_one}

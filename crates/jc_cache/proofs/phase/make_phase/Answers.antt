@@ -1,4 +1,4 @@
-use Rattle.std.proofs.Common.{sym, ap, ◌∙◌}
+use Rattle.std.proofs.Common.{ap}
 use Rattle.jc_session.proofs.CallerLemmas.{phase_of}
 use Rattle.jc_cache.proofs.phase.make_phase.Goals as goal
 

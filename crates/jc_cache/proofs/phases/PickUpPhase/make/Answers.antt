@@ -1,4 +1,4 @@
-use Rattle.std.proofs.Common.{inl, inr, refl}
+use Rattle.std.proofs.Common.{inr, refl}
 use Rattle.jc_cache.proofs.phases.PickUpPhase.make.Goals as goal
 
 pub returns-clause-counted : goal.returns-clause-counted

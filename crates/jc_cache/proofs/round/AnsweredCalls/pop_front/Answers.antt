@@ -1,4 +1,4 @@
-use Rattle.std.proofs.Common.{◌≡◌, ◌∷◌, reverse, sym, ap, ◌∙◌, subst}
+use Rattle.std.proofs.Common.{◌∷◌, reverse, sym, ap, ◌∙◌, subst}
 use Rattle.jc_model.specs.Group.{load_only, write_only}
 use Rattle.jc_outside.specs.Done.{LoadResult, WriteResult}
 use Rattle.jc_stripe.specs.Tickets.{Claim, asks_loader, asks_writer}

@@ -50,9 +50,12 @@ returns-in-Loads-clause-round g c =
     let r : Round = LoadAll (record { keys = reserved_keys (map reserved_by tickets); said = said }) in (
       r,
       subst (λ s. IsAskedOf s.kind s.items r) c.self.view_is (subst (λ q. IsAskedOf (kind_in q) (map reserved_by tickets) r) (sym c.in-Loads.is) refl),
-      (loads_keys (λ b. (goal.CacheLoader-dyn g (b.vtable, b.value)).loads_all b.value) (λ b. (goal.CacheLoader-dyn g (b.vtable, b.value)).load_state b.value) _ _ said _ _
-          (subst (IsBatchOf c.self.inside.asks.items) c.in-Loads.is c.self.invariant.batch ∙ ap (map (λ (a : Claim). a.reservation.key)) c.self.invariant.asks_are ∙ keys_are tickets)
-          c.ask_loader_all.ensures.loader.1, c.ask_loader_all.ensures.writer),
+      (
+        loads_keys (λ b. (goal.CacheLoader-dyn g (b.vtable, b.value)).loads_all b.value) (λ b. (goal.CacheLoader-dyn g (b.vtable, b.value)).load_state b.value) _ _ said _ _
+            (subst (IsBatchOf c.self.inside.asks.items) c.in-Loads.is c.self.invariant.batch ∙ ap (map (λ (a : Claim). a.reservation.key)) c.self.invariant.asks_are ∙ keys_are tickets)
+            c.ask_loader_all.ensures.loader.1,
+        c.ask_loader_all.ensures.writer,
+      ),
       (λ i. done_calls (λ (d : LoadResult Claim). load_only d.answer) (same i) (done i)) ∙ loaded_said said tickets ∙ ap (λ s. with_answers (answer_to r) s.items) c.self.view_is,
       refl,
     )
