@@ -1,6 +1,6 @@
 -- What a crate above needs of the phases that a session counts.
 --     phase_of    what is counted is at most one phase of the session
-use Rattle.std.proofs.Common.{◌≡◌, ◌⊎◌, inl, inr, ℕ}
+use Rattle.std.proofs.Common.{inl, inr, ℕ}
 use Rattle.jc_stripe.specs.State.{State}
 use Rattle.jc_stripe.specs.OnePhase.{IsPhaseOf}
 use Rattle.jc_session.specs.declared.counts.Counted.{Counted}
