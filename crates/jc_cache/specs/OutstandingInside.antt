@@ -1,14 +1,17 @@
 -- The insides of many calls with one call outside.
 --     room_in, kind_in    for how many more there is room, and of which kind they are
---     IsUnaskedYet        the asks' batch is theirs, in one order, and nothing is answered; there is room for the done values
+--     keys_in             the keys in the batch
+--     IsBatchOf           the batch is of these asks, in their order
+--     HasSpace            nothing is answered, and there is room for so many done values beside those of further calls
 --     IsCalls             the tickets, their asks and their batch, in one order, with room for so many more
---     IsDone              a done value answers its ticket's ask, whom its reservation asks first, and was given outside a running cache
---     AreDone             so does each, in one order
+--     AreDone             each done value answers its ticket's ask, of whom its reservation asks first, and was given in a running cache
 --     done_calls          tickets and their done values as calls that were answered
 --     AreAnswered, answered_calls      these of a loader or a writer
-use Rattle.std.specs.Prelude.{◌≡◌, ◌≤◌, ◌+◌, ℕ, List, [], ◌∷◌, map, reverse, Bool, true, vec_len, vec_capacity}
+use Rattle.std.specs.Prelude.{◌≡◌, ◌≤◌, ◌+◌, ℕ, List, [], ◌∷◌, map, reverse, Bool, true, Option, vec_len, vec_capacity}
 use Rattle.std.specs.List.{AllByRecursion}
 use Rattle.std.specs.Global.{Vec}
+use Rattle.jc_model.specs.Cache.{Bytes}
+use Rattle.jc_model.specs.declared.event.Change.{Change}
 use Rattle.jc_model.specs.declared.event.Out.{Out}
 use Rattle.jc_model.specs.Group.{load_only, write_only}
 use Rattle.jc_batch.specs.Changes.{changes_of}
@@ -46,21 +49,25 @@ abbrev pub kind_in : ToAsk → CallKind
 kind_in (ask.Loads batch done) = Load
 kind_in (ask.Writes batch done) = Write (is_delete batch)
 
-pub record IsUnanswered {D : Type 0} (asks : Vec Claim) (room : ℕ) (done : Vec D) : Type 0 where
-  pub asks_room : vec_len asks + room ≤ vec_capacity asks
-  pub done_room : vec_len asks + room ≤ vec_capacity done
-  pub done_none : done.items ≡ []
+abbrev pub keys_in : ToAsk → List Bytes
+keys_in (ask.Loads batch done) = batch.items
+keys_in (ask.Writes batch done) = map (λ (c : Bytes × Option Change). c.0) (changes_of batch)
 
-abbrev pub IsAskedIn : Vec Claim → ToAsk → Type 0
-IsAskedIn asks (ask.Loads batch done) = (batch.items ≡ map (λ (c : Claim). c.reservation.key) asks.items) × IsUnanswered asks batch.room done
-IsAskedIn asks (ask.Writes batch done) =
-    (changes_of batch ≡ asked_changes (λ (c : Claim). c.reservation.key) (λ (c : Claim). c.change) asks.items) × IsUnanswered asks (batch_room batch) done
+abbrev pub IsBatchOf : List Claim → ToAsk → Type 0
+IsBatchOf asks (ask.Loads batch done) = batch.items ≡ map (λ (c : Claim). c.reservation.key) asks
+IsBatchOf asks (ask.Writes batch done) = changes_of batch ≡ asked_changes (λ (c : Claim). c.reservation.key) (λ (c : Claim). c.change) asks
+
+abbrev pub HasSpace : ℕ → ToAsk → Type 0
+HasSpace n (ask.Loads batch done) = (n + batch.room ≤ vec_capacity done) × (done.items ≡ [])
+HasSpace n (ask.Writes batch done) = (n + batch_room batch ≤ vec_capacity done) × (done.items ≡ [])
 
 pub record IsCalls (tickets : Vec (Mark × TicketClaim)) (asks : Vec Claim) (to_ask : ToAsk) : Type 0 where
   pub asks_are : asks.items ≡ map (λ t. claim_of t.1.reservation) tickets.items
   pub kind : AllByRecursion (λ (t : Mark × TicketClaim). asks_as (kind_in to_ask) t.1.reservation.first ≡ true) tickets.items
   pub tickets_room : vec_len tickets + room_in to_ask ≤ vec_capacity tickets
-  pub batch : IsAskedIn asks to_ask
+  pub asks_room : vec_len asks + room_in to_ask ≤ vec_capacity asks
+  pub batch : IsBatchOf asks.items to_ask
+  pub space : HasSpace (vec_len asks) to_ask
 
 -- 2. Calls that were answered.
 

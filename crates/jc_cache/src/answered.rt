@@ -105,11 +105,14 @@ impl AnsweredCall {
         } = self;
         let mut ticket = ticket;
         match answered {
-            Answered::Processed(done, None) => {
+            Answered::Processed(done, report) => {
+                match report {
+                    Some(_report) => unreachable!(),
+                    None => {}
+                }
                 let report = session.ask_writer(rt, ticket.ask_writer(&done));
                 AnsweredCall::new(cache, ticket, Answered::Processed(done, Some(report)))
             }
-            Answered::Processed(_done, Some(_report)) => unreachable!(),
             Answered::Loaded(_done) => unreachable!(),
             Answered::Written(_done) => unreachable!(),
         }

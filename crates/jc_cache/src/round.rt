@@ -12,7 +12,7 @@ use crate::answered::{Answered, AnsweredCall};
 use crate::reserved::ReservedCall;
 use jc_batch::{Batch, DeleteBatch, WriteBatch};
 use jc_model::Change;
-use jc_outside::{AskWrite, LoadBatch};
+use jc_outside::{Ask as OutsideAsk, AskWrite, LoadBatch};
 use jc_session::{Mark, Session};
 use jc_stripe::{Ask, LoadDone, Ticket, WriteDone};
 use jc_types::Key;
@@ -118,12 +118,8 @@ impl Calls {
     {
         let (cache, ticket) = call.into_parts();
         let mut ticket = ticket;
-        let key = ticket.reservation().key;
         let ask = ticket.ask();
-        match &mut self.to_ask {
-            ToAsk::Loads(batch, _) => batch.insert(key),
-            ToAsk::Writes(batch, _) => insert_change(batch, key, ask.change()),
-        }
+        self.to_ask.add(&ask);
         self.asks.push_reserved(ask);
         self.tickets.push_reserved((cache, ticket));
     }
@@ -241,6 +237,31 @@ impl AnsweredCalls {
         match done {
             DoneValues::Loads(done) => done.destroy_empty(),
             DoneValues::Writes(done) => done.destroy_empty(),
+        }
+    }
+}
+
+impl ToAsk {
+    ghost use Rattle.std.specs.Prelude.{◌≡◌, ◌<◌, ◌-◌, ◌+◌, ◌++◌, ◌∷◌, [], List, ℕ, true, false};
+    ghost use Rattle.jc_model.specs.Batches.{is_among};
+    ghost use Rattle.jc_stripe.specs.Tickets.{Claim, claim_of};
+    ghost use Rattle.jc_cache.specs.OutstandingAll.{asks_as};
+    ghost use Rattle.jc_cache.specs.OutstandingInside.{HasSpace, IsBatchOf, keys_in, kind_in, room_in};
+
+    /// Adds what an ask asks for, which is of the kind that is asked here.
+    fn add(&mut self, ask: &Ask)
+        requires room { 0 < room_in self.old }
+        requires claim { ask.now ≡ claim_of ask.now.reservation }
+        requires kind { asks_as (kind_in self.old) ask.now.reservation.first ≡ true }
+        requires new { is_among (keys_in self.old) ask.now.reservation.key ≡ false }
+        ensures batch { (asks : List Claim) → IsBatchOf asks self.old → IsBatchOf (asks ++ ask.now ∷ []) self.new }
+        ensures kind { kind_in self.new ≡ kind_in self.old }
+        ensures room { room_in self.new ≡ room_in self.old - 1 }
+        ensures space { (n : ℕ) → HasSpace n self.old → HasSpace (n + 1) self.new }
+    {
+        match self {
+            ToAsk::Loads(batch, _) => batch.insert(*ask.key()),
+            ToAsk::Writes(batch, _) => insert_change(batch, *ask.key(), ask.change()),
         }
     }
 }

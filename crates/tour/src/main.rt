@@ -7,13 +7,11 @@ mod increment;
 
 use increment::Increment;
 use indexmap::IndexSet;
-use jc_cache::Cache;
+use jc_cache::{
+    Cache, CacheLoader, CacheWriter, Config, EntryProcessor, Key, Session, Value,
+};
 use jc_invoke::{invoke, invoke_all};
-use jc_mutentry::EntryProcessor;
-use jc_outside::{CacheLoader, CacheWriter};
-use jc_session::Session;
 use jc_store::{SharedCounts, SharedStore, Store};
-use jc_types::{Config, Key, Value};
 use std::alloc::Global;
 use std::sync::Wait;
 

@@ -18,7 +18,7 @@ impl Cache {
     /// `HistoryFull`, as [`Stripe::begin`](jc_stripe::Stripe::begin) says; then nothing changes. It leaves the call at its other keys
     /// as it was.
     ///
-    /// Condition: the call may begin at the key.
+    /// Conditions: the session may call the cache, and its current call may begin at the key.
     pub fn clear_at(&mut self, session: &mut Session, key: &Key) -> Result<Reply, Refusal>
         requires may { MayCall self.old session.old }
         requires key { MayCallAt self.old session.old.caller key.now }
