@@ -163,13 +163,13 @@ module _ {I J : Type 0} {D : I → Type 0} {E : J → Type 0} (loads_all : LoadA
       → t ≡ record s { counts = t.counts } → u ≡ record t { counts = u.counts; hands = u.hands }
       → ((n : Counts) → AreCounted n es 0 s.counts → AreCounted n fs (length calls) t.counts) → ((n : Counts) → AreCounted n fs (length calls) t.counts → AreCounted n gs 0 u.counts)
       → ((rounds : List Round) → IsInRounds kind rounds targets a s.caller es [] → IsInRounds kind rounds targets b s.caller fs calls)
-      → ((rounds : List Round) (ts : List (Bytes × Op)) → IsDistinct (pointwise ◌==◌) (keys_of ts) → IsInRounds rounds.kind ts b t.caller fs calls
+      → ((rounds : List Round) (ts : List (Bytes × Op)) → IsDistinct (pointwise ◌==◌) (keys_of ts) → IsInRounds calls_kind rounds ts b t.caller fs calls
       → (more : List Round)
       × CallsInRounds (boxed loads_all) (boxed load_state) (boxed writes_all) (boxed deletes_all) (boxed write_state) t.hands.outside.loader t.hands.outside.writer more u.hands.outside.loader u.hands.outside.writer × (length more ≤ 1)
       × (faults_in more ≡ cons_option returned []) × IsInRounds calls_kind (rounds ++ more) ts c t.caller gs [])
       → StayEnded es fs → StayEnded fs gs → ComesAfterAll a b → ComesAfterAll b c → LeavesCalls s.caller.session a b → LeavesCalls t.caller.session b c
       → RunsRounds loads_all load_state writes_all deletes_all write_state kind targets a s es x c u gs y
-  runs_one kind targets.kind a b c s t u es fs gs x first returned mid y calls d kind_is noted is ends begun rest counted_first counted_then rounds_first rounds_then stay_first stay_then grows_first grows_then others_first others_then =
+  runs_one kind calls_kind targets a b c s t u es fs gs x first returned mid y calls d kind_is noted is ends begun rest counted_first counted_then rounds_first rounds_then stay_first stay_then grows_first grows_then others_first others_then =
       let who : t.caller ≡ s.caller = ap (λ (v : Session I J D E). v.caller) begun in
       record {
         left = rest ∙ ap (λ (v : Session I J D E). record v { counts = u.counts; hands = u.hands }) begun;

@@ -11,7 +11,7 @@
 --     said_in         what was said of a key: in the first round that asked for it, or nothing
 --     faults_in       the faults that were returned
 --     loads_in, writes_in    the calls of the loader among them, and those of the writer
-use Rattle.std.specs.Prelude.{◌≡◌, ℕ, List, [], ◌∷◌, map, Bool, true, false, Option, if◌then◌else◌}
+use Rattle.std.specs.Prelude.{◌≡◌, ℕ, List, [], ◌∷◌, true, false, Option, if◌then◌else◌}
 use Rattle.std.specs.List.{filter_map, flat_map}
 use Rattle.jc_types.specs.declared.config.Config.{Config}
 use Rattle.jc_types.specs.declared.refusal.Refusal.{Refusal}

@@ -1,4 +1,4 @@
-use Rattle.std.proofs.Common.{false, sym, ap, ◌∙◌, refl, subst}
+use Rattle.std.proofs.Common.{false, ap, ◌∙◌, refl, subst}
 use Rattle.jc_model.specs.Batches.{is_among}
 use Rattle.jc_stripe.specs.declared.begun.Begun.TheVariants as begun
 use Rattle.jc_bulk.specs.RoundCalls.{MayAsk}

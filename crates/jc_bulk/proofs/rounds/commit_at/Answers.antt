@@ -20,7 +20,7 @@ pub unreachable-requires : goal.unreachable-requires
 unreachable-requires g c =
     let s = c.requires.so_far in
     some_left s.0 s.1 c.args.cache.now c.args.session.now.caller c.args.progress.now c.args.place c.args.calls.now s.2 s.3
-    (reserved_at c.args.progress.now c.args.place c.index-progress-place.result c.requires.place (sym c.is_reserved.ensures ∙ c.if-is_reserved.true)) c.in-None.ensures.none
+    (reserved_at c.args.progress.now c.args.place c.index-progress-place.result c.requires.place (sym c.is_reserved.ensures ∙ c.if-is_reserved.true)) c.in-None.ensures.none.0
 
 pub returns-in-Some-clause-counts : goal.returns-in-Some-clause-counts
 returns-in-Some-clause-counts g c first counted =
