@@ -9,6 +9,8 @@
 
 mod lock;
 mod rule;
+#[cfg(test)]
+mod tests;
 mod view;
 
 pub use lock::{HistLock, Seat};

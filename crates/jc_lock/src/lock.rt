@@ -96,7 +96,8 @@ impl HistLock {
         requires lock { seat.old.0 ≡ self.now }
         requires free { seat.old.1.holds ≡ false }
         ensures lock { seat.new.0 ≡ seat.old.0 }
-        ensures some { IfSome result (λ s. (seat.new.1 ≡ after_take seat.old.1 s.value) × Finds seat.old.1 s.value) }
+        ensures taken { IfSome result (λ s. seat.new.1 ≡ after_take seat.old.1 s.value) }
+        ensures found { IfSome result (λ s. Finds seat.old.1 s.value) }
         ensures reached { IfSome result (λ s. IsReached s.value) }
         ensures none { IfNone result (seat.new.1 ≡ seat.old.1) }
     {
@@ -164,7 +165,8 @@ impl HistLock {
         requires lock { seat.old.0 ≡ self.now }
         requires gives { (session : ℕ) × (seat.old.1.next_session ≡ Some session) }
         ensures lock { (seat.new.0 ≡ seat.old.0) × (result.0 ≡ self.now) }
-        ensures seats { (seat.new.1 ≡ after_split seat.old.1) × (result.1 ≡ session_view seat.old.1) }
+        ensures seat { seat.new.1 ≡ after_split seat.old.1 }
+        ensures session { result.1 ≡ session_view seat.old.1 }
     {
         let token = self.table.shared.split_seat::<NewSession>(&mut seat.token);
         Seat { token }
@@ -179,7 +181,8 @@ impl HistLock {
         requires free { other.1.holds ≡ false }
         ensures lock { seat.new.0 ≡ seat.old.0 }
         ensures seat { seat.new.1 ≡ after_join seat.old.1 other.1 }
-        ensures both { IsPrefix seat.old.1.front seat.new.1.front × IsPrefix other.1.front seat.new.1.front }
+        ensures seen { IsPrefix seat.old.1.front seat.new.1.front }
+        ensures joined { IsPrefix other.1.front seat.new.1.front }
         ensures held { seat.old.1.holds ≡ true → IsPrefix seat.new.1.front seat.old.1.noted.history }
     {
         let Seat { token } = other;
@@ -197,7 +200,8 @@ impl HistLock {
         ensures from { from.new ≡ from.old }
         ensures lock { to.new.0 ≡ to.old.0 }
         ensures to { to.new.1 ≡ after_join to.old.1 from.old.1 }
-        ensures both { IsPrefix from.old.1.front to.new.1.front × IsPrefix to.old.1.front to.new.1.front }
+        ensures seen { IsPrefix to.old.1.front to.new.1.front }
+        ensures told { IsPrefix from.old.1.front to.new.1.front }
     {
         let token = self.table.shared.split_seat::<FrontNote>(&mut from.token);
         self.join(to, Seat { token });
