@@ -24,6 +24,7 @@ pub mod Used
 pub mod ParkedSteps
 pub mod OwnPick
 pub mod Own
+pub mod OwnNumbers
 pub mod WholeCalls
 pub mod UniformParts
 pub mod Testing
