@@ -1,5 +1,5 @@
 //! Bulk calls of more keys than one round has, and of the most keys.
-use super::bulk_lines::plays_on;
+use super::lines::plays_on;
 use super::*;
 
 /// A stripe that evicts none of so many keys.
@@ -70,8 +70,8 @@ own 5186
 fn takes_the_most_keys(rt: HostRuntime) {
     let alloc = rt.alloc();
     let desk = Desk::new(&rt, alloc);
-    let loader: Loader = Some(Box::new(alloc, desk.loader(rt)).ok().expect(&rt, "memory"));
-    let writer: Writer = Some(Box::new(alloc, desk.writer(rt)).ok().expect(&rt, "memory"));
+    let loader = desk.boxed_loader(rt, alloc);
+    let writer = desk.boxed_writer(rt, alloc);
     plays_on(&rt, alloc, &wide_config(true), &desk, loader, writer, MOST);
 }
 
@@ -89,8 +89,8 @@ own 3072
 fn has_one_round_over_many_stripes(rt: HostRuntime) {
     let alloc = rt.alloc();
     let desk = Desk::new(&rt, alloc);
-    let loader: Loader = Some(Box::new(alloc, desk.loader(rt)).ok().expect(&rt, "memory"));
-    let writer: Writer = Some(Box::new(alloc, desk.writer(rt)).ok().expect(&rt, "memory"));
+    let loader = desk.boxed_loader(rt, alloc);
+    let writer = desk.boxed_writer(rt, alloc);
     let config = Config {
         stripes: 64,
         ..wide_config(true)
