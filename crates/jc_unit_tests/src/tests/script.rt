@@ -16,24 +16,32 @@ use std::process::Abort;
 // 1. Words.
 
 /// The first word, and what follows it, if anything.
-fn first_word(text: &str) -> (&str, &str) {
+pub(super) fn first_word(text: &str) -> (&str, &str) {
     text.split_once(' ').unwrap_or((text, ""))
 }
 
-fn number(word: &str) -> Option<u32> {
+pub(super) fn number(word: &str) -> Option<u32> {
     word.parse().ok()
 }
 
-fn key(word: &str) -> Option<Key> {
+pub(super) fn key(word: &str) -> Option<Key> {
     Key::new(word.as_bytes()).ok()
 }
 
-fn value(word: &str) -> Option<Value> {
+pub(super) fn value(word: &str) -> Option<Value> {
     Value::new(word.as_bytes()).ok()
 }
 
+/// The call with this number, of a session as `s1`.
+pub(super) fn caller(call: &str, session: &str) -> Option<Caller> {
+    Some(Caller {
+        session: number(session.strip_prefix('s')?)?,
+        call: u64::from(number(call)?),
+    })
+}
+
 /// The value that a word says; a dash says none.
-fn value_or_none(word: &str) -> Option<Option<Value>> {
+pub(super) fn value_or_none(word: &str) -> Option<Option<Value>> {
     if word == "-" {
         return Some(None);
     }
@@ -43,19 +51,21 @@ fn value_or_none(word: &str) -> Option<Option<Value>> {
 // 2. Steps.
 
 /// An operation, with its value if it takes one.
-fn op(name: &str, word: &str) -> Option<Op> {
+pub(super) fn op(name: &str, word: &str) -> Option<Op> {
     match name {
         "get" => Some(Op::Get),
         "contains" => Some(Op::ContainsKey),
         "put" => Some(Op::Put(value(word)?)),
         "clear" => Some(Op::Clear),
+        "remove" => Some(Op::Remove),
         "loadall" => Some(Op::LoadAll { replace: true }),
+        "invoke" => Some(Op::Invoke),
         _ => None,
     }
 }
 
 /// The outside answer, of the loader or of the writer.
-fn answer(text: &str) -> Option<Out> {
+pub(super) fn answer(text: &str) -> Option<Out> {
     let (word, rest) = first_word(text);
     match word {
         "read" => Some(Out::load_only(match value_or_none(rest)? {
@@ -69,11 +79,12 @@ fn answer(text: &str) -> Option<Out> {
     }
 }
 
-fn reply(text: &str) -> Option<Reply> {
+pub(super) fn reply(text: &str) -> Option<Reply> {
     let (word, rest) = first_word(text);
     match word {
         "LoaderFailed" => Some(Reply::Fault(Refusal::LoaderFailed(number(rest)?))),
         "WriterFailed" => Some(Reply::Fault(Refusal::WriterFailed(number(rest)?))),
+        "ProcessorFailed" => Some(Reply::Fault(Refusal::ProcessorFailed(number(rest)?))),
         "ok" => Some(Reply::Unit),
         "true" => Some(Reply::Flag(true)),
         "false" => Some(Reply::Flag(false)),
@@ -92,10 +103,7 @@ fn step(call: &str, out: Out, replied: &str) -> Option<Event> {
         None => (replied, None),
     };
     Some(Event::Step {
-        caller: Caller {
-            session: number(session.strip_prefix('s')?)?,
-            call: u64::from(number(count)?),
-        },
+        caller: caller(count, session)?,
         op: op(name, rest)?,
         key: key(word)?,
         out,
