@@ -7,10 +7,9 @@ ghost use Rattle.jc_cache.specs.Sessions.{MayCall};
 use super::answers::{Answer, answer_of, entry, first_word, key};
 use super::asking::Counting as Failing;
 use super::lines::{plays_before_store, plays_on};
-use super::scripted::Scripted;
+use super::scripted::processor_of;
 use super::*;
 use jc_invoke::invoke;
-use jc_mutentry::EntryProcessor;
 
 /// Runs a scripted processor, as the text says.
 fn invoked<R: Abort + Wait>(
@@ -24,10 +23,7 @@ fn invoked<R: Abort + Wait>(
     ensures may { MayCall cache.new session.new }
 {
     let (at, words) = first_word(text);
-    let scripted = Scripted::of(rt, words);
-    let mut processor: Box<dyn EntryProcessor + Send + Drop> = Box::new(alloc, scripted)
-        .ok()
-        .expect(rt, "memory");
+    let mut processor = processor_of(rt, alloc, words);
     entry(invoke(rt, cache, session, &key(rt, at), &mut processor, &[]))
 }
 
@@ -138,6 +134,24 @@ fn goes_on_after_a_failed_load(rt: HostRuntime) {
         writer,
         FAILED_LOADS,
     );
+}
+
+/// A processor that calls nothing asks nobody, leaves the entry as it is, and returns none. It is a step all the same.
+const SILENT: &str = "\
+invoke a nothing = - | 0 0 0
+contains a = false | 0 0 0
+put a 2 = ok | 0 1 0
+invoke a nothing = - | 0 1 0
+get a = 2 | 0 1 0
+invokeall a b: nothing | 0 1 0
+own 7
+cached a=2
+stored a=2
+";
+
+#[test]
+fn asks_nobody_for_a_processor_without_calls(rt: HostRuntime) {
+    plays_before_store(rt, rt.alloc(), &config(100, true, true), SILENT);
 }
 
 /// On a store without entries the first increment gives 1, and the second one 2, which loads nothing.

@@ -10,11 +10,10 @@ ghost use Rattle.jc_cache.specs.Sessions.{MayCall};
 use super::answers::{answer_of, entry, first_word};
 use super::lines::{plays_before_store, plays_on};
 use super::many::keys_of;
-use super::scripted::Scripted;
+use super::scripted::processor_of;
 use super::*;
 use indexmap::{IndexMap, IndexSet};
 use jc_invoke::invoke_all;
-use jc_mutentry::EntryProcessor;
 
 type Results = IndexMap<Key, Result<Value, Refusal>>;
 
@@ -30,10 +29,7 @@ fn invoked<R: Abort + Wait>(
     requires { MayCall cache.old session.old }
     ensures may { MayCall cache.new session.new }
 {
-    let scripted = Scripted::of(rt, calls);
-    let mut processor: Box<dyn EntryProcessor + Send + Drop> = Box::new(alloc, scripted)
-        .ok()
-        .expect(rt, "memory");
+    let mut processor = processor_of(rt, alloc, calls);
     invoke_all(alloc, rt, cache, session, keys, &mut processor, &[])
 }
 

@@ -5,7 +5,7 @@
 //! First whether the loader may be asked (`loading` or `alone`), the entry (`-` if it is missing) and what the loader has: a value,
 //! `-`, or `!` and a code with which it fails. Then the calls; then what each call that is made is told; then what the loader was
 //! heard to answer, the net effect, and what the processor returned. A call `fail=C` is the code with which the processor fails.
-use super::script::{number, value, value_or_none};
+use super::script::{found, number, value, value_or_none};
 use super::stripes::desk::Desk;
 use super::stripes::words::{Ran, Seen, run_with};
 use super::{is, key, shape};
@@ -38,40 +38,37 @@ alone - !6 | exists get | false - | unasked keep -
 alone 1 - | get set=7 | 1 done | unasked set=7 1
 loading 1 - | get set=2 get remove | 1 done 2 done | unasked remove 2";
 
-fn load(word: &str) -> Option<LoadAnswer> {
-    if let Some(code) = word.strip_prefix('!') {
-        return Some(LoadAnswer::Failed(number(code)?));
-    }
-    match value_or_none(word)? {
-        Some(found) => Some(LoadAnswer::Found(found)),
-        None => Some(LoadAnswer::Nothing),
+fn load(rt: &impl Abort, word: &str) -> LoadAnswer {
+    match word.strip_prefix('!') {
+        Some(code) => LoadAnswer::Failed(number(rt, code)),
+        None => found(rt, word),
     }
 }
 
-fn told(word: &str) -> Option<EntryAnswer> {
+fn told(rt: &impl Abort, word: &str) -> EntryAnswer {
     if let Some(code) = word.strip_prefix('!') {
-        return Some(EntryAnswer::Failed(number(code)?));
+        return EntryAnswer::Failed(number(rt, code));
     }
     match word {
-        "true" => Some(EntryAnswer::Present(true)),
-        "false" => Some(EntryAnswer::Present(false)),
-        "done" => Some(EntryAnswer::Done),
-        _ => Some(EntryAnswer::Value(value_or_none(word)?)),
+        "true" => EntryAnswer::Present(true),
+        "false" => EntryAnswer::Present(false),
+        "done" => EntryAnswer::Done,
+        _ => EntryAnswer::Value(value_or_none(rt, word)),
     }
 }
 
 /// What the processor did, by its net effect and what it returned.
-fn process(net: &str, returned: &str) -> Option<ProcessAnswer> {
+fn process(rt: &impl Abort, net: &str, returned: &str) -> ProcessAnswer {
     let effect = match net {
-        "failed" => return Some(ProcessAnswer::Failed(number(returned)?)),
+        "failed" => return ProcessAnswer::Failed(number(rt, returned)),
         "keep" => Effect::Keep,
         "remove" => Effect::Remove,
-        _ => Effect::Set(value(net.strip_prefix("set=")?)?),
+        _ => Effect::Set(value(rt, net.strip_prefix("set=").expect(rt, net))),
     };
-    Some(ProcessAnswer::Ended {
+    ProcessAnswer::Ended {
         effect,
-        outcome: value_or_none(returned)?,
-    })
+        outcome: value_or_none(rt, returned),
+    }
 }
 
 /// What the writer is asked for: nothing after a fault.
@@ -138,13 +135,13 @@ fn plays(rt: &impl Abort, alloc: Global, line: &str) {
     let mut parts = line.split('|');
     let mut shape = parts.next().expect(rt, line).split_whitespace();
     let is_loading = shape.next().expect(rt, line) == "loading";
-    let entry = value_or_none(shape.next().expect(rt, line)).expect(rt, line);
-    let answer = load(shape.next().expect(rt, line)).expect(rt, line);
+    let entry = value_or_none(rt, shape.next().expect(rt, line));
+    let answer = load(rt, shape.next().expect(rt, line));
     let calls = parts.next().expect(rt, line);
     let ran = run_on_entry(rt, alloc, is_loading, entry, calls, answer);
     let mut words = parts.next().expect(rt, line).split_whitespace();
-    for found in &ran.told {
-        is(rt, line, Some(*found), told(words.next().expect(rt, line)));
+    for answer in &ran.told {
+        is(rt, line, *answer, told(rt, words.next().expect(rt, line)));
     }
     is(rt, line, words.next(), None);
     let mut wanted = parts.next().expect(rt, line).split_whitespace();
@@ -160,8 +157,8 @@ fn plays(rt: &impl Abort, alloc: Global, line: &str) {
         },
     );
     let net = wanted.next().expect(rt, line);
-    let did = process(net, wanted.next().expect(rt, line));
-    is(rt, line, Some(ran.process), did);
+    let did = process(rt, net, wanted.next().expect(rt, line));
+    is(rt, line, ran.process, did);
     is(rt, line, ran.change, change(&ran.load, &ran.process));
 }
 

@@ -21,6 +21,7 @@ pub mod words;
 use super::script::{answer, caller, first_word, key, number, op};
 use super::{is, pairs};
 use desk::Desk;
+use jc_stripe::Stripe;
 use jc_types::Config;
 use std::alloc::Global;
 use std::process::Abort;
@@ -32,40 +33,33 @@ fn shape(rt: &impl Abort, line: &str) -> Config {
     Config {
         stripes: 1,
         capacity: 2,
-        history: number(history).expect(rt, line) as usize,
+        history: number(rt, history) as usize,
         read_through: options.contains("read"),
         write_through: options.contains("write"),
     }
 }
 
 /// A test of the stripe.
-fn look(rt: &impl Abort, desk: &Desk, word: &str, text: &str) -> Seen {
+fn look(rt: &impl Abort, stripe: &Stripe, word: &str, text: &str) -> bool {
+    if word == "idle" {
+        return stripe.is_idle();
+    }
     let (first, rest) = first_word(text);
     let (name, rest) = first_word(rest);
-    Seen::Flag(match word {
-        "idle" => desk.stripe.is_idle(),
-        "outside" => {
-            let op = op(first, rest).expect(rt, text);
-            desk.stripe.asks_outside(&key(name).expect(rt, text), &op)
-        }
-        "clear" => {
-            let caller = caller(first, name).expect(rt, text);
-            desk.stripe.is_clear(caller, &key(rest).expect(rt, text))
-        }
-        _ => {
-            let caller = caller(first, name).expect(rt, text);
-            desk.stripe.admits(caller, &key(rest).expect(rt, text))
-        }
-    })
+    match word {
+        "outside" => stripe.asks_outside(&key(rt, name), &op(rt, first, rest)),
+        "clear" => stripe.is_clear(caller(rt, first, name), &key(rt, rest)),
+        "admits" => stripe.admits(caller(rt, first, name), &key(rt, rest)),
+        _ => panic!(rt; "no test"),
+    }
 }
 
 fn begin(rt: &impl Abort, desk: &mut Desk, call: &str, text: &str) -> Seen {
     let (session, text) = first_word(text);
     let (name, text) = first_word(text);
     let (at, value) = first_word(text);
-    let caller = caller(call, session).expect(rt, text);
-    let key = key(at).expect(rt, text);
-    desk.begin(rt, caller, &key, &op(name, value).expect(rt, name))
+    let caller = caller(rt, call, session);
+    desk.begin(rt, caller, &key(rt, at), &op(rt, name, value))
 }
 
 fn process(rt: &impl Abort, alloc: Global, desk: &mut Desk, call: u64, text: &str) -> Seen {
@@ -79,23 +73,22 @@ fn play(rt: &impl Abort, alloc: Global, desk: &mut Desk, line: &str) {
     let (done, wanted) = line.split_once(" = ").expect(rt, line);
     let (word, text) = first_word(done);
     let (call, rest) = first_word(text);
-    let number = u64::from(number(call).unwrap_or(0));
+    let number = call.parse().unwrap_or(0);
     let found = match word {
         "begin" => begin(rt, desk, call, rest),
-        "commit" => desk.commit(rt, number, &answer(rest).expect(rt, line)),
+        "commit" => desk.commit(rt, number, &answer(rt, rest)),
         "process" => process(rt, alloc, desk, number, rest),
         "drop" => desk.withdraw(rt, number),
         "take" => desk.pick_up(rt, number),
-        _ => look(rt, desk, word, text),
+        _ => Seen::Flag(look(rt, &desk.stripe, word, text)),
     };
-    is(rt, line, Some(found), seen_of(wanted));
+    is(rt, line, found, seen_of(rt, wanted));
 }
 
 /// Plays a line so often, with the numbers from 1.
 fn play_each(rt: &impl Abort, alloc: Global, desk: &mut Desk, text: &str) {
     let (count, line) = text.split_once(": ").expect(rt, text);
-    let count = number(count).expect(rt, text);
-    for n in 1..=count {
+    for n in 1..=number(rt, count) {
         let n = format!(in alloc; "{n}").expect(rt, "memory");
         let line = line.replace(alloc, '#', n.as_str()).expect(rt, "memory");
         play(rt, alloc, desk, line.as_str());
@@ -248,7 +241,32 @@ fn plays_each_phase(rt: HostRuntime) {
     }
 }
 
-/// Its keys in byte order, after what was there; its entries, the most recently used first; its events, and its shape.
+/// Its keys in byte order, after what was there.
+fn lists_keys(rt: &impl Abort, alloc: Global, stripe: &Stripe) {
+    let (a, b) = (key(rt, "a"), key(rt, "b"));
+    let mut keys = Vec::with_capacity(alloc, 3).expect(rt, "memory");
+    keys.push_reserved(b);
+    assert!(rt; stripe.config().capacity == 2, "room");
+    stripe.keys(&mut keys);
+    is(rt, "keys", keys.as_slice(), [b, a, b].as_slice());
+}
+
+/// Its entries, the most recently used first.
+fn lists_entries(rt: &impl Abort, alloc: Global, stripe: &Stripe) {
+    let mut entries = Vec::new(alloc);
+    stripe.entries(&mut entries).expect(rt, "memory");
+    let wanted = pairs(rt, alloc, "a=1 b=1");
+    is(rt, "entries", entries.as_slice(), wanted.as_slice());
+}
+
+/// Its last event, of two.
+fn lists_events(rt: &impl Abort, alloc: Global, stripe: &Stripe) {
+    let mut events = Vec::new(alloc);
+    assert!(rt; stripe.events_len() == 2, "two events");
+    stripe.append_events(1, 2, &mut events).expect(rt, "memory");
+    is(rt, "event", events.as_slice(), [stripe.event(1)].as_slice());
+}
+
 #[test]
 fn shows_what_it_has(rt: HostRuntime) {
     let config = shape(&rt, "open 100");
@@ -257,22 +275,8 @@ fn shows_what_it_has(rt: HostRuntime) {
     play_all(&rt, rt.alloc(), &mut desk, lines);
     is(&rt, "shape", *desk.stripe.config(), config);
     is(&rt, "number", desk.stripe.number(), 0);
-    let (a, b) = (key("a").expect(&rt, "a"), key("b").expect(&rt, "b"));
-    let mut keys = Vec::with_capacity(rt.alloc(), 3).expect(&rt, "memory");
-    keys.push_reserved(b);
-    assert!(rt; desk.stripe.config().capacity == 2, "room");
-    desk.stripe.keys(&mut keys);
-    is(&rt, "keys", keys.as_slice(), [b, a, b].as_slice());
-    let mut entries = Vec::new(rt.alloc());
-    desk.stripe.entries(&mut entries).expect(&rt, "memory");
-    let wanted = pairs(&rt, rt.alloc(), "a=1 b=1");
-    is(&rt, "entries", entries.as_slice(), wanted.as_slice());
-    let mut events = Vec::new(rt.alloc());
-    assert!(rt; desk.stripe.events_len() == 2, "two events");
-    desk.stripe
-        .append_events(1, 2, &mut events)
-        .expect(&rt, "memory");
-    let event = desk.stripe.event(1);
-    is(&rt, "that event", events.as_slice(), [event].as_slice());
+    lists_keys(&rt, rt.alloc(), &desk.stripe);
+    lists_entries(&rt, rt.alloc(), &desk.stripe);
+    lists_events(&rt, rt.alloc(), &desk.stripe);
     desk.close(&rt);
 }

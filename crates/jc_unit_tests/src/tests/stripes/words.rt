@@ -52,83 +52,79 @@ impl Ran {
     }
 }
 
-fn first(text: &str) -> Option<First> {
+fn first(rt: &impl Abort, text: &str) -> First {
     let (word, rest) = first_word(text);
     match word {
-        "loader" => Some(First::Loader),
-        "write" => Some(First::Writer(Change::Write(value(rest)?))),
-        "delete" => Some(First::Writer(Change::Delete)),
+        "loader" => First::Loader,
+        "write" => First::Writer(Change::Write(value(rt, rest))),
+        "delete" => First::Writer(Change::Delete),
         "process" => {
             let (word, rest) = first_word(rest);
-            Some(First::Processor {
-                entry: value_or_none(word)?,
+            First::Processor {
+                entry: value_or_none(rt, word),
                 may_load: rest == "loading",
-            })
+            }
         }
-        _ => None,
+        _ => panic!(rt; "nobody to ask"),
     }
 }
 
-fn refusal(word: &str) -> Option<Refusal> {
+fn refusal(rt: &impl Abort, word: &str) -> Refusal {
     match word {
-        "Busy" => Some(Refusal::Busy),
-        "HistoryFull" => Some(Refusal::HistoryFull),
-        "TooManyInFlight" => Some(Refusal::TooManyInFlight),
-        "TooManyJoiners" => Some(Refusal::TooManyJoiners),
-        _ => None,
+        "Busy" => Refusal::Busy,
+        "HistoryFull" => Refusal::HistoryFull,
+        "TooManyInFlight" => Refusal::TooManyInFlight,
+        "TooManyJoiners" => Refusal::TooManyJoiners,
+        _ => panic!(rt; "no refusal"),
     }
 }
 
 /// A reply, its place, and that of the load that it shares, if it does.
-fn step(text: &str) -> Option<Seen> {
-    let (replied, place) = text.split_once(" at ")?;
-    let replied = reply(replied)?;
+fn step(rt: &impl Abort, text: &str) -> Seen {
+    let (replied, place) = text.split_once(" at ").expect(rt, text);
+    let replied = reply(rt, replied);
     match place.split_once(" shared ") {
-        Some((place, load)) => Some(Seen::Shared(replied, number(place)?, number(load)?)),
-        None => Some(Seen::Step(replied, number(place)?)),
+        Some((place, load)) => Seen::Shared(replied, number(rt, place), number(rt, load)),
+        None => Seen::Step(replied, number(rt, place)),
     }
 }
 
 /// What a text says is seen.
-pub fn seen_of(text: &str) -> Option<Seen> {
+pub fn seen_of(rt: &impl Abort, text: &str) -> Seen {
     let (word, rest) = first_word(text);
     match word {
-        "asks" => Some(Seen::Asks(first(rest)?)),
-        "joins" => Some(Seen::Joins(u64::from(number(rest)?))),
-        "refused" => Some(Seen::Refused(refusal(rest)?)),
-        "dropped" => Some(Seen::Dropped),
-        "waits" => Some(Seen::Waits),
-        "again" => Some(Seen::Again),
-        "yes" => Some(Seen::Flag(true)),
-        "no" => Some(Seen::Flag(false)),
-        _ => step(text),
+        "asks" => Seen::Asks(first(rt, rest)),
+        "joins" => Seen::Joins(u64::from(number(rt, rest))),
+        "refused" => Seen::Refused(refusal(rt, rest)),
+        "dropped" => Seen::Dropped,
+        "waits" => Seen::Waits,
+        "again" => Seen::Again,
+        "yes" => Seen::Flag(true),
+        "no" => Seen::Flag(false),
+        _ => step(rt, text),
     }
 }
 
-fn entry_call(word: &str) -> Option<EntryCall> {
+fn entry_call(rt: &impl Abort, word: &str) -> EntryCall {
     match word {
-        "get" => Some(EntryCall::GetValue),
-        "exists" => Some(EntryCall::Exists),
-        "remove" => Some(EntryCall::Remove),
-        _ => Some(EntryCall::SetValue(value(word.strip_prefix("set=")?)?)),
+        "get" => EntryCall::GetValue,
+        "exists" => EntryCall::Exists,
+        "remove" => EntryCall::Remove,
+        _ => EntryCall::SetValue(value(rt, word.strip_prefix("set=").expect(rt, word))),
     }
 }
 
 /// A run with the calls that a text says, as `get set=1`, and `fail=3` if the processor fails. The loader, if it is asked, has this
 /// answer, and the writer too.
 pub fn run_with(rt: &impl Abort, alloc: Global, text: &str, out: &Out) -> Run {
-    let (mut calls, mut fail) = (Vec::new(alloc), None);
-    for word in text.split_whitespace() {
-        match word.strip_prefix("fail=") {
-            Some(code) => fail = number(code),
-            None => calls
-                .push(entry_call(word).expect(rt, word))
-                .expect(rt, "memory"),
-        }
+    let (calls_said, fail) = text.split_once("fail=").unwrap_or((text, ""));
+    let mut calls = Vec::new(alloc);
+    for word in calls_said.split_whitespace() {
+        calls.push(entry_call(rt, word)).expect(rt, "memory");
     }
     Run {
         calls,
-        fail,
+        fail: fail.trim().parse().ok(),
         load: out.load,
         write: out.write,
     }
@@ -137,7 +133,9 @@ pub fn run_with(rt: &impl Abort, alloc: Global, text: &str, out: &Out) -> Run {
 /// How a text says that a processor is run: its calls, and after `, ` what the writer answers. The loader finds nothing.
 pub fn run_of(rt: &impl Abort, alloc: Global, text: &str) -> Run {
     let (calls, said) = text.split_once(", ").unwrap_or((text, "apply"));
-    let mut out = answer(said).expect(rt, said);
-    out.load = LoadAnswer::Nothing;
+    let out = Out {
+        load: LoadAnswer::Nothing,
+        ..answer(rt, said)
+    };
     run_with(rt, alloc, calls, &out)
 }
