@@ -10,13 +10,13 @@ mod answers;
 mod asking;
 mod asking_all;
 mod bulk;
-mod bulk_lines;
 mod bytes;
 mod calls;
 mod histories;
 mod invoking;
 mod invoking_all;
 mod limits;
+mod lines;
 mod many;
 mod many_rounds;
 mod outside;
@@ -108,6 +108,24 @@ impl Desk {
     fn writer<R: Abort + Wait + Drop + Copy>(&self, rt: R) -> Counting<StoreWriter<R>, R> {
         let writer = self.store.writer(rt).expect(&rt, "memory");
         self.counts.counting(rt, writer).expect(&rt, "memory")
+    }
+
+    /// A session's loader from the store, which counts its calls.
+    fn boxed_loader<R: Abort + Wait + Drop + Copy + Send + 'static>(
+        &self,
+        rt: R,
+        alloc: Global,
+    ) -> Loader {
+        Some(Box::new(alloc, self.loader(rt)).ok().expect(&rt, "memory"))
+    }
+
+    /// A session's writer to the store, which counts its calls.
+    fn boxed_writer<R: Abort + Wait + Drop + Copy + Send + 'static>(
+        &self,
+        rt: R,
+        alloc: Global,
+    ) -> Writer {
+        Some(Box::new(alloc, self.writer(rt)).ok().expect(&rt, "memory"))
     }
 
     /// Makes the call that a line says. It is to answer what the line says, and the counts are to be these afterwards.

@@ -93,26 +93,21 @@ impl CacheWriter for Counting {
     }
 }
 
-/// What a call asks, and what is left of it.
+/// What a call asks.
 pub struct Question {
     pub key: Key,
     pub change: Change,
 }
 
 impl Ask for Question {
-    type Receipt = Key;
-
     ghost key = { λ q. q.key };
-
-    ghost receipt = { λ q. q.key };
 
     fn key(&self) -> &Key {
         &self.key
     }
 
-    fn into_receipt(self) -> Key {
-        let Question { key, change: _ } = self;
-        key
+    fn spend(self) {
+        let Question { key: _, change: _ } = self;
     }
 }
 
@@ -138,9 +133,7 @@ fn load<R: Abort + Wait>(rt: &R, hands: &mut Hands<Outside>, byte: u8, want: Loa
     ensures { hands.new.held ≡ 0 }
 {
     let ask = about(rt, byte, Change::Delete);
-    let (receipt, answer) = call_loader(rt, hands, ask).into_parts();
-    is(rt, receipt, key(rt, byte));
-    is(rt, answer, want);
+    is(rt, call_loader(rt, hands, ask).into_answer(), want);
 }
 
 fn write<R: Abort + Wait>(
@@ -156,9 +149,7 @@ fn write<R: Abort + Wait>(
     ensures writer { IsSome hands.new.outside.writer }
 {
     let ask = about(rt, byte, change);
-    let (receipt, answer) = call_writer(rt, hands, ask).into_parts();
-    is(rt, receipt, key(rt, byte));
-    is(rt, answer, want);
+    is(rt, call_writer(rt, hands, ask).into_answer(), want);
 }
 
 #[test]
@@ -231,13 +222,11 @@ fn counts_what_is_held(rt: HostRuntime) {
 #[test]
 fn plays_what_it_is_given(rt: HostRuntime) {
     let ask = about(&rt, b'a', Change::Delete);
-    let (receipt, answer) = played_load(ask, LoadAnswer::Failed(u32::MAX)).into_parts();
-    is(&rt, receipt, key(&rt, b'a'));
-    is(&rt, answer, LoadAnswer::Failed(u32::MAX));
+    let failed = LoadAnswer::Failed(u32::MAX);
+    is(&rt, played_load(ask, failed).into_answer(), failed);
     let ask = about(&rt, b'b', Change::Delete);
-    let (receipt, answer) = played_write(ask, WriteAnswer::Done).into_parts();
-    is(&rt, receipt, key(&rt, b'b'));
-    is(&rt, answer, WriteAnswer::Done);
+    let done = played_write(ask, WriteAnswer::Done);
+    is(&rt, done.into_answer(), WriteAnswer::Done);
 }
 
 /// Hears the calls of a loader and a writer for many keys, and keeps the last refusal.

@@ -21,19 +21,15 @@ fn about(key: Key, change: Change) -> Question
 }
 
 /// The answer that comes last.
-fn was_loaded(rt: &impl Abort, done: &mut Vec<LoadDone<Question>>, key: Key, want: LoadAnswer) {
+fn was_loaded(rt: &impl Abort, done: &mut Vec<LoadDone<Question>>, want: LoadAnswer) {
     let one = done.pop().expect(rt, "a done value");
-    let (receipt, answer) = one.into_parts();
-    is(rt, receipt, key);
-    is(rt, answer, want);
+    is(rt, one.into_answer(), want);
 }
 
 /// The answer that comes last.
-fn was_written(rt: &impl Abort, done: &mut Vec<WriteDone<Question>>, key: Key, want: WriteAnswer) {
+fn was_written(rt: &impl Abort, done: &mut Vec<WriteDone<Question>>, want: WriteAnswer) {
     let one = done.pop().expect(rt, "a done value");
-    let (receipt, answer) = one.into_parts();
-    is(rt, receipt, key);
-    is(rt, answer, want);
+    is(rt, one.into_answer(), want);
 }
 
 #[test]
@@ -55,8 +51,8 @@ fn calls_the_loader_once_for_all(rt: HostRuntime) {
     asks.push_reserved(about(a, Change::Delete));
     batch.insert(a);
     call_loader_all(&rt, &mut hands, asks, batch, &mut done);
-    was_loaded(&rt, &mut done, a, LoadAnswer::Found(value(&rt, 2)));
-    was_loaded(&rt, &mut done, none, LoadAnswer::Nothing);
+    was_loaded(&rt, &mut done, LoadAnswer::Found(value(&rt, 2)));
+    was_loaded(&rt, &mut done, LoadAnswer::Nothing);
     assert!(rt; done.is_empty());
     done.destroy_empty();
     let mut done = Vec::with_capacity(alloc, 2).expect(&rt, "memory");
@@ -68,8 +64,8 @@ fn calls_the_loader_once_for_all(rt: HostRuntime) {
     batch.insert(fails);
     is(&rt, batch.len(), 2);
     call_loader_all(&rt, &mut hands, asks, batch, &mut done);
-    was_loaded(&rt, &mut done, fails, LoadAnswer::Failed(4));
-    was_loaded(&rt, &mut done, a, LoadAnswer::Failed(4));
+    was_loaded(&rt, &mut done, LoadAnswer::Failed(4));
+    was_loaded(&rt, &mut done, LoadAnswer::Failed(4));
     assert!(rt; done.is_empty());
     done.destroy_empty();
 }
@@ -88,7 +84,7 @@ fn finds_nothing_without_a_loader(rt: HostRuntime) {
     asks.push_reserved(about(a, Change::Delete));
     batch.insert(a);
     call_loader_all(&rt, &mut nobody, asks, batch, &mut done);
-    was_loaded(&rt, &mut done, a, LoadAnswer::Nothing);
+    was_loaded(&rt, &mut done, LoadAnswer::Nothing);
     assert!(rt; done.is_empty());
     done.destroy_empty();
 }
@@ -115,8 +111,8 @@ fn calls_the_writer_once_for_all(rt: HostRuntime) {
     batch.insert(b, v);
     let returned = call_writer_all(&rt, &mut hands, asks, Batch::Writes(batch), &mut done);
     is(&rt, returned, Ok(()));
-    was_written(&rt, &mut done, b, WriteAnswer::Done);
-    was_written(&rt, &mut done, a, WriteAnswer::Failed(0));
+    was_written(&rt, &mut done, WriteAnswer::Done);
+    was_written(&rt, &mut done, WriteAnswer::Failed(0));
     assert!(rt; done.is_empty());
     done.destroy_empty();
 }
@@ -161,8 +157,8 @@ fn deletes_in_one_call(rt: HostRuntime) {
     batch.insert(b);
     let returned = call_writer_all(&rt, &mut hands, asks, Batch::Deletes(batch), &mut done);
     is(&rt, returned, Ok(()));
-    was_written(&rt, &mut done, b, WriteAnswer::Done);
-    was_written(&rt, &mut done, a, WriteAnswer::Failed(0));
+    was_written(&rt, &mut done, WriteAnswer::Done);
+    was_written(&rt, &mut done, WriteAnswer::Failed(0));
     assert!(rt; done.is_empty());
     done.destroy_empty();
 }

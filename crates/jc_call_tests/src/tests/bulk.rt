@@ -1,6 +1,6 @@
 //! Bulk calls one after the other on one cache, before a store whose calls are counted.
 use super::asking::Counting;
-use super::bulk_lines::plays_on;
+use super::lines::plays_on;
 use super::many::keys_of;
 use super::*;
 use jc_bulk::get_all;
@@ -53,8 +53,8 @@ own 26
 fn calls_one_after_the_other(rt: HostRuntime) {
     let alloc = rt.alloc();
     let desk = Desk::new(&rt, alloc);
-    let loader: Loader = Some(Box::new(alloc, desk.loader(rt)).ok().expect(&rt, "memory"));
-    let writer: Writer = Some(Box::new(alloc, desk.writer(rt)).ok().expect(&rt, "memory"));
+    let loader = desk.boxed_loader(rt, alloc);
+    let writer = desk.boxed_writer(rt, alloc);
     let config = Config {
         stripes: 2,
         ..config(100, true, true)

@@ -1,167 +1,132 @@
 //! Each of the eleven calls, on a key that is cached and on one that isn't, with either option on and off.
+use super::lines::{plays_before_store, plays_on};
 use super::*;
 
 /// A day of one session: each call asks the loader and the writer exactly where the operation table says so.
+const DAY: &str = "\
+get a = 1 | 1 0 0
+get a = 1 | 1 0 0
+put b 2 = ok | 1 1 0
+remove c = false | 1 1 1
+contains d = false | 1 1 1
+replace b 3 = true | 1 2 1
+putif b 9 = false | 1 2 1
+getremove b = 3 | 1 2 2
+removeif a 5 = false | 1 2 2
+own 9
+stored a=1
+";
+
 #[test]
 fn asks_as_the_table_says(rt: HostRuntime) {
-    let alloc = rt.alloc();
-    let desk = Desk::new(&rt, alloc);
-    let mut cache = opened(&rt, alloc, &config(100, true, true));
-    let loader: Loader = Some(Box::new(alloc, desk.loader(rt)).ok().expect(&rt, "memory"));
-    let writer: Writer = Some(Box::new(alloc, desk.writer(rt)).ok().expect(&rt, "memory"));
-    let mut session = started(&rt, &mut cache, loader, writer);
-    desk.call(&rt, &mut cache, &mut session, "get a = 1 | 1 0 0");
-    desk.call(&rt, &mut cache, &mut session, "get a = 1 | 1 0 0");
-    desk.call(&rt, &mut cache, &mut session, "put b 2 = ok | 1 1 0");
-    desk.call(&rt, &mut cache, &mut session, "remove c = false | 1 1 1");
-    desk.call(&rt, &mut cache, &mut session, "contains d = false | 1 1 1");
-    desk.call(&rt, &mut cache, &mut session, "replace b 3 = true | 1 2 1");
-    desk.call(&rt, &mut cache, &mut session, "putif b 9 = false | 1 2 1");
-    desk.call(&rt, &mut cache, &mut session, "getremove b = 3 | 1 2 2");
-    desk.call(
-        &rt,
-        &mut cache,
-        &mut session,
-        "removeif a 5 = false | 1 2 2",
-    );
-    is(&rt, session.own(), 9);
-    desk.holds(&rt, alloc, "a=1");
+    plays_before_store(rt, rt.alloc(), &config(100, true, true), DAY);
 }
 
 /// On keys that aren't cached. Only `get` loads, and a `remove` asks for a delete all the same.
+const MISSING: &str = "\
+contains a = false | 0 0 0
+replace a 5 = false | 0 0 0
+replaceif a 1 5 = false | 0 0 0
+getreplace a 5 = - | 0 0 0
+removeif a 1 = false | 0 0 0
+getremove b = - | 0 0 1
+remove b = false | 0 0 2
+get b = - | 1 0 2
+get b = - | 2 0 2
+getput c 3 = - | 2 1 2
+putif d 4 = true | 2 2 2
+put e 5 = ok | 2 3 2
+own 12
+stored a=1 c=3 d=4 e=5
+";
+
 #[test]
 fn finds_nothing_cached(rt: HostRuntime) {
-    let alloc = rt.alloc();
-    let desk = Desk::new(&rt, alloc);
-    let mut cache = opened(&rt, alloc, &config(100, true, true));
-    let loader: Loader = Some(Box::new(alloc, desk.loader(rt)).ok().expect(&rt, "memory"));
-    let writer: Writer = Some(Box::new(alloc, desk.writer(rt)).ok().expect(&rt, "memory"));
-    let mut session = started(&rt, &mut cache, loader, writer);
-    desk.call(&rt, &mut cache, &mut session, "contains a = false | 0 0 0");
-    desk.call(&rt, &mut cache, &mut session, "replace a 5 = false | 0 0 0");
-    desk.call(
-        &rt,
-        &mut cache,
-        &mut session,
-        "replaceif a 1 5 = false | 0 0 0",
-    );
-    desk.call(&rt, &mut cache, &mut session, "getreplace a 5 = - | 0 0 0");
-    desk.call(
-        &rt,
-        &mut cache,
-        &mut session,
-        "removeif a 1 = false | 0 0 0",
-    );
-    desk.call(&rt, &mut cache, &mut session, "getremove b = - | 0 0 1");
-    desk.call(&rt, &mut cache, &mut session, "remove b = false | 0 0 2");
-    desk.call(&rt, &mut cache, &mut session, "get b = - | 1 0 2");
-    desk.call(&rt, &mut cache, &mut session, "get b = - | 2 0 2");
-    desk.call(&rt, &mut cache, &mut session, "getput c 3 = - | 2 1 2");
-    desk.call(&rt, &mut cache, &mut session, "putif d 4 = true | 2 2 2");
-    desk.call(&rt, &mut cache, &mut session, "put e 5 = ok | 2 3 2");
-    is(&rt, session.own(), 12);
-    desk.holds(&rt, alloc, "a=1 c=3 d=4 e=5");
+    plays_before_store(rt, rt.alloc(), &config(100, true, true), MISSING);
 }
 
 /// On keys that are cached: nobody is asked to load.
+const CACHED: &str = "\
+put b 1 = ok | 0 1 0
+get b = 1 | 0 1 0
+contains b = true | 0 1 0
+getput b 2 = 1 | 0 2 0
+putif b 9 = false | 0 2 0
+replace b 3 = true | 0 3 0
+replaceif b 9 4 = false | 0 3 0
+replaceif b 3 4 = true | 0 4 0
+getreplace b 5 = 4 | 0 5 0
+removeif b 9 = false | 0 5 0
+removeif b 5 = true | 0 5 1
+put b 6 = ok | 0 6 1
+getremove b = 6 | 0 6 2
+put b 7 = ok | 0 7 2
+remove b = true | 0 7 3
+own 15
+stored a=1
+";
+
 #[test]
 fn finds_an_entry(rt: HostRuntime) {
-    let alloc = rt.alloc();
-    let desk = Desk::new(&rt, alloc);
-    let mut cache = opened(&rt, alloc, &config(100, true, true));
-    let loader: Loader = Some(Box::new(alloc, desk.loader(rt)).ok().expect(&rt, "memory"));
-    let writer: Writer = Some(Box::new(alloc, desk.writer(rt)).ok().expect(&rt, "memory"));
-    let mut session = started(&rt, &mut cache, loader, writer);
-    desk.call(&rt, &mut cache, &mut session, "put b 1 = ok | 0 1 0");
-    desk.call(&rt, &mut cache, &mut session, "get b = 1 | 0 1 0");
-    desk.call(&rt, &mut cache, &mut session, "contains b = true | 0 1 0");
-    desk.call(&rt, &mut cache, &mut session, "getput b 2 = 1 | 0 2 0");
-    desk.call(&rt, &mut cache, &mut session, "putif b 9 = false | 0 2 0");
-    desk.call(&rt, &mut cache, &mut session, "replace b 3 = true | 0 3 0");
-    desk.call(
-        &rt,
-        &mut cache,
-        &mut session,
-        "replaceif b 9 4 = false | 0 3 0",
-    );
-    desk.call(
-        &rt,
-        &mut cache,
-        &mut session,
-        "replaceif b 3 4 = true | 0 4 0",
-    );
-    desk.call(&rt, &mut cache, &mut session, "getreplace b 5 = 4 | 0 5 0");
-    desk.call(
-        &rt,
-        &mut cache,
-        &mut session,
-        "removeif b 9 = false | 0 5 0",
-    );
-    desk.call(&rt, &mut cache, &mut session, "removeif b 5 = true | 0 5 1");
-    desk.call(&rt, &mut cache, &mut session, "put b 6 = ok | 0 6 1");
-    desk.call(&rt, &mut cache, &mut session, "getremove b = 6 | 0 6 2");
-    desk.call(&rt, &mut cache, &mut session, "put b 7 = ok | 0 7 2");
-    desk.call(&rt, &mut cache, &mut session, "remove b = true | 0 7 3");
-    is(&rt, session.own(), 15);
-    desk.holds(&rt, alloc, "a=1");
+    plays_before_store(rt, rt.alloc(), &config(100, true, true), CACHED);
 }
 
 /// With both options off nobody is asked, and the store stays as it was.
+const ALONE: &str = "\
+get a = - | 0 0 0
+put a 2 = ok | 0 0 0
+get a = 2 | 0 0 0
+getput a 3 = 2 | 0 0 0
+replaceif a 3 4 = true | 0 0 0
+getreplace a 5 = 4 | 0 0 0
+removeif a 5 = true | 0 0 0
+putif a 6 = true | 0 0 0
+replace a 7 = true | 0 0 0
+getremove a = 7 | 0 0 0
+remove a = false | 0 0 0
+contains a = false | 0 0 0
+own 12
+stored a=1
+";
+
 #[test]
 fn asks_nobody(rt: HostRuntime) {
-    let alloc = rt.alloc();
-    let desk = Desk::new(&rt, alloc);
-    let mut cache = opened(&rt, alloc, &config(100, false, false));
-    let mut session = started(&rt, &mut cache, None, None);
-    desk.call(&rt, &mut cache, &mut session, "get a = - | 0 0 0");
-    desk.call(&rt, &mut cache, &mut session, "put a 2 = ok | 0 0 0");
-    desk.call(&rt, &mut cache, &mut session, "get a = 2 | 0 0 0");
-    desk.call(&rt, &mut cache, &mut session, "getput a 3 = 2 | 0 0 0");
-    desk.call(
+    let desk = Desk::new(&rt, rt.alloc());
+    plays_on(
         &rt,
-        &mut cache,
-        &mut session,
-        "replaceif a 3 4 = true | 0 0 0",
+        rt.alloc(),
+        &config(100, false, false),
+        &desk,
+        None,
+        None,
+        ALONE,
     );
-    desk.call(&rt, &mut cache, &mut session, "getreplace a 5 = 4 | 0 0 0");
-    desk.call(&rt, &mut cache, &mut session, "removeif a 5 = true | 0 0 0");
-    desk.call(&rt, &mut cache, &mut session, "putif a 6 = true | 0 0 0");
-    desk.call(&rt, &mut cache, &mut session, "replace a 7 = true | 0 0 0");
-    desk.call(&rt, &mut cache, &mut session, "getremove a = 7 | 0 0 0");
-    desk.call(&rt, &mut cache, &mut session, "remove a = false | 0 0 0");
-    desk.call(&rt, &mut cache, &mut session, "contains a = false | 0 0 0");
-    is(&rt, session.own(), 12);
-    desk.holds(&rt, alloc, "a=1");
 }
 
 /// With read-through alone a get loads, and no mutation is written.
+const READS: &str = "\
+get a = 1 | 1 0 0
+put a 2 = ok | 1 0 0
+remove a = true | 1 0 0
+get a = 1 | 2 0 0
+stored a=1
+";
+
 #[test]
 fn reads_through_alone(rt: HostRuntime) {
-    let alloc = rt.alloc();
-    let desk = Desk::new(&rt, alloc);
-    let mut cache = opened(&rt, alloc, &config(100, true, false));
-    let loader: Loader = Some(Box::new(alloc, desk.loader(rt)).ok().expect(&rt, "memory"));
-    let writer: Writer = Some(Box::new(alloc, desk.writer(rt)).ok().expect(&rt, "memory"));
-    let mut session = started(&rt, &mut cache, loader, writer);
-    desk.call(&rt, &mut cache, &mut session, "get a = 1 | 1 0 0");
-    desk.call(&rt, &mut cache, &mut session, "put a 2 = ok | 1 0 0");
-    desk.call(&rt, &mut cache, &mut session, "remove a = true | 1 0 0");
-    desk.call(&rt, &mut cache, &mut session, "get a = 1 | 2 0 0");
-    desk.holds(&rt, alloc, "a=1");
+    plays_before_store(rt, rt.alloc(), &config(100, true, false), READS);
 }
 
 /// With write-through alone each mutation is written, and a get of a missing key finds none.
+const WRITES: &str = "\
+get a = - | 0 0 0
+putif a 2 = true | 0 1 0
+get a = 2 | 0 1 0
+remove a = true | 0 1 1
+stored
+";
+
 #[test]
 fn writes_through_alone(rt: HostRuntime) {
-    let alloc = rt.alloc();
-    let desk = Desk::new(&rt, alloc);
-    let mut cache = opened(&rt, alloc, &config(100, false, true));
-    let loader: Loader = Some(Box::new(alloc, desk.loader(rt)).ok().expect(&rt, "memory"));
-    let writer: Writer = Some(Box::new(alloc, desk.writer(rt)).ok().expect(&rt, "memory"));
-    let mut session = started(&rt, &mut cache, loader, writer);
-    desk.call(&rt, &mut cache, &mut session, "get a = - | 0 0 0");
-    desk.call(&rt, &mut cache, &mut session, "putif a 2 = true | 0 1 0");
-    desk.call(&rt, &mut cache, &mut session, "get a = 2 | 0 1 0");
-    desk.call(&rt, &mut cache, &mut session, "remove a = true | 0 1 1");
-    desk.holds(&rt, alloc, "");
+    plays_before_store(rt, rt.alloc(), &config(100, false, true), WRITES);
 }

@@ -35,8 +35,15 @@ fn step(event: &Event) -> Option<(Caller, LoadAnswer)> {
     }
 }
 
-/// Two sessions, one of which loads another value each time. The history is legal, and says whose call each step is of, by its
-/// number, and what was loaded.
+const CALLS: &str = "\
+get a = 1 | 0 0 0
+remove a = true | 0 0 0
+get a = 2 | 0 0 0
+get a = 2 | 0 0 0
+";
+
+/// A session that loads another value each time. The history is legal, and says whose call each step is of, by its number, and what
+/// was loaded.
 #[test]
 fn says_who_called_and_what_was_loaded(rt: HostRuntime) {
     let alloc = rt.alloc();
@@ -49,10 +56,7 @@ fn says_who_called_and_what_was_loaded(rt: HostRuntime) {
             .expect(&rt, "memory"),
     );
     let mut session = started(&rt, &mut cache, loader, None);
-    desk.call(&rt, &mut cache, &mut session, "get a = 1 | 0 0 0");
-    desk.call(&rt, &mut cache, &mut session, "remove a = true | 0 0 0");
-    desk.call(&rt, &mut cache, &mut session, "get a = 2 | 0 0 0");
-    desk.call(&rt, &mut cache, &mut session, "get a = 2 | 0 0 0");
+    desk.plays(&rt, alloc, &mut cache, &mut session, CALLS);
     let events = events(alloc, &cache, 0).expect(&rt, "memory");
     assert!(rt; legal(alloc, &config, &[], &events).expect(&rt, "memory"));
     let steps = [

@@ -1,15 +1,15 @@
 //! Entry processors in whole calls, before a store whose calls are counted. A line says the key, the processor's calls, what the
 //! call is to answer, and how often, by then, the loader was called, and the writer to write and to delete.
 //!
-//!     a get set=2 get = 2 | 1 1 0
+//!     invoke a get set=2 get = 2 | 1 1 0
 ghost use Rattle.jc_cache.specs.Sessions.{MayCall};
 
 use super::answers::{Answer, answer_of, entry, first_word, key};
 use super::asking::Counting as Failing;
-use super::scripted::Scripted;
+use super::lines::{plays_before_store, plays_on};
+use super::scripted::processor_of;
 use super::*;
 use jc_invoke::invoke;
-use jc_mutentry::EntryProcessor;
 
 /// Runs a scripted processor, as the text says.
 fn invoked<R: Abort + Wait>(
@@ -23,16 +23,13 @@ fn invoked<R: Abort + Wait>(
     ensures may { MayCall cache.new session.new }
 {
     let (at, words) = first_word(text);
-    let scripted = Scripted::of(rt, words);
-    let mut processor: Box<dyn EntryProcessor + Send + Drop> = Box::new(alloc, scripted)
-        .ok()
-        .expect(rt, "memory");
+    let mut processor = processor_of(rt, alloc, words);
     entry(invoke(rt, cache, session, &key(rt, at), &mut processor, &[]))
 }
 
 impl Desk {
     /// Runs the processor that a line says. The call is to answer what the line says, and the counts are to be these afterwards.
-    fn invoke<R: Abort + Wait>(
+    pub(super) fn invoke<R: Abort + Wait>(
         &self,
         rt: &R,
         alloc: Global,
@@ -55,135 +52,128 @@ impl Desk {
 }
 
 /// The sequences of JSR 107's integration section, on keys that are missing and then on the same keys: one load, one write.
+const NET_EFFECTS: &str = "\
+invoke a get set=2 get set=3 = 2 | 1 1 0
+invoke a get set=4 get set=5 = 4 | 1 2 0
+invoke b get remove get set=5 = - | 2 3 0
+invoke b get remove get set=6 = - | 2 4 0
+stored a=5 b=6
+invoke b get = 6 | 2 4 0
+invoke c exists = - | 2 4 0
+invoke c remove = - | 2 4 1
+invoke b get set=7 remove = 6 | 2 4 2
+own 8
+stored a=5
+";
+
 #[test]
 fn writes_the_net_effect(rt: HostRuntime) {
-    let alloc = rt.alloc();
-    let desk = Desk::new(&rt, alloc);
-    let mut cache = opened(&rt, alloc, &config(100, true, true));
-    let loader: Loader = Some(Box::new(alloc, desk.loader(rt)).ok().expect(&rt, "memory"));
-    let writer: Writer = Some(Box::new(alloc, desk.writer(rt)).ok().expect(&rt, "memory"));
-    let mut session = started(&rt, &mut cache, loader, writer);
-    let (cache, session) = (&mut cache, &mut session);
-    desk.invoke(
-        &rt,
-        alloc,
-        cache,
-        session,
-        "a get set=2 get set=3 = 2 | 1 1 0",
-    );
-    desk.invoke(
-        &rt,
-        alloc,
-        cache,
-        session,
-        "a get set=4 get set=5 = 4 | 1 2 0",
-    );
-    desk.invoke(
-        &rt,
-        alloc,
-        cache,
-        session,
-        "b get remove get set=5 = - | 2 3 0",
-    );
-    desk.invoke(
-        &rt,
-        alloc,
-        cache,
-        session,
-        "b get remove get set=6 = - | 2 4 0",
-    );
-    desk.holds(&rt, alloc, "a=5 b=6");
-    desk.invoke(&rt, alloc, cache, session, "b get = 6 | 2 4 0");
-    desk.invoke(&rt, alloc, cache, session, "c exists = - | 2 4 0");
-    desk.invoke(&rt, alloc, cache, session, "c remove = - | 2 4 1");
-    desk.invoke(&rt, alloc, cache, session, "b get set=7 remove = 6 | 2 4 2");
-    is(&rt, session.own(), 8);
-    desk.holds(&rt, alloc, "a=5");
+    plays_before_store(rt, rt.alloc(), &config(100, true, true), NET_EFFECTS);
 }
 
 /// A processor that sets and fails leaves nothing, also of a value that was loaded for it.
+const FAILED: &str = "\
+invoke a get set=6 fail=3 = ProcessorFailed 3 | 1 0 0
+contains a = false | 1 0 0
+put b 1 = ok | 1 1 0
+invoke b remove fail=4 = ProcessorFailed 4 | 1 1 0
+get b = 1 | 1 1 0
+stored a=1 b=1
+";
+
 #[test]
 fn leaves_nothing_of_a_failed_processor(rt: HostRuntime) {
-    let alloc = rt.alloc();
-    let desk = Desk::new(&rt, alloc);
-    let mut cache = opened(&rt, alloc, &config(100, true, true));
-    let loader: Loader = Some(Box::new(alloc, desk.loader(rt)).ok().expect(&rt, "memory"));
-    let writer: Writer = Some(Box::new(alloc, desk.writer(rt)).ok().expect(&rt, "memory"));
-    let mut session = started(&rt, &mut cache, loader, writer);
-    let (cache, session) = (&mut cache, &mut session);
-    desk.invoke(
-        &rt,
-        alloc,
-        cache,
-        session,
-        "a get set=6 fail=3 = ProcessorFailed 3 | 1 0 0",
-    );
-    desk.call(&rt, cache, session, "contains a = false | 1 0 0");
-    desk.call(&rt, cache, session, "put b 1 = ok | 1 1 0");
-    desk.invoke(
-        &rt,
-        alloc,
-        cache,
-        session,
-        "b remove fail=4 = ProcessorFailed 4 | 1 1 0",
-    );
-    desk.call(&rt, cache, session, "get b = 1 | 1 1 0");
-    desk.holds(&rt, alloc, "a=1 b=1");
+    plays_before_store(rt, rt.alloc(), &config(100, true, true), FAILED);
 }
 
 /// With both options off a processor works on the cache alone.
+const ALONE: &str = "\
+invoke a get set=2 get set=3 = 2 | 0 0 0
+invoke a get remove get set=5 = - | 0 0 0
+invoke a get remove = 5 | 0 0 0
+contains a = false | 0 0 0
+stored a=1
+";
+
 #[test]
 fn asks_nobody_for_a_processor(rt: HostRuntime) {
-    let alloc = rt.alloc();
-    let desk = Desk::new(&rt, alloc);
-    let mut cache = opened(&rt, alloc, &config(100, false, false));
-    let mut session = started(&rt, &mut cache, None, None);
-    let (cache, session) = (&mut cache, &mut session);
-    desk.invoke(
+    let desk = Desk::new(&rt, rt.alloc());
+    plays_on(
         &rt,
-        alloc,
-        cache,
-        session,
-        "a get set=2 get set=3 = 2 | 0 0 0",
+        rt.alloc(),
+        &config(100, false, false),
+        &desk,
+        None,
+        None,
+        ALONE,
     );
-    desk.invoke(
-        &rt,
-        alloc,
-        cache,
-        session,
-        "a get remove get set=5 = - | 0 0 0",
-    );
-    desk.invoke(&rt, alloc, cache, session, "a get remove = 5 | 0 0 0");
-    desk.call(&rt, cache, session, "contains a = false | 0 0 0");
-    desk.holds(&rt, alloc, "a=1");
 }
 
 /// A processor that continues after a failed load: the loader isn't called again, nothing is written, and its failure is the
 /// answer.
+const FAILED_LOADS: &str = "\
+invoke ! get set=7 get exists = LoaderFailed 1 | 0 0 0
+invoke ! get get fail=3 = LoaderFailed 2 | 0 0 0
+contains ! = false | 0 0 0
+stored a=1
+";
+
 #[test]
 fn goes_on_after_a_failed_load(rt: HostRuntime) {
     let alloc = rt.alloc();
     let desk = Desk::new(&rt, alloc);
-    let mut cache = opened(&rt, alloc, &config(100, true, true));
-    let failing = Failing { calls: 0 };
-    let loader: Loader = Some(Box::new(alloc, failing).ok().expect(&rt, "memory"));
-    let writer: Writer = Some(Box::new(alloc, desk.writer(rt)).ok().expect(&rt, "memory"));
-    let mut session = started(&rt, &mut cache, loader, writer);
-    let (cache, session) = (&mut cache, &mut session);
-    desk.invoke(
+    let failing = Box::new(alloc, Failing { calls: 0 });
+    let loader: Loader = Some(failing.ok().expect(&rt, "memory"));
+    let writer = desk.boxed_writer(rt, alloc);
+    plays_on(
         &rt,
         alloc,
-        cache,
-        session,
-        "! get set=7 get exists = LoaderFailed 1 | 0 0 0",
+        &config(100, true, true),
+        &desk,
+        loader,
+        writer,
+        FAILED_LOADS,
     );
-    desk.invoke(
+}
+
+/// A processor that calls nothing asks nobody, leaves the entry as it is, and returns none. It is a step all the same.
+const SILENT: &str = "\
+invoke a nothing = - | 0 0 0
+contains a = false | 0 0 0
+put a 2 = ok | 0 1 0
+invoke a nothing = - | 0 1 0
+get a = 2 | 0 1 0
+invokeall a b: nothing | 0 1 0
+own 7
+cached a=2
+stored a=2
+";
+
+#[test]
+fn asks_nobody_for_a_processor_without_calls(rt: HostRuntime) {
+    plays_before_store(rt, rt.alloc(), &config(100, true, true), SILENT);
+}
+
+/// On a store without entries the first increment gives 1, and the second one 2, which loads nothing.
+const FIRST_INCREMENTS: &str = "\
+invoke a get next get = 1 | 1 1 0
+invoke a get next get = 2 | 1 2 0
+own 2
+stored a=2
+";
+
+#[test]
+fn increments_on_an_empty_store(rt: HostRuntime) {
+    let alloc = rt.alloc();
+    let desk = Desk::of(&rt, alloc, &[]);
+    let (loader, writer) = (desk.boxed_loader(rt, alloc), desk.boxed_writer(rt, alloc));
+    plays_on(
         &rt,
         alloc,
-        cache,
-        session,
-        "! get get fail=3 = LoaderFailed 2 | 0 0 0",
+        &config(100, true, true),
+        &desk,
+        loader,
+        writer,
+        FIRST_INCREMENTS,
     );
-    desk.call(&rt, cache, session, "contains ! = false | 0 0 0");
-    desk.holds(&rt, alloc, "a=1");
 }

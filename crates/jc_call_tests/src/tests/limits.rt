@@ -1,4 +1,5 @@
 //! What a cache and a session are refused for, and a history that is full.
+use super::lines::plays_before_store;
 use super::*;
 use jc_types::{Field, SESSIONS_MAX};
 
@@ -80,7 +81,7 @@ fn wants_a_loader_and_a_writer(rt: HostRuntime) {
         None,
         (Refusal::NoLoader, false, false),
     );
-    let writer: Writer = Some(Box::new(alloc, desk.writer(rt)).ok().expect(&rt, "memory"));
+    let writer = desk.boxed_writer(rt, alloc);
     is_refused(
         &rt,
         &mut cache,
@@ -88,7 +89,7 @@ fn wants_a_loader_and_a_writer(rt: HostRuntime) {
         writer,
         (Refusal::NoLoader, false, true),
     );
-    let loader: Loader = Some(Box::new(alloc, desk.loader(rt)).ok().expect(&rt, "memory"));
+    let loader = desk.boxed_loader(rt, alloc);
     is_refused(
         &rt,
         &mut cache,
@@ -113,13 +114,13 @@ fn gives_out_so_many_sessions(rt: HostRuntime) {
     let desk = Desk::new(&rt, alloc);
     let mut cache = opened(&rt, alloc, &config(100, true, true));
     for _ in 0..SESSIONS_MAX {
-        let loader: Loader = Some(Box::new(alloc, desk.loader(rt)).ok().expect(&rt, "memory"));
-        let writer: Writer = Some(Box::new(alloc, desk.writer(rt)).ok().expect(&rt, "memory"));
+        let loader = desk.boxed_loader(rt, alloc);
+        let writer = desk.boxed_writer(rt, alloc);
         let given = cache.session(loader, writer);
         assert!(rt; given.is_ok());
     }
-    let loader: Loader = Some(Box::new(alloc, desk.loader(rt)).ok().expect(&rt, "memory"));
-    let writer: Writer = Some(Box::new(alloc, desk.writer(rt)).ok().expect(&rt, "memory"));
+    let loader = desk.boxed_loader(rt, alloc);
+    let writer = desk.boxed_writer(rt, alloc);
     is_refused(
         &rt,
         &mut cache,
@@ -137,54 +138,32 @@ fn gives_out_so_many_sessions(rt: HostRuntime) {
 }
 
 /// A history of 16 events: a put needs three free places, a hit one. A refused call asks nobody and changes nothing.
+const FULL: &str = "\
+get a = 1 | 1 0 0
+put b 2 = ok | 1 1 0
+put b 2 = ok | 1 2 0
+put b 2 = ok | 1 3 0
+put b 2 = ok | 1 4 0
+put b 2 = ok | 1 5 0
+put b 2 = ok | 1 6 0
+put b 2 = ok | 1 7 0
+put b 2 = ok | 1 8 0
+put b 2 = ok | 1 9 0
+put b 2 = ok | 1 10 0
+put b 2 = ok | 1 11 0
+put b 2 = ok | 1 12 0
+put b 2 = ok | 1 13 0
+put b 3 = HistoryFull | 1 13 0
+get c = HistoryFull | 1 13 0
+get b = 2 | 1 13 0
+contains c = false | 1 13 0
+contains c = HistoryFull | 1 13 0
+get a = HistoryFull | 1 13 0
+own 16
+stored a=1 b=2
+";
+
 #[test]
 fn refuses_when_the_history_is_full(rt: HostRuntime) {
-    let alloc = rt.alloc();
-    let desk = Desk::new(&rt, alloc);
-    let mut cache = opened(&rt, alloc, &config(16, true, true));
-    let loader: Loader = Some(Box::new(alloc, desk.loader(rt)).ok().expect(&rt, "memory"));
-    let writer: Writer = Some(Box::new(alloc, desk.writer(rt)).ok().expect(&rt, "memory"));
-    let mut session = started(&rt, &mut cache, loader, writer);
-    desk.call(&rt, &mut cache, &mut session, "get a = 1 | 1 0 0");
-    desk.call(&rt, &mut cache, &mut session, "put b 2 = ok | 1 1 0");
-    desk.call(&rt, &mut cache, &mut session, "put b 2 = ok | 1 2 0");
-    desk.call(&rt, &mut cache, &mut session, "put b 2 = ok | 1 3 0");
-    desk.call(&rt, &mut cache, &mut session, "put b 2 = ok | 1 4 0");
-    desk.call(&rt, &mut cache, &mut session, "put b 2 = ok | 1 5 0");
-    desk.call(&rt, &mut cache, &mut session, "put b 2 = ok | 1 6 0");
-    desk.call(&rt, &mut cache, &mut session, "put b 2 = ok | 1 7 0");
-    desk.call(&rt, &mut cache, &mut session, "put b 2 = ok | 1 8 0");
-    desk.call(&rt, &mut cache, &mut session, "put b 2 = ok | 1 9 0");
-    desk.call(&rt, &mut cache, &mut session, "put b 2 = ok | 1 10 0");
-    desk.call(&rt, &mut cache, &mut session, "put b 2 = ok | 1 11 0");
-    desk.call(&rt, &mut cache, &mut session, "put b 2 = ok | 1 12 0");
-    desk.call(&rt, &mut cache, &mut session, "put b 2 = ok | 1 13 0");
-    desk.call(
-        &rt,
-        &mut cache,
-        &mut session,
-        "put b 3 = HistoryFull | 1 13 0",
-    );
-    desk.call(
-        &rt,
-        &mut cache,
-        &mut session,
-        "get c = HistoryFull | 1 13 0",
-    );
-    desk.call(&rt, &mut cache, &mut session, "get b = 2 | 1 13 0");
-    desk.call(&rt, &mut cache, &mut session, "contains c = false | 1 13 0");
-    desk.call(
-        &rt,
-        &mut cache,
-        &mut session,
-        "contains c = HistoryFull | 1 13 0",
-    );
-    desk.call(
-        &rt,
-        &mut cache,
-        &mut session,
-        "get a = HistoryFull | 1 13 0",
-    );
-    is(&rt, session.own(), 16);
-    desk.holds(&rt, alloc, "a=1 b=2");
+    plays_before_store(rt, rt.alloc(), &config(16, true, true), FULL);
 }

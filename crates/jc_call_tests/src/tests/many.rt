@@ -71,10 +71,3 @@ pub fn entries_of(rt: &impl Abort, alloc: Global, text: &str) -> IndexMap<Key, V
     }
     entries
 }
-
-/// So many keys.
-pub fn many_keys(rt: &impl Abort, alloc: Global, count: usize) -> IndexSet<Key> {
-    let mut keys = IndexSet::new(alloc);
-    add_numbered(rt, &mut keys, 0, count);
-    keys
-}

@@ -1,5 +1,5 @@
 //! Bulk calls of more keys than one round has, and of the most keys.
-use super::bulk_lines::plays_on;
+use super::lines::{plays_before_store, plays_on};
 use super::*;
 
 /// A stripe that evicts none of so many keys.
@@ -70,9 +70,29 @@ own 5186
 fn takes_the_most_keys(rt: HostRuntime) {
     let alloc = rt.alloc();
     let desk = Desk::new(&rt, alloc);
-    let loader: Loader = Some(Box::new(alloc, desk.loader(rt)).ok().expect(&rt, "memory"));
-    let writer: Writer = Some(Box::new(alloc, desk.writer(rt)).ok().expect(&rt, "memory"));
+    let loader = desk.boxed_loader(rt, alloc);
+    let writer = desk.boxed_writer(rt, alloc);
     plays_on(&rt, alloc, &wide_config(true), &desk, loader, writer, MOST);
+}
+
+const SMALL: &str = "\
+# One key too many: the call is refused whole.
+getall #0..1025 = TooManyKeys | 0 0 0
+own 0
+# The most keys, on a cache that has room for 16 entries.
+getall #0..1024 = ok | 16 0 0
+own 1024
+getall a #0..1023 = ok: a=1 | 32 0 0
+count 1 1
+";
+
+#[test]
+fn gets_more_keys_than_are_kept(rt: HostRuntime) {
+    let config = Config {
+        capacity: 16,
+        ..config(4_096, true, true)
+    };
+    plays_before_store(rt, rt.alloc(), &config, SMALL);
 }
 
 const SPREAD: &str = "\
@@ -89,8 +109,8 @@ own 3072
 fn has_one_round_over_many_stripes(rt: HostRuntime) {
     let alloc = rt.alloc();
     let desk = Desk::new(&rt, alloc);
-    let loader: Loader = Some(Box::new(alloc, desk.loader(rt)).ok().expect(&rt, "memory"));
-    let writer: Writer = Some(Box::new(alloc, desk.writer(rt)).ok().expect(&rt, "memory"));
+    let loader = desk.boxed_loader(rt, alloc);
+    let writer = desk.boxed_writer(rt, alloc);
     let config = Config {
         stripes: 64,
         ..wide_config(true)

@@ -1,4 +1,5 @@
 //! Loaders and writers that fail, or answer another value each time.
+use super::lines::plays_on;
 use super::*;
 use indexmap::{IndexMap, IndexSet};
 use jc_outside::Answers;
@@ -81,133 +82,94 @@ impl CacheLoader for Rising {
 }
 
 /// A failed load is the call's answer, and nothing is cached; the next call asks again.
+const FAILED_LOADS: &str = "\
+get a = LoaderFailed 7 | 0 0 0
+contains a = false | 0 0 0
+put a 2 = ok | 0 1 0
+get a = 2 | 0 1 0
+get b = LoaderFailed 7 | 0 1 0
+own 5
+stored a=2
+";
+
 #[test]
 fn a_failed_load_leaves_the_entry(rt: HostRuntime) {
     let alloc = rt.alloc();
     let desk = Desk::new(&rt, alloc);
-    let mut cache = opened(&rt, alloc, &config(100, true, true));
-    let loader: Loader = Some(
-        Box::new(alloc, Failing { code: 7 })
-            .ok()
-            .expect(&rt, "memory"),
-    );
-    let writer: Writer = Some(Box::new(alloc, desk.writer(rt)).ok().expect(&rt, "memory"));
-    let mut session = started(&rt, &mut cache, loader, writer);
-    desk.call(
+    let failing = Box::new(alloc, Failing { code: 7 });
+    let loader: Loader = Some(failing.ok().expect(&rt, "memory"));
+    let writer = desk.boxed_writer(rt, alloc);
+    plays_on(
         &rt,
-        &mut cache,
-        &mut session,
-        "get a = LoaderFailed 7 | 0 0 0",
+        alloc,
+        &config(100, true, true),
+        &desk,
+        loader,
+        writer,
+        FAILED_LOADS,
     );
-    desk.call(&rt, &mut cache, &mut session, "contains a = false | 0 0 0");
-    desk.call(&rt, &mut cache, &mut session, "put a 2 = ok | 0 1 0");
-    desk.call(&rt, &mut cache, &mut session, "get a = 2 | 0 1 0");
-    desk.call(
-        &rt,
-        &mut cache,
-        &mut session,
-        "get b = LoaderFailed 7 | 0 1 0",
-    );
-    is(&rt, session.own(), 5);
-    desk.holds(&rt, alloc, "a=2");
 }
 
 /// A failed write is the call's answer, and the entry stays as it was, whichever the operation.
+const FAILED_WRITES: &str = "\
+put b 2 = WriterFailed 9 | 0 0 0
+getput b 2 = WriterFailed 9 | 0 0 0
+putif b 2 = WriterFailed 9 | 0 0 0
+contains b = false | 0 0 0
+get a = 1 | 1 0 0
+put a 2 = WriterFailed 9 | 1 0 0
+replace a 2 = WriterFailed 9 | 1 0 0
+replaceif a 1 2 = WriterFailed 9 | 1 0 0
+getreplace a 2 = WriterFailed 9 | 1 0 0
+remove a = WriterFailed 9 | 1 0 0
+removeif a 1 = WriterFailed 9 | 1 0 0
+getremove a = WriterFailed 9 | 1 0 0
+get a = 1 | 1 0 0
+own 13
+stored a=1
+";
+
 #[test]
 fn a_failed_write_leaves_the_entry(rt: HostRuntime) {
     let alloc = rt.alloc();
     let desk = Desk::new(&rt, alloc);
-    let mut cache = opened(&rt, alloc, &config(100, true, true));
-    let writer: Writer = Some(
-        Box::new(alloc, Failing { code: 9 })
-            .ok()
-            .expect(&rt, "memory"),
-    );
-    let loader: Loader = Some(Box::new(alloc, desk.loader(rt)).ok().expect(&rt, "memory"));
-    let mut session = started(&rt, &mut cache, loader, writer);
-    desk.call(
+    let failing = Box::new(alloc, Failing { code: 9 });
+    let writer: Writer = Some(failing.ok().expect(&rt, "memory"));
+    let loader = desk.boxed_loader(rt, alloc);
+    plays_on(
         &rt,
-        &mut cache,
-        &mut session,
-        "put b 2 = WriterFailed 9 | 0 0 0",
+        alloc,
+        &config(100, true, true),
+        &desk,
+        loader,
+        writer,
+        FAILED_WRITES,
     );
-    desk.call(
-        &rt,
-        &mut cache,
-        &mut session,
-        "getput b 2 = WriterFailed 9 | 0 0 0",
-    );
-    desk.call(
-        &rt,
-        &mut cache,
-        &mut session,
-        "putif b 2 = WriterFailed 9 | 0 0 0",
-    );
-    desk.call(&rt, &mut cache, &mut session, "contains b = false | 0 0 0");
-    desk.call(&rt, &mut cache, &mut session, "get a = 1 | 1 0 0");
-    desk.call(
-        &rt,
-        &mut cache,
-        &mut session,
-        "put a 2 = WriterFailed 9 | 1 0 0",
-    );
-    desk.call(
-        &rt,
-        &mut cache,
-        &mut session,
-        "replace a 2 = WriterFailed 9 | 1 0 0",
-    );
-    desk.call(
-        &rt,
-        &mut cache,
-        &mut session,
-        "replaceif a 1 2 = WriterFailed 9 | 1 0 0",
-    );
-    desk.call(
-        &rt,
-        &mut cache,
-        &mut session,
-        "getreplace a 2 = WriterFailed 9 | 1 0 0",
-    );
-    desk.call(
-        &rt,
-        &mut cache,
-        &mut session,
-        "remove a = WriterFailed 9 | 1 0 0",
-    );
-    desk.call(
-        &rt,
-        &mut cache,
-        &mut session,
-        "removeif a 1 = WriterFailed 9 | 1 0 0",
-    );
-    desk.call(
-        &rt,
-        &mut cache,
-        &mut session,
-        "getremove a = WriterFailed 9 | 1 0 0",
-    );
-    desk.call(&rt, &mut cache, &mut session, "get a = 1 | 1 0 0");
-    is(&rt, session.own(), 13);
-    desk.holds(&rt, alloc, "a=1");
 }
 
 /// A loader that answers another value each time: what it answered last is what is cached, until the entry goes.
+const RISING: &str = "\
+get a = 1 | 0 0 0
+get a = 1 | 0 0 0
+get b = 2 | 0 0 0
+remove a = true | 0 0 0
+get a = 3 | 0 0 0
+get b = 2 | 0 0 0
+";
+
 #[test]
 fn keeps_what_was_loaded(rt: HostRuntime) {
     let alloc = rt.alloc();
     let desk = Desk::new(&rt, alloc);
-    let mut cache = opened(&rt, alloc, &config(100, true, false));
-    let loader: Loader = Some(
-        Box::new(alloc, Rising { calls: 0 })
-            .ok()
-            .expect(&rt, "memory"),
+    let rising = Box::new(alloc, Rising { calls: 0 });
+    let loader: Loader = Some(rising.ok().expect(&rt, "memory"));
+    plays_on(
+        &rt,
+        alloc,
+        &config(100, true, false),
+        &desk,
+        loader,
+        None,
+        RISING,
     );
-    let mut session = started(&rt, &mut cache, loader, None);
-    desk.call(&rt, &mut cache, &mut session, "get a = 1 | 0 0 0");
-    desk.call(&rt, &mut cache, &mut session, "get a = 1 | 0 0 0");
-    desk.call(&rt, &mut cache, &mut session, "get b = 2 | 0 0 0");
-    desk.call(&rt, &mut cache, &mut session, "remove a = true | 0 0 0");
-    desk.call(&rt, &mut cache, &mut session, "get a = 3 | 0 0 0");
-    desk.call(&rt, &mut cache, &mut session, "get b = 2 | 0 0 0");
 }

@@ -8,6 +8,7 @@ use jc_model::EntryCall;
 use jc_mutentry::{EntryProcessor, MutableEntry};
 use jc_outside::CacheLoader;
 use jc_types::Value;
+use std::alloc::Global;
 use std::process::Abort;
 
 /// One of its calls.
@@ -41,6 +42,41 @@ impl Scripted {
             fail: fail.parse().ok(),
         }
     }
+}
+
+/// Makes no call on its entry, and returns none.
+#[derive(Drop)]
+pub struct Silent;
+
+impl EntryProcessor for Silent {
+    ghost use Rattle.std.specs.Prelude.{◌≡◌, [], Ok, None};
+
+    ghost process_state = { λ p. [] };
+
+    ghost processes = { λ p key args calls answers answer after. (calls ≡ []) × (answer ≡ Ok None) };
+
+    fn process(
+        &mut self,
+        _entry: &mut MutableEntry,
+        _loader: &mut dyn CacheLoader,
+        _args: &[Value],
+    ) -> Result<Option<Value>, u32> {
+        Ok(None)
+    }
+}
+
+/// A processor that makes the calls which a text says, or none if it says `nothing`.
+pub fn processor_of(
+    rt: &impl Abort,
+    alloc: Global,
+    text: &str,
+) -> Box<dyn EntryProcessor + Send + Drop> {
+    if text == "nothing" {
+        return Box::new(alloc, Silent).ok().expect(rt, "memory");
+    }
+    Box::new(alloc, Scripted::of(rt, text))
+        .ok()
+        .expect(rt, "memory")
 }
 
 fn read_scene(rt: &impl Abort, word: Option<&str>) -> Scene {

@@ -1,5 +1,5 @@
 //! A writer that does at each call for many keys what it is told.
-use super::bulk_lines::REPORTS;
+use super::lines::REPORTS;
 use super::many::{entries_of, keys_of};
 use super::*;
 use indexmap::{IndexMap, IndexSet};

@@ -3,17 +3,12 @@
 use super::histories::are_legal;
 use super::*;
 
-/// One loader's call for two keys, and one writer's call.
-const GETS_AND_PUTS: &str = "\
+/// One loader's call for two keys, and one writer's call. An increment loads nothing, since both keys are cached, and is written key by
+/// key. `clear` leaves the store as it is, so what it cleared is loaded again. The second removal of all finds nothing to remove.
+const TOUR: &str = "\
 getall a b = ok: a=1 | 1 0 0
 putall b=2 = ok | 1 1 0
-";
-
-/// An increment. It loads nothing, since both keys are cached, and is written key by key.
-const INCREMENT: &str = "a b: get next get; a 2; b 3 | 0 2 0";
-
-/// `clear` leaves the store as it is, so what it cleared is loaded again. The second removal of all finds nothing to remove.
-const REMOVALS: &str = "\
+invokeall a b: get next get; a 2; b 3 | 0 2 0
 removeall a = ok | 1 1 1
 stored b=3
 clear = ok | 1 1 1
@@ -32,17 +27,13 @@ own 10
 fn tours_the_library(rt: HostRuntime) {
     let alloc = rt.alloc();
     let desk = Desk::new(&rt, alloc);
-    let loader: Loader = Some(Box::new(alloc, desk.loader(rt)).ok().expect(&rt, "memory"));
-    let writer: Writer = Some(Box::new(alloc, desk.writer(rt)).ok().expect(&rt, "memory"));
+    let (loader, writer) = (desk.boxed_loader(rt, alloc), desk.boxed_writer(rt, alloc));
     let config = Config {
         stripes: 2,
         ..config(100, true, true)
     };
     let mut cache = opened(&rt, alloc, &config);
     let mut session = started(&rt, &mut cache, loader, writer);
-    let (cache, session) = (&mut cache, &mut session);
-    desk.plays(&rt, alloc, cache, session, GETS_AND_PUTS);
-    desk.invoke_all(&rt, alloc, cache, session, INCREMENT);
-    desk.plays(&rt, alloc, cache, session, REMOVALS);
-    are_legal(&rt, alloc, cache, &[6, 4]);
+    desk.plays(&rt, alloc, &mut cache, &mut session, TOUR);
+    are_legal(&rt, alloc, &cache, &[6, 4]);
 }

@@ -1,5 +1,5 @@
 //! `put_all`, `remove_all` and `remove_every`, with a writer that leaves what it is told.
-use super::bulk_lines::plays_on;
+use super::lines::plays_on;
 use super::*;
 
 /// Each call writes its number. So what is cached says which call wrote it.

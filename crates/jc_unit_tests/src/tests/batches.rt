@@ -85,20 +85,25 @@ fn leftover_keys(rt: &impl Abort, alloc: Global, names: &str) -> IndexSet<Key> {
     left
 }
 
+fn splits_writes(rt: &impl Abort, alloc: Global, row: &Row, fault: Option<u32>) {
+    let left = leftover_entries(rt, alloc, row.0);
+    let split = written(rt, alloc).split(&left, fault);
+    split_as(rt, &split, row, fault.unwrap_or(0));
+}
+
+fn splits_deletes(rt: &impl Abort, alloc: Global, row: &Row, fault: Option<u32>) {
+    let left = leftover_keys(rt, alloc, row.0);
+    let split = deleted(rt, alloc).split(&left, fault);
+    split_as(rt, &split, row, fault.unwrap_or(0));
+}
+
 #[test]
 fn splits_by_what_is_left(rt: HostRuntime) {
-    let alloc = rt.alloc();
     for row in ROWS {
-        let entries = leftover_entries(&rt, alloc, row.0);
-        let split = written(&rt, alloc).split(&entries, Some(7));
-        split_as(&rt, &split, row, 7);
-        let split = written(&rt, alloc).split(&entries, None);
-        split_as(&rt, &split, row, 0);
-        let keys = leftover_keys(&rt, alloc, row.0);
-        let split = deleted(&rt, alloc).split(&keys, Some(u32::MAX));
-        split_as(&rt, &split, row, u32::MAX);
-        let split = deleted(&rt, alloc).split(&keys, None);
-        split_as(&rt, &split, row, 0);
+        splits_writes(&rt, rt.alloc(), row, Some(7));
+        splits_writes(&rt, rt.alloc(), row, None);
+        splits_deletes(&rt, rt.alloc(), row, Some(u32::MAX));
+        splits_deletes(&rt, rt.alloc(), row, None);
     }
 }
 

@@ -259,6 +259,14 @@ fn pushes_both(rt: &impl Abort, history: &mut History, plain: &mut Vec<Event>, e
     is(rt, "length", history.len(), plain.len());
 }
 
+/// Reads all events back at once.
+fn has_all(rt: &impl Abort, alloc: Global, history: &History, plain: &[Event]) {
+    let mut found = Vec::new(alloc);
+    let len = history.len();
+    history.append_to(0, len, &mut found).expect(rt, "memory");
+    is(rt, "all", found.as_slice(), plain);
+}
+
 #[test]
 fn a_history_is_a_plain_vector(rt: HostRuntime) {
     let alloc = rt.alloc();
@@ -269,11 +277,5 @@ fn a_history_is_a_plain_vector(rt: HostRuntime) {
         let event = numbers.event(&rt);
         pushes_both(&rt, &mut history, &mut plain, &event);
     }
-    let mut found = Vec::new(alloc);
-    let len = history.len();
-    history.append_to(0, len, &mut found).expect(&rt, "memory");
-    is(&rt, "all", found.len(), 1_000);
-    for (event, wanted) in found.iter().zip(&plain) {
-        is(&rt, "event", *event, *wanted);
-    }
+    has_all(&rt, alloc, &history, &plain);
 }

@@ -13,119 +13,134 @@ use jc_types::{Caller, Config, Key, Refusal, Value};
 use std::alloc::Global;
 use std::process::Abort;
 
-// 1. Words.
+// 1. Words. A word that isn't one fails the test.
 
 /// The first word, and what follows it, if anything.
-fn first_word(text: &str) -> (&str, &str) {
+pub(super) fn first_word(text: &str) -> (&str, &str) {
     text.split_once(' ').unwrap_or((text, ""))
 }
 
-fn number(word: &str) -> Option<u32> {
-    word.parse().ok()
+pub(super) fn number(rt: &impl Abort, word: &str) -> u32 {
+    word.parse().ok().expect(rt, word)
 }
 
-fn key(word: &str) -> Option<Key> {
-    Key::new(word.as_bytes()).ok()
+pub(super) fn key(rt: &impl Abort, word: &str) -> Key {
+    Key::new(word.as_bytes()).ok().expect(rt, word)
 }
 
-fn value(word: &str) -> Option<Value> {
-    Value::new(word.as_bytes()).ok()
+pub(super) fn value(rt: &impl Abort, word: &str) -> Value {
+    Value::new(word.as_bytes()).ok().expect(rt, word)
+}
+
+/// The call with this number, of a session as `s1`.
+pub(super) fn caller(rt: &impl Abort, call: &str, session: &str) -> Caller {
+    let session = session.strip_prefix('s').expect(rt, session);
+    Caller {
+        session: number(rt, session),
+        call: u64::from(number(rt, call)),
+    }
 }
 
 /// The value that a word says; a dash says none.
-fn value_or_none(word: &str) -> Option<Option<Value>> {
+pub(super) fn value_or_none(rt: &impl Abort, word: &str) -> Option<Value> {
     if word == "-" {
-        return Some(None);
+        return None;
     }
-    Some(Some(value(word)?))
+    Some(value(rt, word))
 }
 
 // 2. Steps.
 
 /// An operation, with its value if it takes one.
-fn op(name: &str, word: &str) -> Option<Op> {
+pub(super) fn op(rt: &impl Abort, name: &str, word: &str) -> Op {
     match name {
-        "get" => Some(Op::Get),
-        "contains" => Some(Op::ContainsKey),
-        "put" => Some(Op::Put(value(word)?)),
-        "clear" => Some(Op::Clear),
-        "loadall" => Some(Op::LoadAll { replace: true }),
-        _ => None,
+        "get" => Op::Get,
+        "contains" => Op::ContainsKey,
+        "put" => Op::Put(value(rt, word)),
+        "remove" => Op::Remove,
+        "clear" => Op::Clear,
+        "loadall" => Op::LoadAll { replace: true },
+        "invoke" => Op::Invoke,
+        _ => panic!(rt; "no operation"),
+    }
+}
+
+/// What a loader answers: a value, or `-` for none.
+pub(super) fn found(rt: &impl Abort, word: &str) -> LoadAnswer {
+    match value_or_none(rt, word) {
+        Some(value) => LoadAnswer::Found(value),
+        None => LoadAnswer::Nothing,
     }
 }
 
 /// The outside answer, of the loader or of the writer.
-fn answer(text: &str) -> Option<Out> {
+pub(super) fn answer(rt: &impl Abort, text: &str) -> Out {
     let (word, rest) = first_word(text);
     match word {
-        "read" => Some(Out::load_only(match value_or_none(rest)? {
-            Some(value) => LoadAnswer::Found(value),
-            None => LoadAnswer::Nothing,
-        })),
-        "readfail" => Some(Out::load_only(LoadAnswer::Failed(number(rest)?))),
-        "apply" => Some(Out::write_only(WriteAnswer::Done)),
-        "applyfail" => Some(Out::write_only(WriteAnswer::Failed(number(rest)?))),
-        _ => None,
+        "read" => Out::load_only(found(rt, rest)),
+        "readfail" => Out::load_only(LoadAnswer::Failed(number(rt, rest))),
+        "apply" => Out::write_only(WriteAnswer::Done),
+        "applyfail" => Out::write_only(WriteAnswer::Failed(number(rt, rest))),
+        _ => panic!(rt; "no answer"),
     }
 }
 
-fn reply(text: &str) -> Option<Reply> {
+pub(super) fn reply(rt: &impl Abort, text: &str) -> Reply {
     let (word, rest) = first_word(text);
     match word {
-        "LoaderFailed" => Some(Reply::Fault(Refusal::LoaderFailed(number(rest)?))),
-        "WriterFailed" => Some(Reply::Fault(Refusal::WriterFailed(number(rest)?))),
-        "ok" => Some(Reply::Unit),
-        "true" => Some(Reply::Flag(true)),
-        "false" => Some(Reply::Flag(false)),
-        _ => Some(Reply::Value(value_or_none(word)?)),
+        "LoaderFailed" => Reply::Fault(Refusal::LoaderFailed(number(rt, rest))),
+        "WriterFailed" => Reply::Fault(Refusal::WriterFailed(number(rt, rest))),
+        "ProcessorFailed" => Reply::Fault(Refusal::ProcessorFailed(number(rt, rest))),
+        "ok" => Reply::Unit,
+        "true" => Reply::Flag(true),
+        "false" => Reply::Flag(false),
+        _ => Reply::Value(value_or_none(rt, word)),
     }
 }
 
 /// The step of a call, with the outside answer if there was one, which replied so.
-fn step(call: &str, out: Out, replied: &str) -> Option<Event> {
+fn step(rt: &impl Abort, call: &str, out: Out, replied: &str) -> Event {
     let (count, call) = first_word(call);
     let (session, call) = first_word(call);
     let (name, call) = first_word(call);
     let (word, rest) = first_word(call);
-    let (replied, shared_with) = match replied.split_once(" shared ") {
-        Some((replied, place)) => (replied, Some(number(place)?)),
-        None => (replied, None),
-    };
-    Some(Event::Step {
-        caller: Caller {
-            session: number(session.strip_prefix('s')?)?,
-            call: u64::from(number(count)?),
-        },
-        op: op(name, rest)?,
-        key: key(word)?,
+    let (replied, place) = replied.split_once(" shared ").unwrap_or((replied, ""));
+    Event::Step {
+        caller: caller(rt, count, session),
+        op: op(rt, name, rest),
+        key: key(rt, word),
         out,
-        shared_with,
-        reply: reply(replied)?,
-    })
+        shared_with: place.parse().ok(),
+        reply: reply(rt, replied),
+    }
 }
 
-fn event(line: &str) -> Option<Event> {
+fn eviction(rt: &impl Abort, text: &str) -> Event {
+    let (word, cause) = first_word(text);
+    Event::Evict {
+        key: key(rt, word),
+        cause: if cause == "full" {
+            Cause::Full
+        } else {
+            Cause::Memory
+        },
+    }
+}
+
+fn event(rt: &impl Abort, line: &str) -> Event {
     if let Some(text) = line.strip_prefix("evict ") {
-        let (word, cause) = first_word(text);
-        return Some(Event::Evict {
-            key: key(word)?,
-            cause: if cause == "full" {
-                Cause::Full
-            } else {
-                Cause::Memory
-            },
-        });
+        return eviction(rt, text);
     }
-    let (call, replied) = line.split_once(", is ")?;
+    let (call, replied) = line.split_once(", is ").expect(rt, line);
     match call.split_once(", ") {
-        Some((call, said)) => step(call, answer(said)?, replied),
-        None => step(call, Out::nothing_said(), replied),
+        Some((call, said)) => step(rt, call, answer(rt, said), replied),
+        None => step(rt, call, Out::nothing_said(), replied),
     }
 }
 
-fn opening_entry(line: &str) -> Option<(Key, Value)> {
-    let (word, rest) = first_word(line.strip_prefix("set ")?);
-    Some((key(word)?, value(rest)?))
+fn entry(rt: &impl Abort, text: &str) -> (Key, Value) {
+    let (word, rest) = first_word(text);
+    (key(rt, word), value(rt, rest))
 }
 
 // 3. Histories.
@@ -134,11 +149,9 @@ fn opening_entry(line: &str) -> Option<(Key, Value)> {
 fn history(rt: &impl Abort, alloc: Global, lines: &str) -> (Vec<(Key, Value)>, Vec<Event>) {
     let (mut opening, mut events) = (Vec::new(alloc), Vec::new(alloc));
     for line in lines.lines() {
-        match opening_entry(line) {
-            Some(entry) => opening.push(entry).expect(rt, "memory"),
-            None => events
-                .push(event(line).expect(rt, line))
-                .expect(rt, "memory"),
+        match line.strip_prefix("set ") {
+            Some(text) => opening.push(entry(rt, text)).expect(rt, "memory"),
+            None => events.push(event(rt, line)).expect(rt, "memory"),
         }
     }
     (opening, events)
