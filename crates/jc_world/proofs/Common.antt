@@ -81,7 +81,7 @@ pub use Rattle.jc_stripe.specs.Phases.{is_other_call, is_other_join, MayBegin, o
 pub use Rattle.jc_stripe.specs.Reached.{AllAsk, JoinFits, AllJoin, are_apart, is_own, IsReached}
 pub use Rattle.jc_stripe.specs.Refusals.{writer_for, first_by, first_asked, reserves, answers_at_once, load_of, load_at, load_joined, needs_free_key, places_needed, first_refusal}
 pub use Rattle.jc_stripe.specs.State.{State, is_of, is_key, is_reserved, reservation_of, new_reservation, with_reservation, without_key, without_reservation, IsOut, IsJoined}
-pub use Rattle.jc_stripe.specs.Tickets.{Ticket, ProcessClaim, asks_loader, asks_writer, asks_processor, entry_seen, JoinClaim}
+pub use Rattle.jc_stripe.specs.Tickets.{TicketClaim, Claim, claim_of, asks_loader, asks_writer, asks_processor, entry_seen, JoinClaim}
 pub use Rattle.jc_stripe.specs.declared.begun.Begun.{Begun}
 pub use Rattle.jc_stripe.specs.declared.begun.Picked.{Picked}
 pub use Rattle.jc_stripe.specs.declared.begun.StepDone.{StepDone}
@@ -105,11 +105,11 @@ pub use Rattle.jc_world.specs.Audit.{IsCache, differs, differing, cache_in, cach
 pub use Rattle.jc_world.specs.Calls.{Task, at_each, put_each_of, SweepState, sweep_of, takes_turns, puts_off, CallState, new_call, has_number, is_of_session, op_in, op_at, op_found, op_or_found, op_for, is_open, open_in, open_keys, current_key, is_turn, keys_at_work, may_work, is_going, has_too_many_keys, opened, going_on, over_of, with_met, settled, replaced, settle, over_settled, drop_call, has_looked, has_looked_at_each, next_sweep, with_found, look}
 pub use Rattle.jc_world.specs.Coherent.{Coherent, all_hold}
 pub use Rattle.jc_world.specs.Ending.{IsLeft, AreLeft, out_at, IsPartOut, HasHeld, IsJoinOut, HasJoins, NoneReserved}
-pub use Rattle.jc_world.specs.Events.{with_stripe, with_phase, step_of, not_over, shown_begun, fault_in, with_settled, over_by, with_met_by, without_call, with_look, new_load, new_write, new_process, new_part, with_part, with_new_part, without_part, with_join, without_join, BeginsAs, Starts, RefusesAs, Ends, Picks, after_answer, with_change, after_change, with_report, after_report, reported_key, reported_keys, keys_reported, reported_at, after_reports, run_result, progress_after, after_process, Happens, Step, Run, RunAppending, is_fit, AllFit}
+pub use Rattle.jc_world.specs.Events.{with_stripe, with_phase, step_of, not_over, shown_begun, fault_in, with_settled, over_by, with_met_by, without_call, with_look, asks_as, new_progress, new_part, with_part, with_new_part, without_part, with_join, without_join, BeginsAs, ReservesAs, Starts, RefusesAs, Ends, Picks, after_answer, with_change, after_change, with_report, after_report, reported_key, reported_keys, keys_reported, reported_at, after_reports, run_result, progress_after, after_process, Happens, Step, Run, RunAppending, is_fit, AllFit}
 pub use Rattle.jc_world.specs.Fits.{is_playable, is_new, is_free, may_start, may_leave, waits_in, waits_at, may_report, is_to_look, may_look, fits}
 pub use Rattle.jc_world.specs.Gathered.{or_else, found_after}
 pub use Rattle.jc_world.specs.Headline.{start_with, with_all_premises, is_answer, is_load, is_loaded}
-pub use Rattle.jc_world.specs.Held.{parts_of, joins_of}
+pub use Rattle.jc_world.specs.Held.{IsAnswerable, parts_of, joins_of}
 pub use Rattle.jc_world.specs.Inside.{world_of}
 pub use Rattle.jc_world.specs.OpenCalls.{tasks_of, first_open, IsFirstKept, are_new, TakesKeys}
 pub use Rattle.jc_world.specs.PickUps.{ends_join, is_last_pick_up, ends_load, IsEnd, Resolves}

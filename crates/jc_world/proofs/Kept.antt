@@ -1,5 +1,5 @@
 -- Each event keeps what the parts and the store of a world say.
-use Rattle.jc_world.proofs.Common.{◌≡◌, ℕ, zero, suc, ◌+◌, Bool, true, false, cond, ◌&&◌, List, [], ◌∷◌, ◌++◌, is_some, is_none, IsSomeAnd, slice_get, slice_set, Some, None, Ok, Option, find, sym, refl, ap, ◌∙◌, subst, and_parts, and_from, nat_list_cmp_total, beq, texts_ties, get, insert, remove, get-empty, get-insert, get-remove, eq_by_cmp, check, Caller, Config, same_key, get-with_entry, Bytes, Cache, entry_at, with_entry, key_cmp, nothing_said, write_only, found_in, holds, write_ask, is_write_given, entry_after, Change, Event, LoadAnswer, Op, ProcessAnswer, WriteAnswer, EntryCall, callers_of, ProcessResult, Played, asks_invoking, change_due, Steps, Begins, after_commit, Commits, Withdraws, AllAsk, first_asked, State, is_key, is_reserved, without_key, IsOut, asks_processor, Begun, StepDone, First, Loader, Writer, Reservation, Command, Part, Premises, Progress, Loading, Processed, Processing, Writing, WritingEffect, Shown, WorldEvent, CallState, new_call, has_number, op_at, opened, settle, drop_call, Coherent, all_hold, with_stripe, with_phase, step_of, fault_in, without_call, new_part, with_part, without_part, after_answer, with_change, after_change, with_report, after_report, run_result, progress_after, after_process, may_leave, fits, changed_to, is_true_load, is_done, is_true_report, with_foreign_write, premises_hold, is_of_asked, is_due_in, IsHeld, Agrees, IsWrittenFor, LoadAgrees, ProgressAgrees, KeyAgrees, IsSoundWorld, Parts, join_key, Joins, WorldState, home, stripe_for, entry_in, cached_entry, empty_stripes, start, open_call, part_of, has_progress, waits_for_load, waits_for_process, waits_for_report, is_answered, is_untouched, has_changed, writer_change_in, writer_change, out_in, out_of, with_stored}
+use Rattle.jc_world.proofs.Common.{◌≡◌, ℕ, zero, suc, ◌+◌, Bool, true, false, cond, ◌&&◌, List, [], ◌∷◌, ◌++◌, is_some, is_none, IsSomeAnd, slice_get, slice_set, Some, None, Ok, Option, find, sym, refl, ap, ◌∙◌, subst, and_parts, and_from, nat_list_cmp_total, beq, texts_ties, get, insert, remove, get-empty, get-insert, get-remove, eq_by_cmp, check, Caller, Config, same_key, get-with_entry, Bytes, Cache, entry_at, with_entry, key_cmp, nothing_said, write_only, found_in, holds, write_ask, is_write_given, entry_after, Change, Event, LoadAnswer, Op, ProcessAnswer, WriteAnswer, EntryCall, callers_of, ProcessResult, Claim, claim_of, Played, asks_invoking, change_due, Steps, Begins, after_commit, Commits, Withdraws, AllAsk, first_asked, State, is_key, is_reserved, without_key, IsOut, asks_processor, Begun, StepDone, First, Loader, Writer, Reservation, Command, Part, Premises, Progress, Loading, Processed, Processing, Writing, WritingEffect, Shown, WorldEvent, CallState, new_call, has_number, op_at, opened, settle, drop_call, Coherent, all_hold, with_stripe, with_phase, step_of, fault_in, without_call, new_part, with_part, without_part, after_answer, with_change, after_change, with_report, after_report, run_result, progress_after, after_process, may_leave, fits, changed_to, is_true_load, is_done, is_true_report, with_foreign_write, premises_hold, is_of_asked, is_due_in, IsHeld, Agrees, IsWrittenFor, LoadAgrees, ProgressAgrees, KeyAgrees, IsSoundWorld, Parts, join_key, Joins, WorldState, home, stripe_for, entry_in, cached_entry, empty_stripes, start, open_call, part_of, has_progress, waits_for_load, waits_for_process, waits_for_report, is_answered, is_untouched, has_changed, writer_change_in, writer_change, out_in, out_of, with_stored}
 use Rattle.jc_world.proofs.Lemmas.{denied, missing, HasParts, is_some_and, picking, at_stripe, stripe_put, home_stripe, split, tied, agrees_stepped, writes, loads_asked, writes_asked, loads, asks_nobody, found_more, out_reserved, new_out, found_left, invoke_is, write_due, agrees_processed, agrees_effect, KeyChange, by_nothing, by_refusal, by_step, by_reservation, by_join, by_commit, by_withdrawal, by_answer, by_retry, some_of}
 use Rattle.jc_world.proofs.Holding.{call_on, is_part}
 use Rattle.jc_world.proofs.Maps.{keys_ordered, each_put}
@@ -155,7 +155,7 @@ load_asked_of : (p : Progress) (first : First) (answer : LoadAnswer) → waits_f
 load_asked_of (Loading was) first answer due h = h
 load_asked_of p first answer due h = cc
 
-run_asked_of : (p : Progress) (first : First) (change : Option Change) (done : ProcessResult Reservation) → waits_for_process p ≡ true → is_of_asked p first ≡ true → is_of_asked (progress_after change done) first ≡ true
+run_asked_of : (p : Progress) (first : First) (change : Option Change) (done : ProcessResult Claim) → waits_for_process p ≡ true → is_of_asked p first ≡ true → is_of_asked (progress_after change done) first ≡ true
 run_asked_of Processing first None done due h = h
 run_asked_of Processing first (Some change) done due h = h
 run_asked_of p first change done due h = cc
@@ -174,7 +174,7 @@ told_load (Loading was) first answer stored entry due found h = record { loaded 
 told_load p first answer stored entry due found h = cc
 
 -- once the processor has run
-told_run : (p : Progress) (first : First) (change : Option Change) (done : ProcessResult Reservation) (stored entry : Option Bytes) → waits_for_process p ≡ true → Agrees (found_in done.load) stored → ProgressAgrees p first stored entry
+told_run : (p : Progress) (first : First) (change : Option Change) (done : ProcessResult Claim) (stored entry : Option Bytes) → waits_for_process p ≡ true → Agrees (found_in done.load) stored → ProgressAgrees p first stored entry
     → ProgressAgrees (progress_after change done) first stored entry
 told_run Processing first None done stored entry due found h = record { loaded = found; unwritten = h }
 told_run Processing first (Some change) done stored entry due found h = record { written = λ e. absurd (let t : false ≡ true = e in cc); unwritten = λ e. h; honest = λ e. absurd (let t : false ≡ true = e in cc) }
@@ -438,11 +438,11 @@ agrees_ended config r (Loading answer) op Loader entry stored asks asked over on
 agrees_ended config r (Writing is_changed report) op (Writer change) entry stored asks asked over on due h =
     agrees_written op entry stored change report is_changed (writes_asked config op entry change asks) over h.written h.unwritten (h.honest over)
 agrees_ended config r (Processed loaded process) op first entry stored asks asked over on due h =
-    let done : ProcessResult Reservation = record { ask = r; origin = Played; load = loaded; process = process } in
+    let done : ProcessResult Claim = record { ask = claim_of r; origin = Played; load = loaded; process = process } in
     rw (invoke_is op (asks_invoking config op entry (ap asks_processor asks ∙ asked)))
     (agrees_processed loaded process entry stored (ap is_none (sym (write_due config done on)) ∙ due) h)
 agrees_ended config r (WritingEffect loaded process is_changed report) op first entry stored asks asked over on due h =
-    let done : ProcessResult Reservation = record { ask = r; origin = Played; load = loaded; process = process } in
+    let done : ProcessResult Claim = record { ask = claim_of r; origin = Played; load = loaded; process = process } in
     rw (invoke_is op (asks_invoking config op entry (ap asks_processor asks ∙ asked)))
     (agrees_effect loaded process is_changed report entry stored (ap is_some (sym (write_due config done on)) ∙ due) over h)
 agrees_ended config r p op first entry stored asks asked over on due h = cc

@@ -13,12 +13,14 @@
 --     with_met_by                 the world in which a call has met this
 --     without_call                the world without a call that leaves
 --     with_look                   the world in which a call has looked at a stripe, and taken these keys
---     new_load, new_write, new_process     the progress of a key whose loader, writer or processor is to be asked
+--     new_progress                the progress of a key that was just reserved, by whom its reservation asks first
+--     asks_as                     what is shown of a key that was just reserved
 --     new_part                    what is kept of a key that was just reserved
 --     with_part, without_part     the world with this part of a key, and with none
 --     with_new_part            the world in which a call has reserved its key
 --     with_join, without_join     the world with one join more, and without a call's join of a key
 --     BeginsAs                    the first phase of a call, by what it returns
+--     ReservesAs                  a first phase that reserves its key, with what is shown of it
 --     Starts                      a first phase, by what is shown of it
 --     RefusesAs                   a refusal is shown as one that a call of a kind is to try again, or as its last for the key
 --     Ends                        a last phase
@@ -71,10 +73,11 @@ use Rattle.jc_stripe.specs.Effects.{change_due}
 use Rattle.jc_stripe.specs.declared.begun.StepDone.{StepDone}
 use Rattle.jc_stripe.specs.declared.begun.Begun.{Begun}
 use Rattle.jc_stripe.specs.declared.begun.Begun.TheVariants as begun
-use Rattle.jc_stripe.specs.declared.ticket.First.TheVariants.{Writer}
+use Rattle.jc_stripe.specs.declared.ticket.First.{First}
+use Rattle.jc_stripe.specs.declared.ticket.First.TheVariants.{Nobody, Loader, Writer, Processor}
 use Rattle.jc_stripe.specs.declared.ticket.Reservation.{Reservation}
 use Rattle.jc_stripe.specs.declared.begun.Picked.TheVariants as picked
-use Rattle.jc_stripe.specs.Tickets.{Ticket, ProcessClaim, JoinClaim, entry_seen, is_loadable}
+use Rattle.jc_stripe.specs.Tickets.{TicketClaim, Claim, claim_of, JoinClaim, entry_seen, is_loadable}
 use Rattle.jc_stripe.specs.State.{State}
 use Rattle.jc_stripe.specs.Keys.{AreKeys}
 use Rattle.jc_stripe.specs.Phases.{Begins, Commits, Withdraws, PicksUp}
@@ -157,14 +160,17 @@ with_look w call stripe keys sweep =
     record w { calls = look call w.config.stripes stripe keys sweep w.calls }
 
 -- what is kept of a key that was reserved
-abbrev pub new_load : Progress
-new_load = Loading load.NotAsked
+abbrev pub new_progress : First → Progress
+new_progress Nobody = Processing  -- no reservation asks nobody
+new_progress Loader = Loading load.NotAsked
+new_progress (Writer change) = Writing false write.NotAsked
+new_progress (Processor entry may_load) = Processing
 
-abbrev pub new_write : Progress
-new_write = Writing false write.NotAsked
-
-abbrev pub new_process : Progress
-new_process = Processing
+abbrev pub asks_as : First → Outcome
+asks_as Nobody = outcome.Unfit  -- no reservation asks nobody
+asks_as Loader = outcome.Loads
+asks_as (Writer change) = outcome.Asks change
+asks_as (Processor entry may_load) = outcome.Processes entry
 
 abbrev pub new_part : Progress → Reservation → Part
 new_part progress r = record { reservation = r; progress = progress }
@@ -192,6 +198,13 @@ without_join w call key = record w { joins = remove w.joins (call, key) }
 abbrev pub BeginsAs : Caller → Bytes → Op → Begun → State → State → Type 0
 BeginsAs caller key op b from to = Begins from caller key op b to
 
+-- the key is reserved, and the one is to be asked whom its reservation asks first
+abbrev pub ReservesAs : WorldState → Caller → Bytes → Op → State → State → Outcome → WorldState → Type 0
+ReservesAs old caller key op from to o new =
+    (ticket : TicketClaim) × BeginsAs caller key op (begun.Asks ticket) from to
+    × (o ≡ asks_as ticket.reservation.first)
+    × (new ≡ with_new_part old key to (new_progress ticket.reservation.first) ticket.reservation)
+
 -- at a key whose stripe is at `from`, and is then at `to`
 abbrev pub Starts : WorldState → Caller → Bytes → Op → State → State → Outcome → WorldState → Type 0
 Starts old caller key op from to (outcome.Refused refusal) new =
@@ -203,16 +216,11 @@ Starts old caller key op from to (outcome.Stepped seen) new =
     BeginsAs caller key op (begun.Done (step_of seen)) from to × (seen.stripe ≡ home old key)
     × (new ≡ with_settled (with_phase old key from to) caller.call key (fault_in seen.reply))
 Starts old caller key op from to outcome.Loads new =
-    (ticket : Ticket) × BeginsAs caller key op (begun.Load ticket) from to
-    × (new ≡ with_new_part old key to new_load ticket.reservation)
+    ReservesAs old caller key op from to outcome.Loads new
 Starts old caller key op from to (outcome.Asks change) new =
-    (ticket : Ticket) × BeginsAs caller key op (begun.Write ticket) from to
-    × (ticket.reservation.first ≡ Writer change)
-    × (new ≡ with_new_part old key to new_write ticket.reservation)
+    ReservesAs old caller key op from to (outcome.Asks change) new
 Starts old caller key op from to (outcome.Processes entry) new =
-    (ticket : ProcessClaim) × BeginsAs caller key op (begun.Process ticket) from to
-    × (entry ≡ entry_seen ticket.reservation.first)
-    × (new ≡ with_new_part old key to new_process ticket.reservation)
+    ReservesAs old caller key op from to (outcome.Processes entry) new
 Starts old caller key op from to outcome.Joins new =
     (join : JoinClaim) × BeginsAs caller key op (begun.Joined join) from to
     × (new ≡ with_join (with_stripe old key to) join)
@@ -319,21 +327,21 @@ abbrev pub run_answers : Reservation → LoadAnswer → List EntryCall → List 
 run_answers r answer calls = played_answers (is_loadable r.first) (entry_seen r.first) answer calls
 
 abbrev pub run_result : Reservation → LoadAnswer → List EntryCall → Option ℕ
-    → ProcessResult Reservation
+    → ProcessResult Claim
 run_result r answer calls fail =
     record {
-      ask = r;
+      ask = claim_of r;
       origin = Played;
       load = played_load (is_loadable r.first) (entry_seen r.first) answer calls;
       process = played_outcome (is_loadable r.first) (entry_seen r.first) answer calls fail;
     }
 
-abbrev pub progress_after : Option Change → ProcessResult Reservation → Progress
+abbrev pub progress_after : Option Change → ProcessResult Claim → Progress
 progress_after None done = Processed done.load done.process
 progress_after (Some change) done = WritingEffect done.load done.process false write.NotAsked
 
 -- what the processor did is kept, and the writer is asked for its net effect if that is due
-abbrev pub after_process : WorldState → Bytes → Part → ProcessResult Reservation → WorldState
+abbrev pub after_process : WorldState → Bytes → Part → ProcessResult Claim → WorldState
 after_process w key part done =
     let progress = progress_after (change_due w.config done) done in
     let honest = is_true_load done.load (entry_at w.store key) in

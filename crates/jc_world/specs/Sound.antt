@@ -59,7 +59,7 @@ use Rattle.jc_inflight.specs.declared.joiner.JoinState.{JoinState}
 use Rattle.jc_inflight.specs.declared.joiner.JoinState.TheVariants.{Waiting, Answered, Again}
 use Rattle.jc_inflight.specs.Joining.{belongs_to}
 use Rattle.jc_stripe.specs.declared.ticket.Reservation.{Reservation}
-use Rattle.jc_stripe.specs.Tickets.{JoinClaim, asks_loader, asks_writer, asks_processor, change_asked}
+use Rattle.jc_stripe.specs.Tickets.{JoinClaim, claim_of, asks_loader, asks_writer, asks_processor, change_asked}
 use Rattle.jc_stripe.specs.State.{State, IsOut, IsJoined}
 use Rattle.jc_stripe.specs.Reached.{IsReached}
 use Rattle.jc_stripe.specs.OwnSteps.{may_come_all}
@@ -151,9 +151,9 @@ is_due_in config r (Loading answer) = true
 is_due_in config r (Writing is_changed report) = true
 is_due_in config r Processing = true
 is_due_in config r (Processed loaded process) =
-    is_none (change_due config (record { ask = r; origin = Played; load = loaded; process = process }))
+    is_none (change_due config (record { ask = claim_of r; origin = Played; load = loaded; process = process }))
 is_due_in config r (WritingEffect loaded process is_changed report) =
-    is_some (change_due config (record { ask = r; origin = Played; load = loaded; process = process }))
+    is_some (change_due config (record { ask = claim_of r; origin = Played; load = loaded; process = process }))
 
 abbrev pub is_due : Config → Part → Bool
 is_due config part = is_due_in config part.reservation part.progress

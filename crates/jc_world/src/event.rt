@@ -1,9 +1,9 @@
 //! What may happen in a world, what is shown of it, and what a world keeps of its calls.
-ghost use Rattle.std.specs.Prelude.{◌≡◌};
+ghost use Rattle.std.specs.Prelude.{◌≡◌, true};
 ghost use Rattle.jc_world.specs.World.{waits_for_load, waits_for_process, waits_for_report, is_answered, is_unasked};
 ghost use Rattle.jc_world.specs.World.{is_untouched, has_changed};
 ghost use Rattle.jc_world.specs.declared.event.Outcome.TheVariants as outcome;
-ghost use Rattle.jc_world.specs.Events.{not_over};
+ghost use Rattle.jc_world.specs.Events.{not_over, with_change, with_report};
 
 use crate::command::Command;
 use crate::process::{EntryCalls, LoadSource, Processed};
@@ -377,6 +377,30 @@ impl Progress {
             Progress::Writing { report, .. } => !report.is_given(),
             Progress::Processing => true,
             Progress::Processed { .. } | Progress::WritingEffect { .. } => false,
+        }
+    }
+
+    /// The writer has changed the store.
+    pub(crate) fn change(&mut self)
+        requires { waits_for_report self.old ≡ true }
+        ensures { self.new ≡ with_change self.old }
+    {
+        match self {
+            Progress::Writing { is_changed, .. } => *is_changed = true,
+            Progress::WritingEffect { is_changed, .. } => *is_changed = true,
+            Progress::Loading { .. } | Progress::Processing | Progress::Processed { .. } => {}
+        }
+    }
+
+    /// The writer has returned with this.
+    pub(crate) fn report(&mut self, answer: WriteAnswer)
+        requires { waits_for_report self.old ≡ true }
+        ensures { self.new ≡ with_report self.old answer }
+    {
+        match self {
+            Progress::Writing { report, .. } => *report = answer,
+            Progress::WritingEffect { report, .. } => *report = answer,
+            Progress::Loading { .. } | Progress::Processing | Progress::Processed { .. } => {}
         }
     }
 

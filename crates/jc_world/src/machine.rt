@@ -19,7 +19,7 @@ use crate::calls::{begin, drop_call, fault_in, find_call, has_call, is_above, re
 use crate::command::Command;
 use crate::ending::{end_all, pick_all};
 use crate::event::{Outcome, PickedUp, Premises, Shown, WorldEvent, show, show_end};
-use crate::held::Held;
+use crate::held::HeldKey;
 use crate::held_keys::{HeldKeys, held_at, held_by, hold, make_room, take};
 use crate::joined::{Joins, has_joined, make_join_room, put_join, take_join};
 use crate::open_call::OpenCall;
@@ -117,14 +117,14 @@ impl Machine {
     }
 
     /// What is held of a key.
-    fn reserved(&self, key: &Key) -> Option<&Held>
+    fn reserved(&self, key: &Key) -> Option<&HeldKey>
         ensures { option_copied result ≡ map.get self.now.parts key.now }
     {
         held_at(&self.held, key)
     }
 
     /// What a call holds of a key.
-    pub(crate) fn held_by(&self, call: u64, key: &Key) -> Option<&Held>
+    pub(crate) fn held_by(&self, call: u64, key: &Key) -> Option<&HeldKey>
         ensures { option_copied result ≡ part_of self.now call key.now }
     {
         held_by(&self.held, call, key)
@@ -263,7 +263,7 @@ impl Machine {
             Begun::Refused(refusal) => {
                 refuse(&mut self.calls, kind, caller.call, key, refusal, seen);
             }
-            begun => hold(&mut self.held, begun, seen),
+            Begun::Asks(ticket) => hold(&mut self.held, ticket, seen),
         }
         Ok(())
     }
