@@ -15,3 +15,4 @@ pub mod ReadLines
 pub mod Callable
 pub mod Fitting
 pub mod SingleCalls
+pub mod ReachedWorlds
