@@ -39,7 +39,7 @@ order_refused : (w : WorldState) (u : CallState) (key : Bytes) (op : Op) (met : 
 order_refused w u key op met may old =
     let call = u.caller.call in
     let new : WorldState = with_settled w call key met in
-    order_beside w (settle call key met w.calls) w.parts w.store w.premises
+    order_beside w (settle call key met w.calls) w.parts w.store w.premises w.is_fresh
     (calls_settled w new call key met (IsFound w) w.calls (λ x v left found h. fits_left w new call key x v left refl refl (λ q o is k. k) h) (each_found w w.calls old.calls) old.calls)
     (λ r h. record { part = h.part; call = call_kept w call key met r (not_own w call key r may.none h) (may_turn w u key op may) h }) old
 
@@ -47,7 +47,7 @@ order_refused w u key op met may old =
 order_over : (w : WorldState) (call : ℕ) (u : CallState) → list_all (is_free w call) (open_keys u) ≡ true → open_call w call ≡ Some u → IsSoundWorld w → HasOrder (without_call w call)
 order_over w call u free is old =
     let new : WorldState = without_call w call in
-    order_beside w (drop_call call w.calls) w.parts w.store w.premises
+    order_beside w (drop_call call w.calls) w.parts w.store w.premises w.is_fresh
     (calls_filter w new (is_other call) (IsFound w) w.calls (λ v other found h. fits_same w new v refl refl (λ q o is k. k) h) (each_found w w.calls old.calls) old.calls)
     (λ r h.
     let v = some_of (open_call w r.caller.call) (IsCallOf r.caller.session r.key r.op) h.call in
@@ -523,7 +523,7 @@ order_taken : (w : WorldState) (call : ℕ) (left : CallState → Option CallSta
     → IsSoundWorld w → HasOrder (record w { calls = replaced call left w.calls })
 order_taken w call left u here taken called old =
     let new : WorldState = record w { calls = replaced call left w.calls } in
-    order_beside w (replaced call left w.calls) w.parts w.store w.premises
+    order_beside w (replaced call left w.calls) w.parts w.store w.premises w.is_fresh
     (calls_taken w new call left u here taken
     (λ x h. fits_same w new x refl refl (λ q op is k. k) h)
     (λ v goes h. fits_taken w new u v (taken v goes) refl refl (λ q op is k. k) h) old.calls)
@@ -588,12 +588,12 @@ order_happens stays w new (WorldEvent.Process call key source calls fail) seen f
 order_happens stays w new (WorldEvent.Change call key) seen fit h back old = subst HasOrder (sym h.5) (order_part w call key h.0 _ w.premises _ h.2 refl old)
 order_happens stays w new (WorldEvent.Report call left fault) seen fit h back old = order_half new (back tt)
 order_happens stays w new (WorldEvent.Leave call) seen fit h back old = subst HasOrder (sym h.1) (order_left w call fit old)
-order_happens stays w new (WorldEvent.Foreign key value) seen fit h back old = subst HasOrder (sym h.1) (order_stored w _ _ old)
+order_happens stays w new (WorldEvent.Foreign key value) seen fit h back old = subst HasOrder (sym h.1) (order_stored w _ _ false old)
 order_happens stays w new e seen fit h back old = let k = key_change w new e seen refl h in order_key stays w new e k.0 seen k.1 fit old
 
 -- an entry that the store has from the start
 pub order_opened : (w : WorldState) (key value : Bytes) → IsSoundWorld w → HasOrder (with_stored w key value)
-order_opened w key value old = order_stored w (with_stored w key value).store w.premises old
+order_opened w key value old = order_stored w (with_stored w key value).store w.premises w.is_fresh old
 
 -- 8. The whole history.
 

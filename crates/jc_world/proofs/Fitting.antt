@@ -149,7 +149,7 @@ looks_begun w old call session c s fit sweeps =
     ap (λ more. find (has_number call) (w.calls ++ more)) opens
     ∙ find-append (has_number call) w.calls (u ∷ []) ∙ ap (λ o. option_or o (find (has_number call) (u ∷ []))) (new_under w call new old) ∙ ap (λ b. cond b (Some u) None) (nat_eq_equiv.refl call)
     in
-    let next : WorldState = record w { last = Some call; calls = w.calls ++ opened u } in
+    let next : WorldState = record w { last = Some call; calls = w.calls ++ opened u; is_fresh = false } in
     fits_then w (WorldEvent.Call call session c) (looks call 0 w.config.stripes) fit (λ seen mid happens.
     subst (λ m. AllFit m (looks call 0 w.config.stripes)) (sym happens.1)
     (looks_fit call w.config.stripes 0 next u s here sweeps (none_seen s.looked facts.1) (all_left w.config.stripes)))

@@ -121,11 +121,11 @@ none_under : (call : ℕ) (calls : List CallState) (u : CallState) → calls ≡
 none_under call calls u none h = let e : None ≡ Some u = ap (find (has_number call)) (sym none) ∙ h in cc
 
 -- a call is under way, so one has begun
-begun_before : (w : WorldState) (call : ℕ) (u : CallState) → open_call w call ≡ Some u → IsSoundWorld w → is_none w.last ≡ true → ⊥
+begun_before : (w : WorldState) (call : ℕ) (u : CallState) → open_call w call ≡ Some u → IsSoundWorld w → w.is_fresh ≡ true → ⊥
 begun_before w call u is old none = none_under call w.calls u (old.idle none) is
 
 -- nor is it if a key has a part
-worn : (w : WorldState) (key : Bytes) (part : Part) → get w.parts key ≡ Some part → IsSoundWorld w → is_none w.last ≡ true → ⊥
+worn : (w : WorldState) (key : Bytes) (part : Part) → get w.parts key ≡ Some part → IsSoundWorld w → w.is_fresh ≡ true → ⊥
 worn w key part there old none =
     let on = some_of (open_call w part.reservation.caller.call) (λ u. op_at u key ≡ Some part.reservation.op) (call_on w key part there old) in
     begun_before w part.reservation.caller.call on.0 on.1 old none
@@ -272,16 +272,16 @@ parts_reported w call key part report is waits old =
     (told_report part.progress part.reservation.first report (entry_at w.store key) (cached_entry w key) due hold.1 one)) old
 
 -- somebody else has written the store
-pub parts_disturbed : (w : WorldState) (store : Cache) → IsSoundWorld w → HasParts (record w { store = store; premises = with_foreign_write w.premises })
+pub parts_disturbed : (w : WorldState) (store : Cache) → IsSoundWorld w → HasParts (record w { store = store; premises = with_foreign_write w.premises; is_fresh = false })
 parts_disturbed w store old = record {
   held = old.held;
   told = λ h. absurd (undisturbed w.config.write_through w.premises.writers w.premises.loaders h);
-  cold = old.cold;
-  idle = old.idle;
+  cold = λ f. absurd (let t : false ≡ true = f in cc);
+  idle = λ f. absurd (let t : false ≡ true = f in cc);
 }
 
 -- a value is stored before anything has happened
-pub parts_stored : (w : WorldState) (key value : Bytes) → is_none w.last ≡ true → IsSoundWorld w → HasParts (with_stored w key value)
+pub parts_stored : (w : WorldState) (key value : Bytes) → w.is_fresh ≡ true → IsSoundWorld w → HasParts (with_stored w key value)
 parts_stored w key value new old = record {
   held = old.held;
   told = λ h q. told_none (get w.parts q) (entry_at (with_entry w.store key (Some value)) q) (cached_entry w q) (missing (get w.parts q) (λ p there. worn w q p there old new)) (old.cold new q);
@@ -312,10 +312,10 @@ parts_start config fits =
 
 -- a call has begun
 pub parts_called : (w : WorldState) (call session : ℕ) (command : Command) → fits w (WorldEvent.Call call session command) ≡ true → IsSoundWorld w
-    → HasParts (record w { last = Some call; calls = w.calls ++ opened (new_call call session command) })
+    → HasParts (record w { last = Some call; calls = w.calls ++ opened (new_call call session command); is_fresh = false })
 parts_called w call session command fit old =
     let more : List CallState = opened (new_call call session command) in
-    let n : WorldState = record w { last = Some call; calls = w.calls ++ more } in
+    let n : WorldState = record w { last = Some call; calls = w.calls ++ more; is_fresh = false } in
     record {
       held = old.held;
       told = old.told;
@@ -390,7 +390,7 @@ held_reserving from next r q p reservations h =
 -- so there is one part more
 parts_reserving : (w : WorldState) (key : Bytes) (from next : State) (r : Reservation) (part : Part) → stripe_for w key ≡ Some from → is_reserved from key ≡ false
     → next.reservations ≡ from.reservations ++ r ∷ [] → next.cache ≡ from.cache → IsHeld next key part
-    → ((stored entry : Option Bytes) → Agrees entry stored → ProgressAgrees part.progress part.reservation.first stored entry) → (is_none w.last ≡ true → ⊥) → IsSoundWorld w
+    → ((stored entry : Option Bytes) → Agrees entry stored → ProgressAgrees part.progress part.reservation.first stored entry) → (w.is_fresh ≡ true → ⊥) → IsSoundWorld w
     → HasParts (with_part (with_stripe w key next) key part)
 parts_reserving w key from next r part at free reservations cache one new used old =
     let n = with_part (with_stripe w key next) key part in
@@ -412,7 +412,7 @@ held_new key from next p r free key_is reservations asked =
     record { key_is = key_is; out = rw reservations (new_out from r (ap (is_reserved from) key_is ∙ free)); asked = asked }
 
 -- a stripe is another, whose entries and reservations are the same
-parts_aside : (w : WorldState) (key : Bytes) (from next : State) (calls : List CallState) (joins : Joins) → stripe_for w key ≡ Some from → next.cache ≡ from.cache → next.reservations ≡ from.reservations → (is_none w.last ≡ true → ⊥) → IsSoundWorld w
+parts_aside : (w : WorldState) (key : Bytes) (from next : State) (calls : List CallState) (joins : Joins) → stripe_for w key ≡ Some from → next.cache ≡ from.cache → next.reservations ≡ from.reservations → (w.is_fresh ≡ true → ⊥) → IsSoundWorld w
     → HasParts (record w { stripes = slice_set w.stripes (home w key) next; calls = calls; joins = joins })
 parts_aside w key from next calls joins at cache reservations used old = record {
   held = held_set w key from next at (λ q p h. held_on from next q p (ap (find (is_key p.reservation.key)) reservations ∙ h.out) h) old;

@@ -119,7 +119,7 @@ step_of seen =
     record { reply = seen.reply; place = seen.place; victim = seen.victim; evicted = seen.evicted }
 
 abbrev pub with_call : WorldState → CallState → WorldState
-with_call w u = record w { last = Some u.caller.call; calls = w.calls ++ opened u }
+with_call w u = record w { last = Some u.caller.call; calls = w.calls ++ opened u; is_fresh = false }
 
 abbrev pub not_over : Outcome → Shown
 not_over o = record { outcome = o; over = None }
@@ -418,7 +418,7 @@ Happens old (event.PickUp call key) seen new =
 Happens old (event.Foreign key value) seen new =
     let store = with_entry old.store key value in
     (seen ≡ not_over outcome.Written)
-    × (new ≡ record old { store = store; premises = with_foreign_write old.premises })
+    × (new ≡ record old { store = store; premises = with_foreign_write old.premises; is_fresh = false })
 
 -- 5. Steps and runs.
 

@@ -29,7 +29,7 @@
 --                                   cached one
 --     Sweeps                        a call that is still to look at a stripe: the keys that it has taken are of those at which it has
 --                                   looked
---     IsSoundWorld                  all of it; and before a call has begun, nothing is cached, reserved, joined or under way
+--     IsSoundWorld                  all of it; and in a fresh world nothing is cached, reserved, joined or under way
 use Rattle.std.specs.Prelude.{◌≡◌, ◌==◌, ℕ, List, [], ◌∷◌, length, Ok, Bool, true, false, not, ◌&&◌, Option, None, Some, IfSome, IsSomeAnd, is_none, is_some, find, slice_get, nat_le}
 use Rattle.std.specs.List.{list_all}
 use Rattle.std.specs.Map.{lookup}
@@ -242,7 +242,7 @@ Sweeps config u =
     → (key : Bytes) → is_some (lookup (pointwise ◌==◌ key) u.tasks) ≡ true
     → has_looked sweep.looked (stripe_of key config.stripes) ≡ true
 
--- 7. The world. Before a call has begun, nothing is cached, reserved, joined or under way.
+-- 7. The world. In a fresh one nothing is cached, reserved, joined or under way.
 pub record IsSoundWorld (w : WorldState) : Type 0 where
   pub shape : IsShaped w
   pub order : in_order w.order ≡ true
@@ -259,5 +259,5 @@ pub record IsSoundWorld (w : WorldState) : Type 0 where
       → AllCalled w number s.joiners
   pub told : all_hold w ≡ true → (key : Bytes)
       → KeyAgrees (get w.parts key) (entry_at w.store key) (cached_entry w key)
-  pub cold : is_none w.last ≡ true → (key : Bytes) → cached_entry w key ≡ None
-  pub idle : is_none w.last ≡ true → w.calls ≡ []
+  pub cold : w.is_fresh ≡ true → (key : Bytes) → cached_entry w key ≡ None
+  pub idle : w.is_fresh ≡ true → w.calls ≡ []

@@ -11,7 +11,6 @@
 --     cached_entry                    what is cached for a key
 --     empty_stripe, empty_stripes     a stripe in which nothing has happened, and as many as are asked for, from a number on
 --     start                           a world before anything has happened
---     is_fresh                        no call has begun, and nobody else has written the store
 --     is_busy                         a session has a call under way
 --     open_call                       the call with this number, if it is under way
 --     of_call                         a part, if it is this call's
@@ -85,6 +84,7 @@ pub record WorldState : Type 0 where
   pub parts : Parts
   pub joins : Joins
   pub premises : Premises  -- what has held so far of loaders, writers and others
+  pub is_fresh : Bool  -- no call has begun yet, and nobody else has written the store
 
 -- 1. Stripes.
 
@@ -135,13 +135,10 @@ start config =
       parts = empty;
       joins = empty;
       premises = record { writers = true; loaders = true; quiet = true };
+      is_fresh = true;
     }
 
 -- 2. Calls.
-
--- nothing has happened in a world, but for what its store was given
-abbrev pub is_fresh : WorldState → Bool
-is_fresh w = is_none w.last && w.premises.quiet
 
 -- the session has a call under way
 abbrev pub is_busy : WorldState → ℕ → Bool

@@ -7,7 +7,8 @@ use jc_stripe::phase_laws::{keeps_reserved, stays_reached};
 /// of all events is one legal history over all stripes, each stripe's history is its part of it, and what each stripe
 /// caches is what its part leaves.
 ///
-/// That a reply and a place that are shown are those of a step of that history is said by the clause of `World::play`.
+/// That a reply and a place that are shown are those of a step of that history is the law
+/// [`replies_stand`](crate::replies::replies_stand).
 pub fn stays_legal()
     ensures { StaysLegal }
 {

@@ -2,7 +2,7 @@
 ghost use Rattle.std.specs.Prelude.{[], ◌≡◌, ◌≤◌, ◌⊎◌, ◌<◌, true, IsTrue, IfOk, IfErr, IsOk, option_copied, OnErr, OnOk, Ok, is_some};
 ghost use Rattle.std.specs.Prelude.{Err, take, length};
 ghost use Rattle.jc_types.specs.Limits.{check};
-ghost use Rattle.jc_world.specs.World.{start, is_busy, is_fresh, open_call, part_of, has_progress, waits_for_load, waits_for_process};
+ghost use Rattle.jc_world.specs.World.{start, is_busy, open_call, part_of, has_progress, waits_for_load, waits_for_process};
 ghost use Rattle.jc_world.specs.World.{waits_for_report, is_joined, with_stored};
 ghost use Rattle.jc_world.specs.Fits.{fits, is_new};
 ghost use Rattle.jc_world.specs.Events.{RunAppending};
@@ -66,7 +66,7 @@ impl World {
     ///
     /// Conditions: the world is fresh, as [`is_fresh`](World::is_fresh) says.
     pub fn set(&mut self, key: &Key, value: &Value) -> Result<(), AllocError>
-        requires { is_fresh self.old.world ≡ true }
+        requires { self.old.world.is_fresh ≡ true }
         ensures ok { OnOk result (
             self.new ≡ record self.old { world = with_stored self.old.world key.now value.now }) }
         ensures err { OnErr result (self.new ≡ self.old) }
@@ -137,7 +137,7 @@ impl World {
 
     /// Whether no call has begun, and nobody else has written the store.
     pub fn is_fresh(&self) -> bool
-        ensures { result ≡ is_fresh self.now.world }
+        ensures { result ≡ self.now.world.is_fresh }
     {
         self.machine.is_fresh()
     }
