@@ -57,10 +57,10 @@ calls_same w n calls last order served fit =
     calls_all w n calls (λ u h. fits_same w n u last order (λ q op is. served u.caller q) h) fit
 
 -- the stripes, the order and the last number are the same: the calls fit, and each reservation is owned as before
-pub order_beside : (w : WorldState) (calls : List CallState) (parts : Parts) (store : Cache) (premises : Premises) → CallsFit (record w { calls = calls; parts = parts; store = store; premises = premises }) calls
-    → ((r : Reservation) → IsOwned w r → IsOwned (record w { calls = calls; parts = parts; store = store; premises = premises }) r) → IsSoundWorld w → HasOrder (record w { calls = calls; parts = parts; store = store; premises = premises })
-order_beside w calls parts store premises fit owned old =
-    let new : WorldState = record w { calls = calls; parts = parts; store = store; premises = premises } in
+pub order_beside : (w : WorldState) (calls : List CallState) (parts : Parts) (store : Cache) (premises : Premises) (fresh : Bool) → CallsFit (record w { calls = calls; parts = parts; store = store; premises = premises; is_fresh = fresh }) calls
+    → ((r : Reservation) → IsOwned w r → IsOwned (record w { calls = calls; parts = parts; store = store; premises = premises; is_fresh = fresh }) r) → IsSoundWorld w → HasOrder (record w { calls = calls; parts = parts; store = store; premises = premises; is_fresh = fresh })
+order_beside w calls parts store premises fresh fit owned old =
+    let new : WorldState = record w { calls = calls; parts = parts; store = store; premises = premises; is_fresh = fresh } in
     record {
       shape = shape_same w new refl refl refl old.shape;
       order = old.order;
@@ -70,8 +70,8 @@ order_beside w calls parts store premises fit owned old =
     }
 
 -- the store changes
-pub order_stored : (w : WorldState) (store : Cache) (premises : Premises) → IsSoundWorld w → HasOrder (record w { store = store; premises = premises })
-order_stored w store premises old = order_beside w w.calls w.parts store premises (calls_same w (record w { store = store; premises = premises }) w.calls refl refl (λ c q h. h) old.calls) (λ r h. record { part = h.part; call = h.call }) old
+pub order_stored : (w : WorldState) (store : Cache) (premises : Premises) (fresh : Bool) → IsSoundWorld w → HasOrder (record w { store = store; premises = premises; is_fresh = fresh })
+order_stored w store premises fresh old = order_beside w w.calls w.parts store premises fresh (calls_same w (record w { store = store; premises = premises; is_fresh = fresh }) w.calls refl refl (λ c q h. h) old.calls) (λ r h. record { part = h.part; call = h.call }) old
 
 -- a key's part stays, of the same call
 pub owned_part : (parts : Parts) (key q : Bytes) (part : Part) (call : ℕ) → IsSomeAnd (get parts q) (λ p. p.reservation.caller.call ≡ call) → (q ≡ key → part.reservation.caller.call ≡ call) → IsSomeAnd (get (insert parts key part) q) (λ p. p.reservation.caller.call ≡ call)
@@ -85,7 +85,7 @@ pub order_parted : (w : WorldState) (key : Bytes) (old part : Part) (premises : 
     → HasOrder (record w { parts = insert w.parts key part; premises = premises; store = store })
 order_parted w key old part premises store there same was =
     let new : WorldState = record w { parts = insert w.parts key part; premises = premises; store = store } in
-    order_beside w w.calls (insert w.parts key part) store premises (calls_same w new w.calls refl refl (λ c q h. h) was.calls)
+    order_beside w w.calls (insert w.parts key part) store premises w.is_fresh (calls_same w new w.calls refl refl (λ c q h. h) was.calls)
     (λ r h. record {
       part = owned_part w.parts key r.key part r.caller.call h.part (λ e.
           let found = some_of (get w.parts r.key) (λ p. p.reservation.caller.call ≡ r.caller.call) h.part in
@@ -163,7 +163,7 @@ called_parts a b c d h =
 
 -- the world with more calls
 abbrev begun_world : WorldState → ℕ → List CallState → WorldState
-begun_world w call more = record w { last = Some call; calls = w.calls ++ more }
+begun_world w call more = record w { last = Some call; calls = w.calls ++ more; is_fresh = false }
 
 -- a call fits after a new number
 fits_more : (w : WorldState) (call : ℕ) (more : List CallState) (x : CallState) → is_new w.last call ≡ true → FitsCall w x → FitsCall (begun_world w call more) x
@@ -188,7 +188,7 @@ order_more w call more is fit old =
 
 -- a session begins a call
 pub order_called : (w : WorldState) (call session : ℕ) (command : Command) → fits w (WorldEvent.Call call session command) ≡ true → IsSoundWorld w
-    → HasOrder (record w { last = Some call; calls = w.calls ++ opened (new_call call session command) })
+    → HasOrder (record w { last = Some call; calls = w.calls ++ opened (new_call call session command); is_fresh = false })
 order_called w call session command fit old =
     let u : CallState = new_call call session command in
     let one : WorldState = begun_world w call (u ∷ []) in

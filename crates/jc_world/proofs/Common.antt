@@ -92,10 +92,10 @@ pub use Rattle.jc_world.specs.declared.command.Command.{Command}
 pub use Rattle.jc_world.specs.declared.event.Outcome.{Outcome}
 pub use Rattle.jc_world.specs.declared.event.Over.{Over}
 pub use Rattle.jc_world.specs.declared.event.Part.{Part}
-pub use Rattle.jc_world.specs.declared.event.PickedUp.{PickedUp}
+pub use Rattle.jc_world.specs.declared.event.JoinAnswer.{JoinAnswer}
 pub use Rattle.jc_world.specs.declared.event.Premises.{Premises}
-pub use Rattle.jc_world.specs.declared.event.Progress.{Progress}
-pub use Rattle.jc_world.specs.declared.event.Progress.TheVariants.{Loading, Processed, Processing, Writing, WritingEffect}
+pub use Rattle.jc_world.specs.declared.event.PartProgress.{PartProgress}
+pub use Rattle.jc_world.specs.declared.event.PartProgress.TheVariants.{Loading, Processed, Processing, Writing, WritingEffect}
 pub use Rattle.jc_world.specs.declared.event.Shown.{Shown}
 pub use Rattle.jc_world.specs.declared.event.Stepped.{Stepped}
 pub use Rattle.jc_world.specs.declared.event.WorldEvent.{WorldEvent}
@@ -120,4 +120,4 @@ pub use Rattle.jc_world.specs.Reserved.{is_appended}
 pub use Rattle.jc_world.specs.Sound.{IsWorldStripe, IsShaped, is_up_to, number_up_to, has_answer, has_parked_answer, is_served_in, is_served, is_apart, FitsKey, FitsCall, CallsFit, Each, is_of_asked, is_due_in, is_due, AllDue, IsHeld, IsCallOf, IsOwned, AllOwned, IsWaitedFor, AllWaitedFor, IsCalled, AllCalled, Agrees, IsWrittenFor, LoadAgrees, WriteAgrees, ProgressAgrees, KeyAgrees, Sweeps, IsSoundWorld}
 pub use Rattle.jc_world.specs.Together.{looks, opening_events, BeginFits, at_call, key_at, AreAt, FitTogether}
 pub use Rattle.jc_world.specs.Turns.{history_in, history_at, turns_of, after_turn, merge, OrderedStripes, IsPhase, IsQuietPhase, ordered_stripes, AreTurns, IsMergeable}
-pub use Rattle.jc_world.specs.World.{Parts, JoinKey, join_cmp, join_key, Joins, WorldState, home, stripe_for, entry_in, cached_entry, empty_stripe, empty_stripes, start, is_fresh, is_busy, open_call, of_call, part_of, has_progress, waits_for_load, waits_for_process, waits_for_report, is_answered, is_unasked, is_untouched, has_changed, writer_change_in, writer_change, out_in, out_of, join_of, has_joined, is_joined, is_free_of, with_stored}
+pub use Rattle.jc_world.specs.World.{Parts, JoinKey, join_cmp, join_key, Joins, WorldState, home, stripe_for, entry_in, cached_entry, empty_stripe, empty_stripes, start, is_busy, open_call, of_call, part_of, has_progress, waits_for_load, waits_for_process, waits_for_report, is_answered, is_unasked, is_untouched, has_changed, writer_change_in, writer_change, out_in, out_of, join_of, has_joined, is_joined, is_free_of, with_stored}
