@@ -16,10 +16,11 @@
 --     without_none                        the reservations without a key that none of them has
 --     none_twice                          no key of an empty list stands twice
 --     keys_once, keys_own                 the keys of a stripe differ, and belong to it
-use Rattle.std.proofs.Common.{◌≡◌, ◌==◌, ◌&&◌, ◌||◌, ◌+◌, ℕ, zero, suc, List, [], ◌∷◌, Bool, true, false, cond, not, Option, None, Some, is_none, refl, sym, ap, ◌∙◌, slice_get}
+--     opens_well                          the opening of a reached stripe is one of its configuration and number
+use Rattle.std.proofs.Common.{◌≡◌, ◌==◌, ◌&&◌, ◌||◌, ◌+◌, ℕ, zero, suc, List, [], ◌∷◌, Bool, true, false, cond, not, Option, None, Some, is_none, refl, sym, ap, subst, ◌∙◌, arith, slice_get}
 use Rattle.std.specs.Ordering.{eq_by_cmp}
 use Rattle.std.specs.Map.{keys_of}
-use Rattle.std.specs.FinMap.{find}
+use Rattle.std.specs.FinMap.{find, from_entries}
 use Rattle.std.proofs.lemmas.Cmp.{nat_list_eq_equiv}
 use Rattle.std.proofs.lemmas.List.Sorted.{list_any-IsPermutation}
 use Rattle.std.proofs.lemmas.Map.Keys.{IsDistinct-IsPermutation, IsDistinct-cons}
@@ -27,6 +28,7 @@ use Rattle.std.proofs.lemmas.Bool.{eqb-true, and_parts, or_parts, not-false}
 use Rattle.std.specs.List.{list_any, list_all, IsDistinct, AllByRecursion}
 use Rattle.std.specs.Cmp.Lexicographic.{pointwise, same_text, texts_ties}
 use Rattle.jc_types.proofs.CallerLemmas.{all_imply}
+use Rattle.jc_model.proofs.CallerLemmas.{opening_of}
 use Rattle.jc_types.specs.declared.caller.Caller.{Caller}
 use Rattle.jc_types.specs.declared.config.Config.{Config}
 use Rattle.jc_model.specs.declared.event.Event.{Event}
@@ -40,7 +42,7 @@ use Rattle.jc_model.specs.declared.event.Reply.{Reply}
 use Rattle.jc_model.specs.Cache.{Bytes, entry_at, key_cmp}
 use Rattle.jc_model.specs.Listed.{has_distinct_keys}
 use Rattle.jc_model.specs.Table.{always_if, write_ask, is_invoke}
-use Rattle.jc_model.specs.Legal.{in_order, may_come, may_follow}
+use Rattle.jc_model.specs.Legal.{in_order, may_come, may_follow, IsOpening}
 use Rattle.jc_inflight.specs.declared.joiner.JoinState.TheVariants.{Answered, Again}
 use Rattle.jc_inflight.specs.Joining.{callers_of}
 use Rattle.jc_inflight.specs.Resolving.{after_resolve}
@@ -219,3 +221,8 @@ keys_own s found reached are =
     let keys : List Bytes = keys_of (by_use s.opening s.history) in
     let own : list_all (is_of s) keys ≡ true = all_keys (is_of s) (by_use s.opening s.history) ∙ reached.used.own in
     all_pass (is_of s) found (sym (list_any-IsPermutation (λ k. not (is_of s k)) keys found are.each) ∙ none_other (is_of s) keys own)
+
+pub opens_well : (s : State) → IsReached s → IsOpening s.config s.stripe (from_entries s.opening)
+opens_well s reached =
+    let P : List (Bytes × Bytes) → Type 0 = λ o. IsOpening s.config s.stripe (from_entries o) in
+    subst P (sym reached.opening) (opening_of s.config s.stripe [] refl (omega arith) refl)
