@@ -92,10 +92,10 @@ pub use Rattle.jc_world.specs.declared.command.Command.{Command}
 pub use Rattle.jc_world.specs.declared.event.Outcome.{Outcome}
 pub use Rattle.jc_world.specs.declared.event.Over.{Over}
 pub use Rattle.jc_world.specs.declared.event.Part.{Part}
-pub use Rattle.jc_world.specs.declared.event.PickedUp.{PickedUp}
+pub use Rattle.jc_world.specs.declared.event.JoinAnswer.{JoinAnswer}
 pub use Rattle.jc_world.specs.declared.event.Premises.{Premises}
-pub use Rattle.jc_world.specs.declared.event.Progress.{Progress}
-pub use Rattle.jc_world.specs.declared.event.Progress.TheVariants.{Loading, Processed, Processing, Writing, WritingEffect}
+pub use Rattle.jc_world.specs.declared.event.PartProgress.{PartProgress}
+pub use Rattle.jc_world.specs.declared.event.PartProgress.TheVariants.{Loading, Processed, Processing, Writing, WritingEffect}
 pub use Rattle.jc_world.specs.declared.event.Shown.{Shown}
 pub use Rattle.jc_world.specs.declared.event.Stepped.{Stepped}
 pub use Rattle.jc_world.specs.declared.event.WorldEvent.{WorldEvent}

@@ -7,7 +7,7 @@
 --     change_of                 each event that fits makes one of these changes
 --     IsStart, may_of           it is the start of a call at a key; in a sound world the call may start there
 --     Move                      the same, as far as configuration, stripes and order go
-use Rattle.jc_world.proofs.Common.{◌≡◌, ℕ, Bool, true, false, ◌++◌, slice_set, Some, Option, sym, refl, ap, ◌∙◌, inl, inr, Caller, Config, Refusal, Bytes, is_load_given, Op, Begins, Commits, Withdraws, PicksUp, reserves, State, is_reserved, new_reservation, with_reservation, TicketClaim, JoinClaim, Begun, Picked, First, Loader, Nobody, Processor, Writer, Reservation, Outcome, Part, PickedUp, Progress, Shown, Stepped, WorldEvent, CallState, new_call, op_at, with_stripe, with_phase, step_of, not_over, shown_begun, fault_in, with_settled, new_progress, with_new_part, without_part, with_join, without_join, ReservesAs, Starts, Ends, Picks, Happens, Step, fits, ends_load, is_answer_at, is_of_asked, is_due_in, Agrees, ProgressAgrees, IsSoundWorld, WorldState, home, stripe_for, open_call, part_of, out_in, out_of, join_of}
+use Rattle.jc_world.proofs.Common.{◌≡◌, ℕ, Bool, true, false, ◌++◌, slice_set, Some, Option, sym, refl, ap, ◌∙◌, inl, inr, Caller, Config, Refusal, Bytes, is_load_given, Op, Begins, Commits, Withdraws, PicksUp, reserves, State, is_reserved, new_reservation, with_reservation, TicketClaim, JoinClaim, Begun, Picked, First, Loader, Nobody, Processor, Writer, Reservation, Outcome, Part, JoinAnswer, PartProgress, Shown, Stepped, WorldEvent, CallState, new_call, op_at, with_stripe, with_phase, step_of, not_over, shown_begun, fault_in, with_settled, new_progress, with_new_part, without_part, with_join, without_join, ReservesAs, Starts, Ends, Picks, Happens, Step, fits, ends_load, is_answer_at, is_of_asked, is_due_in, Agrees, ProgressAgrees, IsSoundWorld, WorldState, home, stripe_for, open_call, part_of, out_in, out_of, join_of}
 use Rattle.jc_world.proofs.Beginning.{MayStart, may_start_at}
 use Rattle.jc_world.proofs.Shares.{added}
 use Rattle.jc_world.proofs.NewCalls.{begun_cases}
@@ -25,7 +25,7 @@ EndsNone e seen = (r : Reservation) → ends_load r (e, seen) ≡ false
 -- 2. An event at a key.
 
 -- a first phase that reserves the key: of its progress nothing was told yet
-pub record Reserves (from : State) (caller : Caller) (key : Bytes) (op : Op) (p : Progress) (r : Reservation) (to : State) : Type 0 where
+pub record Reserves (from : State) (caller : Caller) (key : Bytes) (op : Op) (p : PartProgress) (r : Reservation) (to : State) : Type 0 where
   pub b : Begun
   pub begins : Begins from caller key op b to
   pub free : is_reserved from key ≡ false
@@ -49,7 +49,7 @@ pub data KeyChange (w new : WorldState) (e : WorldEvent) (key : Bytes) (seen : S
   by_refusal : (u : CallState) (op : Op) (refusal : Refusal) → IsStart w e key u op → new ≡ with_settled w u.caller.call key (Some refusal) → AnswersNone seen.outcome → EndsNone e seen → KeyChange w new e key seen
   by_step : (u : CallState) (op : Op) (from to : State) (x : Stepped) → IsStart w e key u op → stripe_for w key ≡ Some from → Begins from u.caller key op (Begun.Done (step_of x)) to → x.stripe ≡ home w key
       → new ≡ with_settled (with_phase w key from to) u.caller.call key (fault_in x.reply) → seen.outcome ≡ Outcome.Stepped x → EndsNone e seen → KeyChange w new e key seen
-  by_reservation : (u : CallState) (op : Op) (from to : State) (p : Progress) (r : Reservation) → IsStart w e key u op → stripe_for w key ≡ Some from → Reserves from u.caller key op p r to
+  by_reservation : (u : CallState) (op : Op) (from to : State) (p : PartProgress) (r : Reservation) → IsStart w e key u op → stripe_for w key ≡ Some from → Reserves from u.caller key op p r to
       → new ≡ with_new_part w key to p r → AnswersNone seen.outcome → EndsNone e seen → KeyChange w new e key seen
   by_join : (u : CallState) (op : Op) (from to : State) (join : JoinClaim) → IsStart w e key u op → stripe_for w key ≡ Some from → Begins from u.caller key op (Begun.Joined join) to
       → new ≡ with_join (with_stripe w key to) join → AnswersNone seen.outcome → EndsNone e seen → KeyChange w new e key seen
@@ -57,7 +57,7 @@ pub data KeyChange (w new : WorldState) (e : WorldEvent) (key : Bytes) (seen : S
       → new ≡ without_part (with_settled (with_phase w key from to) call key (fault_in x.reply)) key → seen.outcome ≡ Outcome.Stepped x → KeyChange w new e key seen
   by_withdrawal : (call : ℕ) (part : Part) (from to : State) → e ≡ WorldEvent.Withdraw call key → part_of w call key ≡ Some part → stripe_for w key ≡ Some from → Withdraws from part.reservation to
       → new ≡ without_part (with_stripe w key to) key → seen ≡ not_over Outcome.Withdrawn → KeyChange w new e key seen
-  by_answer : (call : ℕ) (join : JoinClaim) (from to : State) (x : PickedUp) → e ≡ WorldEvent.PickUp call key → join_of w call key ≡ Some join → stripe_for w key ≡ Some from → PicksUp from join (Picked.Answer x.reply x.place x.shared) to → x.stripe ≡ home w key
+  by_answer : (call : ℕ) (join : JoinClaim) (from to : State) (x : JoinAnswer) → e ≡ WorldEvent.PickUp call key → join_of w call key ≡ Some join → stripe_for w key ≡ Some from → PicksUp from join (Picked.Answer x.reply x.place x.shared) to → x.stripe ≡ home w key
       → new ≡ with_settled (without_join (with_stripe w key to) call key) call key (fault_in x.reply) → seen.outcome ≡ Outcome.PickedUp x → EndsNone e seen → KeyChange w new e key seen
   by_retry : (call : ℕ) (join : JoinClaim) (from to : State) → e ≡ WorldEvent.PickUp call key → join_of w call key ≡ Some join → stripe_for w key ≡ Some from → PicksUp from join Picked.Again to
       → new ≡ without_join (with_stripe w key to) call key → seen.outcome ≡ Outcome.Again → EndsNone e seen → KeyChange w new e key seen

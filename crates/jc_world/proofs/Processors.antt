@@ -3,7 +3,7 @@
 --     write_due          with write-through on, what is due of the writer is the processor's net effect
 --     agrees_processed   what a processor leaves after which no writer is asked agrees with the store
 --     agrees_effect      so does what it leaves once the writer that is asked after it has returned
-use Rattle.jc_world.proofs.Common.{Some, TicketClaim, claim_of, Change, Played, IsAnswerable, progress_after, Progress, Processing, waits_for_process, is_of_asked, ◌≡◌, Bool, true, false, cond, is_some, is_none, None, Option, sym, refl, ap, Config, Bytes, is_write_given, is_invoke, entry_after, LoadAnswer, Op, Invoke, ProcessAnswer, WriteAnswer, ProcessResult, Claim, effect_change, change_due, asks_processor, First, Agrees, LoadAgrees, WriteAgrees}
+use Rattle.jc_world.proofs.Common.{Some, TicketClaim, claim_of, Change, Played, IsAnswerable, progress_after, PartProgress, Processing, waits_for_process, is_of_asked, ◌≡◌, Bool, true, false, cond, is_some, is_none, None, Option, sym, refl, ap, Config, Bytes, is_write_given, is_invoke, entry_after, LoadAnswer, Op, Invoke, ProcessAnswer, WriteAnswer, ProcessResult, Claim, effect_change, change_due, asks_processor, First, Agrees, LoadAgrees, WriteAgrees}
 use Rattle.jc_model.specs.declared.event.Effect.TheVariants as effect
 
 pub invoke_is : (op : Op) → is_invoke op ≡ true → op ≡ Invoke
@@ -52,6 +52,6 @@ run_answerable config ticket done (Some change) asks asked writer claim origin d
     there false e = cc
 
 -- a processor that is waited for was asked
-pub was_asked : (p : Progress) (first : First) → waits_for_process p ≡ true → is_of_asked p first ≡ true → asks_processor first ≡ true
+pub was_asked : (p : PartProgress) (first : First) → waits_for_process p ≡ true → is_of_asked p first ≡ true → asks_processor first ≡ true
 was_asked Processing first waits of_asked = of_asked
 was_asked p first waits of_asked = cc

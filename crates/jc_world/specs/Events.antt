@@ -92,8 +92,8 @@ use Rattle.jc_world.specs.declared.event.Stepped.{Stepped}
 use Rattle.jc_world.specs.declared.reports.ReportedKey.{ReportedKey}
 use Rattle.jc_world.specs.Calls.{CallState, SweepState, open_keys, puts_off, op_at, new_call, has_too_many_keys, opened, over_of, settle, over_settled, meet, drop_call, with_found, look}
 use Rattle.jc_world.specs.declared.event.Part.{Part}
-use Rattle.jc_world.specs.declared.event.Progress.{Progress}
-use Rattle.jc_world.specs.declared.event.Progress.TheVariants.{Loading, Writing, Processing, Processed, WritingEffect}
+use Rattle.jc_world.specs.declared.event.PartProgress.{PartProgress}
+use Rattle.jc_world.specs.declared.event.PartProgress.TheVariants.{Loading, Writing, Processing, Processed, WritingEffect}
 use Rattle.jc_world.specs.World.{WorldState, home, stripe_for, open_call, of_call, part_of, Parts, waits_for_report, has_changed, join_of, join_key, out_of, writer_change}
 use Rattle.jc_world.specs.Premises.{read_answer, changed_to, report_for, is_true_load, is_true_report, with_loader, with_writer, with_foreign_write, load_from}
 use Rattle.jc_world.specs.declared.process.Processed.{Processed as ProcessShown}
@@ -160,7 +160,7 @@ with_look w call stripe keys sweep =
     record w { calls = look call w.config.stripes stripe keys sweep w.calls }
 
 -- what is kept of a key that was reserved
-abbrev pub new_progress : First → Progress
+abbrev pub new_progress : First → PartProgress
 new_progress Nobody = Processing  -- no reservation asks nobody
 new_progress Loader = Loading load.NotAsked
 new_progress (Writer change) = Writing false write.NotAsked
@@ -172,14 +172,14 @@ asks_as Loader = outcome.Loads
 asks_as (Writer change) = outcome.Asks change
 asks_as (Processor entry may_load) = outcome.Processes entry
 
-abbrev pub new_part : Progress → Reservation → Part
+abbrev pub new_part : PartProgress → Reservation → Part
 new_part progress r = record { reservation = r; progress = progress }
 
 abbrev pub with_part : WorldState → Bytes → Part → WorldState
 with_part w key part = record w { parts = insert w.parts key part }
 
 -- a key is reserved, and its stripe is then at another state
-abbrev pub with_new_part : WorldState → Bytes → State → Progress → Reservation → WorldState
+abbrev pub with_new_part : WorldState → Bytes → State → PartProgress → Reservation → WorldState
 with_new_part w key to progress r =
     with_part (with_stripe w key to) key (new_part progress r)
 
@@ -253,7 +253,7 @@ Picks old call key join from to o new = ⊥
 -- 3. Outside answers.
 
 -- the world with this progress of a reserved key
-abbrev pub with_progress : WorldState → Bytes → Part → Progress → WorldState
+abbrev pub with_progress : WorldState → Bytes → Part → PartProgress → WorldState
 with_progress w key part progress = with_part w key (record part { progress = progress })
 
 -- the loader's answer is kept
@@ -262,7 +262,7 @@ after_answer w key part answer =
     let honest = is_true_load answer (entry_at w.store key) in
     record (with_progress w key part (Loading answer)) { premises = with_loader w.premises honest }
 
-abbrev pub with_change : Progress → Progress
+abbrev pub with_change : PartProgress → PartProgress
 with_change (Loading answer) = Loading answer
 with_change (Writing is_changed report) = Writing true report
 with_change Processing = Processing
@@ -275,7 +275,7 @@ after_change w key part change =
     let progress = with_change part.progress in
     record (with_progress w key part progress) { store = with_entry w.store key (changed_to change) }
 
-abbrev pub with_report : Progress → WriteAnswer → Progress
+abbrev pub with_report : PartProgress → WriteAnswer → PartProgress
 with_report (Loading answer) report = Loading answer
 with_report (Writing is_changed was) report = Writing is_changed report
 with_report Processing report = Processing
@@ -336,7 +336,7 @@ run_result r answer calls fail =
       process = played_outcome (is_loadable r.first) (entry_seen r.first) answer calls fail;
     }
 
-abbrev pub progress_after : Option Change → ProcessResult Claim → Progress
+abbrev pub progress_after : Option Change → ProcessResult Claim → PartProgress
 progress_after None done = Processed done.load done.process
 progress_after (Some change) done = WritingEffect done.load done.process false write.NotAsked
 

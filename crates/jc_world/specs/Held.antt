@@ -13,22 +13,22 @@ use Rattle.jc_model.specs.Cache.{Bytes}
 use Rattle.jc_outside.specs.declared.done.Origin.TheVariants.{Played}
 use Rattle.jc_mutentry.specs.Done.{ProcessResult, effect_change}
 use Rattle.jc_stripe.specs.Tickets.{TicketClaim, Claim, claim_of, JoinClaim}
-use Rattle.jc_world.specs.declared.event.Progress.{Progress}
+use Rattle.jc_world.specs.declared.event.PartProgress.{PartProgress}
 use Rattle.jc_world.specs.declared.event.Part.{Part}
-use Rattle.jc_world.specs.declared.event.Progress.TheVariants.{Loading, Writing, Processing, Processed, WritingEffect}
+use Rattle.jc_world.specs.declared.event.PartProgress.TheVariants.{Loading, Writing, Processing, Processed, WritingEffect}
 use Rattle.jc_world.specs.World.{Parts, JoinKey, Joins}
 use Rattle.jc_world.specs.Sound.{is_of_asked}
 
 -- 1. Tickets and their answers.
 
-abbrev pub has_not_run : Progress → Bool
+abbrev pub has_not_run : PartProgress → Bool
 has_not_run (Loading answer) = true
 has_not_run (Writing is_changed report) = true
 has_not_run Processing = true
 has_not_run (Processed loaded process) = false
 has_not_run (WritingEffect loaded process is_changed report) = false
 
-abbrev pub IsRunAs : ProcessResult Claim → Progress → Type 0
+abbrev pub IsRunAs : ProcessResult Claim → PartProgress → Type 0
 IsRunAs done (Loading answer) = ⊥
 IsRunAs done (Writing is_changed report) = ⊥
 IsRunAs done Processing = ⊥
@@ -36,14 +36,14 @@ IsRunAs done (Processed loaded process) = (done.load ≡ loaded) × (done.proces
 IsRunAs done (WritingEffect loaded process is_changed report) =
     (done.load ≡ loaded) × (done.process ≡ process) × (is_some (effect_change loaded process) ≡ true)
 
-abbrev pub HasRun : TicketClaim → Option (ProcessResult Claim) → Progress → Type 0
+abbrev pub HasRun : TicketClaim → Option (ProcessResult Claim) → PartProgress → Type 0
 HasRun ticket None progress = (ticket.asked ≡ false) × (has_not_run progress ≡ true)
 HasRun ticket (Some done) progress =
     (ticket.asked ≡ true) × (done.ask ≡ claim_of ticket.reservation) × (done.origin ≡ Played)
     × IsRunAs done progress
 
 pub record IsAnswerable (ticket : TicketClaim) (run : Option (ProcessResult Claim))
-    (progress : Progress) : Type 0 where
+    (progress : PartProgress) : Type 0 where
   pub of_asked : is_of_asked progress ticket.reservation.first ≡ true
   pub writer : ticket.writer_asked ≡ false
   pub run_is : HasRun ticket run progress

@@ -65,8 +65,8 @@ use Rattle.jc_stripe.specs.Reached.{IsReached}
 use Rattle.jc_stripe.specs.OwnSteps.{may_come_all}
 use Rattle.jc_world.specs.Calls.{CallState, SweepState, has_looked, op_at, op_for, is_turn}
 use Rattle.jc_world.specs.declared.event.Part.{Part}
-use Rattle.jc_world.specs.declared.event.Progress.{Progress}
-use Rattle.jc_world.specs.declared.event.Progress.TheVariants.{Loading, Writing, Processing, Processed, WritingEffect}
+use Rattle.jc_world.specs.declared.event.PartProgress.{PartProgress}
+use Rattle.jc_world.specs.declared.event.PartProgress.TheVariants.{Loading, Writing, Processing, Processed, WritingEffect}
 use Rattle.jc_world.specs.World.{WorldState, home, stripe_for, cached_entry, open_call, part_of, JoinKey, Joins, join_key, is_joined, Parts}
 use Rattle.jc_world.specs.Premises.{changed_to, is_done}
 use Rattle.jc_world.specs.Coherent.{all_hold}
@@ -138,7 +138,7 @@ abbrev pub Each : {A : Type 0} → (A → Type 0) → List A → Type 0
 Each P [] = Unit {0}
 Each P (x ∷ xs) = P x × Each P xs
 
-abbrev pub is_of_asked : Progress → First → Bool
+abbrev pub is_of_asked : PartProgress → First → Bool
 is_of_asked (Loading answer) first = asks_loader first
 is_of_asked (Writing is_changed report) first = asks_writer first
 is_of_asked Processing first = asks_processor first
@@ -146,7 +146,7 @@ is_of_asked (Processed loaded process) first = asks_processor first
 is_of_asked (WritingEffect loaded process is_changed report) first = asks_processor first
 
 -- after a processor the writer is asked exactly if it has to be
-abbrev pub is_due_in : Config → Reservation → Progress → Bool
+abbrev pub is_due_in : Config → Reservation → PartProgress → Bool
 is_due_in config r (Loading answer) = true
 is_due_in config r (Writing is_changed report) = true
 is_due_in config r Processing = true
@@ -220,7 +220,7 @@ pub record WriteAgrees (change : Option Change) (is_changed : Bool) (report : Wr
   pub unwritten : is_changed ≡ false → Agrees entry stored
   pub honest : is_write_given report ≡ true → is_done report ≡ is_changed
 
-abbrev pub ProgressAgrees : Progress → First → Option Bytes → Option Bytes → Type 0
+abbrev pub ProgressAgrees : PartProgress → First → Option Bytes → Option Bytes → Type 0
 ProgressAgrees (Loading answer) first stored entry = LoadAgrees answer stored entry
 ProgressAgrees (Writing is_changed report) first stored entry =
     WriteAgrees (change_asked first) is_changed report stored entry

@@ -10,14 +10,14 @@ ghost use Rattle.jc_stripe.specs.Phases.{Commits, Withdraws};
 ghost use Rattle.jc_stripe.specs.Effects.{change_due};
 ghost use Rattle.jc_stripe.specs.Refusals.{reserves};
 ghost use Rattle.jc_outside.specs.declared.done.Origin.TheVariants.{Played};
-ghost use Rattle.jc_world.specs.declared.event.Progress.TheVariants.{Loading};
+ghost use Rattle.jc_world.specs.declared.event.PartProgress.TheVariants.{Loading};
 ghost use Rattle.jc_world.specs.Premises.{changed_to};
 ghost use Rattle.jc_world.specs.World.{has_changed, out_of, is_answered, is_unasked, waits_for_load, waits_for_process};
 ghost use Rattle.jc_world.specs.World.{waits_for_report, writer_change};
 ghost use Rattle.jc_world.specs.Events.{new_part, new_progress, with_change, with_report, run_answers, run_result, progress_after, reported_part};
 ghost use Rattle.jc_world.specs.Sound.{is_due};
 
-use crate::event::{Part, Progress};
+use crate::event::{Part, PartProgress};
 use crate::outside::entry_after;
 use crate::reports::ReportedKey;
 use crate::run::{RunShown, change_asked, change_due, commit_run, new_progress, progress_after};
@@ -36,7 +36,7 @@ use std::mem;
 pub(crate) struct HeldKey {
     ticket: Ticket,
     run: Option<ProcDone<Ask>>,
-    progress: Progress,
+    progress: PartProgress,
 }
 
 impl Model for HeldKey {
@@ -89,7 +89,7 @@ impl HeldKey {
     }
 
     /// What the one who was asked has done and answered so far.
-    pub(crate) fn progress(&self) -> &Progress
+    pub(crate) fn progress(&self) -> &PartProgress
         ensures { result.now ≡ self.now.progress }
     {
         &self.progress
@@ -111,7 +111,7 @@ impl HeldKey {
         requires given { is_load_given answer ≡ true }
         ensures { self.new ≡ record self.old { progress = Loading answer } }
     {
-        self.progress = Progress::Loading { answer };
+        self.progress = PartProgress::Loading { answer };
     }
 
     /// The entry processor runs: it makes these calls, and its loader answers so if it is asked. What each call was answered is
@@ -152,12 +152,14 @@ impl HeldKey {
         ensures { result ≡ writer_change self.now }
     {
         match &self.progress {
-            Progress::Writing { .. } => change_asked(&self.reservation().first),
-            Progress::WritingEffect { .. } => match &self.run {
+            PartProgress::Writing { .. } => change_asked(&self.reservation().first),
+            PartProgress::WritingEffect { .. } => match &self.run {
                 Some(done) => done.change(),
                 None => unreachable!(),
             },
-            Progress::Loading { .. } | Progress::Processing | Progress::Processed { .. } => None,
+            PartProgress::Loading { .. }
+            | PartProgress::Processing
+            | PartProgress::Processed { .. } => None,
         }
     }
 
@@ -225,20 +227,20 @@ impl HeldKey {
         match run {
             Some(done) => commit_run(ticket, done, &progress, stripe),
             None => match progress {
-                Progress::Loading { answer } => {
+                PartProgress::Loading { answer } => {
                     let done = played_load(ticket.ask(), answer);
                     stripe.commit_load(ticket, done)
                 }
-                Progress::Writing {
+                PartProgress::Writing {
                     is_changed: _,
                     report,
                 } => {
                     let done = played_write(ticket.ask(), report);
                     stripe.commit_write(ticket, done)
                 }
-                Progress::Processing
-                | Progress::Processed { .. }
-                | Progress::WritingEffect { .. } => unreachable!(),
+                PartProgress::Processing
+                | PartProgress::Processed { .. }
+                | PartProgress::WritingEffect { .. } => unreachable!(),
             },
         }
     }

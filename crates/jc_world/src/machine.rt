@@ -18,7 +18,7 @@ mod processing;
 use crate::calls::{begin, drop_call, fault_in, find_call, has_call, is_above, refuse, settle};
 use crate::command::Command;
 use crate::ending::{end_all, pick_all};
-use crate::event::{Outcome, PickedUp, Premises, Shown, WorldEvent, show, show_end};
+use crate::event::{JoinAnswer, Outcome, Premises, Shown, WorldEvent, show, show_end};
 use crate::held::HeldKey;
 use crate::held_keys::{HeldKeys, held_at, held_by, hold, make_room, take};
 use crate::joined::{Joins, has_joined, make_join_room, put_join, take_join};
@@ -242,8 +242,6 @@ impl Machine {
         ensures ok { OnOk result (Happens self.old (event.Start call key.now) seen.new self.new) }
         ensures err { OnErr result (self.new ≡ self.old) }
     {
-        // Names the types that the prover looks for: see docs/CONTRIBUTING.md, "Idioms that the prover asks for".
-        let _types: Option<&Change> = None;
         make_room(&mut self.held)?;
         make_join_room(&mut self.joins)?;
         self.stripes.reserve()?;
@@ -321,7 +319,7 @@ impl Machine {
                 shared_with: shared,
             } => {
                 let over = settle(&mut self.calls, call, key, fault_in(&reply));
-                let answer = PickedUp {
+                let answer = JoinAnswer {
                     reply,
                     stripe,
                     place: step,

@@ -10,7 +10,7 @@ ghost use Rattle.jc_world.specs.Events.{asks_as, new_progress, progress_after};
 ghost use Rattle.jc_world.specs.Sound.{is_due_in};
 ghost use Rattle.jc_world.specs.Held.{IsRunAs};
 
-use crate::event::{Outcome, Progress};
+use crate::event::{Outcome, PartProgress};
 use jc_model::{Change, LoadAnswer, ProcessAnswer, WriteAnswer};
 use jc_stripe::{Ask, First, ProcDone, StepDone, Stripe, Ticket, played_write};
 use jc_types::Config;
@@ -37,18 +37,18 @@ pub(crate) fn asks_as(first: &First) -> Outcome
 }
 
 /// How far a key is that was just reserved.
-pub(crate) fn new_progress(first: &First) -> Progress
+pub(crate) fn new_progress(first: &First) -> PartProgress
     ensures { result ≡ new_progress first.now }
 {
     match first {
-        First::Loader => Progress::Loading {
+        First::Loader => PartProgress::Loading {
             answer: LoadAnswer::NotAsked,
         },
-        First::Writer(_) => Progress::Writing {
+        First::Writer(_) => PartProgress::Writing {
             is_changed: false,
             report: WriteAnswer::NotAsked,
         },
-        First::Nobody | First::Processor { .. } => Progress::Processing,
+        First::Nobody | First::Processor { .. } => PartProgress::Processing,
     }
 }
 
@@ -74,14 +74,14 @@ pub(crate) fn change_due(config: &Config, done: &ProcDone<Ask>) -> Option<Change
 }
 
 /// How far a key is once its processor has run, by what the writer is then asked for.
-pub(crate) fn progress_after(change: &Option<Change>, done: &ProcDone<Ask>) -> Progress
+pub(crate) fn progress_after(change: &Option<Change>, done: &ProcDone<Ask>) -> PartProgress
     ensures { result ≡ progress_after change.now done.now }
 {
     let load = *done.load();
     let process = *done.process();
     match change {
-        None => Progress::Processed { load, process },
-        Some(_) => Progress::WritingEffect {
+        None => PartProgress::Processed { load, process },
+        Some(_) => PartProgress::WritingEffect {
             load,
             process,
             is_changed: false,
@@ -94,7 +94,7 @@ pub(crate) fn progress_after(change: &Option<Change>, done: &ProcDone<Ask>) -> P
 pub(crate) fn commit_run(
     ticket: Ticket,
     done: ProcDone<Ask>,
-    progress: &Progress,
+    progress: &PartProgress,
     stripe: &mut Stripe,
 ) -> StepDone
     requires first { asks_processor ticket.reservation.first ≡ true }
@@ -111,13 +111,13 @@ pub(crate) fn commit_run(
 {
     let mut ticket = ticket;
     match progress {
-        Progress::WritingEffect { report, .. } => {
+        PartProgress::WritingEffect { report, .. } => {
             let written = played_write(ticket.ask_writer(&done), *report);
             stripe.commit_process(ticket, done, Some(written))
         }
-        Progress::Loading { .. }
-        | Progress::Writing { .. }
-        | Progress::Processing
-        | Progress::Processed { .. } => stripe.commit_process(ticket, done, None),
+        PartProgress::Loading { .. }
+        | PartProgress::Writing { .. }
+        | PartProgress::Processing
+        | PartProgress::Processed { .. } => stripe.commit_process(ticket, done, None),
     }
 }

@@ -11,7 +11,7 @@ ghost use Rattle.jc_world.specs.Coherent.{all_hold, Coherent};
 ghost use Rattle.jc_world.specs.Audit.{IsOrder, HasShares, IsAudit};
 
 use crate::audit::Audit;
-use crate::event::{Part, PickedUp, Shown, Stepped, WorldEvent, nothing_shown};
+use crate::event::{JoinAnswer, Part, Shown, Stepped, WorldEvent, nothing_shown};
 use crate::machine::Machine;
 use crate::open_call::OpenCall;
 use crate::reports::ReportedKey;
@@ -86,19 +86,6 @@ impl World {
             × RunAppending self.old.world (take self.new.taken events.now)
             shown.old.items shown.new.items self.new.world) }
     {
-        // Names the types that the prover looks for: see docs/CONTRIBUTING.md, "Idioms that the prover asks for".
-        let _types: Option<
-            (
-                Reply,
-                Stepped,
-                Eviction,
-                PickedUp,
-                ReportedKey,
-                LoadAnswer,
-                Change,
-                Value,
-            ),
-        > = None;
         stays_reached();
         keeps_reserved();
         self.played = 0;
