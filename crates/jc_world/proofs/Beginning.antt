@@ -1,9 +1,10 @@
 -- Callers' order: what changes nothing of it, the start, a call that begins, and the conditions on its first phase.
 --     order_stored, order_parted     after a change of the store, and of what was told of a key
---     order_start, order_called      at the start, and once a call has begun
+--     reached_empty, start_is        the stripes of the start, which are reached
+--     order_called                   once a call has begun
 --     may_start_at, begins_at        the conditions on a first phase
 --     may_turn, part_turn            a call may work at a key that it starts, and at one that it has reserved
-use Rattle.jc_world.proofs.Common.{◌≡◌, ℕ, zero, suc, ◌+◌, Bool, true, false, cond, not, ◌&&◌, ◌||◌, List, [], ◌∷◌, ◌++◌, length, is_some, is_none, IsSomeAnd, ◌==◌, slice_get, Some, None, Ok, Option, find, sym, refl, ap, ◌∙◌, subst, append-nil, add-zero, zero-add, arith, not-true, eqb-true, eq-eqb, and_parts, and_from, or_left, or_right, false_from_ne_true, nat_list_cmp_total, pointwise, get, insert, len-empty, get-insert, all_filter, is_session, check, stripe_of, Caller, Config, Bytes, Cache, key_cmp, may_come, is_of_stripe, Op, Get, belongs_to, Joiner, may_come_all, is_other_call, is_other_join, MayBegin, IsReached, State, is_of, is_key, Reservation, Command, Part, Premises, WorldEvent, CallState, new_call, has_number, op_at, op_for, is_turn, opened, is_playable, is_new, is_free, may_start, fits, IsWorldStripe, is_up_to, has_parked_answer, is_served_in, is_served, FitsKey, FitsCall, CallsFit, IsHeld, IsCallOf, IsOwned, AllOwned, IsCalled, AllCalled, IsSoundWorld, Parts, WorldState, home, stripe_for, empty_stripe, empty_stripes, start, is_busy, open_call, part_of, is_joined}
+use Rattle.jc_world.proofs.Common.{◌≡◌, ℕ, zero, suc, ◌+◌, Bool, true, false, cond, not, ◌&&◌, ◌||◌, List, [], ◌∷◌, ◌++◌, length, is_some, is_none, IsSomeAnd, ◌==◌, slice_get, Some, None, Ok, Option, find, sym, refl, ap, ◌∙◌, subst, append-nil, add-zero, zero-add, arith, not-true, eqb-true, eq-eqb, and_parts, and_from, or_left, or_right, false_from_ne_true, nat_list_cmp_total, pointwise, get, insert, len-empty, get-insert, all_filter, is_session, check, stripe_of, Caller, Config, Bytes, Cache, key_cmp, may_come, is_of_stripe, Op, Get, belongs_to, Joiner, may_come_all, is_other_call, is_other_join, MayBegin, IsReached, State, is_of, is_key, Reservation, Command, Part, Premises, WorldEvent, CallState, new_call, has_number, op_at, op_for, is_turn, opened, is_playable, is_new, is_free, may_start, fits, IsWorldStripe, is_up_to, has_parked_answer, is_served_in, is_served, FitsKey, FitsCall, CallsFit, IsHeld, IsCallOf, IsOwned, IsCalled, AllCalled, IsSoundWorld, Parts, WorldState, home, stripe_for, empty_stripe, empty_stripes, is_busy, open_call, part_of, is_joined}
 use Rattle.jc_world.proofs.Numbered.{some_of}
 use Rattle.jc_world.proofs.Halves.{HasOrder}
 use Rattle.jc_world.proofs.Shares.{found_test, shape_same, fact_found, each_map, each_test}
@@ -108,7 +109,7 @@ empty_count config base zero = refl
 empty_count config base (suc count) = ap suc (empty_count config (base + 1) count)
 
 -- an empty stripe is reached
-reached_empty : (config : Config) (n : ℕ) → check config ≡ Ok tt → IsReached (empty_stripe config n)
+pub reached_empty : (config : Config) (n : ℕ) → check config ≡ Ok tt → IsReached (empty_stripe config n)
 reached_empty config n fits = record {
   config_fits = fits;
   opening = refl;
@@ -130,27 +131,9 @@ reached_empty config n fits = record {
   between = refl;
 }
 
--- and one of the start
-start_stripe : (config : Config) (n : ℕ) → check config ≡ Ok tt → IsWorldStripe (start config) n (empty_stripe config n)
-start_stripe config n fits = record { config_is = refl; number_is = refl; origin_is = refl; reached = reached_empty config n fits; share = refl }
-
 -- and each stripe of the start is an empty one
 pub start_is : (config : Config) (n : ℕ) (s : State) → slice_get (empty_stripes config 0 config.stripes) n ≡ Some s → s ≡ empty_stripe config n
 start_is config n s h = empty_at config 0 config.stripes n s h ∙ ap (empty_stripe config) (zero-add n)
-
--- before anything has happened
-pub order_start : (config : Config) → check config ≡ Ok tt → HasOrder (start config)
-order_start config fits = record {
-  shape = record {
-    config_fits = fits;
-    count = empty_count config 0 config.stripes;
-    each = λ n s here. let P : State → Type 0 = λ s. IsWorldStripe (start config) n s in subst P (sym (start_is config n s here)) (start_stripe config n fits);
-  };
-  order = refl;
-  numbers = refl;
-  calls = tt;
-  owned = λ n s here. let P : State → Type 0 = λ s. AllOwned (start config) s.reservations in subst P (sym (start_is config n s here)) tt;
-}
 
 -- 3. A new call.
 

@@ -39,12 +39,12 @@ pub use Rattle.jc_types.specs.declared.config.Config.{Config}
 pub use Rattle.jc_types.specs.declared.limits.TheConstants.{JOINERS_MAX, STEP_PLACES, STRIPES_MAX}
 pub use Rattle.jc_types.specs.declared.refusal.Refusal.{Refusal}
 pub use Rattle.jc_types.specs.declared.refusal.Refusal.TheVariants.{TooManyKeys, WriterFailed}
-pub use Rattle.jc_model.proofs.CallerLemmas.{none_is, same_key, get-with_entry, empty_opens}
+pub use Rattle.jc_model.proofs.CallerLemmas.{none_is, same_key, get-with_entry}
 pub use Rattle.jc_model.specs.Batches.{is_among}
 pub use Rattle.jc_model.specs.Cache.{Bytes, Cache, entry_at, with_entry, key_cmp}
 pub use Rattle.jc_model.specs.Group.{Group, nothing_said, load_only, write_only, victim_events, evicted_events, step_event, shared_event, step_place, events_of, history_of, without_victim, cache_before_step, cache_after_step, without_own, cache_after_group, cache_after_groups}
 pub use Rattle.jc_model.specs.Lawful.{loads_whole}
-pub use Rattle.jc_model.specs.Legal.{may_come, may_follow, in_order, event_key, is_of_stripe, of_stripe, IsHistory}
+pub use Rattle.jc_model.specs.Legal.{may_come, may_follow, in_order, event_key, is_of_stripe, of_stripe, IsHistory, IsOpening}
 pub use Rattle.jc_model.specs.Processor.{found_in}
 pub use Rattle.jc_model.specs.Table.{holds, is_load_given, always_if, ask_if, write_ask, is_write_given, is_invoke, entry_without_fault, entry_after, seq_entry}
 pub use Rattle.jc_model.specs.declared.event.Cause.{Cause}
@@ -71,6 +71,7 @@ pub use Rattle.jc_mutentry.specs.Done.{ProcessResult, effect_change}
 pub use Rattle.jc_outside.proofs.CallerLemmas.{get-entries, insert-entries}
 pub use Rattle.jc_outside.specs.declared.done.Origin.TheVariants.{Played}
 pub use Rattle.jc_stripe.proofs.CallerLemmas.{step_at, joined_parks, withdrawn_parks, beginner_parks, commit_parks, committer_parks, sharers_park, picker_parks, picked_parks, others_park, again_parks_same, asks_invoking, invokes, keys_once, keys_own}
+pub use Rattle.jc_world.proofs.OpensWell.{opens_well}
 pub use Rattle.jc_stripe.specs.Effects.{change_due}
 pub use Rattle.jc_stripe.specs.Keys.{AreKeys}
 pub use Rattle.jc_stripe.specs.Laws.{StaysReached, IsSameStripe, Extends, Grows, KeepsReserved}
@@ -101,14 +102,14 @@ pub use Rattle.jc_world.specs.declared.event.Stepped.{Stepped}
 pub use Rattle.jc_world.specs.declared.event.WorldEvent.{WorldEvent}
 pub use Rattle.jc_world.specs.declared.stripes.Stripes.TheInside.{Inside}
 pub use Rattle.jc_world.specs.declared.tasks.Tasks.{Tasks}
-pub use Rattle.jc_world.specs.Audit.{IsCache, differs, differing, cache_in, cache_at, IsOrder, HasShares}
+pub use Rattle.jc_world.specs.Audit.{IsCache, differs, differing, cache_in, cache_at, opening_in, opening_at, IsOrder, HasShares}
 pub use Rattle.jc_world.specs.Calls.{Task, at_each, put_each_of, SweepState, sweep_of, takes_turns, puts_off, CallState, new_call, has_number, is_of_session, op_in, op_at, op_found, op_or_found, op_for, is_open, open_in, open_keys, current_key, is_turn, keys_at_work, may_work, is_going, has_too_many_keys, opened, going_on, over_of, with_met, settled, replaced, settle, over_settled, drop_call, has_looked, has_looked_at_each, next_sweep, with_found, look}
 pub use Rattle.jc_world.specs.Coherent.{Coherent, all_hold}
 pub use Rattle.jc_world.specs.Ending.{IsLeft, AreLeft, out_at, IsPartOut, HasHeld, IsJoinOut, HasJoins, NoneReserved}
 pub use Rattle.jc_world.specs.Events.{with_stripe, with_phase, step_of, not_over, shown_begun, fault_in, with_settled, over_by, with_met_by, without_call, with_look, asks_as, new_progress, new_part, with_part, with_new_part, without_part, with_join, without_join, BeginsAs, ReservesAs, Starts, RefusesAs, Ends, Picks, after_answer, with_change, after_change, with_report, after_report, reported_key, reported_keys, keys_reported, reported_at, after_reports, run_result, progress_after, after_process, Happens, Step, Run, RunAppending, is_fit, AllFit}
 pub use Rattle.jc_world.specs.Fits.{is_playable, is_new, is_free, may_start, may_leave, waits_in, waits_at, may_report, is_to_look, may_look, fits}
 pub use Rattle.jc_world.specs.Gathered.{or_else, found_after}
-pub use Rattle.jc_world.specs.Headline.{start_with, with_all_premises, is_answer, is_load, is_loaded}
+pub use Rattle.jc_world.specs.Headline.{IsOpeningStripe, IsOpeningWorld, start_with, with_all_premises, is_answer, is_load, is_loaded}
 pub use Rattle.jc_world.specs.Held.{IsAnswerable, parts_of, joins_of}
 pub use Rattle.jc_world.specs.Inside.{world_of}
 pub use Rattle.jc_world.specs.OpenCalls.{tasks_of, first_open, IsFirstKept, are_new, TakesKeys}

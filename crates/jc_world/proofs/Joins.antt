@@ -1,9 +1,9 @@
 -- Each event keeps what the joins and the joiners of a world say.
 --     joins_called, joins_taken, joins_parted, joins_stored     what changes the calls, a part or the store alone
 --     joins_phase, joins_joined, joins_picked, joins_key        by the kind of the change at a key
---     joins_start, joins_happens       before anything has happened, and after any event that fits
-use Rattle.jc_world.proofs.Common.{◌≡◌, ℕ, ◌+◌, Bool, true, false, not, ◌&&◌, List, [], ◌∷◌, ◌++◌, is_some, is_none, IsSomeAnd, ◌==◌, slice_get, slice_set, Some, None, Ok, Option, find, sym, refl, ap, ◌∙◌, subst, eqb-true, eq-eqb, and_parts, and_from, false_from_ne_true, nat_eq_equiv, nat_list_eq_equiv, pointwise, get, insert, remove, get-empty, list_all, check, Caller, Config, Refusal, none_is, Bytes, Cache, Event, Op, Get, belongs_to, after_resolve, Waiting, Joiner, with_joiner, without_joiner, State, IsJoined, JoinClaim, Reservation, Command, Part, Premises, Shown, WorldEvent, SweepState, CallState, new_call, has_number, op_at, open_keys, is_turn, opened, settle, drop_call, with_stripe, with_phase, fault_in, with_settled, with_met_by, without_call, with_look, new_part, with_join, Happens, is_free, may_leave, fits, IsCallOf, IsWaitedFor, AllWaitedFor, IsCalled, AllCalled, IsSoundWorld, Parts, JoinKey, join_cmp, join_key, WorldState, home, stripe_for, start, open_call, of_call, part_of, join_of, is_joined}
-use Rattle.jc_world.proofs.Lemmas.{denied, missing, joins_half, is_some_and, set_cases, found_test, each_map, fact_found, each_pushed, each_kept, find_over, find_pushed, same_bytes, of_call-at, open_now, IsTurnOf, still_called, joiner_of, find_kept, joined_resolved, joined_dissolved, joined_front, joined_last, called_resolved, called_dissolved, joined_no_part, other_key, none_inserted, none_removed, part_other, joins_get, start_is, MayStart, may_turn, part_turn, Picking, picking, picking_turn, looked_called, met_called, at_stripe, stripe_put, KeyChange, by_nothing, by_refusal, by_step, by_reservation, by_join, by_commit, by_withdrawal, by_answer, by_retry, key_change, may_of, some_of, IsReport}
+--     joins_happens                    after any event that fits
+use Rattle.jc_world.proofs.Common.{◌≡◌, ℕ, ◌+◌, Bool, true, false, not, ◌&&◌, List, [], ◌∷◌, ◌++◌, is_some, is_none, IsSomeAnd, ◌==◌, slice_get, slice_set, Some, None, Option, find, sym, refl, ap, ◌∙◌, subst, eqb-true, eq-eqb, and_parts, and_from, false_from_ne_true, nat_eq_equiv, nat_list_eq_equiv, pointwise, get, insert, remove, list_all, Caller, Refusal, none_is, Bytes, Cache, Event, Op, Get, belongs_to, after_resolve, Waiting, Joiner, with_joiner, without_joiner, State, IsJoined, JoinClaim, Reservation, Command, Part, Premises, Shown, WorldEvent, SweepState, CallState, new_call, has_number, op_at, open_keys, is_turn, opened, settle, drop_call, with_stripe, with_phase, fault_in, with_settled, with_met_by, without_call, with_look, new_part, with_join, Happens, is_free, may_leave, fits, IsCallOf, IsWaitedFor, AllWaitedFor, IsCalled, AllCalled, IsSoundWorld, Parts, JoinKey, join_key, WorldState, home, stripe_for, start, open_call, of_call, part_of, join_of, is_joined}
+use Rattle.jc_world.proofs.Lemmas.{denied, missing, joins_half, is_some_and, set_cases, found_test, each_map, fact_found, each_pushed, each_kept, find_over, find_pushed, same_bytes, of_call-at, open_now, IsTurnOf, still_called, joiner_of, find_kept, joined_resolved, joined_dissolved, joined_front, joined_last, called_resolved, called_dissolved, joined_no_part, other_key, none_inserted, none_removed, part_other, joins_get, MayStart, may_turn, part_turn, Picking, picking, picking_turn, looked_called, met_called, at_stripe, stripe_put, KeyChange, by_nothing, by_refusal, by_step, by_reservation, by_join, by_commit, by_withdrawal, by_answer, by_retry, key_change, may_of, some_of, IsReport}
 use Rattle.jc_inflight.specs.Taking.{without_joiner as without}
 use Rattle.jc_world.proofs.Halves.{HasJoins}
 use Rattle.jc_world.proofs.Maps.{joins_ordered, get-here, get-left, still-there, each_put, each_left}
@@ -300,14 +300,7 @@ joins_key w new e key seen (by_answer call join from to x e_is join_is there h h
 joins_key w new e key seen (by_retry call join from to e_is join_is there h is shows ends) fit old =
     subst HasJoins (sym is) (joins_picked w call key join from to w.calls join_is there h.2 (all_go_on w call key) old)
 
--- 8. Before anything has happened, and any event that fits.
-
--- before anything has happened
-pub joins_start : (config : Config) → check config ≡ Ok tt → HasJoins (start config)
-joins_start config fits = record {
-  joins = λ at j is. let t : None ≡ Some j = sym (get-empty join_cmp at) ∙ is in cc;
-  called = λ n s here. let P : State → Type 0 = λ s. AllCalled (start config) n s.joiners in subst P (sym (start_is config n s here)) tt;
-}
+-- 8. Any event that fits.
 
 -- a call leaves
 joins_left : (w : WorldState) (call : ℕ) → may_leave w call (open_call w call) ≡ true → IsSoundWorld w → HasJoins (without_call w call)

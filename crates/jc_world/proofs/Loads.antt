@@ -2,9 +2,10 @@
 --     total          how many steps of a key have an answer of their own, and one more if one is kept
 --     total_step     each event raises that by one if it is an answer for the key, and else leaves it
 --     total_run      so a run raises it by its answers
-use Rattle.jc_world.proofs.Common.{◌≡◌, ℕ, ◌+◌, Bool, true, false, cond, ◌&&◌, List, [], ◌∷◌, ◌++◌, map, length, drop, ◌==◌, Some, None, count_by, Option, option_map, zip, sym, refl, ap, ◌∙◌, inl, inr, arith, drop-append_seam, not-true, and_parts, and_right, nat_list_cmp_total, sum_by-cons, sum_by-append, pointwise, texts_ties, get, insert, remove, get-empty, get-insert, get-remove, eq_by_cmp, Caller, Config, WriterFailed, Bytes, entry_at, key_cmp, Group, nothing_said, victim_events, evicted_events, step_event, shared_event, step_place, events_of, is_load_given, Cause, Change, Event, LoadAnswer, Op, Out, WriteAnswer, callers_of, ProcessResult, Claim, change_due, new_group, Steps, after_commit, State, StepDone, Outcome, Part, PartProgress, Loading, Processed, Processing, WritingEffect, Shown, WorldEvent, open_keys, step_of, with_met_by, new_part, with_change, with_report, reported_keys, keys_reported, run_result, progress_after, after_process, Happens, Step, Run, fits, start_with, is_answer, is_load, is_loaded, read_answer, load_from, report_for, IsSoundWorld, Parts, WorldState, part_of, has_progress, waits_for_load, waits_for_process, is_untouched, out_in, out_of}
+use Rattle.jc_world.proofs.Common.{◌≡◌, ℕ, ◌+◌, Bool, true, false, cond, ◌&&◌, List, [], ◌∷◌, ◌++◌, map, length, drop, ◌==◌, Some, None, count_by, Option, option_map, zip, sym, refl, ap, ◌∙◌, inl, inr, arith, drop-append_seam, not-true, and_parts, and_right, nat_list_cmp_total, sum_by-cons, sum_by-append, pointwise, texts_ties, get, insert, remove, get-insert, get-remove, eq_by_cmp, Caller, WriterFailed, Bytes, entry_at, key_cmp, Group, nothing_said, victim_events, evicted_events, step_event, shared_event, step_place, events_of, is_load_given, Cause, Change, Event, LoadAnswer, Op, Out, WriteAnswer, callers_of, ProcessResult, Claim, change_due, new_group, Steps, after_commit, State, StepDone, Outcome, Part, PartProgress, Loading, Processed, Processing, WritingEffect, Shown, WorldEvent, open_keys, step_of, with_met_by, new_part, with_change, with_report, reported_keys, keys_reported, run_result, progress_after, after_process, Happens, Step, Run, fits, IsOpeningWorld, is_answer, is_load, is_loaded, read_answer, load_from, report_for, IsSoundWorld, Parts, WorldState, part_of, has_progress, waits_for_load, waits_for_process, is_untouched, out_in, out_of}
 use Rattle.jc_world.proofs.Lemmas.{added, part_key, split, KeyChange, by_nothing, by_refusal, by_step, by_reservation, by_join, by_commit, by_withdrawal, by_answer, by_retry, key_change, each_report}
 use Rattle.jc_world.proofs.Kept.{unheld}
+use Rattle.jc_world.proofs.Opened.{no_part}
 use Rattle.jc_world.proofs.Sounding.{Laws, sound_step}
 use Rattle.jc_world.proofs.Holding.{is_part}
 
@@ -265,7 +266,6 @@ total_run laws w new (e ∷ es) (s ∷ ss) q (mid, step, rest) old =
     omega arith
 total_run laws w new es ss q run old = absurd run
 
--- nothing was counted before anything has happened
-pub total_opened : (config : Config) (stored : List (Bytes × Bytes)) (q : Bytes) → total (start_with config stored) q ≡ 0
-total_opened config [] q = ap (λ o. 0 + one_if (is_loaded o)) (get-empty key_cmp q)
-total_opened config (e ∷ es) q = total_opened config es q
+-- nothing was counted in an opening
+pub total_opened : (w : WorldState) (q : Bytes) → IsOpeningWorld w → total w q ≡ 0
+total_opened w q h = λ i. count_by (is_load q) (h.order i) + one_if (is_loaded (no_part w h q i))
