@@ -36,10 +36,10 @@ use Rattle.jc_world.specs.declared.event.WorldEvent.TheVariants as event
 use Rattle.jc_world.specs.Calls.{CallState, has_number, open_keys}
 use Rattle.jc_world.specs.Events.{after_report, after_reports, keys_reported, reported_keys, with_met_by, reported_at, all_fit, is_fit, Ends, Happens, Picks, Run, Starts}
 use Rattle.jc_world.specs.Fits.{fits, may_leave, may_look, may_report, may_start}
-use Rattle.jc_world.specs.Headline.{start_with, Reaches}
+use Rattle.jc_world.specs.Headline.{start_with, Reaches, StartsOpen}
 use Rattle.jc_world.specs.Premises.{report_for}
 use Rattle.jc_world.specs.Together.{opening_events}
-use Rattle.jc_world.specs.World.{WorldState, join_cmp, start, has_progress, is_fresh, of_call, open_call, part_of, waits_for_load, waits_for_process, waits_for_report, is_answered, is_untouched, with_stored}
+use Rattle.jc_world.specs.World.{WorldState, join_cmp, start, has_progress, of_call, open_call, part_of, waits_for_load, waits_for_process, waits_for_report, is_answered, is_untouched, with_stored}
 use Rattle.jc_world.specs.declared.command.Command.{Command}
 use Rattle.jc_script.specs.declared.fault.Fault.{Fault}
 use Rattle.jc_script.specs.declared.fault.Fault.TheVariants.{SetTooLate}
@@ -69,39 +69,42 @@ texts_on old mid es fs ss ts run = absurd run
 
 -- 2. What happens to a world leaves it fresh only if nothing has happened.
 
+abbrev fresh : WorldState → Bool
+fresh w = w.is_fresh
+
 -- a first phase
-starts_fresh : (w new : WorldState) (caller : Caller) (key : Bytes) (op : Op) (from to : State) (seen : Outcome) → Starts w caller key op from to seen new → is_fresh new ≡ is_fresh w
-starts_fresh w new caller key op from to (outcome.Refused refusal) h = ap is_fresh h.1
-starts_fresh w new caller key op from to (outcome.PutOff refusal) h = ap is_fresh h.1
-starts_fresh w new caller key op from to (outcome.Stepped x) h = ap is_fresh h.2
-starts_fresh w new caller key op from to outcome.Loads h = ap is_fresh h.3
-starts_fresh w new caller key op from to (outcome.Asks change) h = ap is_fresh h.3
-starts_fresh w new caller key op from to (outcome.Processes entry) h = ap is_fresh h.3
-starts_fresh w new caller key op from to outcome.Joins h = ap is_fresh h.2
+starts_fresh : (w new : WorldState) (caller : Caller) (key : Bytes) (op : Op) (from to : State) (seen : Outcome) → Starts w caller key op from to seen new → fresh new ≡ fresh w
+starts_fresh w new caller key op from to (outcome.Refused refusal) h = ap fresh h.1
+starts_fresh w new caller key op from to (outcome.PutOff refusal) h = ap fresh h.1
+starts_fresh w new caller key op from to (outcome.Stepped x) h = ap fresh h.2
+starts_fresh w new caller key op from to outcome.Loads h = ap fresh h.3
+starts_fresh w new caller key op from to (outcome.Asks change) h = ap fresh h.3
+starts_fresh w new caller key op from to (outcome.Processes entry) h = ap fresh h.3
+starts_fresh w new caller key op from to outcome.Joins h = ap fresh h.2
 starts_fresh w new caller key op from to seen h = absurd h
 
 -- a last phase
-ends_fresh : (w new : WorldState) (call : ℕ) (key : Bytes) (part : Part) (from to : State) (seen : Outcome) → Ends w call key part from to seen new → is_fresh new ≡ is_fresh w
-ends_fresh w new call key part from to (outcome.Stepped x) h = ap is_fresh h.2
+ends_fresh : (w new : WorldState) (call : ℕ) (key : Bytes) (part : Part) (from to : State) (seen : Outcome) → Ends w call key part from to seen new → fresh new ≡ fresh w
+ends_fresh w new call key part from to (outcome.Stepped x) h = ap fresh h.2
 ends_fresh w new call key part from to seen h = absurd h
 
 -- a pick-up
-picks_fresh : (w new : WorldState) (call : ℕ) (key : Bytes) (join : JoinClaim) (from to : State) (seen : Outcome) → Picks w call key join from to seen new → is_fresh new ≡ is_fresh w
-picks_fresh w new call key join from to (outcome.PickedUp x) h = ap is_fresh h.2
-picks_fresh w new call key join from to outcome.Again h = ap is_fresh h.1
-picks_fresh w new call key join from to outcome.Waits h = ap is_fresh h.1
+picks_fresh : (w new : WorldState) (call : ℕ) (key : Bytes) (join : JoinClaim) (from to : State) (seen : Outcome) → Picks w call key join from to seen new → fresh new ≡ fresh w
+picks_fresh w new call key join from to (outcome.PickedUp x) h = ap fresh h.2
+picks_fresh w new call key join from to outcome.Again h = ap fresh h.1
+picks_fresh w new call key join from to outcome.Waits h = ap fresh h.1
 picks_fresh w new call key join from to seen h = absurd h
 
 -- the writer's returns
-reported_fresh : (w : WorldState) (key : Bytes) (report : WriteAnswer) (part : Option Part) → is_fresh (reported_at w key report part) ≡ is_fresh w
+reported_fresh : (w : WorldState) (key : Bytes) (report : WriteAnswer) (part : Option Part) → fresh (reported_at w key report part) ≡ fresh w
 reported_fresh w key report None = refl
 reported_fresh w key report (Some part) = by (waits_for_report part.progress)
   where
-    by : (b : Bool) → is_fresh (cond b (after_report w key part report) w) ≡ is_fresh w
+    by : (b : Bool) → fresh (cond b (after_report w key part report) w) ≡ fresh w
     by true = refl
     by false = refl
 
-reports_fresh : (w : WorldState) (call : ℕ) (answer : Bytes → WriteAnswer) (keys : List Bytes) → is_fresh (after_reports w call answer keys) ≡ is_fresh w
+reports_fresh : (w : WorldState) (call : ℕ) (answer : Bytes → WriteAnswer) (keys : List Bytes) → fresh (after_reports w call answer keys) ≡ fresh w
 reports_fresh w call answer [] = refl
 reports_fresh w call answer (key ∷ keys) =
     reports_fresh (reported_at w key (answer key) (part_of w call key)) call answer keys ∙ reported_fresh w key (answer key) (part_of w call key)
@@ -112,26 +115,26 @@ is_mark (event.Call call session command) = true
 is_mark (event.Foreign key value) = true
 is_mark e = false
 
-happens_fresh : (w new : WorldState) (e : WorldEvent) (seen : Shown) → Happens w e seen new → is_fresh w ≡ false → is_fresh new ≡ false
-happens_fresh w new (event.Call call session command) seen h stale = ap is_fresh h.1
-happens_fresh w new (event.Look call stripe) seen h stale = ap is_fresh h.9 ∙ stale
+happens_fresh : (w new : WorldState) (e : WorldEvent) (seen : Shown) → Happens w e seen new → fresh w ≡ false → fresh new ≡ false
+happens_fresh w new (event.Call call session command) seen h stale = ap fresh h.1
+happens_fresh w new (event.Look call stripe) seen h stale = ap fresh h.9 ∙ stale
 happens_fresh w new (event.Start call key) seen h stale = starts_fresh w new h.0.caller key h.1 h.4 h.6 seen.outcome h.7 ∙ stale
-happens_fresh w new (event.Read call key) seen h stale = ap is_fresh h.3 ∙ stale
-happens_fresh w new (event.Say call key answer) seen h stale = ap is_fresh h.3 ∙ stale
-happens_fresh w new (event.Change call key) seen h stale = ap is_fresh h.5 ∙ stale
+happens_fresh w new (event.Read call key) seen h stale = ap fresh h.3 ∙ stale
+happens_fresh w new (event.Say call key answer) seen h stale = ap fresh h.3 ∙ stale
+happens_fresh w new (event.Change call key) seen h stale = ap fresh h.5 ∙ stale
 happens_fresh w new (event.Report call left fault) seen h stale =
-    ap is_fresh h.3 ∙ reports_fresh (with_met_by w call (option_map WriterFailed fault)) call (report_for h.0.kind left fault) (keys_reported (reported_keys w.parts call (open_keys h.0))) ∙ stale
-happens_fresh w new (event.Process call key source calls fail) seen h stale = ap is_fresh h.3 ∙ stale
+    ap fresh h.3 ∙ reports_fresh (with_met_by w call (option_map WriterFailed fault)) call (report_for h.0.kind left fault) (keys_reported (reported_keys w.parts call (open_keys h.0))) ∙ stale
+happens_fresh w new (event.Process call key source calls fail) seen h stale = ap fresh h.3 ∙ stale
 happens_fresh w new (event.Commit call key) seen h stale = ends_fresh w new call key h.0 h.2 h.4 seen.outcome h.5 ∙ stale
-happens_fresh w new (event.Withdraw call key) seen h stale = ap is_fresh h.7 ∙ stale
-happens_fresh w new (event.Leave call) seen h stale = ap is_fresh h.1 ∙ stale
+happens_fresh w new (event.Withdraw call key) seen h stale = ap fresh h.7 ∙ stale
+happens_fresh w new (event.Leave call) seen h stale = ap fresh h.1 ∙ stale
 happens_fresh w new (event.PickUp call key) seen h stale = picks_fresh w new call key h.0 h.2 h.4 seen.outcome h.5 ∙ stale
-happens_fresh w new (event.Foreign key value) seen h stale = ap is_fresh h.1 ∙ and-false (is_none w.last)
+happens_fresh w new (event.Foreign key value) seen h stale = ap fresh h.1
 
-run_fresh : (w new : WorldState) (es : List WorldEvent) (ss : List Shown) → Run w es ss new → is_fresh w ≡ false → is_fresh new ≡ false
-run_fresh w new [] [] run stale = ap is_fresh run ∙ stale
+run_fresh : (w new : WorldState) (es : List WorldEvent) (ss : List Shown) → Run w es ss new → fresh w ≡ false → fresh new ≡ false
+run_fresh w new [] [] run stale = ap fresh run ∙ stale
 run_fresh w new (e ∷ es) (s ∷ ss) (mid, inl (fit, happens), rest) stale = run_fresh mid new es ss rest (happens_fresh w mid e s happens stale)
-run_fresh w new (e ∷ es) (s ∷ ss) (mid, inr (unfit, shows, is), rest) stale = run_fresh mid new es ss rest (ap is_fresh is ∙ stale)
+run_fresh w new (e ∷ es) (s ∷ ss) (mid, inr (unfit, shows, is), rest) stale = run_fresh mid new es ss rest (ap fresh is ∙ stale)
 run_fresh w new es ss run stale = absurd run
 
 -- 3. Nothing but these fits before the first call.
@@ -170,9 +173,9 @@ idle_unfit w idle (event.Leave call) other = ap (may_leave w call) (none_open w 
 idle_unfit w idle (event.PickUp call key) other = ap (λ joins. is_some (get joins (call, key))) idle.joins ∙ ap is_some (get-empty join_cmp (call, key))
 
 -- so no world is fresh after the first event that fits
-first_marks : (w new : WorldState) (e : WorldEvent) (seen : Shown) → IsIdle w → fits w e ≡ true → Happens w e seen new → is_fresh new ≡ false
-first_marks w new (event.Call call session command) seen idle fit h = ap is_fresh h.1
-first_marks w new (event.Foreign key value) seen idle fit h = ap is_fresh h.1 ∙ and-false (is_none w.last)
+first_marks : (w new : WorldState) (e : WorldEvent) (seen : Shown) → IsIdle w → fits w e ≡ true → Happens w e seen new → fresh new ≡ false
+first_marks w new (event.Call call session command) seen idle fit h = ap fresh h.1
+first_marks w new (event.Foreign key value) seen idle fit h = ap fresh h.1
 first_marks w new e seen idle fit h = absurd (true≢false (sym fit ∙ idle_unfit w idle e refl))
 
 -- and what doesn't fit doesn't, whatever the store holds
@@ -181,7 +184,7 @@ stored_unfit w key value (event.Call call session command) idle unfit = unfit
 stored_unfit w key value (event.Foreign k v) idle unfit = unfit
 stored_unfit w key value e idle unfit = idle_unfit (with_stored w key value) (idle_stored w key value idle) e refl
 
-set_stays : (old new : WorldState) (es : List WorldEvent) (ss : List Shown) (key value : Bytes) → IsIdle old → Run old es ss new → is_fresh new ≡ true → Run (with_stored old key value) es ss (with_stored new key value)
+set_stays : (old new : WorldState) (es : List WorldEvent) (ss : List Shown) (key value : Bytes) → IsIdle old → Run old es ss new → fresh new ≡ true → Run (with_stored old key value) es ss (with_stored new key value)
 set_stays old new [] [] key value idle run fresh = ap (λ (w : WorldState). with_stored w key value) run
 set_stays old new (e ∷ es) (s ∷ ss) key value idle (mid, inl (fit, happens), rest) fresh =
     absurd (true≢false (sym fresh ∙ run_fresh mid new es ss rest (first_marks old mid e s idle fit happens)))
@@ -203,16 +206,21 @@ shape_fits config none = by (is_between 1 STRIPES_MAX config.stripes) (is_betwee
     by true false c none = cc
     by false b c none = cc
 
-reaches_start : (config : Config) → config_fault (check config) ≡ None → Reaches config [] [] [] (start config)
-reaches_start config none = (shape_fits config none, refl)
+start_config : (config : Config) (stored : List (Bytes × Bytes)) → (start_with config stored).config ≡ config
+start_config config [] = refl
+start_config config (e ∷ es) = start_config config es
 
-reaches_on : (config : Config) (stored : List (Bytes × Bytes)) (es more : List WorldEvent) (ss shown : List Shown) (w after : WorldState) → Reaches config stored es ss w → Run w more shown after
-    → Reaches config stored (es ++ more) (ss ++ shown) after
-reaches_on config stored es more ss shown w after (ok, run) next = (ok, run_on (start_with config stored) w after es more ss shown run next)
+reaches_start : StartsOpen → (config : Config) → config_fault (check config) ≡ None → Reaches (start config) [] [] (start config)
+reaches_start starts config none = (starts config [] (shape_fits config none), refl)
 
-reaches_set : (config : Config) (stored : List (Bytes × Bytes)) (es : List WorldEvent) (ss : List Shown) (w : WorldState) (key value : Bytes) → is_fresh w ≡ true → Reaches config stored es ss w
-    → Reaches config ((key, value) ∷ stored) es ss (with_stored w key value)
-reaches_set config stored es ss w key value fresh (ok, run) = (ok, set_stays (start_with config stored) w es ss key value (idle_start config stored) run fresh)
+reaches_on : (config : Config) (stored : List (Bytes × Bytes)) (es more : List WorldEvent) (ss shown : List Shown) (w after : WorldState) → Reaches (start_with config stored) es ss w → Run w more shown after
+    → Reaches (start_with config stored) (es ++ more) (ss ++ shown) after
+reaches_on config stored es more ss shown w after (opens, run) next = (opens, run_on (start_with config stored) w after es more ss shown run next)
+
+reaches_set : StartsOpen → (config : Config) (stored : List (Bytes × Bytes)) (es : List WorldEvent) (ss : List Shown) (w : WorldState) (key value : Bytes) → fresh w ≡ true → Reaches (start_with config stored) es ss w
+    → Reaches (start_with config ((key, value) ∷ stored)) es ss (with_stored w key value)
+reaches_set starts config stored es ss w key value new (opens, run) =
+    (starts config ((key, value) ∷ stored) (ap check (sym (start_config config stored)) ∙ opens.config_fits), set_stays (start_with config stored) w es ss key value (idle_start config stored) run new)
 
 -- 5. Lines.
 
@@ -264,33 +272,33 @@ fresh_if : (b : Bool) (f : Fault) → cond b None (Some f) ≡ None → b ≡ tr
 fresh_if true f none = refl
 fresh_if false f none = cc
 
-line_stays : (es : List WorldEvent) (ss : List Shown) (old : OpenedWorld) (line : Line) (text : List ℕ) (new : OpenedWorld) → IsReachedBy es ss old → state_fault old line ≡ None → Plays old line text new → LeadsOn es ss text new
-line_stays es ss None (Open config) text new (no_events, none_seen) none (told, is) =
-    let opened = subst₂ (λ xs ys. IsReachedBy xs ys (Some (start config))) (sym no_events) (sym none_seen) (config, [], reaches_start config none) in
+line_stays : StartsOpen → (es : List WorldEvent) (ss : List Shown) (old : OpenedWorld) (line : Line) (text : List ℕ) (new : OpenedWorld) → IsReachedBy es ss old → state_fault old line ≡ None → Plays old line text new → LeadsOn es ss text new
+line_stays starts es ss None (Open config) text new (no_events, none_seen) none (told, is) =
+    let opened = subst₂ (λ xs ys. IsReachedBy xs ys (Some (start config))) (sym no_events) (sym none_seen) (config, [], reaches_start starts config none) in
     no_event es ss text new (subst (IsReachedBy es ss) (sym is) opened)
-line_stays es ss (Some w) (Set key value) text new (config, stored, reached) none (told, is) =
-    let fresh = fresh_if (is_fresh w) SetTooLate none in
-    no_event es ss text new (subst (IsReachedBy es ss) (sym is) (config, (key, value) ∷ stored, reaches_set config stored es ss w key value fresh reached))
-line_stays es ss (Some w) (Begin number session operation) text new reached none h = begin_stays es ss w number session (single operation) text new reached h
-line_stays es ss (Some w) (BeginBulk number session call) text new reached none (command, named, h) = begin_stays es ss w number session command text new reached h
-line_stays es ss (Some w) (OfCall number act) text new reached none h = act_stays es ss w number act (open_call w number) text new reached h
-line_stays es ss (Some w) (Foreign key value) text new reached none h = foreign_stays es ss w key value text new reached h
-line_stays es ss (Some w) Audit text new reached none (audited, is) = no_event es ss text new (subst (IsReachedBy es ss) (sym is) reached)
-line_stays es ss old line text new reached none h = absurd h
+line_stays starts es ss (Some w) (Set key value) text new (config, stored, reached) none (told, is) =
+    let is_new = fresh_if (fresh w) SetTooLate none in
+    no_event es ss text new (subst (IsReachedBy es ss) (sym is) (config, (key, value) ∷ stored, reaches_set starts config stored es ss w key value is_new reached))
+line_stays starts es ss (Some w) (Begin number session operation) text new reached none h = begin_stays es ss w number session (single operation) text new reached h
+line_stays starts es ss (Some w) (BeginBulk number session call) text new reached none (command, named, h) = begin_stays es ss w number session command text new reached h
+line_stays starts es ss (Some w) (OfCall number act) text new reached none h = act_stays es ss w number act (open_call w number) text new reached h
+line_stays starts es ss (Some w) (Foreign key value) text new reached none h = foreign_stays es ss w key value text new reached h
+line_stays starts es ss (Some w) Audit text new reached none (audited, is) = no_event es ss text new (subst (IsReachedBy es ss) (sym is) reached)
+line_stays starts es ss old line text new reached none h = absurd h
 
-read_stays : (es : List WorldEvent) (ss : List Shown) (old : OpenedWorld) (read : Result (Option Line) Fault) (text : List ℕ) (new : OpenedWorld) → IsReachedBy es ss old → PlaysRead old read text new → LeadsOn es ss text new
-read_stays es ss old (Ok None) text new reached (told, is) = no_event es ss text new (subst (IsReachedBy es ss) (sym is) reached)
-read_stays es ss old (Ok (Some line)) text new reached (none, plays) = line_stays es ss old line text new reached none plays
-read_stays es ss old (Err fault) text new reached h = absurd h
+read_stays : StartsOpen → (es : List WorldEvent) (ss : List Shown) (old : OpenedWorld) (read : Result (Option Line) Fault) (text : List ℕ) (new : OpenedWorld) → IsReachedBy es ss old → PlaysRead old read text new → LeadsOn es ss text new
+read_stays starts es ss old (Ok None) text new reached (told, is) = no_event es ss text new (subst (IsReachedBy es ss) (sym is) reached)
+read_stays starts es ss old (Ok (Some line)) text new reached (none, plays) = line_stays starts es ss old line text new reached none plays
+read_stays starts es ss old (Err fault) text new reached h = absurd h
 
-pub piece_stays : (es : List WorldEvent) (ss : List Shown) (old new : OpenedWorld) (line text : List ℕ) → IsReachedBy es ss old → Prints old line text new → LeadsOn es ss text new
-piece_stays es ss old new line text reached prints = read_stays es ss old (read_line line) text new reached prints
+pub piece_stays : StartsOpen → (es : List WorldEvent) (ss : List Shown) (old new : OpenedWorld) (line text : List ℕ) → IsReachedBy es ss old → Prints old line text new → LeadsOn es ss text new
+piece_stays starts es ss old new line text reached prints = read_stays starts es ss old (read_line line) text new reached prints
 
 -- 6. Scripts.
 
-pub script_stays : (es : List WorldEvent) (ss : List Shown) (old : OpenedWorld) (n : ℕ) (pieces : List (List ℕ)) (out : List ℕ) (end : RunEnd) → IsReachedBy es ss old → Transcript old n pieces out end → LeadsToEnd es ss old n pieces out end
-script_stays es ss old n [] out end reached h = absurd h
-script_stays es ss old n (last ∷ []) out end reached h =
+pub script_stays : StartsOpen → (es : List WorldEvent) (ss : List Shown) (old : OpenedWorld) (n : ℕ) (pieces : List (List ℕ)) (out : List ℕ) (end : RunEnd) → IsReachedBy es ss old → Transcript old n pieces out end → LeadsToEnd es ss old n pieces out end
+script_stays starts es ss old n [] out end reached h = absurd h
+script_stays starts es ss old n (last ∷ []) out end reached h =
     record {
       lines = [];
       others = last ∷ [];
@@ -302,9 +310,9 @@ script_stays es ss old n (last ∷ []) out end reached h =
       ends = subst (λ m. EndsAt old m (last ∷ []) out end) (omega arith) h;
       out_is = refl;
     }
-script_stays es ss old n (line ∷ next ∷ more) out end reached (inl (text, rest, mid, prints, left, out_is)) =
-    let on = piece_stays es ss old mid line text reached prints in
-    let r = script_stays (es ++ on.more) (ss ++ on.shown) mid (n + 1) (next ∷ more) rest end on.reached left in
+script_stays starts es ss old n (line ∷ next ∷ more) out end reached (inl (text, rest, mid, prints, left, out_is)) =
+    let on = piece_stays starts es ss old mid line text reached prints in
+    let r = script_stays starts (es ++ on.more) (ss ++ on.shown) mid (n + 1) (next ∷ more) rest end on.reached left in
     record {
       lines = line ∷ r.lines;
       others = r.others;
@@ -316,7 +324,7 @@ script_stays es ss old n (line ∷ next ∷ more) out end reached (inl (text, re
       ends = subst (λ m. EndsAt r.new m r.others r.last end) (omega arith) r.ends;
       out_is = out_is ∙ ap (λ (t : List ℕ). text ++ t) r.out_is ∙ sym (append_assoc text r.printed r.last);
     }
-script_stays es ss old n (line ∷ next ∷ more) out end reached (inr h) =
+script_stays starts es ss old n (line ∷ next ∷ more) out end reached (inr h) =
     record {
       lines = [];
       others = line ∷ next ∷ more;

@@ -1,6 +1,6 @@
 -- The worlds of a transcript are among those that runs of events reach, so the laws over runs speak of each of them.
---     IsReachedBy          a world is open, and these events, which showed this, have led to it from some opening; or it isn't open
---                          yet, and there are none
+--     IsReachedBy          a world is open, and these events, which showed this, have led to it from a start with nothing cached; or
+--                          it isn't open yet, and there are none
 --     LeadsOn              more events, each of which fits, lead on to this world; they and what they show are appended, and
 --                          what is printed begins with what is printed of them
 --     LinesStayReached     a line without a fault leads on so from each world that is reached
@@ -15,7 +15,7 @@ use Rattle.jc_model.specs.Cache.{Bytes}
 use Rattle.jc_world.specs.declared.event.Shown.{Shown}
 use Rattle.jc_world.specs.declared.event.WorldEvent.{WorldEvent}
 use Rattle.jc_world.specs.Events.{all_fit}
-use Rattle.jc_world.specs.Headline.{Reaches}
+use Rattle.jc_world.specs.Headline.{Reaches, start_with}
 use Rattle.jc_script.specs.declared.fault.Fault.{Fault}
 use Rattle.jc_script.specs.declared.run.RunEnd.{RunEnd}
 use Rattle.jc_script.specs.declared.run.RunEnd.TheVariants.{LineFault}
@@ -28,7 +28,7 @@ use Rattle.jc_script.specs.Transcript.{OpenedWorld, Prints, fault_of, pieces_of,
 abbrev pub IsReachedBy : List WorldEvent → List Shown → OpenedWorld → Type 0
 IsReachedBy events seen None = (events ≡ []) × (seen ≡ [])
 IsReachedBy events seen (Some w) =
-    (config : Config) × (stored : List (Bytes × Bytes)) × Reaches config stored events seen w
+    (config : Config) × (stored : List (Bytes × Bytes)) × Reaches (start_with config stored) events seen w
 
 -- `beside` is what a line prints that is no event's: that a world is open, an audit, or that a load failed
 pub record LeadsOn (events : List WorldEvent) (seen : List Shown) (text : List ℕ) (new : OpenedWorld) : Type 0 where
