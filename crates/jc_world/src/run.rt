@@ -11,7 +11,7 @@ ghost use Rattle.jc_world.specs.Sound.{is_due_in};
 ghost use Rattle.jc_world.specs.Held.{IsRunAs};
 
 use crate::event::{Outcome, PartProgress};
-use jc_model::{Change, LoadAnswer, ProcessAnswer, WriteAnswer};
+use jc_model::{Change, LoadAnswer, WriteAnswer};
 use jc_stripe::{Ask, First, ProcDone, StepDone, Stripe, Ticket, played_write};
 use jc_types::Config;
 
