@@ -5,7 +5,7 @@
 //! First whether the loader may be asked (`loading` or `alone`), the entry (`-` if it is missing) and what the loader has: a value,
 //! `-`, or `!` and a code with which it fails. Then the calls; then what each call that is made is told; then what the loader was
 //! heard to answer, the net effect, and what the processor returned. A call `fail=C` is the code with which the processor fails.
-use super::script::{found, number, value, value_or_none};
+use super::script::{first_word, found, number, value, value_or_none};
 use super::stripes::desk::Desk;
 use super::stripes::words::{Ran, Seen, run_with};
 use super::{is, key, shape};
@@ -131,35 +131,40 @@ fn run_on_entry(
     ran
 }
 
-fn plays(rt: &impl Abort, alloc: Global, line: &str) {
-    let mut parts = line.split('|');
-    let mut shape = parts.next().expect(rt, line).split_whitespace();
-    let is_loading = shape.next().expect(rt, line) == "loading";
-    let entry = value_or_none(rt, shape.next().expect(rt, line));
-    let answer = load(rt, shape.next().expect(rt, line));
-    let calls = parts.next().expect(rt, line);
-    let ran = run_on_entry(rt, alloc, is_loading, entry, calls, answer);
-    let mut words = parts.next().expect(rt, line).split_whitespace();
-    for answer in &ran.told {
+/// Asserts what each call that was made was told.
+fn tells(rt: &impl Abort, line: &str, found: &[EntryAnswer], wanted: &str) {
+    let mut words = wanted.split_whitespace();
+    for answer in found {
         is(rt, line, *answer, told(rt, words.next().expect(rt, line)));
     }
     is(rt, line, words.next(), None);
-    let mut wanted = parts.next().expect(rt, line).split_whitespace();
-    let is_asked = wanted.next().expect(rt, line) != "unasked";
-    is(
-        rt,
-        line,
-        ran.load,
-        if is_asked {
-            answer
-        } else {
-            LoadAnswer::NotAsked
-        },
-    );
-    let net = wanted.next().expect(rt, line);
-    let did = process(rt, net, wanted.next().expect(rt, line));
-    is(rt, line, ran.process, did);
+}
+
+/// Asserts what the loader was heard to answer, if it was asked, what the processor did, and what the writer is asked for.
+fn did(rt: &impl Abort, line: &str, ran: &Ran, answer: &LoadAnswer, wanted: &str) {
+    let (heard, wanted) = first_word(wanted);
+    let (net, returned) = first_word(wanted);
+    let load = if heard == "unasked" {
+        LoadAnswer::NotAsked
+    } else {
+        *answer
+    };
+    is(rt, line, ran.load, load);
+    is(rt, line, ran.process, process(rt, net, returned));
     is(rt, line, ran.change, change(&ran.load, &ran.process));
+}
+
+fn plays(rt: &impl Abort, alloc: Global, line: &str) {
+    let (shape, line_rest) = line.split_once(" | ").expect(rt, line);
+    let (calls, ends) = line_rest.split_once("| ").expect(rt, line);
+    let (words, wanted) = ends.split_once("| ").expect(rt, line);
+    let (loading, shape) = first_word(shape);
+    let (entry, answer) = first_word(shape);
+    let entry = value_or_none(rt, entry);
+    let answer = load(rt, answer);
+    let ran = run_on_entry(rt, alloc, loading == "loading", entry, calls, answer);
+    tells(rt, line, &ran.told, words);
+    did(rt, line, &ran, &answer, wanted);
 }
 
 /// Each call is told what the calls before it make of the entry; the loader answers at most once; and the net effect counts.
