@@ -3,7 +3,7 @@
 use Rattle.std.specs.Prelude.{◌≡◌, ◌≤◌, ℕ, [], vec_capacity}
 use Rattle.std.specs.Global.{Vec}
 use Rattle.jc_model.specs.Cache.{Bytes}
-use Rattle.jc_batch.specs.declared.batch_keys.Split.{Split}
+use Rattle.jc_batch.specs.declared.split.Split.{Split}
 
 pub record AreBatchKeys (n : ℕ) (keys : Vec Bytes) (split : Split) : Type 0 where
   pub keys_room : n ≤ vec_capacity keys

@@ -3,7 +3,8 @@
 --     failure_of      a key that failed, with its code, by its answer
 --     successes_in    the keys of a batch that were written, in the batch's order
 --     failures_in     the keys of a batch that failed, each with its code, in the batch's order
-use Rattle.std.specs.Prelude.{ℕ, List, Option, None, Some}
+--     AreOutcomes     two lists are the split of these keys
+use Rattle.std.specs.Prelude.{◌≡◌, ℕ, List, Option, None, Some}
 use Rattle.std.specs.List.{filter_map}
 use Rattle.jc_model.specs.declared.event.WriteAnswer.{WriteAnswer}
 use Rattle.jc_model.specs.declared.event.WriteAnswer.TheVariants as write
@@ -27,3 +28,8 @@ successes_in left fault keys = filter_map (λ key. success_of key (answer_in_bat
 -- by what is left, the fault, and the batch's keys
 abbrev pub failures_in : List Bytes → Option ℕ → List Bytes → List (Bytes × ℕ)
 failures_in left fault keys = filter_map (λ key. failure_of key (answer_in_batch left fault key)) keys
+
+-- by what is left, the fault, and the keys of the batch that are still to be read
+pub record AreOutcomes (left : List Bytes) (fault : Option ℕ) (keys written : List Bytes) (failed : List (Bytes × ℕ)) : Type 0 where
+  pub written_are : written ≡ successes_in left fault keys
+  pub failed_are : failed ≡ failures_in left fault keys

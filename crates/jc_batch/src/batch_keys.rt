@@ -5,6 +5,7 @@ ghost use Rattle.jc_batch.specs.Batch.{with_item, empty_batch};
 ghost use Rattle.jc_batch.specs.Splitting.{success_of, failure_of, successes_in, failures_in};
 
 use crate::leftover::Leftover;
+use crate::split::Split;
 use jc_model::{WriteAnswer, batch_answer};
 use jc_types::Key;
 use std::alloc::{AllocError, Global};
@@ -16,15 +17,6 @@ pub struct BatchKeys {
     keys: Vec<Key>,
     room: usize,
     split: Split,
-}
-
-/// The keys of a batch by what became of them, both lists in the batch's order.
-#[derive(Drop)]
-pub struct Split {
-    /// The keys that were written or deleted.
-    pub written: Vec<Key>,
-    /// The keys that were not, each with the code with which it failed.
-    pub failed: Vec<(Key, u32)>,
 }
 
 impl Model for BatchKeys {

@@ -14,6 +14,7 @@ use Rattle.std.proofs.lemmas.List.Folds.{list_any-append}
 use Rattle.std.proofs.lemmas.Map.Keys.{IsDistinct-head, IsDistinct-tail, IsDistinct-cons}
 use Rattle.std.specs.List.{list_all, cons_option, AllByRecursion, IsDistinct}
 use Rattle.std.specs.Cmp.Lexicographic.{pointwise}
+use Rattle.jc_model.specs.declared.event.Out.{Out}
 use Rattle.jc_model.specs.Batches.{is_among}
 use Rattle.jc_model.specs.Cache.{Bytes}
 use Rattle.jc_cache.specs.Outstanding.{ReservedState, AnsweredState}
@@ -81,7 +82,7 @@ pub among_self : (ks : List Bytes) → list_all (is_among ks) ks ≡ true
 among_self [] = refl
 among_self (k ∷ ks) = among_first k ks ks (among_self ks)
 
-pub answers_same : {A : Type 0} (f g : Bytes → A) (calls : List ReservedState) → AllByRecursion (λ k. g k ≡ f k) (reserved_keys calls) → with_answers f calls ≡ with_answers g calls
+pub answers_same : (f g : Bytes → Out) (calls : List ReservedState) → AllByRecursion (λ k. g k ≡ f k) (reserved_keys calls) → with_answers f calls ≡ with_answers g calls
 answers_same f g [] all = refl
 answers_same f g (c ∷ calls) all = λ i. record { cache = c.cache; reservation = c.reservation; answer = sym all.0 i } ∷ answers_same f g calls all.1 i
 
@@ -136,5 +137,5 @@ unasked_after asked keys turns ps later d keys_are progress_are stay was place k
     let closed = waits_closed turns place key (subst (IsDistinct (pointwise ◌==◌)) (sym keys_are) d) (ap (λ ks. slice_get ks place) keys_are ∙ at) (ap (λ qs. slice_get qs place) progress_are ∙ waited) in
     list_any-append (pointwise ◌==◌ key) asked (keys_still_open turns) ∙ ap (λ b. b || is_among (keys_still_open turns) key) (was place key at waited) ∙ closed
 
-pub as_many_answers : {A : Type 0} (said : Bytes → A) (calls : List ReservedState) (loaded : List (AnsweredState A)) → loaded ≡ with_answers said calls → length loaded ≡ length calls
+pub as_many_answers : (said : Bytes → Out) (calls : List ReservedState) (loaded : List AnsweredState) → loaded ≡ with_answers said calls → length loaded ≡ length calls
 as_many_answers said calls loaded is = ap length is ∙ length-map calls _

@@ -45,7 +45,9 @@ use Rattle.jc_bulk.specs.declared.round.Progress.{Progress}
 use Rattle.jc_bulk.specs.declared.round.Progress.TheVariants.{Waiting, Reserved, Ended}
 use Rattle.jc_bulk.specs.InRounds.{IsInRounds, RunsRounds}
 use Rattle.jc_bulk.specs.KeyProgress.{StillWaits, all_waiting, failures}
-use Rattle.jc_bulk.specs.RoundCalls.{CallKind, Round, said_in}
+use Rattle.jc_cache.specs.OutstandingAll.{CallKind}
+use Rattle.jc_cache.specs.Rounds.{Round}
+use Rattle.jc_bulk.specs.RoundCalls.{said_in}
 use Rattle.jc_bulk.specs.SoFar.{IsTarget, HasEndedAt, HaveEnded}
 use Rattle.jc_bulk.specs.Turns.{Turn, AreCounted, ComesAfterAll, turn_keys, turn_progress, own_after_ends}
 use Rattle.jc_bulk.specs.Laws.{StaysUnderway}

@@ -25,8 +25,11 @@ use Rattle.jc_bulk.specs.Bulk.{CarriesOut, said_to_loads, get_ops}
 use Rattle.jc_bulk.specs.Carrying.{IsCarriedOut}
 use Rattle.jc_bulk.specs.Getting.{GetsAll, get_ends}
 use Rattle.jc_bulk.specs.KeyProgress.{IsCauseIn, failures}
-use Rattle.jc_bulk.specs.RoundCalls.{Load, Round, LoadAll, WriteAll, IsRoundOf, CallsInRounds, keys_in_all, said_in, faults_in, loads_in}
-use Rattle.jc_bulk.specs.Rounds.{LoadRound, LoadsInRounds, AreFewEach, keys_in, said_in_loads}
+use Rattle.jc_cache.specs.OutstandingAll.{Load}
+use Rattle.jc_cache.specs.Rounds.{Round, LoadAll, WriteAll}
+use Rattle.jc_bulk.specs.RoundCalls.{IsRoundOf, CallsInRounds, keys_in_all, said_in, faults_in, loads_in}
+use Rattle.jc_cache.specs.Rounds.{LoadRound}
+use Rattle.jc_bulk.specs.Rounds.{LoadsInRounds, AreFewEach, keys_in, said_in_loads}
 use Rattle.jc_bulk.proofs.CarriedOut.{all_keys, once_only}
 
 -- 1. The keys.

@@ -41,7 +41,9 @@ use Rattle.jc_bulk.specs.Turns.{Turn, AreCounted, turn_keys, turn_progress, keys
 use Rattle.jc_bulk.specs.Phased.{AddsSteps}
 use Rattle.jc_bulk.specs.Recorded.{steps_of}
 use Rattle.jc_bulk.specs.InRounds.{IsInRounds}
-use Rattle.jc_bulk.specs.RoundCalls.{CallKind, Round, MayAsk, keys_asked, keys_in_all, answer_to, said_in}
+use Rattle.jc_cache.specs.OutstandingAll.{CallKind}
+use Rattle.jc_cache.specs.Rounds.{Round, answer_to}
+use Rattle.jc_bulk.specs.RoundCalls.{MayAsk, keys_asked, keys_in_all, said_in}
 use Rattle.jc_bulk.specs.Rounds.{IsCrowded, IsStripeFull}
 use Rattle.jc_bulk.specs.SoFar.{IsSoFar, AreAnsweredIn, IsAnsweredIn}
 use Rattle.jc_bulk.specs.Starting.{StartsCall, StartsFor, steps_started, reservations_in}
@@ -91,7 +93,7 @@ pub no_keys : (calls : List ReservedState) → reserved_keys calls ≡ [] → ca
 no_keys [] none = refl
 no_keys (c ∷ calls) none = cc
 
-pub no_answers : {A : Type 0} (said : Bytes → A) (calls : List ReservedState) → with_answers said calls ≡ [] → calls ≡ []
+pub no_answers : (said : Bytes → Out) (calls : List ReservedState) → with_answers said calls ≡ [] → calls ≡ []
 no_answers said [] none = refl
 no_answers said (c ∷ calls) none = cc
 
@@ -195,23 +197,23 @@ untouched said targets cache caller ps calls place key op was there waits state 
 
 -- 4. The calls that were answered.
 
-pub one_answered : (said : Bytes → Out) (targets : List (Bytes × Op)) (cache : CacheState) (caller : Caller) (ps : List Progress) (calls later : List (AnsweredState Out)) (call : AnsweredState Out) (out : List ReservedState)
+pub one_answered : (said : Bytes → Out) (targets : List (Bytes × Op)) (cache : CacheState) (caller : Caller) (ps : List Progress) (calls later : List AnsweredState) (call : AnsweredState) (out : List ReservedState)
     → AreAnsweredIn said targets cache caller ps calls out → calls ≡ call ∷ later → (rest : List ReservedState) × IsAnsweredIn said targets cache caller ps call rest × (later ≡ with_answers said rest)
 one_answered said targets cache caller ps calls later call [] all is = let none : [] ≡ call ∷ later = sym all.answers ∙ is in cc
 one_answered said targets cache caller ps calls later call (c ∷ out) all is =
-    let first : AnsweredState Out = record { cache = c.cache; reservation = c.reservation; answer = said c.reservation.key } in
+    let first : AnsweredState = record { cache = c.cache; reservation = c.reservation; answer = said c.reservation.key } in
     let same : first ∷ with_answers said out ≡ call ∷ later = sym all.answers ∙ is in
     let head : first ≡ call = cc in
     let rest : later ≡ with_answers said out = cc in
-    (out, subst (λ a. IsAnsweredIn said targets cache caller ps a out) head (record { distinct = all.distinct; answer = refl; so_far = all.so_far }), rest)
+    (out, subst (λ a. IsAnsweredIn said targets cache caller ps a out) head (record { distinct = all.distinct; answer = refl; unprocessed = all.unprocessed; so_far = all.so_far }), rest)
 
-pub some_left : (said : Bytes → Out) (targets : List (Bytes × Op)) (cache : CacheState) (caller : Caller) (ps : List Progress) (place : ℕ) (calls : List (AnsweredState Out)) (out : List ReservedState)
+pub some_left : (said : Bytes → Out) (targets : List (Bytes × Op)) (cache : CacheState) (caller : Caller) (ps : List Progress) (place : ℕ) (calls : List AnsweredState) (out : List ReservedState)
     → AreAnsweredIn said targets cache caller ps calls out → slice_get ps place ≡ Some Reserved → calls ≡ [] → ⊥
 some_left said targets cache caller ps place calls out all at none =
     let empty : out ≡ [] = no_answers said out (sym all.answers ∙ none) in
     open_some all.so_far.turns place (ap (λ qs. slice_get qs place) all.so_far.progress_are ∙ at) (sym all.so_far.keys_open ∙ ap reserved_keys empty)
 
-pub none_left : (said : Bytes → Out) (targets : List (Bytes × Op)) (cache : CacheState) (caller : Caller) (ps : List Progress) (calls : List (AnsweredState Out)) (out : List ReservedState)
+pub none_left : (said : Bytes → Out) (targets : List (Bytes × Op)) (cache : CacheState) (caller : Caller) (ps : List Progress) (calls : List AnsweredState) (out : List ReservedState)
     → AreAnsweredIn said targets cache caller ps calls out → list_all is_closed ps ≡ true → (out ≡ []) × (calls ≡ [])
 none_left said targets cache caller ps calls out all over =
     let empty : out ≡ [] = no_keys out (all.so_far.keys_open ∙ all_closed all.so_far.turns (ap (list_all is_closed) all.so_far.progress_are ∙ over)) in

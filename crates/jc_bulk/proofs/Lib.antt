@@ -9,6 +9,7 @@ mod OnePhase
 mod ClearingKeys
 mod LookingAtAll
 mod Asking
+mod Reported
 pub mod Places
 pub mod Crowded
 pub mod Turns

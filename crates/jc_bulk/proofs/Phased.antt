@@ -34,9 +34,7 @@ one_or_more m n e = omega arith
 
 next_begun : (old new : State) (caller : Caller) (key : Bytes) (op : Op) (b : Begun) → Begins old caller key op b new → old.next ≤ new.next
 next_begun old new caller key op (begun.Done done) h = same_or_more old.next new.next (ap (λ (s : State). s.next) h.2.after)
-next_begun old new caller key op (begun.Load ticket) h = one_or_more old.next new.next (ap (λ (s : State). s.next) h.4)
-next_begun old new caller key op (begun.Write ticket) h = one_or_more old.next new.next (ap (λ (s : State). s.next) h.4)
-next_begun old new caller key op (begun.Process ticket) h = one_or_more old.next new.next (ap (λ (s : State). s.next) h.4)
+next_begun old new caller key op (begun.Asks ticket) h = one_or_more old.next new.next (ap (λ (s : State). s.next) h.5)
 next_begun old new caller key op (begun.Joined join) h = same_or_more old.next new.next (ap (λ (s : State). s.next) h.3)
 next_begun old new caller key op (begun.Refused refusal) h = same_or_more old.next new.next (ap (λ (s : State). s.next) h.1)
 

@@ -15,7 +15,7 @@ use Rattle.jc_model.specs.Cache.{Bytes, entry_at}
 use Rattle.jc_stripe.specs.declared.begun.Begun.{Begun}
 use Rattle.jc_stripe.specs.declared.begun.Begun.TheVariants as begun
 use Rattle.jc_stripe.specs.declared.ticket.Reservation.{Reservation}
-use Rattle.jc_stripe.specs.Tickets.{Ticket, ProcessClaim}
+use Rattle.jc_stripe.specs.Tickets.{TicketClaim}
 use Rattle.jc_stripe.specs.OwnSteps.{HasNoCallFrom, is_before_call}
 use Rattle.jc_stripe.specs.Refusals.{load_joined, load_at, may_join, last_number}
 use Rattle.jc_stripe.specs.State.{State, IsIdle, is_key, reservation_of}
@@ -55,12 +55,8 @@ joins_not load n none some = cc
 here_begins : (config : Config) (caller : Caller) (out : List Reservation) (i : ℕ) (before after : State) (key : Bytes) (op : Op) (b : Begun) → i ≡ stripe_of key config.stripes
     → is_among (keys_out out) key ≡ false → Begins before caller key op b after → IsUnder config caller out i before → IsUnder config caller (out_after out b) i after
 here_begins config caller out i before after key op (begun.Done done) i_is away h under = subst (λ rs. IsUnder config caller rs i after) (sym (append-nil out)) (under_step config caller out i before after key op _ done (early before caller key op h.0) under h.2)
-here_begins config caller out i before after key op (begun.Load ticket) i_is away h under =
-    under_reserved config caller out i before after ticket.reservation under (i_is ∙ ap (λ (t : Ticket). stripe_of t.reservation.key config.stripes) (sym h.3)) h.4
-here_begins config caller out i before after key op (begun.Write ticket) i_is away h under =
-    under_reserved config caller out i before after ticket.reservation under (i_is ∙ ap (λ (t : Ticket). stripe_of t.reservation.key config.stripes) (sym h.3)) h.4
-here_begins config caller out i before after key op (begun.Process ticket) i_is away h under =
-    under_reserved config caller out i before after ticket.reservation under (i_is ∙ ap (λ (t : ProcessClaim). stripe_of t.reservation.key config.stripes) (sym h.3)) h.4
+here_begins config caller out i before after key op (begun.Asks ticket) i_is away h under =
+    under_reserved config caller out i before after ticket.reservation under (i_is ∙ ap (λ (t : TicketClaim). stripe_of t.reservation.key config.stripes) (sym h.4)) h.5
 here_begins config caller out i before after key op (begun.Joined join) i_is away h under =
     absurd (joins_not (load_joined before key op) join.load (no_load before key op (is_free config caller out i before key under away)) h.1)
 here_begins config caller out i before after key op (begun.Refused refusal) i_is away h under =
@@ -69,12 +65,8 @@ here_begins config caller out i before after key op (begun.Refused refusal) i_is
 other_begins : (config : Config) (caller : Caller) (out : List Reservation) (j : ℕ) (s before after : State) (key : Bytes) (op : Op) (b : Begun) → (j ≡ stripe_of key config.stripes → ⊥)
     → Begins before caller key op b after → IsUnder config caller out j s → IsUnder config caller (out_after out b) j s
 other_begins config caller out j s before after key op (begun.Done done) apart h under = subst (λ rs. IsUnder config caller rs j s) (sym (append-nil out)) under
-other_begins config caller out j s before after key op (begun.Load ticket) apart h under =
-    not_reserved config caller out j s ticket.reservation under (λ e. apart (e ∙ ap (λ (t : Ticket). stripe_of t.reservation.key config.stripes) h.3))
-other_begins config caller out j s before after key op (begun.Write ticket) apart h under =
-    not_reserved config caller out j s ticket.reservation under (λ e. apart (e ∙ ap (λ (t : Ticket). stripe_of t.reservation.key config.stripes) h.3))
-other_begins config caller out j s before after key op (begun.Process ticket) apart h under =
-    not_reserved config caller out j s ticket.reservation under (λ e. apart (e ∙ ap (λ (t : ProcessClaim). stripe_of t.reservation.key config.stripes) h.3))
+other_begins config caller out j s before after key op (begun.Asks ticket) apart h under =
+    not_reserved config caller out j s ticket.reservation under (λ e. apart (e ∙ ap (λ (t : TicketClaim). stripe_of t.reservation.key config.stripes) h.4))
 other_begins config caller out j s before after key op (begun.Joined join) apart h under = subst (λ rs. IsUnder config caller rs j s) (sym (append-nil out)) under
 other_begins config caller out j s before after key op (begun.Refused refusal) apart h under = subst (λ rs. IsUnder config caller rs j s) (sym (append-nil out)) under
 
@@ -89,9 +81,7 @@ by_more caller out r all e = list_all-append (is_by caller) out (r ∷ []) ∙ a
 by_begins : (before after : State) (caller : Caller) (out : List Reservation) (key : Bytes) (op : Op) (b : Begun) → list_all (is_by caller) out ≡ true → Begins before caller key op b after
     → list_all (is_by caller) (out_after out b) ≡ true
 by_begins before after caller out key op (begun.Done done) all h = ap (list_all (is_by caller)) (append-nil out) ∙ all
-by_begins before after caller out key op (begun.Load ticket) all h = by_more caller out ticket.reservation all (ap (λ (t : Ticket). t.reservation.caller) h.3)
-by_begins before after caller out key op (begun.Write ticket) all h = by_more caller out ticket.reservation all (ap (λ (t : Ticket). t.reservation.caller) h.3)
-by_begins before after caller out key op (begun.Process ticket) all h = by_more caller out ticket.reservation all (ap (λ (t : ProcessClaim). t.reservation.caller) h.3)
+by_begins before after caller out key op (begun.Asks ticket) all h = by_more caller out ticket.reservation all (ap (λ (t : TicketClaim). t.reservation.caller) h.4)
 by_begins before after caller out key op (begun.Joined join) all h = ap (list_all (is_by caller)) (append-nil out) ∙ all
 by_begins before after caller out key op (begun.Refused refusal) all h = ap (list_all (is_by caller)) (append-nil out) ∙ all
 
@@ -133,9 +123,7 @@ none_taken config caller i (Some s) under = record {
 early_begins : (before after : State) (caller : Caller) (out : List Reservation) (key : Bytes) (op : Op) (b : Begun) → ((out ≡ []) ⊎ (caller.call < last_number)) → Begins before caller key op b after
     → (out_after out b ≡ []) ⊎ (caller.call < last_number)
 early_begins before after caller out key op (begun.Done done) was h = inr (early before caller key op h.0)
-early_begins before after caller out key op (begun.Load ticket) was h = inr (early before caller key op h.0)
-early_begins before after caller out key op (begun.Write ticket) was h = inr (early before caller key op h.0)
-early_begins before after caller out key op (begun.Process ticket) was h = inr (early before caller key op h.0)
+early_begins before after caller out key op (begun.Asks ticket) was h = inr (early before caller key op h.0)
 early_begins before after caller out key op (begun.Joined join) was h = inr (early before caller key op h.0)
 early_begins before after caller out key op (begun.Refused refusal) (inl none) h = inl (append-nil out ∙ none)
 early_begins before after caller out key op (begun.Refused refusal) (inr below) h = inr below
@@ -147,9 +135,7 @@ below_last caller r rest (inr below) = below
 no_join : (config : Config) (caller : Caller) (out : List Reservation) (i : ℕ) (before after : State) (key : Bytes) (op : Op) (b : Begun) → is_among (keys_out out) key ≡ false
     → IsUnder config caller out i before → Begins before caller key op b after → IsNoJoin b
 no_join config caller out i before after key op (begun.Done done) away under h = tt
-no_join config caller out i before after key op (begun.Load ticket) away under h = tt
-no_join config caller out i before after key op (begun.Write ticket) away under h = tt
-no_join config caller out i before after key op (begun.Process ticket) away under h = tt
+no_join config caller out i before after key op (begun.Asks ticket) away under h = tt
 no_join config caller out i before after key op (begun.Joined join) away under h = joins_not (load_joined before key op) join.load (no_load before key op (is_free config caller out i before key under away)) h.1
 no_join config caller out i before after key op (begun.Refused refusal) away under h = tt
 

@@ -49,9 +49,7 @@ no_step caller key q op out reply n apart =
 
 no_steps : (caller : Caller) (key q : Bytes) (op : Op) (b : Begun) (n : ℕ) → (stripe_of q n ≡ stripe_of key n → ⊥) → steps_of caller q (events_begun caller key op b) ≡ []
 no_steps caller key q op (begun.Done done) n apart = no_step caller key q op nothing_said done.reply n apart
-no_steps caller key q op (begun.Load ticket) n apart = refl
-no_steps caller key q op (begun.Write ticket) n apart = refl
-no_steps caller key q op (begun.Process ticket) n apart = refl
+no_steps caller key q op (begun.Asks ticket) n apart = refl
 no_steps caller key q op (begun.Joined join) n apart = refl
 no_steps caller key q op (begun.Refused refusal) n apart = refl
 
@@ -63,9 +61,7 @@ same_history caller q before after same = ap (steps_of caller q) same ∙ sym (a
 here_begins : (caller : Caller) (key q : Bytes) (op : Op) (b : Begun) (before after : State) → Begins before caller key op b after
     → steps_of caller q after.history ≡ steps_of caller q before.history ++ steps_of caller q (events_begun caller key op b)
 here_begins caller key q op (begun.Done done) before after h = steps_after before after caller caller key q op nothing_said done h.2
-here_begins caller key q op (begun.Load ticket) before after h = same_history caller q before after (ap (λ (s : State). s.history) h.4)
-here_begins caller key q op (begun.Write ticket) before after h = same_history caller q before after (ap (λ (s : State). s.history) h.4)
-here_begins caller key q op (begun.Process ticket) before after h = same_history caller q before after (ap (λ (s : State). s.history) h.4)
+here_begins caller key q op (begun.Asks ticket) before after h = same_history caller q before after (ap (λ (s : State). s.history) h.5)
 here_begins caller key q op (begun.Joined join) before after h = same_history caller q before after (ap (λ (s : State). s.history) h.3)
 here_begins caller key q op (begun.Refused refusal) before after h = same_history caller q before after (ap (λ (s : State). s.history) h.1)
 

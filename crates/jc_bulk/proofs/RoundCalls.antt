@@ -5,8 +5,7 @@
 --     nothing_asked            the account after a round that asked for nothing
 --     calls_both               rounds, and then more of them
 --     is_asked                 if a call is out, the session has the one who is asked
---     outs_are, none_answered  calls that were answered, with what was said outside
-use Rattle.std.proofs.Common.{◌≡◌, ◌==◌, ◌&&◌, ◌++◌, ◌⊎◌, inl, inr, ℕ, zero, suc, List, [], ◌∷◌, length, map, cond, true, false, not, Option, Some, slice_get, refl, sym, ap, ◌∙◌, subst, arith, append-nil}
+use Rattle.std.proofs.Common.{◌≡◌, ◌==◌, ◌&&◌, ◌++◌, ◌⊎◌, inl, inr, ℕ, zero, suc, List, [], ◌∷◌, length, map, cond, Bool, true, false, not, Option, Some, slice_get, refl, sym, ap, ◌∙◌, subst, arith, append-nil}
 use Rattle.std.proofs.lemmas.Bool.{and_parts, or_parts}
 use Rattle.std.proofs.lemmas.Grind.{flat_map-append}
 use Rattle.std.proofs.lemmas.List.Folds.{list_any-append, list_all-append}
@@ -20,6 +19,7 @@ use Rattle.jc_model.specs.declared.event.Out.{Out}
 use Rattle.jc_model.specs.Batches.{is_among}
 use Rattle.jc_model.specs.Cache.{Bytes}
 use Rattle.jc_model.specs.Group.{nothing_said}
+use Rattle.jc_model.specs.Table.{is_process_given}
 use Rattle.jc_outside.specs.CallingAll.{LoadAllRelation, WriteAllRelation, DeleteAllRelation}
 use Rattle.jc_stripe.specs.State.{State}
 use Rattle.jc_session.specs.declared.mark.Mark.{Mark}
@@ -32,7 +32,9 @@ use Rattle.jc_bulk.specs.declared.round.Progress.{Progress}
 use Rattle.jc_bulk.specs.declared.round.Progress.TheVariants.{Waiting, Reserved, Ended}
 use Rattle.jc_bulk.specs.InRounds.{IsInRounds, changes_wanted}
 use Rattle.jc_bulk.specs.KeyProgress.{StayEnded, AreUnasked}
-use Rattle.jc_bulk.specs.RoundCalls.{CallKind, Load, Write, Round, LoadAll, WriteAll, HasOneToAsk, MayAsk, IsAskedOf, IsRoundOf, CallsInRounds, keys_asked, changes_asked, answer_to, with_out, keys_in_all, changes_in_all, said_in}
+use Rattle.jc_cache.specs.OutstandingAll.{CallKind, Load, Write, HasOneToAsk}
+use Rattle.jc_cache.specs.Rounds.{Round, LoadAll, WriteAll, IsAskedOf, answer_to}
+use Rattle.jc_bulk.specs.RoundCalls.{MayAsk, IsRoundOf, CallsInRounds, keys_asked, changes_asked, keys_in_all, changes_in_all, said_in}
 use Rattle.jc_bulk.specs.SoFar.{HasEndedAt, IsCallAt, HaveEnded, IsSoFar, AreAnsweredIn}
 use Rattle.jc_bulk.specs.Starting.{op_change}
 use Rattle.jc_bulk.specs.Turns.{Turn, keys_still_open}
@@ -62,7 +64,7 @@ pub asks_for : (kind : CallKind) (calls : List ReservedState) (r : Round) → Is
 asks_for Load calls (LoadAll r) is = is
 asks_for Load calls (WriteAll r) is = absurd is
 asks_for (Write deletes) calls (LoadAll r) is = absurd is
-asks_for (Write deletes) calls (WriteAll r) is = ap (map (λ (c : Bytes × Option Change). c.0)) is ∙ wanted_keys calls
+asks_for (Write deletes) calls (WriteAll r) is = ap (map (λ (c : Bytes × Option Change). c.0)) is.1 ∙ wanted_keys calls
 
 among_wanted : (targets : List (Bytes × Op)) (i : ℕ) (key : Bytes) (op : Op) → slice_get targets i ≡ Some (key, op) → IsAmong (changes_wanted targets) (key, op_change op)
 among_wanted [] i key op at = cc
@@ -81,7 +83,7 @@ all_wanted : (kind : CallKind) (mark : Mark) (caller : Caller) (targets : List (
 all_wanted Load mark caller targets calls (LoadAll r) is all = tt
 all_wanted Load mark caller targets calls (WriteAll r) is all = absurd is
 all_wanted (Write deletes) mark caller targets calls (LoadAll r) is all = absurd is
-all_wanted (Write deletes) mark caller targets calls (WriteAll r) is all = subst (AllByRecursion (IsAmong (changes_wanted targets))) (sym is) (calls_wanted mark caller targets calls all)
+all_wanted (Write deletes) mark caller targets calls (WriteAll r) is all = subst (AllByRecursion (IsAmong (changes_wanted targets))) (sym is.1) (calls_wanted mark caller targets calls all)
 
 no_changes : (calls : List ReservedState) → wanted_changes calls ≡ [] → length calls ≡ 0
 no_changes [] none = refl
@@ -95,7 +97,7 @@ is_round : (kind : CallKind) (calls : List ReservedState) (r : Round) → IsAske
 is_round Load calls (LoadAll r) is some = λ none. some (no_keys_asked calls (sym is ∙ none))
 is_round Load calls (WriteAll r) is some = absurd is
 is_round (Write deletes) calls (LoadAll r) is some = absurd is
-is_round (Write deletes) calls (WriteAll r) is some = λ none. some (no_changes calls (sym is ∙ none))
+is_round (Write deletes) calls (WriteAll r) is some = λ none. some (no_changes calls (sym is.1 ∙ none))
 
 -- 3. The turns.
 
@@ -139,11 +141,25 @@ each_said rounds r all (k ∷ ks) is fresh among =
     let a = and_parts (is_among all k) (list_all (is_among all) ks) among in
     (said_now rounds r k (is_new (is_among (keys_in_all rounds) k) f.0) (ap (λ xs. is_among xs k) is ∙ a.0), each_said rounds r all ks is f.1 a.1)
 
-pub asked_answered : (kind : CallKind) (rounds : List Round) (r : Round) (targets : List (Bytes × Op)) (cache : CacheState) (caller : Caller) (ps : List Progress) (calls : List ReservedState) (written : List (AnsweredState Out)) → IsDistinct (pointwise ◌==◌) (keys_of targets)
+-- no processor runs in a round
+answered_plainly : (r : Round) (key : Bytes) → is_process_given (answer_to r key).process ≡ false
+answered_plainly (LoadAll r) key = refl
+answered_plainly (WriteAll r) key = refl
+
+plain_if : (b : Bool) (x y : Out) → is_process_given x.process ≡ false → is_process_given y.process ≡ false → is_process_given (cond b x y).process ≡ false
+plain_if true x y first second = first
+plain_if false x y first second = second
+
+unprocessed_in : (rounds : List Round) (key : Bytes) → is_process_given (said_in rounds key).process ≡ false
+unprocessed_in [] key = refl
+unprocessed_in (r ∷ rounds) key = plain_if (is_among (keys_asked r) key) (answer_to r key) (said_in rounds key) (answered_plainly r key) (unprocessed_in rounds key)
+
+pub asked_answered : (kind : CallKind) (rounds : List Round) (r : Round) (targets : List (Bytes × Op)) (cache : CacheState) (caller : Caller) (ps : List Progress) (calls : List ReservedState) (written : List AnsweredState) → IsDistinct (pointwise ◌==◌) (keys_of targets)
     → keys_asked r ≡ reserved_keys calls → written ≡ with_answers (answer_to r) calls → IsInRounds kind rounds targets cache caller ps calls → AreAnsweredIn (said_in (rounds ++ r ∷ [])) targets cache caller ps written calls
 asked_answered kind rounds r targets cache caller ps calls written d asks is was = record {
   distinct = d;
   answers = is ∙ answers_same (answer_to r) (said_in (rounds ++ r ∷ [])) calls (each_said rounds r (reserved_keys calls) (reserved_keys calls) asks was.fresh (among_self (reserved_keys calls)));
+  unprocessed = unprocessed_in (rounds ++ r ∷ []);
   so_far = asked_so_far kind rounds r targets cache caller ps calls d asks was;
 }
 
@@ -206,13 +222,3 @@ has_asked (Write deletes) cache session own may = own.writes may
 pub is_asked : {I J : Type 0} {D : I → Type 0} {E : J → Type 0} (kind : CallKind) (rounds : List Round) (targets : List (Bytes × Op)) (cache : CacheState) (session : Session I J D E) (ps : List Progress) (calls : List ReservedState)
     → IsOf cache session → IsInRounds kind rounds targets cache session.caller ps calls → (length calls ≡ 0 → ⊥) → HasOneToAsk kind session
 is_asked kind rounds targets cache session ps calls own was some = has_asked kind cache session own (if_some (MayAsk kind cache.config) calls some was.through)
-
--- 7. The answers of one call.
-
-pub outs_are : {A : Type 0} (out : A → Out) (said : Bytes → A) (calls : List ReservedState) → map (with_out out) (with_answers said calls) ≡ with_answers (λ key. out (said key)) calls
-outs_are out said [] = refl
-outs_are out said (c ∷ calls) = ap (λ cs. record { cache = c.cache; reservation = c.reservation; answer = out (said c.reservation.key) } ∷ cs) (outs_are out said calls)
-
-pub none_answered : {A : Type 0} (out : A → Out) (calls : List (AnsweredState A)) → map (with_out out) calls ≡ [] → calls ≡ []
-none_answered out [] none = refl
-none_answered out (c ∷ calls) none = cc

@@ -32,7 +32,9 @@ use Rattle.jc_bulk.specs.declared.round.Progress.TheVariants.{Waiting}
 use Rattle.jc_bulk.specs.InRounds.{IsInRounds, RunsRounds}
 use Rattle.jc_bulk.specs.KeyProgress.{StayEnded, StillWaits, IsRoomFor, IsHeldBack, IsCauseIn, IsFirstCause, failures}
 use Rattle.jc_bulk.specs.Phased.{LeavesCalls}
-use Rattle.jc_bulk.specs.RoundCalls.{CallKind, Round, CallsInRounds, round_fault, faults_in}
+use Rattle.jc_cache.specs.OutstandingAll.{CallKind}
+use Rattle.jc_cache.specs.Rounds.{Round}
+use Rattle.jc_bulk.specs.RoundCalls.{CallsInRounds, round_fault, faults_in}
 use Rattle.jc_bulk.specs.Rounds.{IsCrowded}
 use Rattle.jc_bulk.specs.SoFar.{IsSoFar}
 use Rattle.jc_bulk.specs.Turns.{AreCounted, ComesAfterAll}

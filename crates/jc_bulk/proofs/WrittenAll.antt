@@ -26,8 +26,11 @@ use Rattle.jc_bulk.specs.Carrying.{IsCarriedOut}
 use Rattle.jc_bulk.specs.Ends.{key_ends, failed_entries}
 use Rattle.jc_bulk.specs.InRounds.{changes_wanted}
 use Rattle.jc_bulk.specs.KeyProgress.{IsCauseIn, failures}
-use Rattle.jc_bulk.specs.RoundCalls.{CallKind, Write, Round, LoadAll, WriteAll, IsRoundOf, CallsInRounds, keys_in_all, changes_in_all, said_in, faults_in, writes_in}
-use Rattle.jc_bulk.specs.Rounds.{WriteRound, WritesInRounds, round_keys, changes_in, said_in_writes, writer_cause, writer_causes}
+use Rattle.jc_cache.specs.OutstandingAll.{CallKind, Write}
+use Rattle.jc_cache.specs.Rounds.{Round, LoadAll, WriteAll}
+use Rattle.jc_bulk.specs.RoundCalls.{IsRoundOf, CallsInRounds, keys_in_all, changes_in_all, said_in, faults_in, writes_in}
+use Rattle.jc_cache.specs.Rounds.{WriteRound}
+use Rattle.jc_bulk.specs.Rounds.{WritesInRounds, round_keys, changes_in, said_in_writes, writer_cause, writer_causes}
 use Rattle.jc_bulk.specs.WritingAll.{WritesAll}
 use Rattle.jc_bulk.proofs.CarriedOut.{once_only}
 use Rattle.jc_bulk.proofs.KeyResults.{failed_written, failures_are, none_mapped}

@@ -41,7 +41,8 @@ use Rattle.jc_cache.specs.Sessions.{LeavesSessions}
 use Rattle.jc_cache.specs.Whole.{own_after}
 use Rattle.jc_bulk.specs.Ends.{KeyEnd, key_ops, failed_entries, EndsAt}
 use Rattle.jc_bulk.specs.Recorded.{steps_of}
-use Rattle.jc_bulk.specs.Rounds.{WriteRound, WritesInRounds, changes_in, said_in_writes, writer_causes, LoadRound, LoadsInRounds, keys_in, said_in_loads, AreOnce}
+use Rattle.jc_cache.specs.Rounds.{WriteRound, LoadRound}
+use Rattle.jc_bulk.specs.Rounds.{WritesInRounds, changes_in, said_in_writes, writer_causes, LoadsInRounds, keys_in, said_in_loads, AreOnce}
 
 -- 1. The cache and the session.
 

@@ -20,14 +20,16 @@ use Rattle.jc_bulk.specs.Bulk.{CarriesOut}
 use Rattle.jc_bulk.specs.Ends.{key_ends}
 use Rattle.jc_bulk.specs.InRounds.{IsInRounds}
 use Rattle.jc_bulk.specs.KeyProgress.{IsRoomFor, IsCauseIn, all_waiting, failures}
-use Rattle.jc_bulk.specs.RoundCalls.{CallKind, Round, AreNoCalls, CallsInRounds, said_in, faults_in}
+use Rattle.jc_cache.specs.OutstandingAll.{CallKind, no_calls}
+use Rattle.jc_cache.specs.Rounds.{Round}
+use Rattle.jc_bulk.specs.RoundCalls.{CallsInRounds, said_in, faults_in}
 use Rattle.jc_bulk.specs.Rounds.{AreFewEach}
 
 pub record IsRoomOf (kind : CallKind) (targets : List (Bytes × Op)) (stripes : ℕ) (room : Room) : Type 0 where
   pub progress : room.progress.items ≡ all_waiting (length targets)
   pub failed : room.failed.entries ≡ []
   pub space : length targets ≤ spare room.failed
-  pub calls : AreNoCalls kind room.calls room.most
+  pub calls : room.calls ≡ no_calls kind room.most
   pub most : IsRoomFor stripes room.most (length targets)
 
 pub record IsCarriedOut

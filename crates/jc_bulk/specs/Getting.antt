@@ -15,7 +15,8 @@ use Rattle.jc_cache.specs.Caches.{CacheState}
 use Rattle.jc_bulk.specs.declared.round.Progress.{Progress}
 use Rattle.jc_bulk.specs.Bulk.{CarriesOut, AsksLoaderInRounds, CauseAmong, said_to_loads, get_ops}
 use Rattle.jc_bulk.specs.Ends.{KeyEnd, key_end, key_ends, failed_entries, found_entries}
-use Rattle.jc_bulk.specs.Rounds.{LoadRound, AreFewEach}
+use Rattle.jc_cache.specs.Rounds.{LoadRound}
+use Rattle.jc_bulk.specs.Rounds.{AreFewEach}
 
 abbrev pub get_end : Bytes → Progress → List KeyEnd
 get_end key progress = key_end (key, Get) progress

@@ -26,7 +26,9 @@ use Rattle.jc_cache.specs.OutstandingAll.{reserved_keys}
 use Rattle.jc_bulk.specs.declared.round.Progress.{Progress}
 use Rattle.jc_bulk.specs.KeyProgress.{AreUnasked, StayEnded, IsCauseIn, failures}
 use Rattle.jc_bulk.specs.Phased.{LeavesCalls}
-use Rattle.jc_bulk.specs.RoundCalls.{CallKind, Round, MayAsk, IsRoundOf, CallsInRounds, keys_in_all, changes_in_all, said_in, faults_in}
+use Rattle.jc_cache.specs.OutstandingAll.{CallKind}
+use Rattle.jc_cache.specs.Rounds.{Round}
+use Rattle.jc_bulk.specs.RoundCalls.{MayAsk, IsRoundOf, CallsInRounds, keys_in_all, changes_in_all, said_in, faults_in}
 use Rattle.jc_bulk.specs.Rounds.{AreFewEach}
 use Rattle.jc_bulk.specs.SoFar.{IsSoFar}
 use Rattle.jc_bulk.specs.Starting.{op_change}

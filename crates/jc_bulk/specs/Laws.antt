@@ -35,9 +35,7 @@ use Rattle.jc_bulk.specs.Underway.{IsUnderway}
 
 abbrev pub reservation_begun : Begun → Option Reservation
 reservation_begun (begun.Done done) = None
-reservation_begun (begun.Load ticket) = Some ticket.reservation
-reservation_begun (begun.Write ticket) = Some ticket.reservation
-reservation_begun (begun.Process ticket) = Some ticket.reservation
+reservation_begun (begun.Asks ticket) = Some ticket.reservation
 reservation_begun (begun.Joined join) = None
 reservation_begun (begun.Refused refusal) = None
 
@@ -46,17 +44,13 @@ out_after out b = out ++ cons_option (reservation_begun b) []
 
 abbrev pub events_begun : Caller → Bytes → Op → Begun → List Event
 events_begun caller key op (begun.Done done) = Step caller op key nothing_said None done.reply ∷ []
-events_begun caller key op (begun.Load ticket) = []
-events_begun caller key op (begun.Write ticket) = []
-events_begun caller key op (begun.Process ticket) = []
+events_begun caller key op (begun.Asks ticket) = []
 events_begun caller key op (begun.Joined join) = []
 events_begun caller key op (begun.Refused refusal) = []
 
 abbrev pub IsNoJoin : Begun → Type 0
 IsNoJoin (begun.Done done) = Unit {0}
-IsNoJoin (begun.Load ticket) = Unit {0}
-IsNoJoin (begun.Write ticket) = Unit {0}
-IsNoJoin (begun.Process ticket) = Unit {0}
+IsNoJoin (begun.Asks ticket) = Unit {0}
 IsNoJoin (begun.Joined join) = ⊥
 IsNoJoin (begun.Refused refusal) = Unit {0}
 

@@ -1,12 +1,10 @@
 -- The calls outside of a bulk call, one for each of its rounds that needs it.
---     WriteRound        one call of the writer: the batch, what it returned, and what it said of each key
 --     WritesInRounds    the writer was called once for each of these rounds, in their order, and not otherwise
 --     round_keys        the keys of one call of the writer
 --     changes_in        all that the writer was asked for, with each key
 --     said_in_writes    what the writer said of a key: in the first round that asked for it, or nothing
 --     writer_cause      the fault that a call of the writer returned, if it failed
 --     writer_causes     these faults, of all rounds
---     LoadRound         one call of the loader: the keys, and what it said of each
 --     LoadsInRounds     the loader was called once for each of these rounds, in their order, and not otherwise
 --     keys_in           all keys that the loader was asked for
 --     said_in_loads     what the loader said of a key: in the first round that asked for it, or nothing
@@ -31,15 +29,10 @@ use Rattle.jc_model.specs.declared.event.WriteAnswer.TheVariants as write
 use Rattle.jc_model.specs.Batches.{is_among}
 use Rattle.jc_model.specs.Cache.{Bytes}
 use Rattle.jc_batch.specs.Changes.{changes_of}
-use Rattle.jc_batch.specs.declared.batch.Batch.{Batch}
 use Rattle.jc_outside.specs.CallingAll.{WriteAllRelation, DeleteAllRelation, WritesAllOnce, LoadAllRelation, LoadsAllOnce}
+use Rattle.jc_cache.specs.Rounds.{LoadRound, WriteRound}
 
 -- 1. The writer.
-
-pub record WriteRound : Type 0 where
-  pub batch : Batch
-  pub returned : Result (Unit {0}) ℕ
-  pub said : Bytes → WriteAnswer
 
 abbrev pub WritesInRounds : {W : Type 0} → WriteAllRelation W → DeleteAllRelation W → (W → List ℕ) → Option W → List WriteRound → Option W → Type 0
 WritesInRounds writes_all deletes_all state old [] new = new ≡ old
@@ -64,10 +57,6 @@ abbrev pub writer_causes : List WriteRound → List Refusal
 writer_causes rounds = filter_map (λ (r : WriteRound). writer_cause r.returned) rounds
 
 -- 2. The loader.
-
-pub record LoadRound : Type 0 where
-  pub keys : List Bytes
-  pub said : Bytes → LoadAnswer
 
 abbrev pub LoadsInRounds : {L : Type 0} → LoadAllRelation L → (L → List ℕ) → Option L → List LoadRound → Option L → Type 0
 LoadsInRounds loads_all state old [] new = new ≡ old

@@ -6,7 +6,7 @@
 --     IsCallAt        a call that has reserved its key is of this cache and this caller, has the operation of its key, and asks for its change
 --     IsSoFar         the keys are so far; the call is under way, with those out that are reserved, in the order of the keys; each
 --                     turn is so in the cache, and no other key has a step of the call
---     IsAnsweredIn    the same, where the first call that is out has been answered, and these are the rest
+--     IsAnsweredIn    the same, where the first call that is out has been answered, by no processor, and these are the rest
 --     AreAnsweredIn   the same, where each call that is out has been answered: with what was said of its key
 use Rattle.std.specs.Prelude.{◌≡◌, ◌==◌, ℕ, List, [], ◌∷◌, false, Some, slice_get}
 use Rattle.std.specs.List.{AllByRecursion, IsDistinct}
@@ -17,6 +17,7 @@ use Rattle.jc_model.specs.declared.event.Op.{Op}
 use Rattle.jc_model.specs.declared.event.Out.{Out}
 use Rattle.jc_model.specs.Batches.{is_among}
 use Rattle.jc_model.specs.Cache.{Bytes}
+use Rattle.jc_model.specs.Table.{is_process_given}
 use Rattle.jc_stripe.specs.State.{State}
 use Rattle.jc_stripe.specs.Tickets.{change_asked}
 use Rattle.jc_session.specs.declared.mark.Mark.{Mark}
@@ -65,12 +66,14 @@ pub record IsSoFar (said : Bytes → Out) (targets : List (Bytes × Op)) (cache 
   pub calls_are : AllByRecursion (IsCallAt cache.mark caller targets) calls
   pub keys_open : reserved_keys calls ≡ keys_still_open turns
 
-pub record IsAnsweredIn (said : Bytes → Out) (targets : List (Bytes × Op)) (cache : CacheState) (caller : Caller) (progress : List Progress) (call : AnsweredState Out) (rest : List ReservedState) : Type 0 where
+pub record IsAnsweredIn (said : Bytes → Out) (targets : List (Bytes × Op)) (cache : CacheState) (caller : Caller) (progress : List Progress) (call : AnsweredState) (rest : List ReservedState) : Type 0 where
   pub distinct : IsDistinct (pointwise ◌==◌) (keys_of targets)
   pub answer : call.answer ≡ said call.reservation.key
+  pub unprocessed : (key : Bytes) → is_process_given (said key).process ≡ false
   pub so_far : IsSoFar said targets cache caller progress (record { cache = call.cache; reservation = call.reservation } ∷ rest)
 
-pub record AreAnsweredIn (said : Bytes → Out) (targets : List (Bytes × Op)) (cache : CacheState) (caller : Caller) (progress : List Progress) (calls : List (AnsweredState Out)) (out : List ReservedState) : Type 0 where
+pub record AreAnsweredIn (said : Bytes → Out) (targets : List (Bytes × Op)) (cache : CacheState) (caller : Caller) (progress : List Progress) (calls : List AnsweredState) (out : List ReservedState) : Type 0 where
   pub distinct : IsDistinct (pointwise ◌==◌) (keys_of targets)
   pub answers : calls ≡ with_answers said out
+  pub unprocessed : (key : Bytes) → is_process_given (said key).process ≡ false
   pub so_far : IsSoFar said targets cache caller progress out

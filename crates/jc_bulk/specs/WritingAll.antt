@@ -16,7 +16,8 @@ use Rattle.jc_session.specs.declared.session.Session.{Session}
 use Rattle.jc_cache.specs.Caches.{CacheState}
 use Rattle.jc_bulk.specs.Bulk.{CarriesOut, AsksWriterInRounds, CauseAmong, HasNoCause, said_to_writes}
 use Rattle.jc_bulk.specs.Ends.{KeyEnd, failed_entries}
-use Rattle.jc_bulk.specs.Rounds.{WriteRound, AreFewEach}
+use Rattle.jc_cache.specs.Rounds.{WriteRound}
+use Rattle.jc_bulk.specs.Rounds.{AreFewEach}
 
 pub record WritesAll
     {I J : Type 0} {D : I → Type 0} {E : J → Type 0}

@@ -9,16 +9,17 @@ ghost use Rattle.jc_bulk.specs.Carrying.{IsRoomOf, IsCarriedOut};
 ghost use Rattle.jc_bulk.specs.Ends.{failed_entries, key_ends};
 ghost use Rattle.jc_bulk.specs.Getting.{get_end};
 ghost use Rattle.jc_bulk.specs.KeyProgress.{IsRoomFor, all_waiting};
-ghost use Rattle.jc_bulk.specs.RoundCalls.{AreNoCalls, Round, kind_for, ops_of};
+ghost use Rattle.jc_cache.specs.OutstandingAll.{no_calls};
+ghost use Rattle.jc_cache.specs.Rounds.{Round};
+ghost use Rattle.jc_bulk.specs.RoundCalls.{kind_for, ops_of};
 
 use crate::laws::stays_underway;
 use crate::results::{all_waiting, insert_if_failed};
 use crate::round::{Progress, most_calls};
-use crate::round_calls::Calls;
 use crate::rounds::run_rounds;
 use crate::targets::Targets;
 use indexmap::IndexMap;
-use jc_cache::{Cache, Session};
+use jc_cache::{Cache, Calls, Session};
 use jc_model::Reply;
 use jc_types::{Key, Refusal, Value};
 use std::alloc::{AllocError, Global};
@@ -50,7 +51,7 @@ impl Room {
         let progress = all_waiting(alloc, keys)?;
         let failed = IndexMap::with_capacity(alloc, keys)?;
         let most = most_calls(keys, stripes);
-        let calls = Calls::with_capacity(alloc, targets, most)?;
+        let calls = targets.no_calls(alloc, most)?;
         Ok(Room {
             progress,
             failed,
@@ -132,7 +133,7 @@ fn begin_and_run<R: Wait>(
     requires may { MayCall cache.old session.old }
     requires distinct { IsDistinct (pointwise ◌==◌) (keys_of (ops_of targets.now)) }
     requires new { progress.old ≡ all_waiting (length (ops_of targets.now)) }
-    requires calls { AreNoCalls (kind_for targets.now) calls most }
+    requires calls { calls ≡ no_calls (kind_for targets.now) most }
     requires most { IsRoomFor cache.old.config.stripes most (length (ops_of targets.now)) }
     ensures may { MayCall cache.new session.new }
     ensures carried { (rounds : List Round)

@@ -11,8 +11,8 @@ ghost use Rattle.jc_bulk.specs.Bulk.{HasNoCause, IsRefusedWhole, get_ops};
 ghost use Rattle.jc_bulk.specs.Carrying.{IsRoomOf};
 ghost use Rattle.jc_bulk.specs.Ends.{KeyEnd, found_entries};
 ghost use Rattle.jc_bulk.specs.Getting.{GetsAll, FailsToGet, NamesNoKey, get_end, get_ends};
-ghost use Rattle.jc_bulk.specs.RoundCalls.{Load};
-ghost use Rattle.jc_bulk.specs.Rounds.{LoadRound};
+ghost use Rattle.jc_cache.specs.OutstandingAll.{Load};
+ghost use Rattle.jc_cache.specs.Rounds.{LoadRound};
 
 use crate::carrying::{CallEnd, Room, carry_out};
 use crate::fault::BulkFault;

@@ -2,6 +2,7 @@
 ghost use Rattle.std.specs.Prelude.{◌≡◌, ◌<◌, ◌+◌, ◌∷◌, List, [], length, None, false};
 ghost use Rattle.jc_model.specs.declared.event.Event.TheVariants.{Step};
 ghost use Rattle.jc_model.specs.Batches.{is_among};
+ghost use Rattle.jc_model.specs.Table.{is_process_given};
 ghost use Rattle.jc_stripe.specs.declared.ticket.Reservation.{Reservation};
 ghost use Rattle.jc_stripe.specs.State.{State};
 ghost use Rattle.jc_session.specs.Counting.{counts_ended};
@@ -13,13 +14,12 @@ ghost use Rattle.jc_bulk.specs.KeyProgress.{IsRoomFor};
 ghost use Rattle.jc_bulk.specs.Laws.{keys_out};
 ghost use Rattle.jc_bulk.specs.Phased.{counts_started, LeavesCalls, AddsSteps};
 ghost use Rattle.jc_bulk.specs.Recorded.{steps_of};
-ghost use Rattle.jc_bulk.specs.RoundCalls.{AsksAs, MayAsk, calls_kind, items_of, room_of, answered_call};
+ghost use Rattle.jc_bulk.specs.RoundCalls.{AsksAs, MayAsk};
 ghost use Rattle.jc_bulk.specs.Starting.{steps_started, reservations_in, StartsCall, StartsFor};
 ghost use Rattle.jc_bulk.specs.Underway.{IsUnderway};
 
 use crate::laws::{records, stays_underway};
-use crate::round_calls::{AnsweredCall, Calls};
-use jc_cache::{Cache, Session, Started};
+use jc_cache::{AnsweredCall, Cache, Calls, Session, Started};
 use jc_model::{Op, Reply};
 use jc_stripe::phase_laws::grows;
 use jc_types::{Key, RESERVATIONS_MAX, Refusal};
@@ -62,23 +62,23 @@ pub fn start_key(
     calls: &mut Calls,
 ) -> Progress
     requires own { IsOf cache.old session.old }
-    requires underway { IsUnderway cache.old session.old.caller (reservations_in (items_of calls.old)) }
-    requires room { 0 < room_of calls.old }
-    requires kind { AsksAs (calls_kind calls.old) op.now }
-    requires away { is_among (reserved_keys (items_of calls.old)) key.now ≡ false }
+    requires underway { IsUnderway cache.old session.old.caller (reservations_in calls.old.items) }
+    requires room { 0 < calls.old.room }
+    requires kind { AsksAs calls.old.kind op.now }
+    requires away { is_among (reserved_keys calls.old.items) key.now ≡ false }
     requires none { (s : State) → IsStripeOf cache.old key.now s
         → steps_of session.old.caller key.now s.history ≡ [] }
     ensures own { IsOf cache.new session.new }
     ensures session { session.new ≡ record session.old { counts = counts_started session.old.counts result } }
     ensures why { (s : State) × IsStripeOf cache.old key.now s
-        × StartsFor s session.old.caller (reservations_in (items_of calls.old)) key.now op.now result }
+        × StartsFor s session.old.caller (reservations_in calls.old.items) key.now op.now result }
     ensures calls { StartsCall cache.old.mark session.old.caller key.now op.now result
-        (items_of calls.old) (items_of calls.new) }
-    ensures through { result ≡ Reserved → MayAsk (calls_kind calls.old) cache.old.config }
-    ensures kind { calls_kind calls.new ≡ calls_kind calls.old }
-    ensures space { length (items_of calls.new) + room_of calls.new
-        ≡ length (items_of calls.old) + room_of calls.old }
-    ensures underway { IsUnderway cache.new session.old.caller (reservations_in (items_of calls.new)) }
+        calls.old.items calls.new.items }
+    ensures through { result ≡ Reserved → MayAsk calls.old.kind cache.old.config }
+    ensures kind { calls.new.kind ≡ calls.old.kind }
+    ensures space { length calls.new.items + calls.new.room
+        ≡ length calls.old.items + calls.old.room }
+    ensures underway { IsUnderway cache.new session.old.caller (reservations_in calls.new.items) }
     ensures adds { AddsSteps session.old.caller (steps_started session.old.caller key.now op.now result) cache.old cache.new }
     ensures others { LeavesCalls session.old.caller.session cache.old cache.new }
 {
@@ -87,12 +87,8 @@ pub fn start_key(
     grows();
     match cache.start(session, key, op) {
         Started::Done(step) => Progress::Ended(Ok(step.reply)),
-        Started::Load(call) => {
-            calls.push_load(call);
-            Progress::Reserved
-        }
-        Started::Write(call) => {
-            calls.push_write(call);
+        Started::Asks(call) => {
+            calls.push(call);
             Progress::Reserved
         }
         Started::Refused(refusal) => {
@@ -102,7 +98,6 @@ pub fn start_key(
                 Progress::Ended(Err(refusal))
             }
         }
-        Started::Process(_call) => unreachable!(),
         Started::Joined(_call) => unreachable!(),
     }
 }
@@ -112,20 +107,21 @@ pub fn start_key(
 /// the writer left the key.
 ///
 /// Conditions: the session and the call are of this cache. The session's current call, a bulk call, is under way; this call's
-/// reservation is the first that is out, and no other that is out is of its key.
+/// reservation is the first that is out, and no other that is out is of its key. It ran no processor.
 pub fn commit_first(cache: &mut Cache, session: &mut Session, call: AnsweredCall) -> Reply
     requires own { IsOf cache.old session.old }
-    requires mark { (answered_call call).cache ≡ cache.old.mark }
+    requires mark { call.cache ≡ cache.old.mark }
+    requires unprocessed { is_process_given call.answer.process ≡ false }
     requires underway { (rest : List Reservation)
-        × IsUnderway cache.old session.old.caller ((answered_call call).reservation ∷ rest)
-        × (is_among (keys_out rest) (answered_call call).reservation.key ≡ false) }
+        × IsUnderway cache.old session.old.caller (call.reservation ∷ rest)
+        × (is_among (keys_out rest) call.reservation.key ≡ false) }
     ensures own { IsOf cache.new session.new }
     ensures session { session.new ≡ record session.old { counts = counts_ended session.old.counts } }
     ensures underway { (rest : List Reservation)
-        → IsUnderway cache.old session.old.caller ((answered_call call).reservation ∷ rest)
-        → is_among (keys_out rest) (answered_call call).reservation.key ≡ false
+        → IsUnderway cache.old session.old.caller (call.reservation ∷ rest)
+        → is_among (keys_out rest) call.reservation.key ≡ false
         → IsUnderway cache.new session.old.caller rest }
-    ensures adds { let c = answered_call call in
+    ensures adds { let c = call in
         AddsSteps session.old.caller (Step session.old.caller c.reservation.op c.reservation.key c.answer None result ∷ [])
         cache.old cache.new }
     ensures others { LeavesCalls session.old.caller.session cache.old cache.new }
@@ -133,8 +129,5 @@ pub fn commit_first(cache: &mut Cache, session: &mut Session, call: AnsweredCall
     stays_underway();
     records();
     grows();
-    match call {
-        AnsweredCall::Loaded(call) => cache.commit_load(session, call).reply,
-        AnsweredCall::Written(call) => cache.commit_write(session, call).reply,
-    }
+    cache.commit(session, call).reply
 }

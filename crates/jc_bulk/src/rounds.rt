@@ -20,17 +20,18 @@ ghost use Rattle.jc_bulk.specs.InRounds.{IsInRounds, RunsRounds};
 ghost use Rattle.jc_bulk.specs.KeyProgress.{StayEnded, StillWaits, IsFirstWaiting, IsRoomFor, IsHeldBack};
 ghost use Rattle.jc_bulk.specs.KeyProgress.{is_closed, all_waiting};
 ghost use Rattle.jc_bulk.specs.Phased.{LeavesCalls};
-ghost use Rattle.jc_bulk.specs.RoundCalls.{AreNoCalls, Round, CallsInRounds, kind_for, ops_of, calls_kind, items_of, room_of};
-ghost use Rattle.jc_bulk.specs.RoundCalls.{answered_call, answered_calls, faults_in};
-ghost use Rattle.jc_bulk.specs.Rounds.{IsCrowded};
+ghost use Rattle.jc_cache.specs.OutstandingAll.{no_calls};
+ghost use Rattle.jc_cache.specs.Rounds.{Round};
+ghost use Rattle.jc_bulk.specs.RoundCalls.{CallsInRounds, kind_for, ops_of};
+ghost use Rattle.jc_bulk.specs.RoundCalls.{faults_in};
+ghost use Rattle.jc_bulk.specs.Rounds.{IsCrowded, writer_cause};
 ghost use Rattle.jc_bulk.specs.SoFar.{IsSoFar, IsAnsweredIn, AreAnsweredIn};
 ghost use Rattle.jc_bulk.specs.Turns.{AreCounted, ComesAfterAll};
 
 use crate::results::{first_waiting, is_reserved, is_waiting, note_first, refuse_rest};
 use crate::round::{Progress, commit_first, start_key};
-use crate::round_calls::{AnsweredCall, AnsweredCalls, Calls};
 use crate::targets::Targets;
-use jc_cache::{Cache, Session};
+use jc_cache::{AnsweredCall, AnsweredCalls, Cache, Calls, Session};
 use jc_model::Reply;
 use jc_types::{Refusal, Value};
 use std::alloc::Global;
@@ -52,7 +53,7 @@ pub(crate) fn run_rounds<R: Wait>(
     requires own { IsOf cache.old session.old }
     requires distinct { IsDistinct (pointwise ◌==◌) (keys_of (ops_of targets.now)) }
     requires most { IsRoomFor cache.old.config.stripes most (length (ops_of targets.now)) }
-    requires calls { AreNoCalls (kind_for targets.now) calls most }
+    requires calls { calls ≡ no_calls (kind_for targets.now) most }
     requires new { progress.old ≡ all_waiting (length (ops_of targets.now)) }
     requires rounds { IsInRounds (kind_for targets.now) [] (ops_of targets.now)
         cache.old session.old.caller progress.old [] }
@@ -101,7 +102,7 @@ fn run_later_round<R: Wait>(
     ensures first { StillWaits progress.new from → ⊥ }
 {
     let _types: Option<&(Reply, Value)> = None;
-    match Calls::with_capacity(alloc, targets, most) {
+    match targets.no_calls(alloc, most) {
         Ok(calls) => run_round(
             rt, cache, session, targets, progress, from, calls, most, cause,
         ),
@@ -129,7 +130,7 @@ fn run_round<R: Wait>(
     requires distinct { IsDistinct (pointwise ◌==◌) (keys_of (ops_of targets.now)) }
     requires before { (place : ℕ) → place < from → StillWaits progress.old place → ⊥ }
     requires most { IsRoomFor cache.old.config.stripes most (length (ops_of targets.now)) }
-    requires calls { AreNoCalls (kind_for targets.now) calls most }
+    requires calls { calls ≡ no_calls (kind_for targets.now) most }
     requires rounds { (rounds : List Round) × IsInRounds (kind_for targets.now) rounds (ops_of targets.now)
         cache.old session.old.caller progress.old [] }
     ensures own { IsOf cache.new session.new }
@@ -173,24 +174,24 @@ fn begin_round(
     requires distinct { IsDistinct (pointwise ◌==◌) (keys_of (ops_of targets.now)) }
     requires before { (place : ℕ) → place < from → StillWaits progress.old place → ⊥ }
     requires most { IsRoomFor cache.old.config.stripes most (length (ops_of targets.now)) }
-    requires calls { AreNoCalls (kind_for targets.now) calls.old most }
+    requires calls { calls.old ≡ no_calls (kind_for targets.now) most }
     requires rounds { (rounds : List Round) × IsInRounds (kind_for targets.now) rounds (ops_of targets.now)
         cache.old session.old.caller progress.old [] }
     ensures own { IsOf cache.new session.new }
     ensures session { session.new ≡ record session.old { counts = session.new.counts } }
     ensures counts { (first : Counts)
         → AreCounted first progress.old 0 session.old.counts
-        → AreCounted first progress.new (length (items_of calls.new)) session.new.counts }
+        → AreCounted first progress.new (length calls.new.items) session.new.counts }
     ensures rounds { (rounds : List Round)
         → IsInRounds (kind_for targets.now) rounds (ops_of targets.now) cache.old session.old.caller progress.old []
         → IsInRounds (kind_for targets.now) rounds (ops_of targets.now)
-        cache.new session.old.caller progress.new (items_of calls.new) }
-    ensures kind { calls_kind calls.new ≡ kind_for targets.now }
+        cache.new session.old.caller progress.new calls.new.items }
+    ensures kind { calls.new.kind ≡ kind_for targets.now }
     ensures stay { StayEnded progress.old progress.new }
     ensures first { from < length progress.old → StillWaits progress.new from → ⊥ }
     ensures waits { (place : ℕ) (key : Bytes) → slice_get (keys_of (ops_of targets.now)) place ≡ Some key
         → StillWaits progress.new place
-        → IsHeldBack cache.old.config most (reserved_keys (items_of calls.new)) key }
+        → IsHeldBack cache.old.config most (reserved_keys calls.new.items) key }
     ensures grows { ComesAfterAll cache.old cache.new }
     ensures others { LeavesCalls session.old.caller.session cache.old cache.new }
 {
@@ -215,30 +216,30 @@ fn begin_at(
     requires place { place < length progress.old }
     requires behind { list_all is_closed (drop place progress.old) ≡ true }
     requires most { IsRoomFor cache.old.config.stripes most (length (ops_of targets.now)) }
-    requires kind { calls_kind calls.old ≡ kind_for targets.now }
-    requires space { length (items_of calls.old) + room_of calls.old ≡ most }
+    requires kind { calls.old.kind ≡ kind_for targets.now }
+    requires space { length calls.old.items + calls.old.room ≡ most }
     requires rounds { (rounds : List Round) × IsInRounds (kind_for targets.now) rounds (ops_of targets.now)
-        cache.old session.old.caller progress.old (items_of calls.old) }
+        cache.old session.old.caller progress.old calls.old.items }
     ensures own { IsOf cache.new session.new }
     ensures session { session.new ≡ record session.old { counts = session.new.counts } }
     ensures counts { (first : Counts)
-        → AreCounted first progress.old (length (items_of calls.old)) session.old.counts
-        → AreCounted first progress.new (length (items_of calls.new)) session.new.counts }
+        → AreCounted first progress.old (length calls.old.items) session.old.counts
+        → AreCounted first progress.new (length calls.new.items) session.new.counts }
     ensures rounds { (rounds : List Round)
         → IsInRounds (kind_for targets.now) rounds (ops_of targets.now)
-        cache.old session.old.caller progress.old (items_of calls.old)
+        cache.old session.old.caller progress.old calls.old.items
         → IsInRounds (kind_for targets.now) rounds (ops_of targets.now)
-        cache.new session.old.caller progress.new (items_of calls.new) }
+        cache.new session.old.caller progress.new calls.new.items }
     ensures stay { StayEnded progress.old progress.new }
     ensures behind { list_all is_closed (drop (place + 1) progress.new) ≡ true }
-    ensures first { length (items_of calls.old) ≡ 0 → StillWaits progress.new place → ⊥ }
+    ensures first { length calls.old.items ≡ 0 → StillWaits progress.new place → ⊥ }
     ensures waits { (key : Bytes) → slice_get (keys_of (ops_of targets.now)) place ≡ Some key
         → StillWaits progress.new place
-        → IsHeldBack cache.old.config most (reserved_keys (items_of calls.old)) key }
+        → IsHeldBack cache.old.config most (reserved_keys calls.old.items) key }
     ensures more { (added : List Bytes)
-        × (reserved_keys (items_of calls.new) ≡ reserved_keys (items_of calls.old) ++ added) }
-    ensures kind { calls_kind calls.new ≡ calls_kind calls.old }
-    ensures space { length (items_of calls.new) + room_of calls.new ≡ most }
+        × (reserved_keys calls.new.items ≡ reserved_keys calls.old.items ++ added) }
+    ensures kind { calls.new.kind ≡ calls.old.kind }
+    ensures space { length calls.new.items + calls.new.room ≡ most }
     ensures grows { ComesAfterAll cache.old cache.new }
     ensures others { LeavesCalls session.old.caller.session cache.old cache.new }
 {
@@ -261,21 +262,21 @@ fn end_round<R: Wait>(
     requires own { IsOf cache.old session.old }
     requires rounds { (rounds : List Round) × (targets : List (Bytes × Op))
         × IsDistinct (pointwise ◌==◌) (keys_of targets)
-        × IsInRounds (calls_kind calls) rounds targets cache.old session.old.caller progress.old (items_of calls) }
+        × IsInRounds calls.kind rounds targets cache.old session.old.caller progress.old calls.items }
     ensures own { IsOf cache.new session.new }
     ensures session { session.new ≡ record session.old { counts = session.new.counts; hands = session.new.hands } }
     ensures counts { (first : Counts)
-        → AreCounted first progress.old (length (items_of calls)) session.old.counts
+        → AreCounted first progress.old (length calls.items) session.old.counts
         → AreCounted first progress.new 0 session.new.counts }
     ensures rounds { (rounds : List Round) (targets : List (Bytes × Op))
         → IsDistinct (pointwise ◌==◌) (keys_of targets)
-        → IsInRounds (calls_kind calls) rounds targets cache.old session.old.caller progress.old (items_of calls)
+        → IsInRounds calls.kind rounds targets cache.old session.old.caller progress.old calls.items
         → (more : List Round)
         × CallsInRounds (boxed loads_all) (boxed load_state) (boxed writes_all) (boxed deletes_all) (boxed write_state)
         session.old.hands.outside.loader session.old.hands.outside.writer more
         session.new.hands.outside.loader session.new.hands.outside.writer × (length more ≤ 1)
         × (faults_in more ≡ cons_option result [])
-        × IsInRounds (calls_kind calls) (rounds ++ more) targets cache.new session.old.caller progress.new [] }
+        × IsInRounds calls.kind (rounds ++ more) targets cache.new session.old.caller progress.new [] }
     ensures stay { StayEnded progress.old progress.new }
     ensures grows { ComesAfterAll cache.old cache.new }
     ensures others { LeavesCalls session.old.caller.session cache.old cache.new }
@@ -287,7 +288,7 @@ fn end_round<R: Wait>(
     } else {
         let (answered, returned) = calls.ask(rt, session);
         commit_round(cache, session, progress, answered);
-        returned
+        writer_fault(returned)
     }
 }
 
@@ -300,14 +301,14 @@ fn commit_round(
 )
     requires own { IsOf cache.old session.old }
     requires so_far { (said : Bytes → Out) × (targets : List (Bytes × Op)) × (out : List ReservedState)
-        × AreAnsweredIn said targets cache.old session.old.caller progress.old (answered_calls calls) out }
+        × AreAnsweredIn said targets cache.old session.old.caller progress.old calls out }
     ensures own { IsOf cache.new session.new }
     ensures session { session.new ≡ record session.old { counts = session.new.counts } }
     ensures counts { (first : Counts)
-        → AreCounted first progress.old (length (answered_calls calls)) session.old.counts
+        → AreCounted first progress.old (length calls) session.old.counts
         → AreCounted first progress.new 0 session.new.counts }
     ensures so_far { (said : Bytes → Out) (targets : List (Bytes × Op)) (out : List ReservedState)
-        → AreAnsweredIn said targets cache.old session.old.caller progress.old (answered_calls calls) out
+        → AreAnsweredIn said targets cache.old session.old.caller progress.old calls out
         → IsSoFar said targets cache.new session.old.caller progress.new [] }
     ensures stay { StayEnded progress.old progress.new }
     ensures grows { ComesAfterAll cache.old cache.new }
@@ -333,16 +334,16 @@ fn commit_at(
     requires place { place < length progress.old }
     requires before { list_all is_closed (take place progress.old) ≡ true }
     requires so_far { (said : Bytes → Out) × (targets : List (Bytes × Op)) × (out : List ReservedState)
-        × AreAnsweredIn said targets cache.old session.old.caller progress.old (answered_calls calls.old) out }
+        × AreAnsweredIn said targets cache.old session.old.caller progress.old calls.old out }
     ensures own { IsOf cache.new session.new }
     ensures session { session.new ≡ record session.old { counts = session.new.counts } }
     ensures counts { (first : Counts)
-        → AreCounted first progress.old (length (answered_calls calls.old)) session.old.counts
-        → AreCounted first progress.new (length (answered_calls calls.new)) session.new.counts }
+        → AreCounted first progress.old (length calls.old) session.old.counts
+        → AreCounted first progress.new (length calls.new) session.new.counts }
     ensures so_far { (said : Bytes → Out) (targets : List (Bytes × Op)) (out : List ReservedState)
-        → AreAnsweredIn said targets cache.old session.old.caller progress.old (answered_calls calls.old) out
+        → AreAnsweredIn said targets cache.old session.old.caller progress.old calls.old out
         → (rest : List ReservedState)
-        × AreAnsweredIn said targets cache.new session.old.caller progress.new (answered_calls calls.new) rest }
+        × AreAnsweredIn said targets cache.new session.old.caller progress.new calls.new rest }
     ensures before { list_all is_closed (take (place + 1) progress.new) ≡ true }
     ensures stay { StayEnded progress.old progress.new }
     ensures grows { ComesAfterAll cache.old cache.new }
@@ -370,13 +371,13 @@ fn commit_next(
     requires before { list_all is_closed (take place progress.old) ≡ true }
     requires there { slice_get progress.old place ≡ Some Reserved }
     requires so_far { (said : Bytes → Out) × (targets : List (Bytes × Op)) × (rest : List ReservedState)
-        × IsAnsweredIn said targets cache.old session.old.caller progress.old (answered_call call) rest }
+        × IsAnsweredIn said targets cache.old session.old.caller progress.old call rest }
     ensures own { IsOf cache.new session.new }
     ensures session { session.new ≡ record session.old { counts = counts_ended session.old.counts } }
     ensures progress { (reply : Reply)
         × (progress.new ≡ slice_set progress.old place (Ended (Ok reply))) }
     ensures so_far { (said : Bytes → Out) (targets : List (Bytes × Op)) (rest : List ReservedState)
-        → IsAnsweredIn said targets cache.old session.old.caller progress.old (answered_call call) rest
+        → IsAnsweredIn said targets cache.old session.old.caller progress.old call rest
         → IsSoFar said targets cache.new session.old.caller progress.new rest }
     ensures grows { ComesAfterAll cache.old cache.new }
     ensures others { LeavesCalls session.old.caller.session cache.old cache.new }
@@ -384,4 +385,14 @@ fn commit_next(
     let _types: Option<&(Reply, Value)> = None;
     let reply = commit_first(cache, session, call);
     progress[place] = Progress::Ended(Ok(reply));
+}
+
+/// The fault that a call of the writer has returned, if it failed.
+fn writer_fault(returned: Result<(), u32>) -> Option<Refusal>
+    ensures { result ≡ writer_cause returned }
+{
+    match returned {
+        Ok(()) => None,
+        Err(code) => Some(Refusal::WriterFailed(code)),
+    }
 }

@@ -1,11 +1,14 @@
 //! The keys of a bulk call that works in rounds, and what it does at each of them.
-ghost use Rattle.std.specs.Prelude.{◌≡◌, ◌<◌, length, slice_get, Some};
+ghost use Rattle.std.specs.Prelude.{◌≡◌, ◌<◌, length, slice_get, IfOk, Some};
 ghost use Rattle.std.specs.Map.{keys_of};
-ghost use Rattle.jc_bulk.specs.RoundCalls.{ops_of};
+ghost use Rattle.jc_cache.specs.OutstandingAll.{no_calls};
+ghost use Rattle.jc_bulk.specs.RoundCalls.{kind_for, ops_of};
 
 use indexmap::IndexMap;
+use jc_cache::Calls;
 use jc_model::Op;
 use jc_types::{Key, Value};
+use std::alloc::{AllocError, Global};
 
 /// The keys of a bulk call that works in rounds. They all differ.
 #[derive(Drop)]
@@ -56,6 +59,17 @@ impl<'a> Targets<'a> {
                 Some(key) => (*key, Op::Remove),
                 None => unreachable!(),
             },
+        }
+    }
+
+    /// No calls, with room for so many that ask for what these keys want. An `Err` says that an allocation failed.
+    pub(crate) fn no_calls(&self, alloc: Global, most: usize) -> Result<Calls, AllocError>
+        ensures { IfOk result (λ calls. calls ≡ no_calls (kind_for self.now) most) }
+    {
+        match self {
+            Targets::Gets(_) => Calls::loads(alloc, most),
+            Targets::Puts(_) => Calls::writes(alloc, most),
+            Targets::Removes(_) => Calls::deletes(alloc, most),
         }
     }
 }

@@ -11,7 +11,8 @@ ghost use Rattle.jc_bulk.specs.Bulk.{AreLooked, IsRefusedWhole, put_ops, put_cha
 ghost use Rattle.jc_bulk.specs.Carrying.{IsRoomOf};
 ghost use Rattle.jc_bulk.specs.Clearing.{IsOutOfMemory};
 ghost use Rattle.jc_bulk.specs.InRounds.{changes_wanted};
-ghost use Rattle.jc_bulk.specs.RoundCalls.{Write, kind_for, ops_of};
+ghost use Rattle.jc_cache.specs.OutstandingAll.{Write};
+ghost use Rattle.jc_bulk.specs.RoundCalls.{kind_for, ops_of};
 ghost use Rattle.jc_bulk.specs.WritingAll.{WritesWithoutFault, FailsToWrite};
 
 use crate::carrying::{CallEnd, Room, carry_out};

@@ -1,5 +1,5 @@
 -- What a call says of the loader and the writer, by what its step says.
---     asked_loader, asked_writer    it was called once, and nothing changed before and after
+--     loader_for, writer_for        the same of an equal one before and after, for an equal key
 --     loader_there, writer_there    one that was there is there
 use Rattle.std.proofs.Common.{◌≡◌, ℕ, List, Bool, true, false, Option, None, Some, IsSome, MatchBool, refl, sym, subst}
 use Rattle.jc_model.specs.Cache.{Bytes}
@@ -11,12 +11,10 @@ use Rattle.jc_outside.specs.Calling.{LoadRelation, LoadsOnce, WriteRelation, Wri
 use Rattle.jc_cache.specs.Whole.{AsksLoader, AsksWriter}
 
 module _ {L : Type 0} (loads : LoadRelation L) (state : L → List ℕ) where
-  pub asked_loader : (old start now new : Option L) (key asked : Bytes) (answer : LoadAnswer)
-      → start ≡ old → asked ≡ key → is_load_given answer ≡ true → LoadsOnce loads state start asked answer now → new ≡ now → AsksLoader loads state old key answer new
-  asked_loader old start now new key asked answer same_start same_key given once same =
-      subst (λ b. MatchBool b (LoadsOnce loads state old key answer new) (new ≡ old)) (sym given)
-      (subst (λ n. LoadsOnce loads state old key answer n) (sym same)
-      (subst (λ k. LoadsOnce loads state old k answer now) same_key (subst (λ s. LoadsOnce loads state s asked answer now) same_start once)))
+  pub loader_for : (old start now new : Option L) (key asked : Bytes) (answer : LoadAnswer)
+      → start ≡ old → asked ≡ key → AsksLoader loads state start asked answer now → new ≡ now → AsksLoader loads state old key answer new
+  loader_for old start now new key asked answer same_start same_key once same =
+      subst (λ (x : Option L × Bytes × Option L). AsksLoader loads state x.0 x.1 answer x.2) (λ i. (same_start i, same_key i, sym same i)) once
 
   loader_stays : (old new : Option L) (key : Bytes) (answer : LoadAnswer) → LoadsOnce loads state old key answer new → IsSome old → IsSome new
   loader_stays None new key answer h there = cc
@@ -31,14 +29,10 @@ module _ {L : Type 0} (loads : LoadRelation L) (state : L → List ℕ) where
       by false h = subst IsSome (sym h) there
 
 module _ {W : Type 0} (writes : WriteRelation W) (state : W → List ℕ) where
-  pub asked_writer : (old start now new : Option W) (key asked : Bytes) (change wanted : Option Change) (answer : WriteAnswer)
-      → start ≡ old → asked ≡ key → wanted ≡ change → is_write_given answer ≡ true → WritesOnce writes state start asked wanted answer now → new ≡ now
-      → AsksWriter writes state old key change answer new
-  asked_writer old start now new key asked change wanted answer same_start same_key same_change given once same =
-      subst (λ b. MatchBool b (WritesOnce writes state old key change answer new) (new ≡ old)) (sym given)
-      (subst (λ n. WritesOnce writes state old key change answer n) (sym same)
-      (subst (λ w. WritesOnce writes state old key w answer now) same_change
-      (subst (λ k. WritesOnce writes state old k wanted answer now) same_key (subst (λ s. WritesOnce writes state s asked wanted answer now) same_start once))))
+  pub writer_for : (old start now new : Option W) (key asked : Bytes) (change : Option Change) (answer : WriteAnswer)
+      → start ≡ old → asked ≡ key → AsksWriter writes state start asked change answer now → new ≡ now → AsksWriter writes state old key change answer new
+  writer_for old start now new key asked change answer same_start same_key once same =
+      subst (λ (x : Option W × Bytes × Option W). AsksWriter writes state x.0 x.1 change answer x.2) (λ i. (same_start i, same_key i, sym same i)) once
 
   writer_stays : (old new : Option W) (key : Bytes) (change : Option Change) (answer : WriteAnswer) → WritesOnce writes state old key change answer new → IsSome new
   writer_stays None new key change answer h = absurd h

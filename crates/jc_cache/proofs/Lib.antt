@@ -6,7 +6,7 @@ pub mod SessionAfter
 pub mod Stripes
 pub mod WholeCalls
 pub mod Unasked
-pub mod Answered
+pub mod ManyAnswered
 pub mod ManyKeys
 pub mod Clearing
-pub mod FirstCalls
+pub mod FromPhases

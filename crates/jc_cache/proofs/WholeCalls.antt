@@ -1,16 +1,15 @@
 -- What the phases of a call leave of its stripe, as one call.
 --     writes_through    the writer is asked only with write-through on
---     wanted_is         and then for the change that the writer table asks for
+--     wanted_is_asked   and then for the change that the writer table asks for
 --     done_step         a call that is done at once is one step
---     loaded_step       a first phase that reserves for the loader, and its commit
---     written_step      a first phase that reserves for the writer, and its commit
---     processed_step    a first phase that reserves for the processor, and its commit
+--     reserved_step     a first phase that reserves its key, and its commit, are one step
 use Rattle.std.proofs.Common.{◌≡◌, ◌+◌, ℕ, [], Bool, true, false, cond, Option, None, Some, refl, sym, ap, ◌∙◌, subst}
 use Rattle.jc_types.specs.declared.caller.Caller.{Caller}
 use Rattle.jc_types.specs.declared.config.Config.{Config}
 use Rattle.jc_model.specs.declared.event.Change.{Change}
 use Rattle.jc_model.specs.declared.event.Op.{Op}
 use Rattle.jc_model.specs.declared.event.Out.{Out}
+use Rattle.jc_model.specs.declared.event.ProcessAnswer.{ProcessAnswer}
 use Rattle.jc_model.specs.declared.event.ProcessAnswer.TheVariants.{NotAsked}
 use Rattle.jc_model.specs.declared.table.LoaderAsk.{LoaderAsk}
 use Rattle.jc_model.specs.declared.table.LoaderAsk.TheVariants.{Never, Always, IfWanted}
@@ -18,11 +17,11 @@ use Rattle.jc_model.specs.Cache.{Bytes, entry_at}
 use Rattle.jc_model.specs.Table.{loader_ask, write_ask, is_invoke}
 use Rattle.jc_model.specs.Group.{nothing_said}
 use Rattle.jc_stripe.specs.declared.begun.StepDone.{StepDone}
-use Rattle.jc_stripe.specs.declared.begun.Begun.TheVariants.{Done, Load, Write, Process}
+use Rattle.jc_stripe.specs.declared.begun.Begun.TheVariants.{Done, Asks}
 use Rattle.jc_stripe.specs.declared.ticket.First.{First}
-use Rattle.jc_stripe.specs.declared.ticket.First.TheVariants.{Nobody, Loader, Writer, Processor}
+use Rattle.jc_stripe.specs.declared.ticket.First.TheVariants.{Nobody, Processor}
 use Rattle.jc_stripe.specs.State.{State}
-use Rattle.jc_stripe.specs.Tickets.{Ticket, ProcessClaim, asks_writer, asks_processor, change_asked}
+use Rattle.jc_stripe.specs.Tickets.{TicketClaim, asks_writer, change_asked}
 use Rattle.jc_stripe.specs.Refusals.{first_asked, first_by, is_wanted, reserves}
 use Rattle.jc_stripe.specs.Phases.{Steps, Begins, Commits}
 use Rattle.jc_stripe.specs.Reached.{IsReached}
@@ -72,21 +71,13 @@ wanted_by false seen wanted Never None first h asks = absurd (unasked (ap asks_w
     unasked : false ≡ true → ⊥
     unasked h = cc
 
-pub wanted_is : (config : Config) (op : Op) (entry : Option Bytes) (first : First) → first_asked config op entry ≡ first → asks_writer first ≡ true
+wanted_is : (config : Config) (op : Op) (entry : Option Bytes) (first : First) → first_asked config op entry ≡ first → asks_writer first ≡ true
     → cond config.write_through (write_ask op entry NotAsked) None ≡ change_asked first
 wanted_is config op entry first h asks = wanted_by (is_invoke op) entry (is_wanted (loader_ask config.read_through op entry)) (loader_ask config.read_through op entry) (cond config.write_through (write_ask op entry NotAsked) None) first h asks
 
-writer_reserves : (first : First) → asks_writer first ≡ true → reserves first ≡ true
-writer_reserves Nobody h = cc
-writer_reserves Loader h = refl
-writer_reserves (Writer change) h = refl
-writer_reserves (Processor seen loads) h = refl
-
-processor_reserves : (first : First) → asks_processor first ≡ true → reserves first ≡ true
-processor_reserves Nobody h = cc
-processor_reserves Loader h = refl
-processor_reserves (Writer change) h = refl
-processor_reserves (Processor seen loads) h = refl
+pub wanted_is_asked : (config : Config) (op : Op) (entry : Option Bytes) (first : First) (answer : ProcessAnswer) → answer ≡ NotAsked → first_asked config op entry ≡ first → asks_writer first ≡ true
+    → cond config.write_through (write_ask op entry answer) None ≡ change_asked first
+wanted_is_asked config op entry first answer unasked h asks = ap (λ (w : ProcessAnswer). cond config.write_through (write_ask op entry w) None) unasked ∙ wanted_is config op entry first h asks
 
 -- the number after the call, by whom it asked first
 next_is : (a : State) (key : Bytes) (op : Op) (first : First) (b : Bool) → first_asked a.config op (entry_at a.cache key) ≡ first → reserves first ≡ b → next_after a key op ≡ cond b (a.next + 1) a.next
@@ -98,17 +89,7 @@ one_step a c caller key op out done next is steps = record { done = done; reply_
 pub done_step : (a c : State) (caller : Caller) (key : Bytes) (op : Op) (done : StepDone) → Begins a caller key op (Done done) c → OneStep a caller key op nothing_said done.reply c
 done_step a c caller key op done begins = one_step a c caller key op nothing_said done a.next (next_is a key op Nobody false begins.1 refl) begins.2
 
-pub loaded_step : WholeCall → (a m c : State) (caller : Caller) (key : Bytes) (op : Op) (ticket : Ticket) (out : Out) (done : StepDone) → IsReached a
-    → Begins a caller key op (Load ticket) m → Commits m ticket.reservation out done c → OneStep a caller key op out done.reply c
-loaded_step law a m c caller key op ticket out done reached begins commits =
-    one_step a c caller key op out done (a.next + 1) (next_is a key op Loader true begins.2 refl) (law.loads a m c caller key op ticket out done reached begins commits)
-
-pub written_step : WholeCall → (a m c : State) (caller : Caller) (key : Bytes) (op : Op) (ticket : Ticket) (out : Out) (done : StepDone) → IsReached a
-    → Begins a caller key op (Write ticket) m → Commits m ticket.reservation out done c → OneStep a caller key op out done.reply c
-written_step law a m c caller key op ticket out done reached begins commits =
-    one_step a c caller key op out done (a.next + 1) (next_is a key op ticket.reservation.first true begins.1 (writer_reserves ticket.reservation.first begins.2)) (law.writes a m c caller key op ticket out done reached begins commits)
-
-pub processed_step : WholeCall → (a m c : State) (caller : Caller) (key : Bytes) (op : Op) (ticket : ProcessClaim) (out : Out) (done : StepDone) → IsReached a
-    → Begins a caller key op (Process ticket) m → Commits m ticket.reservation out done c → OneStep a caller key op out done.reply c
-processed_step law a m c caller key op ticket out done reached begins commits =
-    one_step a c caller key op out done (a.next + 1) (next_is a key op ticket.reservation.first true begins.1 (processor_reserves ticket.reservation.first begins.2)) (law.processes a m c caller key op ticket out done reached begins commits)
+pub reserved_step : WholeCall → (a m c : State) (caller : Caller) (key : Bytes) (op : Op) (ticket : TicketClaim) (out : Out) (done : StepDone) → IsReached a
+    → Begins a caller key op (Asks ticket) m → Commits m ticket.reservation out done c → OneStep a caller key op out done.reply c
+reserved_step law a m c caller key op ticket out done reached begins commits =
+    one_step a c caller key op out done (a.next + 1) (next_is a key op ticket.reservation.first true begins.2 begins.3) (law a m c caller key op ticket out done reached begins commits)

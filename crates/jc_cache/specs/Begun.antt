@@ -15,32 +15,26 @@ use Rattle.jc_stripe.specs.State.{State}
 use Rattle.jc_stripe.specs.Reached.{IsReached}
 use Rattle.jc_session.specs.declared.mark.Mark.{Mark}
 use Rattle.jc_cache.specs.declared.started.Started.{Started}
-use Rattle.jc_cache.specs.declared.started.Started.TheVariants.{Done, Load, Write, Process, Joined, Refused}
+use Rattle.jc_cache.specs.declared.started.Started.TheVariants.{Done, Asks, Joined, Refused}
 use Rattle.jc_cache.specs.declared.started.PickedUp.{PickedUp}
 use Rattle.jc_cache.specs.declared.started.PickedUp.TheVariants.{Answer, Again, NotYet}
 use Rattle.jc_cache.specs.Caches.{CacheState, IsAt, HasNoCallsFrom}
 
 abbrev pub begun_of : Started → Begun
 begun_of (Done done) = begun.Done done
-begun_of (Load call) = begun.Load (record { reservation = call.reservation; asked = false })
-begun_of (Write call) = begun.Write (record { reservation = call.reservation; asked = false })
-begun_of (Process call) = begun.Process (record { reservation = call.reservation; asked = false; writer_asked = false })
+begun_of (Asks call) = begun.Asks (record { reservation = call.reservation; asked = false; writer_asked = false })
 begun_of (Joined call) = begun.Joined call.join
 begun_of (Refused refusal) = begun.Refused refusal
 
 abbrev pub IsUnasked : Begun → Type 0
 IsUnasked (begun.Done done) = Unit {0}
-IsUnasked (begun.Load ticket) = ticket.asked ≡ false
-IsUnasked (begun.Write ticket) = ticket.asked ≡ false
-IsUnasked (begun.Process ticket) = (ticket.asked ≡ false) × (ticket.writer_asked ≡ false)
+IsUnasked (begun.Asks ticket) = (ticket.asked ≡ false) × (ticket.writer_asked ≡ false)
 IsUnasked (begun.Joined join) = Unit {0}
 IsUnasked (begun.Refused refusal) = Unit {0}
 
 abbrev pub IsOfCache : Mark → Started → Type 0
 IsOfCache mark (Done done) = Unit {0}
-IsOfCache mark (Load call) = call.cache ≡ mark
-IsOfCache mark (Write call) = call.cache ≡ mark
-IsOfCache mark (Process call) = call.cache ≡ mark
+IsOfCache mark (Asks call) = call.cache ≡ mark
 IsOfCache mark (Joined call) = call.cache ≡ mark
 IsOfCache mark (Refused refusal) = Unit {0}
 

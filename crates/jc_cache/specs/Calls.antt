@@ -1,7 +1,7 @@
 -- Whole calls on a cache.
 --     next_call   a session that has begun its next call
 --     CallsAt     a session's current call, whole, at a key, which ended so: the key's stripe appends one step, or the key is refused; what
---                 the step says of the loader and the writer, they answered; every other stripe, and what other sessions need, stays
+--                 the step says of the loader and the writer, they answered, and stay of their types; every other stripe, and what other sessions need, stays
 --     Called      the same of a session's next call, which has this key alone
 --     Returns     a session's next call, whole, and what it returns by how it ended
 --     ClearsAt    a session's current call, whole, at a key that it clears: neither the loader nor the writer is asked, and nothing of the
@@ -9,6 +9,7 @@
 --     InvokesAt   a session's current call, whole, at one of its keys: it runs a processor there
 --     Invoked     the same of a session's next call, which has this key alone
 --     value_in, flag_in, unit_in    what a call returns that replies with a value, with yes or no, or with nothing: a fault is an error
+use Rattle.std.specs.declared.dyn_box.DynBox.{DynBox}
 use Rattle.std.specs.Prelude.{◌≡◌, ℕ, List, Bool, false, Option, None, Result, Ok, Err}
 use Rattle.jc_types.specs.declared.refusal.Refusal.{Refusal}
 use Rattle.jc_model.specs.declared.event.Op.{Op}
@@ -24,7 +25,7 @@ use Rattle.jc_stripe.specs.State.{State}
 use Rattle.jc_session.specs.Boxed.{boxed}
 use Rattle.jc_session.specs.Counting.{one_more}
 use Rattle.jc_session.specs.declared.session.Session.{Session}
-use Rattle.jc_cache.specs.Whole.{EndsCall, AsksLoader, AsksWriter, RunsProcessor, change_wanted, own_after}
+use Rattle.jc_cache.specs.Whole.{EndsCall, AsksLoader, AsksWriter, KeepsTypes, RunsProcessor, change_wanted, own_after}
 use Rattle.jc_cache.specs.Caches.{CacheState, IsAt}
 use Rattle.jc_cache.specs.Sessions.{LeavesSessions}
 
@@ -43,6 +44,7 @@ pub record CallsAt
   pub ends : EndsCall before session.caller key op out ended after
   pub loader : AsksLoader (boxed loads) (boxed load_state) session.hands.outside.loader key out.load session'.hands.outside.loader
   pub writer : AsksWriter (boxed writes) (boxed write_state) session.hands.outside.writer key (change_wanted before key op out.process) out.write session'.hands.outside.writer
+  pub types : KeepsTypes session session'
   pub left : session' ≡ record session { counts = record session.counts { own = own_after session.counts.own ended }; hands = session'.hands }
   pub sessions : LeavesSessions session cache cache'
 
@@ -67,17 +69,18 @@ pub record ClearsAt
   pub sessions : LeavesSessions session cache cache'
 
 pub record InvokesAt
-    {I J P : Type 0} {D : I → Type 0} {E : J → Type 0}
+    {I J P Z : Type 0} {D : I → Type 0} {E : J → Type 0} {F : P → Type 0}
     (loads : LoadRelation ((i : I) × D i)) (load_state : (i : I) × D i → List ℕ)
     (writes : WriteRelation ((j : J) × E j)) (write_state : (j : J) × E j → List ℕ)
-    (processes : ProcessRelation P) (process_state : P → List ℕ)
-    (cache : CacheState) (session : Session I J D E) (key : Bytes) (args : List Bytes) (processor : P) (ended : Result Reply Refusal)
-    (cache' : CacheState) (session' : Session I J D E) (processor' : P) : Type 0 where
+    (processes : ProcessRelation (DynBox P Z F)) (process_state : DynBox P Z F → List ℕ)
+    (cache : CacheState) (session : Session I J D E) (key : Bytes) (args : List Bytes) (processor : DynBox P Z F) (ended : Result Reply Refusal)
+    (cache' : CacheState) (session' : Session I J D E) (processor' : DynBox P Z F) : Type 0 where
   pub call : CallsAt loads load_state writes write_state cache session key Invoke ended cache' session'
   pub run : RunsProcessor processes process_state processor call.before key args call.out processor'
+  pub type : processor'.vtable ≡ processor.vtable
 
-abbrev pub Invoked : {I J P : Type 0} {D : I → Type 0} {E : J → Type 0} → LoadRelation ((i : I) × D i) → ((i : I) × D i → List ℕ) → WriteRelation ((j : J) × E j) → ((j : J) × E j → List ℕ)
-    → ProcessRelation P → (P → List ℕ) → CacheState → Session I J D E → Bytes → List Bytes → P → Result Reply Refusal → CacheState → Session I J D E → P → Type 0
+abbrev pub Invoked : {I J P Z : Type 0} {D : I → Type 0} {E : J → Type 0} {F : P → Type 0} → LoadRelation ((i : I) × D i) → ((i : I) × D i → List ℕ) → WriteRelation ((j : J) × E j) → ((j : J) × E j → List ℕ)
+    → ProcessRelation (DynBox P Z F) → (DynBox P Z F → List ℕ) → CacheState → Session I J D E → Bytes → List Bytes → DynBox P Z F → Result Reply Refusal → CacheState → Session I J D E → DynBox P Z F → Type 0
 Invoked loads load_state writes write_state processes process_state cache session key args processor ended cache' session' processor' =
     InvokesAt loads load_state writes write_state processes process_state cache (next_call session) key args processor ended cache' session' processor'
 

@@ -5,7 +5,8 @@ pub mod Sessions
 pub mod Calls
 pub mod CacheInside
 pub mod Outstanding
-pub mod Processed
 pub mod OutstandingAll
+pub mod Rounds
+pub mod Answered
 pub mod OutstandingInside
 pub mod Begun

@@ -6,12 +6,14 @@
 --     change_wanted    the change of the store that the writer table asks for, by what a processor answered, with write-through on
 --     AsksLoader       what a step's answer says of the loader: it was called once, with this key, and answered this; or it is untouched
 --     AsksWriter       the same of the writer, for the change that was asked for
+--     KeepsTypes       the session's loader and writer are of the types that they had before
 --     own_after        how many steps the session has made after a call
 --     LeavesOthers     what the calls of one session leave: the stripe is the same one, and no other session has a number taken
 --     IsCall           a whole call of a session on a key, over a gate
 --     RunsProcessor    what a step's answer says of the processor: it was run once, on the entry that the step found, which it may load with
 --                      read-through on if it is missing, and this is what came of it; or it is untouched
---     IsInvocation     a whole call that runs a processor
+--     IsInvocation     a whole call that runs a processor, which stays of its type
+use Rattle.std.specs.declared.dyn_box.DynBox.{DynBox}
 use Rattle.std.specs.Prelude.{◌≡◌, ◌==◌, ◌+◌, ◌&&◌, ℕ, List, [], false, Option, None, Some, Result, Ok, Err, is_none, MatchBool, if◌then◌else◌}
 use Rattle.jc_types.specs.declared.caller.Caller.{Caller}
 use Rattle.jc_types.specs.declared.refusal.Refusal.{Refusal}
@@ -26,7 +28,7 @@ use Rattle.jc_model.specs.declared.event.WriteAnswer.{WriteAnswer}
 use Rattle.jc_model.specs.Cache.{Bytes, entry_at}
 use Rattle.jc_model.specs.Table.{write_ask, is_load_given, is_write_given, is_process_given}
 use Rattle.jc_model.specs.Group.{nothing_said}
-use Rattle.jc_outside.specs.Calling.{LoadRelation, LoadsOnce, WriteRelation, WritesOnce}
+use Rattle.jc_outside.specs.Calling.{KeepsType, LoadRelation, LoadsOnce, WriteRelation, WritesOnce}
 use Rattle.jc_mutentry.specs.Running.{ProcessRelation, RunsOnce}
 use Rattle.jc_stripe.specs.declared.begun.StepDone.{StepDone}
 use Rattle.jc_stripe.specs.State.{State}
@@ -65,6 +67,10 @@ AsksWriter writes state old key change answer new = MatchBool (is_write_given an
 
 -- 3. The session, and the others.
 
+-- so what their traits say of a second call is said of the same types
+abbrev pub KeepsTypes : {I J : Type 0} {D : I → Type 0} {E : J → Type 0} → Session I J D E → Session I J D E → Type 0
+KeepsTypes old new = KeepsType old.hands.outside.loader new.hands.outside.loader × KeepsType old.hands.outside.writer new.hands.outside.writer
+
 abbrev pub own_after : ℕ → Result Reply Refusal → ℕ
 own_after own (Ok reply) = one_more own
 own_after own (Err refusal) = own
@@ -86,6 +92,7 @@ pub record IsCall
   pub ends : EndsCall before old.caller key op out ended after
   pub loader : AsksLoader (boxed loads) (boxed load_state) old.hands.outside.loader key out.load new.hands.outside.loader
   pub writer : AsksWriter (boxed writes) (boxed write_state) old.hands.outside.writer key (change_wanted before key op out.process) out.write new.hands.outside.writer
+  pub types : KeepsTypes old new
   pub held : new.hands.held ≡ 0
   pub session : new ≡ record old { counts = record old.counts { own = own_after old.counts.own ended }; hands = new.hands }
   pub others : LeavesOthers old.caller.session before after
@@ -100,10 +107,11 @@ RunsProcessor processes state old before key args out new =
     (new ≡ old)
 
 pub record IsInvocation
-    {I J P : Type 0} {D : I → Type 0} {E : J → Type 0}
+    {I J P Z : Type 0} {D : I → Type 0} {E : J → Type 0} {F : P → Type 0}
     (loads : LoadRelation ((i : I) × D i)) (load_state : (i : I) × D i → List ℕ)
     (writes : WriteRelation ((j : J) × E j)) (write_state : (j : J) × E j → List ℕ)
-    (processes : ProcessRelation P) (process_state : P → List ℕ)
-    (finds leaves : State → Type 0) (old : Session I J D E) (key : Bytes) (args : List Bytes) (processor : P) (ended : Result Reply Refusal) (new : Session I J D E) (processor' : P) : Type 0 where
+    (processes : ProcessRelation (DynBox P Z F)) (process_state : DynBox P Z F → List ℕ)
+    (finds leaves : State → Type 0) (old : Session I J D E) (key : Bytes) (args : List Bytes) (processor : DynBox P Z F) (ended : Result Reply Refusal) (new : Session I J D E) (processor' : DynBox P Z F) : Type 0 where
   pub call : IsCall loads load_state writes write_state finds leaves old key Invoke ended new
   pub run : RunsProcessor processes process_state processor call.before key args call.out processor'
+  pub type : processor'.vtable ≡ processor.vtable

@@ -1,8 +1,12 @@
 //! The calls on one key, each whole (JSR 107, `javax.cache.Cache`).
 //!
-//! A call is the session's next one. It is one step of the key's stripe, which is appended to the stripe's history; if it is
-//! refused, nothing is done and nothing appended. A loader's or writer's failure is the step's reply, and leaves the entry as
-//! it was.
+//! A call is the session's next one. It is one step of the key's stripe, which is appended to the stripe's history. An `Err` is a
+//! fault of the loader or the writer, with its code: then the step was made, with this reply, and leaves the entry as it was. Or
+//! it is `HistoryFull`: the stripe's history has too few free places, or a number is at its end. Then nobody was asked, and nothing
+//! changes.
+//!
+//! Condition of each call: the session may call the cache. It is one that this cache has given out, which holds no stripe; no
+//! session has a reservation or a join out; and no step has the call's number.
 ghost use Rattle.std.specs.Prelude.{◌≡◌};
 ghost use Rattle.jc_model.specs.declared.event.Op.TheVariants as op;
 ghost use Rattle.jc_cache.specs.Sessions.{MayCall};
@@ -16,6 +20,9 @@ use std::sync::Wait;
 
 impl Cache {
     /// The key's value, or none (`get`). With read-through on, a missing key is loaded, and kept if the loader finds a value.
+    ///
+    /// An `Err` is `LoaderFailed` or `HistoryFull`. It may wait, as long as the loader does.
+    /// Condition: the session may call the cache.
     pub fn get<R: Wait>(
         &mut self,
         rt: &R,
@@ -31,6 +38,9 @@ impl Cache {
     }
 
     /// Whether the key has an entry (`containsKey`). It never loads.
+    ///
+    /// An `Err` is `HistoryFull`. It waits for nobody.
+    /// Condition: the session may call the cache.
     pub fn contains_key<R: Wait>(
         &mut self,
         rt: &R,
@@ -46,6 +56,9 @@ impl Cache {
     }
 
     /// Gives the key a value (`put`). With write-through on, the value is written first.
+    ///
+    /// An `Err` is `WriterFailed` or `HistoryFull`. It may wait, as long as the writer does.
+    /// Condition: the session may call the cache.
     pub fn put<R: Wait>(
         &mut self,
         rt: &R,
@@ -63,6 +76,9 @@ impl Cache {
 
     /// Gives the key a value, and returns the one before, or none (`getAndPut`). With write-through on, the value is written
     /// first. It never loads.
+    ///
+    /// An `Err` is `WriterFailed` or `HistoryFull`. It may wait, as long as the writer does.
+    /// Condition: the session may call the cache.
     pub fn get_and_put<R: Wait>(
         &mut self,
         rt: &R,
@@ -80,6 +96,9 @@ impl Cache {
 
     /// Gives the key a value if it has no entry, and says whether it did (`putIfAbsent`). With write-through on, the value is
     /// written first, if it is to be given.
+    ///
+    /// An `Err` is `WriterFailed` or `HistoryFull`. It may wait, as long as the writer does.
+    /// Condition: the session may call the cache.
     pub fn put_if_absent<R: Wait>(
         &mut self,
         rt: &R,
@@ -97,6 +116,9 @@ impl Cache {
 
     /// Removes the key's entry, and says whether there was one (`remove`). With write-through on, the key is deleted in the
     /// store first, whether it has an entry or not.
+    ///
+    /// An `Err` is `WriterFailed` or `HistoryFull`. It may wait, as long as the writer does.
+    /// Condition: the session may call the cache.
     pub fn remove<R: Wait>(
         &mut self,
         rt: &R,
@@ -113,6 +135,9 @@ impl Cache {
 
     /// Removes the key's entry if it has this value, and says whether it did (`remove(key, oldValue)`). With write-through on,
     /// the key is deleted in the store first, if the entry is to be removed.
+    ///
+    /// An `Err` is `WriterFailed` or `HistoryFull`. It may wait, as long as the writer does.
+    /// Condition: the session may call the cache.
     pub fn remove_if<R: Wait>(
         &mut self,
         rt: &R,
@@ -130,6 +155,9 @@ impl Cache {
 
     /// Removes the key's entry, and returns its value, or none (`getAndRemove`). With write-through on, the key is deleted in
     /// the store first, whether it has an entry or not.
+    ///
+    /// An `Err` is `WriterFailed` or `HistoryFull`. It may wait, as long as the writer does.
+    /// Condition: the session may call the cache.
     pub fn get_and_remove<R: Wait>(
         &mut self,
         rt: &R,
@@ -146,6 +174,9 @@ impl Cache {
 
     /// Gives the key a value if it has an entry, and says whether it did (`replace(key, value)`). With write-through on, the
     /// value is written first, if it is to be given.
+    ///
+    /// An `Err` is `WriterFailed` or `HistoryFull`. It may wait, as long as the writer does.
+    /// Condition: the session may call the cache.
     pub fn replace<R: Wait>(
         &mut self,
         rt: &R,
@@ -163,6 +194,9 @@ impl Cache {
 
     /// Gives the key the value `new` if it has the value `old`, and says whether it did (`replace(key, oldValue, newValue)`). With
     /// write-through on, the value is written first, if it is to be given.
+    ///
+    /// An `Err` is `WriterFailed` or `HistoryFull`. It may wait, as long as the writer does.
+    /// Condition: the session may call the cache.
     pub fn replace_if<R: Wait>(
         &mut self,
         rt: &R,
@@ -189,6 +223,9 @@ impl Cache {
 
     /// Gives the key a value if it has an entry, and returns the one before, or none (`getAndReplace`). With write-through on,
     /// the value is written first, if it is to be given.
+    ///
+    /// An `Err` is `WriterFailed` or `HistoryFull`. It may wait, as long as the writer does.
+    /// Condition: the session may call the cache.
     pub fn get_and_replace<R: Wait>(
         &mut self,
         rt: &R,

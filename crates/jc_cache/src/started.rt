@@ -1,5 +1,6 @@
 //! What the phase calls of a cache give.
-use crate::outstanding::{JoinedCall, LoadCall, ProcessCall, WriteCall};
+use crate::joined::JoinedCall;
+use crate::reserved::ReservedCall;
 use jc_model::Reply;
 use jc_session::Mark;
 use jc_stripe::{Begun, Picked, StepDone};
@@ -9,12 +10,8 @@ use jc_types::Refusal;
 pub enum Started {
     /// The call is done.
     Done(StepDone),
-    /// The key is reserved, and the loader is to be asked.
-    Load(LoadCall),
-    /// The key is reserved, and the writer is to be asked.
-    Write(WriteCall),
-    /// The key is reserved, and the processor is to run on the entry that the call found.
-    Process(ProcessCall),
+    /// The key is reserved, and the loader, the writer or the processor is to be asked.
+    Asks(ReservedCall),
     /// The key is being loaded by another call: the call has joined that load, and its answer is to be picked up.
     Joined(JoinedCall),
     /// Nothing was done.
@@ -50,9 +47,7 @@ impl Started {
     {
         match begun {
             Begun::Done(step) => Started::Done(step),
-            Begun::Load(ticket) => Started::Load(LoadCall::new(cache, ticket)),
-            Begun::Write(ticket) => Started::Write(WriteCall::new(cache, ticket)),
-            Begun::Process(ticket) => Started::Process(ProcessCall::new(cache, ticket)),
+            Begun::Asks(ticket) => Started::Asks(ReservedCall::new(cache, ticket)),
             Begun::Joined(join) => Started::Joined(JoinedCall::new(cache, join)),
             Begun::Refused(refusal) => Started::Refused(refusal),
         }

@@ -6,6 +6,7 @@
 --     result_entry    what the call returns of a key: its processor's result, or why it failed, and nothing if there is no result
 --     result_entries  the same of each key, in their order
 --     IsInvokeRefusedWhole  the call has too many keys, or an allocation failed, and nothing changes
+use Rattle.std.specs.declared.dyn_box.DynBox.{DynBox}
 use Rattle.std.specs.Prelude.{◌≡◌, ◌<◌, ◌≤◌, ◌⊎◌, ℕ, List, [], ◌∷◌, ◌++◌, Option, None, Some, Result, Ok, Err, IfErr, false}
 use Rattle.jc_types.specs.declared.limits.TheConstants.{BULK_KEYS_MAX, STEP_PLACES}
 use Rattle.jc_types.specs.declared.refusal.Refusal.{Refusal}
@@ -25,16 +26,16 @@ use Rattle.jc_cache.specs.Calls.{InvokesAt, value_in}
 abbrev pub IsRefusedFull : State → ℕ → Result Reply Refusal → Type 0
 IsRefusedFull found call ended = IfErr ended (λ cause. (cause ≡ HistoryFull) × (has_room found call STEP_PLACES ≡ false))
 
-module _ {I J P : Type 0} {D : I → Type 0} {E : J → Type 0}
+module _ {I J P Z : Type 0} {D : I → Type 0} {E : J → Type 0} {F : P → Type 0}
     (loads : LoadRelation ((i : I) × D i)) (load_state : (i : I) × D i → List ℕ)
     (writes : WriteRelation ((j : J) × E j)) (write_state : (j : J) × E j → List ℕ)
-    (processes : ProcessRelation P) (process_state : P → List ℕ) where
-  abbrev pub InvokesEach : CacheState → Session I J D E → List Bytes → List Bytes → P → List (Result Reply Refusal) → CacheState → Session I J D E → P → Type 0
+    (processes : ProcessRelation (DynBox P Z F)) (process_state : DynBox P Z F → List ℕ) where
+  abbrev pub InvokesEach : CacheState → Session I J D E → List Bytes → List Bytes → DynBox P Z F → List (Result Reply Refusal) → CacheState → Session I J D E → DynBox P Z F → Type 0
   InvokesEach cache session [] args processor [] cache' session' processor' = (cache' ≡ cache) × (session' ≡ session) × (processor' ≡ processor)
   InvokesEach cache session [] args processor (ended ∷ ends) cache' session' processor' = ⊥
   InvokesEach cache session (key ∷ keys) args processor [] cache' session' processor' = ⊥
   InvokesEach cache session (key ∷ keys) args processor (ended ∷ ends) cache' session' processor' =
-      (next : CacheState) × (left : Session I J D E) × (after : P)
+      (next : CacheState) × (left : Session I J D E) × (after : DynBox P Z F)
       × (one : InvokesAt loads load_state writes write_state processes process_state cache session key args processor ended next left after)
       × IsRefusedFull one.call.before session.caller.call ended
       × InvokesEach next left keys args after ends cache' session' processor'

@@ -62,6 +62,7 @@ impl MutableEntry {
         ensures get { Makes self.old.entry GetValue (get_answer result) self.new.entry }
         ensures loader { LoadsOn loads load_state self.old.key
             self.old.entry.load self.new.entry.load loader.old loader.new }
+        ensures loader_type { loader.new.0 ≡ loader.old.0 }
     {
         match self.core.get_value() {
             GetOutcome::Value(value) => Ok(value),

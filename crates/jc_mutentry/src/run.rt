@@ -4,6 +4,7 @@ ghost use Rattle.jc_model.specs.Table.{is_process_given};
 ghost use Rattle.jc_model.specs.declared.processor.EntryCall.{EntryCall};
 ghost use Rattle.jc_model.specs.declared.processor.EntryAnswer.{EntryAnswer};
 ghost use Rattle.jc_model.specs.Processor.{process_answer};
+ghost use Rattle.jc_outside.specs.Calling.{KeepsType};
 ghost use Rattle.jc_outside.specs.declared.done.Origin.TheVariants.{Live};
 ghost use Rattle.jc_mutentry.specs.Entries.{new_entry, IsAfter, IsSameEntry};
 ghost use Rattle.jc_mutentry.specs.Running.{RunsOnce, LoadsIfGiven};
@@ -36,6 +37,8 @@ pub fn run_processor<A: AskProcess, R: Wait>(
     ensures given { is_process_given result.process ≡ true }
     ensures run { RunsOnce processes process_state
         processor.old (A.key ask) args.now (A.may_load ask) (A.initial ask) result.load result.process processor.new }
+    ensures processor_type { processor.new.vtable ≡ processor.old.vtable }
+    ensures loader_type { KeepsType hands.old.outside.loader hands.new.outside.loader }
     ensures loader { LoadsIfGiven (λ b. loads (b.vtable, b.value)) (λ b. load_state (b.vtable, b.value))
         hands.old.outside.loader (A.key ask) result.load hands.new.outside.loader }
     ensures writer { hands.new.outside.writer ≡ hands.old.outside.writer }
@@ -60,6 +63,8 @@ fn run_on(
     ensures same { IsSameEntry entry.old.entry entry.new.entry }
     ensures calls { (calls : List EntryCall) × (answers : List EntryAnswer) × IsAfter entry.new.entry calls answers
         × processes processor.old entry.old.key args.now calls answers result (process_state processor.new) }
+    ensures processor_type { processor.new.vtable ≡ processor.old.vtable }
+    ensures loader_type { KeepsType loader.old loader.new }
     ensures loader { LoadsIfGiven loads load_state loader.old entry.old.key entry.new.entry.load loader.new }
 {
     match loader {

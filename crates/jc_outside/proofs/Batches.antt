@@ -1,13 +1,18 @@
 -- One call of the loader, or of the writer for a batch of either kind.
-use Rattle.std.proofs.Common.{◌≡◌, ℕ, List, Option, Result, refl, sym, subst}
+use Rattle.std.proofs.Common.{◌≡◌, ℕ, List, Option, Some, Result, map, refl, sym, ap, subst, ◌∙◌}
 use Rattle.std.specs.Map.{keys_of}
+use Rattle.std.proofs.lemmas.List.{map-id}
+use Rattle.std.proofs.lemmas.Simd.{map-map}
 use Rattle.jc_model.specs.Cache.{Bytes}
 use Rattle.jc_model.specs.Batches.{answer_in_batch}
+use Rattle.jc_model.specs.declared.event.Change.{Change}
+use Rattle.jc_model.specs.declared.event.Change.TheVariants.{Write, Delete}
 use Rattle.jc_batch.specs.Batch.{BatchState}
+use Rattle.jc_batch.specs.Changes.{changes_of}
 use Rattle.jc_batch.specs.declared.batch.Batch.{Batch}
 use Rattle.jc_batch.specs.declared.batch.Batch.TheVariants.{Writes, Deletes}
-use Rattle.jc_outside.specs.CallingAll.{LoadAllRelation, LoadsKeys, LoadsAllOnce, load_all_answer, WriteAllRelation, DeleteAllRelation, WritesEntries, DeletesKeys, WritesAllOnce, returned_fault}
-use Rattle.jc_outside.specs.Answers.{AnswersByKey}
+use Rattle.jc_outside.specs.CallingAll.{LoadAllRelation, LoadsKeys, LoadsAllOnce, load_all_answer, WriteAllRelation, DeleteAllRelation, WritesEntries, DeletesKeys, WritesAllOnce, returned_fault, asked_changes}
+use Rattle.jc_batch.specs.Answers.{AnswersByKey}
 
 module _ {W : Type 0} (writes_all : WriteAllRelation W) (deletes_all : DeleteAllRelation W) (state : W → List ℕ)
     (old was : Option W) (same : old ≡ was) (batch : Batch) (returned : Result (Unit {0}) ℕ) (new : Option W) where
@@ -32,6 +37,20 @@ module _ {W : Type 0} (writes_all : WriteAllRelation W) (deletes_all : DeleteAll
         subst (λ o. DeletesKeys deletes_all state o b.items returned left new) same
             (subst (λ ks. DeletesKeys deletes_all state old ks returned left new) asked once),
       )
+
+-- the asks of a batch have its keys
+module _ {A : Type 0} (key_of : A → Bytes) (change_of : A → Option Change) (batch : Batch) (asks : List A) where
+  pub written-keys : (b : BatchState (Bytes × Bytes)) → batch ≡ Writes b → changes_of batch ≡ asked_changes key_of change_of asks → keys_of b.items ≡ map key_of asks
+  written-keys b is asked =
+      sym (map-map (λ (p : Bytes × Option Change). p.0) (λ (e : Bytes × Bytes). (e.0, Some (Write e.1))) b.items)
+      ∙ ap (map (λ (p : Bytes × Option Change). p.0)) (ap changes_of (sym is) ∙ asked)
+      ∙ map-map (λ (p : Bytes × Option Change). p.0) (λ a. (key_of a, change_of a)) asks
+
+  pub deleted-keys : (b : BatchState Bytes) → batch ≡ Deletes b → changes_of batch ≡ asked_changes key_of change_of asks → b.items ≡ map key_of asks
+  deleted-keys b is asked =
+      sym (map-map (λ (p : Bytes × Option Change). p.0) (λ k. (k, Some Delete)) b.items ∙ map-id b.items)
+      ∙ ap (map (λ (p : Bytes × Option Change). p.0)) (ap changes_of (sym is) ∙ asked)
+      ∙ map-map (λ (p : Bytes × Option Change). p.0) (λ a. (key_of a, change_of a)) asks
 
 module _ {L : Type 0} (loads_all : LoadAllRelation L) (state : L → List ℕ) where
   pub loads-batch : (old was : Option L) → old ≡ was → (keys asked : List Bytes) → keys ≡ asked → (returned : Result (Unit {0}) ℕ) (answers : AnswersByKey) (new : Option L)

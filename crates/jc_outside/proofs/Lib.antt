@@ -1,3 +1,2 @@
-pub mod CallerLemmas
-mod Answering
+pub use Rattle.jc_batch.proofs.CallerLemmas
 mod Batches

@@ -1,11 +1,13 @@
 -- One call of a loader or a writer, and what it answers.
+--     KeepsType         the boxed object afterwards is of the type that it had before, or there is none, before and after
 --     LoadRelation      what a loader's call may be: the loader before, the key, what it returns, its state afterwards
 --     load_answer       the answer that a loader gives by what it returns
 --     LoadsOnce         a loader that is there was called once, with this key and this answer; without one nothing is found
 --     WriteRelation     what a writer's call may be: the writer before, the key, the change, what it returns, its state afterwards
 --     write_answer      the report that a writer gives by what it returns
 --     WritesOnce        a writer that is there was called once, with this key and change, and reported this
-use Rattle.std.specs.Prelude.{◌≡◌, ℕ, List, Option, None, Some, Result, Ok, Err}
+use Rattle.std.specs.Prelude.{◌≡◌, ℕ, List, Option, None, Some, Result, Ok, Err, option_map}
+use Rattle.std.specs.declared.dyn_box.DynBox.{DynBox}
 use Rattle.jc_model.specs.Cache.{Bytes}
 use Rattle.jc_model.specs.declared.event.Change.{Change}
 use Rattle.jc_model.specs.declared.event.LoadAnswer.{LoadAnswer}
@@ -13,7 +15,13 @@ use Rattle.jc_model.specs.declared.event.LoadAnswer.TheVariants as load
 use Rattle.jc_model.specs.declared.event.WriteAnswer.{WriteAnswer}
 use Rattle.jc_model.specs.declared.event.WriteAnswer.TheVariants as write
 
--- 1. Loaders.
+-- 1. Boxes.
+
+-- so what its trait says of a second call is said of the same type
+abbrev pub KeepsType : {I Z : Type 0} {D : I → Type 0} → Option (DynBox I Z D) → Option (DynBox I Z D) → Type 0
+KeepsType old new = option_map (λ b. b.vtable) new ≡ option_map (λ b. b.vtable) old
+
+-- 2. Loaders.
 
 abbrev pub LoadRelation : Type 0 → Type 1
 LoadRelation L = L → Bytes → Result (Option Bytes) ℕ → List ℕ → Type 0
@@ -30,7 +38,7 @@ LoadsOnce loads state (Some old) key answer None = ⊥
 LoadsOnce loads state (Some old) key answer (Some new) =
     (returned : Result (Option Bytes) ℕ) × (answer ≡ load_answer returned) × loads old key returned (state new)
 
--- 2. Writers.
+-- 3. Writers.
 
 abbrev pub WriteRelation : Type 0 → Type 1
 WriteRelation W = W → Bytes → Change → Result (Unit {0}) ℕ → List ℕ → Type 0

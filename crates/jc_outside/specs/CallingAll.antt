@@ -24,7 +24,7 @@ use Rattle.jc_model.specs.declared.event.LoadAnswer.TheVariants as load
 use Rattle.jc_model.specs.declared.event.WriteAnswer.{WriteAnswer}
 use Rattle.jc_batch.specs.declared.batch.Batch.{Batch}
 use Rattle.jc_batch.specs.declared.batch.Batch.TheVariants.{Writes, Deletes}
-use Rattle.jc_outside.specs.Answers.{AnswersByKey, no_answers, answer_of}
+use Rattle.jc_batch.specs.Answers.{AnswersByKey, no_answers, answer_of}
 use Rattle.jc_outside.specs.Done.{LoadResult, WriteResult}
 use Rattle.jc_outside.specs.declared.done.Origin.TheVariants.{Live}
 

@@ -1,6 +1,5 @@
 pub mod Done
 pub mod Hands
-pub mod Answers
+pub use Rattle.jc_batch.specs.Answers
 pub mod Calling
 pub mod CallingAll
-pub mod LoadBatch

@@ -2,7 +2,7 @@
 ghost use Rattle.std.specs.Prelude.{◌≡◌, true, IsSome, Some, is_some};
 ghost use Rattle.jc_model.specs.Table.{is_load_given, is_write_given};
 ghost use Rattle.jc_outside.specs.declared.done.Origin.TheVariants.{Live};
-ghost use Rattle.jc_outside.specs.Calling.{load_answer, write_answer, LoadsOnce, WritesOnce};
+ghost use Rattle.jc_outside.specs.Calling.{load_answer, write_answer, LoadsOnce, WritesOnce, KeepsType};
 
 use crate::ask::{Ask, AskWrite};
 use crate::done::{LoadDone, Origin, WriteDone};
@@ -24,6 +24,7 @@ pub fn call_loader<A: Ask, R: Wait>(_rt: &R, hands: &mut Hands<Outside>, ask: A)
     ensures origin { result.origin ≡ Live }
     ensures given { is_load_given result.answer ≡ true }
     ensures loader { LoadsOnce loads load_state hands.old.outside.loader (A.key ask) result.answer hands.new.outside.loader }
+    ensures loader_type { KeepsType hands.old.outside.loader hands.new.outside.loader }
     ensures writer { hands.new.outside.writer ≡ hands.old.outside.writer }
     ensures held { hands.new.held ≡ 0 }
 {
@@ -49,6 +50,7 @@ pub fn call_writer<A: AskWrite, R: Wait>(
     ensures given { is_write_given result.answer ≡ true }
     ensures writer { WritesOnce writes write_state hands.old.outside.writer
         (A.key ask) (A.change ask) result.answer hands.new.outside.writer }
+    ensures writer_type { KeepsType hands.old.outside.writer hands.new.outside.writer }
     ensures loader { hands.new.outside.loader ≡ hands.old.outside.loader }
     ensures held { hands.new.held ≡ 0 }
 {
@@ -58,6 +60,7 @@ pub fn call_writer<A: AskWrite, R: Wait>(
 
 fn ask_loader(loader: &mut Option<Box<dyn CacheLoader + Send + Drop>>, key: &Key) -> LoadAnswer
     ensures loader { LoadsOnce loads load_state loader.old key.now result loader.new }
+    ensures loader_type { KeepsType loader.old loader.new }
     ensures given { is_load_given result ≡ true }
 {
     match loader {
@@ -73,6 +76,7 @@ fn ask_writer(
 ) -> WriteAnswer
     requires { IsSome writer.old }
     ensures writer { WritesOnce writes write_state writer.old key.now (Some change.now) result writer.new }
+    ensures writer_type { KeepsType writer.old writer.new }
     ensures given { is_write_given result ≡ true }
 {
     match writer {

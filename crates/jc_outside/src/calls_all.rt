@@ -3,24 +3,23 @@ ghost use Rattle.std.specs.Prelude.{◌≡◌, ◌≤◌, ◌+◌, ◌++◌, Lis
 ghost use Rattle.std.specs.Map.{keys_of};
 ghost use Rattle.jc_model.specs.Cache.{Bytes};
 ghost use Rattle.jc_model.specs.Batches.{answer_in_batch};
-ghost use Rattle.jc_model.specs.Table.{is_load_given, is_write_given};
+ghost use Rattle.jc_model.specs.Table.{is_load_given};
 ghost use Rattle.jc_model.specs.declared.event.LoadAnswer.{LoadAnswer as LoadAnswerState};
 ghost use Rattle.jc_model.specs.declared.event.WriteAnswer.{WriteAnswer as WriteAnswerState};
 ghost use Rattle.jc_batch.specs.Changes.{changes_of};
-ghost use Rattle.jc_outside.specs.Answers.{no_answers};
+ghost use Rattle.jc_batch.specs.Answers.{no_answers};
+ghost use Rattle.jc_outside.specs.Calling.{KeepsType};
 ghost use Rattle.jc_outside.specs.CallingAll.{load_all_answer, found_or_nothing, returned_fault, LoadsKeys, WritesEntries};
 ghost use Rattle.jc_outside.specs.CallingAll.{DeletesKeys, LoadsAllOnce, WritesAllOnce, loads_done, writes_done, asked_changes};
 
-use crate::answers::Answers;
 use crate::ask::{Ask, AskWrite};
 use crate::done::{LoadDone, Origin, WriteDone};
 use crate::hands::{Hands, Outside};
-use crate::load_batch::LoadBatch;
 use crate::loader::CacheLoader;
 use crate::writer::CacheWriter;
 use indexmap::{IndexMap, IndexSet};
-use jc_batch::{Batch, Leftover};
-use jc_model::{LoadAnswer, WriteAnswer, batch_answer};
+use jc_batch::{Answers, Batch, BatchKeys, Leftover, LoadBatch};
+use jc_model::LoadAnswer;
 use jc_types::{Key, Value};
 use std::sync::Wait;
 
@@ -44,6 +43,7 @@ pub fn call_loader_all<A: Ask, R: Wait>(
         × LoadsAllOnce loads_all load_state hands.old.outside.loader batch.items said hands.new.outside.loader
         × (done.new.items ≡ done.old.items ++ loads_done A.key said asks.items) }
     ensures room { vec_capacity done.new ≡ vec_capacity done.old }
+    ensures loader_type { KeepsType hands.old.outside.loader hands.new.outside.loader }
     ensures writer { hands.new.outside.writer ≡ hands.old.outside.writer }
     ensures held { hands.new.held ≡ 0 }
 {
@@ -77,20 +77,21 @@ pub fn call_writer_all<A: AskWrite, R: Wait>(
         × WritesAllOnce writes_all deletes_all write_state hands.old.outside.writer batch result said hands.new.outside.writer
         × (done.new.items ≡ done.old.items ++ writes_done A.key said asks.items) }
     ensures room { vec_capacity done.new ≡ vec_capacity done.old }
+    ensures writer_type { KeepsType hands.old.outside.writer hands.new.outside.writer }
     ensures loader { hands.new.outside.loader ≡ hands.old.outside.loader }
     ensures held { hands.new.held ≡ 0 }
 {
     match batch {
         Batch::Writes(batch) => {
-            let (mut entries, _batch_keys) = batch.into_parts();
+            let (mut entries, written) = batch.into_parts();
             let returned = write_entries(&mut hands.outside.writer, &mut entries);
-            end_writes(asks, &entries, returned_fault(&returned), done);
+            end_writes(asks, written, &entries, returned_fault(&returned), done);
             returned
         }
         Batch::Deletes(batch) => {
-            let (mut keys, _batch_keys) = batch.into_parts();
+            let (mut keys, deleted) = batch.into_parts();
             let returned = delete_keys(&mut hands.outside.writer, &mut keys);
-            end_writes(asks, &keys, returned_fault(&returned), done);
+            end_writes(asks, deleted, &keys, returned_fault(&returned), done);
             returned
         }
     }
@@ -102,7 +103,8 @@ fn load_keys(
     answers: &mut Answers,
 ) -> Result<(), u32>
     requires { answers.old ≡ no_answers keys.now }
-    ensures { LoadsKeys loads_all load_state loader.old keys.now result answers.new loader.new }
+    ensures loader_type { KeepsType loader.old loader.new }
+    ensures load { LoadsKeys loads_all load_state loader.old keys.now result answers.new loader.new }
 {
     match loader {
         Some(loader) => loader.load_all(keys, answers),
@@ -115,7 +117,8 @@ fn write_entries(
     entries: &mut IndexMap<Key, Value>,
 ) -> Result<(), u32>
     requires { IsSome writer.old }
-    ensures { WritesEntries writes_all write_state writer.old entries.old.entries result entries.new.entries writer.new }
+    ensures writer_type { KeepsType writer.old writer.new }
+    ensures write { WritesEntries writes_all write_state writer.old entries.old.entries result entries.new.entries writer.new }
 {
     match writer {
         Some(writer) => writer.write_all(entries),
@@ -128,7 +131,8 @@ fn delete_keys(
     keys: &mut IndexSet<Key>,
 ) -> Result<(), u32>
     requires { IsSome writer.old }
-    ensures { DeletesKeys deletes_all write_state writer.old keys.old.keys result keys.new.keys writer.new }
+    ensures writer_type { KeepsType writer.old writer.new }
+    ensures delete { DeletesKeys deletes_all write_state writer.old keys.old.keys result keys.new.keys writer.new }
 {
     match writer {
         Some(writer) => writer.delete_all(keys),
@@ -179,30 +183,26 @@ fn end_loads<A: Ask>(
     asks.destroy_empty();
 }
 
-/// What a writer's call says of one key, by what it left.
-fn write_all_answer<C: Leftover>(left: &C, fault: Option<u32>, key: &Key) -> WriteAnswer
-    ensures answer { result ≡ answer_in_batch (C.leftover_keys left.now) fault key.now }
-    ensures given { is_write_given result ≡ true }
-{
-    batch_answer(left.is_left(key), fault)
-}
-
-/// Ends the asks by what the writer left.
+/// Ends the asks by what became of the batch's keys.
 fn end_writes<A: AskWrite, C: Leftover>(
     asks: Vec<A>,
+    keys: BatchKeys,
     left: &C,
     fault: Option<u32>,
     done: &mut Vec<WriteDone<A>>,
 )
-    requires { vec_len done.old + vec_len asks ≤ vec_capacity done.old }
+    requires keys { keys.items ≡ map A.key asks.items }
+    requires room { vec_len done.old + vec_len asks ≤ vec_capacity done.old }
     ensures items { done.new.items ≡ done.old.items
         ++ writes_done A.key (answer_in_batch (C.leftover_keys left.now) fault) asks.items }
     ensures room { vec_capacity done.new ≡ vec_capacity done.old }
 {
+    let split = keys.split(left, fault);
+    let mut outcomes = split.outcomes();
     let mut asks = asks;
     asks.reverse();
     'ending: while let Some(ask) = asks.pop() {
-        let answer = write_all_answer(left, fault, ask.key());
+        let answer = outcomes.next(ask.key());
         done.push_reserved(WriteDone::new(ask, Origin::Live, answer));
     }
     asks.destroy_empty();

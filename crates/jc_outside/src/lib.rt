@@ -5,24 +5,21 @@
 //! once, for one reservation (JSR 107, "Integration").
 #![tactic(auto)]
 
-mod answers;
 mod ask;
 mod calls;
 mod calls_all;
 mod done;
 mod hands;
 mod listener;
-mod load_batch;
 mod loader;
 mod writer;
 
-pub use answers::Answers;
 pub use ask::{Ask, AskWrite};
 pub use calls::{call_loader, call_writer, load_answer};
 pub use calls_all::{call_loader_all, call_writer_all};
 pub use done::{LoadDone, Origin, WriteDone, played_load, played_write};
 pub use hands::{Hands, Outside};
+pub use jc_batch::{Answers, LoadBatch};
 pub use listener::CompletionListener;
-pub use load_batch::LoadBatch;
 pub use loader::CacheLoader;
 pub use writer::CacheWriter;

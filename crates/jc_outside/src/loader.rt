@@ -1,5 +1,5 @@
 //! Loaders.
-use crate::answers::Answers;
+use jc_batch::Answers;
 use jc_types::{Key, Value};
 
 /// Loads what a cache misses (`javax.cache.integration.CacheLoader`; JSR 107, "Integration").
@@ -10,7 +10,7 @@ use jc_types::{Key, Value};
 pub trait CacheLoader {
     ghost use Rattle.std.specs.Prelude.{◌≡◌, ℕ, List, Option, Result};
     ghost use Rattle.jc_model.specs.Cache.{Bytes};
-    ghost use Rattle.jc_outside.specs.Answers.{AnswersByKey, no_answers};
+    ghost use Rattle.jc_batch.specs.Answers.{AnswersByKey, no_answers};
 
     /// The loader's state, as plain data.
     ghost load_state: { Self → List ℕ };

@@ -1,14 +1,15 @@
 -- What the fields of `Reservations` mean, and what is true of them. Callers see the table alone.
 --     table_of     the table that the fields mean
 --     HasTable     the keys are those of the reservations, and the table is as every table is
-use Rattle.std.specs.Prelude.{◌≡◌}
-use Rattle.jc_reserve.specs.Table.{Table, keys_held}
+use Rattle.std.specs.Prelude.{◌≡◌, ℕ, map}
+use Rattle.jc_model.specs.Cache.{Bytes}
+use Rattle.jc_reserve.specs.Table.{Table}
 use Rattle.jc_reserve.specs.IsReservationTable.{IsReservationTable}
 use Rattle.jc_reserve.specs.declared.reservations.Reservations.TheInside.{Inside}
 
-abbrev pub table_of : {T : Type 0} → Inside T → Table T
+abbrev pub table_of : {R : Type 0} → Inside R → Table R
 table_of r = record { held = r.held.items; next = r.next }
 
-pub record HasTable {T : Type 0} (r : Inside T) : Type 0 where
-  pub keys : r.keys.items ≡ keys_held r.held.items
-  pub table : IsReservationTable (table_of r)
+pub record HasTable {R : Type 0} (key_of : R → Bytes) (number_of : R → ℕ) (r : Inside R) : Type 0 where
+  pub keys : r.keys.items ≡ map key_of r.held.items
+  pub table : IsReservationTable key_of number_of (table_of r)

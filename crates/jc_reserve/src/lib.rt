@@ -4,8 +4,8 @@
 //! entry meanwhile (JSR 107, "Default Consistency").
 #![tactic(auto)]
 
-mod held;
 mod reservations;
+mod reserved;
 
-pub use held::Held;
 pub use reservations::Reservations;
+pub use reserved::Reserved;

@@ -1,43 +1,41 @@
 //! The reservations of a stripe.
-ghost use Rattle.std.specs.Prelude.{◌≡◌, ◌≤◌, ◌↔◌, ◌==◌, [], IsTrue, IsSome, IfSome, OnSome, IfNone, length, nat_le, position};
+ghost use Rattle.std.specs.Prelude.{◌≡◌, ◌≤◌, ◌↔◌, ◌==◌, [], IsTrue, MatchBool, length, map, nat_le, option_map, position};
 ghost use Rattle.std.specs.Cmp.Lexicographic.{pointwise};
 ghost use Rattle.jc_types.specs.declared.limits.TheConstants.{RESERVATIONS_MAX, LAST_NUMBER};
-ghost use Rattle.jc_reserve.specs.Table.{keys_held};
 ghost use Rattle.jc_reserve.specs.Reserving.{has_key, is_held, reservation_at, CanReserve, with_reservation, without_reservation};
 ghost use Rattle.jc_reserve.specs.IsReservationTable.{IsReservationTable};
 
-use crate::Held;
+use crate::Reserved;
 use arrayvec::ArrayVec;
 use jc_types::{Key, LAST_NUMBER, RESERVATIONS_MAX};
 use std::marker::Model;
 
-/// The keys that calls have reserved, at most [`RESERVATIONS_MAX`] of them and none twice, each with the number of its
-/// reservation and the note of who reserved it, in the order of reserving.
+/// The reservations that calls have made, at most [`RESERVATIONS_MAX`] of them and none of a key twice, in the order of reserving.
 ///
 /// The numbers rise from one reservation to the next and are never used again, also after a release. So a number tells a
 /// reservation from an earlier one of the same key. The table lies in the value itself: no call allocates.
 #[derive(Drop)]
-pub struct Reservations<T: Copy> {
-    held: ArrayVec<Held<T>, RESERVATIONS_MAX>,
+pub struct Reservations<R: Reserved> {
+    held: ArrayVec<R, RESERVATIONS_MAX>,
     // The keys of `held`, in the same order: alone, so that they can be lent as one slice and are looked up close together.
     keys: ArrayVec<Key, RESERVATIONS_MAX>,
     // The number of the next reservation.
     next: u64,
 }
 
-impl<T: Copy> Model for Reservations<T> {
+impl<R: Reserved> Model for Reservations<R> {
     ghost use Rattle.jc_reserve.specs.Table.{Table};
 
-    ghost Value = { Table T };
+    ghost Value = { Table R };
 
     ghost use Rattle.jc_reserve.specs.Inside.{table_of, HasTable};
 
     ghost view = { table_of };
 
-    ghost invariant = { HasTable };
+    ghost invariant = { HasTable R.key R.number };
 }
 
-impl<T: Copy + Default> Reservations<T> {
+impl<R: Reserved> Reservations<R> {
     /// A table with no key reserved, whose first reservation has the number 0.
     pub fn new() -> Self
         ensures { result ≡ record { held = []; next = 0 } }
@@ -49,71 +47,75 @@ impl<T: Copy + Default> Reservations<T> {
         }
     }
 
-    /// Reserves a key, and gives the number of the reservation.
-    ///
-    /// A `None` leaves the table as it was: [`RESERVATIONS_MAX`] keys are reserved, or this key is one of them, or the numbers are
-    /// used up.
-    pub fn reserve(&mut self, key: &Key, note: T) -> Option<u64>
-        ensures some { IsSome result ↔ CanReserve self.old key.now }
-        ensures number { IfSome result (λ number. number ≡ self.old.next) }
-        ensures reserved { OnSome result (self.new ≡ with_reservation self.old key.now note) }
-        ensures none { IfNone result (self.new ≡ self.old) }
+    /// The number of the next reservation. It isn't used up, if a key can be reserved.
+    pub fn next_number(&self) -> u64
+        ensures { result ≡ self.now.next }
     {
-        if !self.can_reserve(key) {
-            return None;
-        }
-        let reservation = self.next;
-        self.held.push(Held {
-            key: *key,
-            reservation,
-            note,
-        });
-        self.keys.push(*key);
-        self.next += 1;
-        Some(reservation)
+        self.next
     }
 
-    /// The number and the note of a key's reservation, or `None` if the key is free.
-    pub fn find(&self, key: &Key) -> Option<(u64, T)>
-        ensures found { result ≡ reservation_at self.now key.now }
-        ensures table { IsReservationTable self.now }
+    /// Reserves the key of a reservation, and says whether it could.
+    ///
+    /// A `false` leaves the table as it was: [`RESERVATIONS_MAX`] keys are reserved, or this key is one of them, or the numbers are
+    /// used up.
+    ///
+    /// Condition: the reservation is by the next number.
+    pub fn reserve(&mut self, reservation: &R) -> bool
+        requires { R.number reservation.now ≡ self.old.next }
+        ensures can { IsTrue result ↔ CanReserve R.key self.old (R.key reservation.now) }
+        ensures table { MatchBool result (self.new ≡ with_reservation self.old reservation.now) (self.new ≡ self.old) }
+    {
+        let key = *reservation.key();
+        if !self.can_reserve(&key) {
+            return false;
+        }
+        self.held.push(*reservation);
+        self.keys.push(key);
+        self.next += 1;
+        true
+    }
+
+    /// The reservation of a key, or `None` if the key is free.
+    pub fn find(&self, key: &Key) -> Option<&R>
+        ensures found { option_map (λ r. r.now) result ≡ reservation_at R.key self.now key.now }
+        ensures table { IsReservationTable R.key R.number self.now }
     {
         let place = self.place_of(key)?;
-        let held = self.held[place];
-        Some((held.reservation, held.note))
+        Some(&self.held[place])
     }
 
     /// Whether a key is reserved.
     pub fn is_reserved(&self, key: &Key) -> bool
-        ensures { result ≡ is_held self.now key.now }
+        ensures { result ≡ is_held R.key self.now key.now }
     {
         self.place_of(key).is_some()
     }
 
-    /// Ends a key's reservation, and gives its number and note. The other keys stay in their order, and the next number stays.
-    /// A `None`, if the key is free, leaves the table as it was.
-    pub fn release(&mut self, key: &Key) -> Option<(u64, T)>
-        ensures found { result ≡ reservation_at self.old key.now }
-        ensures released { self.new ≡ without_reservation self.old key.now }
+    /// Ends a key's reservation, and says whether there was one. The other keys stay in their order, and the next number stays.
+    pub fn release(&mut self, key: &Key) -> bool
+        ensures found { result ≡ is_held R.key self.old key.now }
+        ensures released { self.new ≡ without_reservation R.key self.old key.now }
     {
-        let place = self.place_of(key)?;
+        let Some(place) = self.place_of(key) else {
+            return false;
+        };
         self.keys.remove(place);
-        let held = self.held.remove(place);
-        Some((held.reservation, held.note))
+        self.held.remove(place);
+        true
     }
 
     /// The reservations in the order of reserving.
-    pub fn list(&self) -> &[Held<T>]
+    pub fn list(&self) -> &[R]
         ensures list { result.now ≡ self.now.held }
-        ensures table { IsReservationTable self.now }
+        ensures table { IsReservationTable R.key R.number self.now }
     {
         &self.held
     }
 
     /// The reserved keys in the order of reserving: those whose entries can't be evicted.
     pub fn keys(&self) -> &[Key]
-        ensures keys { result.now ≡ keys_held self.now.held }
-        ensures table { IsReservationTable self.now }
+        ensures keys { result.now ≡ map R.key self.now.held }
+        ensures table { IsReservationTable R.key R.number self.now }
     {
         &self.keys
     }
@@ -140,18 +142,18 @@ impl<T: Copy + Default> Reservations<T> {
     }
 }
 
-impl<T: Copy + Default> Reservations<T> {
+impl<R: Reserved> Reservations<R> {
     /// Whether a key can be reserved.
     fn can_reserve(&self, key: &Key) -> bool
-        ensures { IsTrue result ↔ CanReserve self.now key.now }
+        ensures { IsTrue result ↔ CanReserve R.key self.now key.now }
     {
         !self.is_full() && self.next < LAST_NUMBER && !self.is_reserved(key)
     }
 
     /// The place of a key's reservation, in the order of reserving.
     fn place_of(&self, key: &Key) -> Option<usize>
-        ensures place { result ≡ position (has_key key.now) self.now.held }
-        ensures table { IsReservationTable self.now }
+        ensures place { result ≡ position (has_key R.key key.now) self.now.held }
+        ensures table { IsReservationTable R.key R.number self.now }
     {
         place_among(&self.keys, key)
     }

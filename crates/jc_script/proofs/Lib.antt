@@ -1,3 +1,4 @@
+pub mod Texts
 pub mod Pieces
 pub mod Spelling
 pub mod SpelledWords
@@ -14,3 +15,4 @@ pub mod ReadLines
 pub mod Callable
 pub mod Fitting
 pub mod SingleCalls
+pub mod ReachedWorlds

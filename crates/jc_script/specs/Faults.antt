@@ -12,7 +12,7 @@ use Rattle.jc_types.specs.declared.refusal.Refusal.TheVariants as refusal
 use Rattle.jc_types.specs.declared.config.Field.TheVariants.{Stripes, Capacity, History}
 use Rattle.jc_types.specs.Limits.{check}
 use Rattle.jc_world.specs.Calls.{CallState}
-use Rattle.jc_world.specs.World.{WorldState, open_call, is_busy, is_fresh}
+use Rattle.jc_world.specs.World.{WorldState, open_call, is_busy}
 use Rattle.jc_world.specs.Fits.{is_new}
 use Rattle.jc_script.specs.LineEvents.{is_time_for, allows_but, has_but}
 use Rattle.jc_script.specs.declared.fault.Fault.{Fault}
@@ -71,7 +71,7 @@ state_fault None (OfCall number act) = Some NotOpen
 state_fault None (Foreign key value) = Some NotOpen
 state_fault None Audit = Some NotOpen
 state_fault (Some w) (Open config) = Some OpenTwice
-state_fault (Some w) (Set key value) = if is_fresh w then None else Some SetTooLate
+state_fault (Some w) (Set key value) = if w.is_fresh then None else Some SetTooLate
 state_fault (Some w) (Begin number session command) = begin_fault w number session
 state_fault (Some w) (BeginBulk number session call) = begin_fault w number session
 state_fault (Some w) (OfCall number act) = act_fault w number act (open_call w number)

@@ -66,7 +66,7 @@ use Rattle.jc_world.specs.declared.event.Over.{Over}
 use Rattle.jc_world.specs.declared.event.Shown.{Shown}
 use Rattle.jc_stripe.specs.declared.begun.Eviction.{Eviction}
 use Rattle.jc_world.specs.declared.event.Stepped.{Stepped}
-use Rattle.jc_world.specs.declared.event.PickedUp.{PickedUp}
+use Rattle.jc_world.specs.declared.event.JoinAnswer.{JoinAnswer}
 use Rattle.jc_world.specs.declared.reports.Reported.{Reported}
 use Rattle.jc_world.specs.declared.reports.ReportedKey.{ReportedKey}
 use Rattle.jc_world.specs.declared.process.LoadSource.{LoadSource}
@@ -152,7 +152,7 @@ stepped_text call key seen =
     ++ evicted_text key seen.evicted seen.stripe
 
 -- the answer of a load that the call had joined, with the place of the step that loaded
-unfoldable pub picked_line : ℕ → Bytes → PickedUp → List ℕ
+unfoldable pub picked_line : ℕ → Bytes → JoinAnswer → List ℕ
 picked_line call key seen = outcome_text call key seen.reply seen.stripe seen.place ++ codes " shared " ++ decimal seen.shared ++ codes "\n"
 
 unfoldable pub loads_line : ℕ → Bytes → List ℕ

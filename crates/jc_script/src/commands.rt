@@ -4,7 +4,7 @@ ghost use Rattle.jc_script.specs.Lines.{Gives, ok_with, form_named, bulk_named, 
 ghost use Rattle.jc_script.specs.Lines.{value_alone_of, replace_if_of, command_of, begin_with, bulk_takes, bulk_alone, bulk_of, bulk_with};
 
 use crate::fault::{Fault, ReadError};
-use crate::line::{BulkCall, Line, Operation};
+use crate::line::{BulkCall, Line, Operation, put_line};
 use crate::words::{distinct_pairs, is, key, keys, value};
 use jc_model::Op;
 use jc_types::Value;
@@ -183,7 +183,7 @@ fn begin_bare(
         [k] => {
             let key = key(k)?;
             let op = op_bare(bare);
-            *line = Line::Begin(call, session, Operation { op, key });
+            put_line(line, Line::Begin(call, session, Operation { op, key }));
             Ok(())
         }
         _ => Err(Fault::BadLine),
@@ -204,7 +204,7 @@ fn begin_valued(
         [k, v] => {
             let key = key(k)?;
             let op = op_valued(valued, value(v)?);
-            *line = Line::Begin(call, session, Operation { op, key });
+            put_line(line, Line::Begin(call, session, Operation { op, key }));
             Ok(())
         }
         _ => Err(Fault::BadLine),
@@ -231,7 +231,7 @@ fn begin_replace_if(call: u32, session: u32, words: &[&[u8]], line: &mut Line) -
             let old = value(v)?;
             let new = value_alone(rest)?;
             let op = Op::ReplaceIf { old, new };
-            *line = Line::Begin(call, session, Operation { op, key });
+            put_line(line, Line::Begin(call, session, Operation { op, key }));
             Ok(())
         }
         _ => Err(Fault::BadLine),
@@ -272,7 +272,7 @@ fn begin_bulk(
     ensures { Gives (ok_with line.new result) (bulk_with call session (bulk_of name (map (λ w. w.now) words.now))) }
 {
     let bulk = read_bulk(alloc, name, words)?;
-    *line = Line::BeginBulk(call, session, bulk);
+    put_line(line, Line::BeginBulk(call, session, bulk));
     Ok(())
 }
 

@@ -9,7 +9,7 @@ ghost use Rattle.jc_script.specs.Lines.{foreign_of, audit_of, line_of, are_words
 use crate::commands::{begin_command, has_shape, read_form};
 use crate::fault::{Fault, ReadError};
 use crate::keys::Keys;
-use crate::line::{Act, Line};
+use crate::line::{Act, Line, put_line};
 use crate::process_words::{has_process_shape, read_calls, read_source, without_load};
 use crate::words::{caller, is, key, keys, number, pairs, split, value, value_or_none};
 use jc_types::{Config, LINE_MAX};
@@ -143,13 +143,16 @@ fn open(words: &[&[u8]], line: &mut Line) -> Result<(), Fault>
             let stripes = number(s)? as usize;
             let capacity = number(c)? as usize;
             let history = number(h)? as usize;
-            *line = Line::Open(Config {
-                stripes,
-                capacity,
-                history,
-                read_through,
-                write_through,
-            });
+            put_line(
+                line,
+                Line::Open(Config {
+                    stripes,
+                    capacity,
+                    history,
+                    read_through,
+                    write_through,
+                }),
+            );
             Ok(())
         }
         _ => Err(Fault::BadLine),
@@ -164,7 +167,7 @@ fn set(words: &[&[u8]], line: &mut Line) -> Result<(), Fault>
     match words {
         [k, v] => {
             let key = key(k)?;
-            *line = Line::Set(key, value(v)?);
+            put_line(line, Line::Set(key, value(v)?));
             Ok(())
         }
         _ => Err(Fault::BadLine),
@@ -215,7 +218,7 @@ fn lone_line(lone: Lone, words: &[&[u8]], line: &mut Line) -> Result<(), Fault>
     ensures { ok_with line.new result ≡ lone_of lone (map (λ w. w.now) words.now) }
 {
     let n = lone_number(words)?;
-    *line = Line::OfCall(n, act_lone(lone));
+    put_line(line, Line::OfCall(n, act_lone(lone)));
     Ok(())
 }
 
@@ -240,7 +243,7 @@ fn coded_line(coded: Coded, words: &[&[u8]], line: &mut Line) -> Result<(), Faul
             }
             let n = number(n)?;
             let code = lone_number(rest)?;
-            *line = Line::OfCall(n, act_coded(coded, code));
+            put_line(line, Line::OfCall(n, act_coded(coded, code)));
             Ok(())
         }
         _ => Err(Fault::BadLine),
@@ -279,7 +282,7 @@ fn apply(alloc: Global, words: &[&[u8]], line: &mut Line) -> Result<(), ReadErro
             }
             let n = number(n)?;
             let left = left(alloc, rest)?;
-            *line = Line::OfCall(n, Act::Apply(left));
+            put_line(line, Line::OfCall(n, Act::Apply(left)));
             Ok(())
         }
         _ => Err(ReadError::Fault(Fault::BadLine)),
@@ -299,7 +302,7 @@ fn apply_fail(alloc: Global, words: &[&[u8]], line: &mut Line) -> Result<(), Rea
             let n = number(n)?;
             let code = number(c)?;
             let left = left(alloc, rest)?;
-            *line = Line::OfCall(n, Act::ApplyFail(code, left));
+            put_line(line, Line::OfCall(n, Act::ApplyFail(code, left)));
             Ok(())
         }
         _ => Err(ReadError::Fault(Fault::BadLine)),
@@ -315,7 +318,7 @@ fn say(alloc: Global, words: &[&[u8]], line: &mut Line) -> Result<(), ReadError>
         [n, rest @ ..] => {
             let n = number(n)?;
             let pairs = pairs(alloc, rest)?;
-            *line = Line::OfCall(n, Act::Say(pairs));
+            put_line(line, Line::OfCall(n, Act::Say(pairs)));
             Ok(())
         }
         _ => Err(ReadError::Fault(Fault::BadLine)),
@@ -335,7 +338,7 @@ fn process(alloc: Global, words: &[&[u8]], line: &mut Line) -> Result<(), ReadEr
             let n = number(n)?;
             let load = read_source(rest)?;
             let (calls, fail) = read_calls(alloc, without_load(rest))?;
-            *line = Line::OfCall(n, Act::Process { load, calls, fail });
+            put_line(line, Line::OfCall(n, Act::Process { load, calls, fail }));
             Ok(())
         }
         _ => Err(ReadError::Fault(Fault::BadLine)),
@@ -350,7 +353,7 @@ fn foreign(words: &[&[u8]], line: &mut Line) -> Result<(), Fault>
     match words {
         [k, v] => {
             let key = key(k)?;
-            *line = Line::Foreign(key, value_or_none(v)?);
+            put_line(line, Line::Foreign(key, value_or_none(v)?));
             Ok(())
         }
         _ => Err(Fault::BadLine),
@@ -362,7 +365,7 @@ fn audit(words: &[&[u8]], line: &mut Line) -> Result<(), Fault>
 {
     match words {
         [] => {
-            *line = Line::Audit;
+            put_line(line, Line::Audit);
             Ok(())
         }
         _ => Err(Fault::BadLine),

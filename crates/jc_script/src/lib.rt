@@ -20,6 +20,7 @@ mod print_process;
 mod print_shown;
 mod printing;
 mod process_words;
+pub mod reached;
 pub mod run;
 mod words;
 

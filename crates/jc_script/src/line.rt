@@ -1,4 +1,6 @@
 //! What the lines of a script ask for.
+ghost use Rattle.std.specs.Prelude.{◌≡◌};
+
 use crate::distinct_pairs::DistinctPairs;
 use crate::keys::Keys;
 use crate::pairs::Pairs;
@@ -83,4 +85,12 @@ pub enum Line {
     Foreign(Key, Option<Value>),
     /// What the world is.
     Audit,
+}
+
+/// Leaves `new` in `line`. What was there is let go of, in this one function: a line owns memory, and the prover would go through all its
+/// variants at each place that overwrites one.
+pub(crate) fn put_line(line: &mut Line, new: Line)
+    ensures { line.new ≡ new }
+{
+    *line = new;
 }

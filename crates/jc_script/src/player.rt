@@ -244,7 +244,6 @@ fn foreign(
         × PlaysForeign world.old.world key.now value.now text (Some world.new.world)
         × (out.new.items ≡ out.old.items ++ text)) }
 {
-    let _types: Option<&(Command, Op, LoadAnswer)> = None;
     buffers.events.clear();
     buffers.events.push(WorldEvent::Foreign {
         key: *key,

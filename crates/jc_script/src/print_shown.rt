@@ -15,7 +15,7 @@ use crate::printing::{put, put_key, put_number, put_place, put_reply, put_value_
 use jc_model::{Cause, Change, Reply};
 use jc_stripe::Eviction;
 use jc_types::{Key, Refusal, Value};
-use jc_world::event::{Outcome, Over, PickedUp, Shown, Stepped, WorldEvent};
+use jc_world::event::{JoinAnswer, Outcome, Over, Shown, Stepped, WorldEvent};
 use jc_world::process::{LoadSource, Processed};
 use jc_world::reports::{Reported, ReportedKey};
 use std::alloc::AllocError;
@@ -103,7 +103,7 @@ fn put_stepped(out: &mut Vec<u8>, call: u64, key: &Key, seen: &Stepped) -> Resul
 }
 
 #[tactic(auto, unfolding(crate::specs::Printing::picked_line))]
-fn put_picked(out: &mut Vec<u8>, call: u64, key: &Key, seen: &PickedUp) -> Result<(), AllocError>
+fn put_picked(out: &mut Vec<u8>, call: u64, key: &Key, seen: &JoinAnswer) -> Result<(), AllocError>
     ensures { OnOk result (out.new.items ≡ out.old.items ++ picked_line call key.now seen.now) }
 {
     put_outcome(out, call, key, &seen.reply, seen.stripe, seen.place)?;
@@ -344,15 +344,8 @@ fn put_event(out: &mut Vec<u8>, event: &WorldEvent, seen: &Shown) -> Result<(), 
 pub fn put_texts(out: &mut Vec<u8>, events: &[WorldEvent], seen: &[Shown]) -> Result<(), AllocError>
     ensures { OnOk result (out.new.items ≡ out.old.items ++ texts events.now seen.now) }
 {
-    let mut rest = seen;
-    for event in events {
-        match rest {
-            [] => return Ok(()),
-            [first, more @ ..] => {
-                put_event(out, event, first)?;
-                rest = more;
-            }
-        }
+    for place in 0..events.len().min(seen.len()) {
+        put_event(out, &events[place], &seen[place])?;
     }
     Ok(())
 }

@@ -124,7 +124,6 @@ fn read_call(word: &[u8]) -> Result<EntryCall, Fault>
 fn add_word(calls: &mut EntryCalls, fail: &mut Option<u32>, word: &[u8]) -> Result<(), ReadError>
     ensures { Gives (ok_with (calls.new, fail.new) result) (with_word calls.old fail.old word.now) }
 {
-    let _types: Option<&Value> = None;
     if is_fail(word) {
         *fail = Some(number(behind(5, word))?);
         return Ok(());

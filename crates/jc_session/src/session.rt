@@ -1,27 +1,25 @@
 //! Sessions.
-ghost use Rattle.std.specs.Prelude.{◌≡◌, ℕ, true, IsSome, IfSome, IfNone};
+ghost use Rattle.std.specs.Prelude.{◌≡◌, ℕ, true, is_some, IsSome, IfSome, IfNone};
 ghost use Rattle.jc_model.specs.Table.{is_load_given, is_write_given, is_process_given};
 ghost use Rattle.jc_outside.specs.declared.done.Origin.TheVariants.{Live};
-ghost use Rattle.jc_outside.specs.Calling.{LoadsOnce, WritesOnce};
+ghost use Rattle.jc_outside.specs.Calling.{KeepsType, LoadsOnce, WritesOnce};
 ghost use Rattle.jc_mutentry.specs.Running.{RunsOnce, LoadsIfGiven};
 ghost use Rattle.jc_stripe.specs.State.{State};
-ghost use Rattle.jc_stripe.specs.Tickets.{entry_seen, is_loadable};
+ghost use Rattle.jc_stripe.specs.Tickets.{asks_loader, asks_processor, entry_seen, is_loadable};
 ghost use Rattle.jc_stripe.specs.Reached.{IsReached};
-ghost use Rattle.jc_stripe.specs.OnePhase.{IsPhaseOf};
 ghost use Rattle.jc_session.specs.Boxed.{boxed};
-ghost use Rattle.jc_session.specs.Counting.{one_more, counts_begun, counts_ended, counts_picked};
+ghost use Rattle.jc_session.specs.Counting.{one_more, counts_after, IsCounted};
 
 mod calls_all;
 
-use crate::counts::Counts;
+use crate::counts::{Counted, Counts, one_more};
 use crate::mark::Mark;
 use jc_gate::Gate;
 use jc_mutentry::{EntryProcessor, ProcDone, run_processor};
 use jc_outside::{
-    AskWrite, CacheLoader, CacheWriter, Hands, LoadDone, Outside, WriteDone, call_loader,
-    call_writer,
+    CacheLoader, CacheWriter, Hands, LoadDone, Outside, WriteDone, call_loader, call_writer,
 };
-use jc_stripe::{Begun, LoadAsk, Picked, ProcessAsk, Stripe};
+use jc_stripe::{Ask, Stripe};
 use jc_types::{Caller, Value};
 use std::sync::Wait;
 
@@ -81,7 +79,8 @@ impl Session {
         self.caller
     }
 
-    /// How many steps the session has made on the cache: its calls that were neither refused nor are still to be answered.
+    /// How many steps the session has made on the cache, up to `u64::MAX`: one for each key of a call that was neither refused
+    /// there nor is still to be answered.
     pub fn own(&self) -> u64
         ensures { result ≡ self.now.counts.own }
     {
@@ -107,35 +106,48 @@ impl Session {
         Some(stripe)
     }
 
-    /// Gives a stripe back.
+    /// Gives a stripe back, and counts what its phase was.
     ///
-    /// Conditions: the session holds one stripe, and this is the one that the token has taken, after at most one phase of a session
-    /// that the token speaks for.
-    pub fn give<G: Gate>(&mut self, gate: &mut G, token: &mut G::Token, stripe: Box<Stripe>)
+    /// Conditions: the session holds one stripe, and the token speaks for it. This is the stripe that the token has taken, after
+    /// at most one phase of this session, which changes this of its counts.
+    pub fn give<G: Gate>(
+        &mut self,
+        gate: &mut G,
+        token: &mut G::Token,
+        stripe: Box<Stripe>,
+        counted: Counted,
+    )
         requires held { self.old.hands.held ≡ 1 }
-        requires phase { (n : ℕ) × (a : State)
-            × G.speaks_for token.old n × G.has gate.old token.old a × IsPhaseOf n a stripe.value }
-        ensures held { self.new ≡ record self.old { hands = record self.old.hands { held = 0 } } }
+        requires speaks { G.speaks_for token.old self.old.caller.session }
+        requires phase { (a : State) × G.has gate.old token.old a
+            × IsCounted counted self.old.caller.session a stripe.value }
+        ensures session { self.new ≡ record self.old {
+          counts = counts_after self.old.counts counted;
+          hands = record self.old.hands { held = 0 };
+        } }
         ensures speaks { (n : ℕ) → G.speaks_for token.old n → G.speaks_for token.new n }
         ensures free { G.is_free gate.new token.new }
         ensures left { G.leaves gate.new token.new stripe.value }
     {
         gate.give(token, stripe);
         self.hands.let_go();
+        self.counts = self.counts.after(counted);
     }
 
     /// Calls the loader once, with the key of the ask. Without a loader nothing is found.
     ///
     /// It may wait, as long as the loader does.
     ///
-    /// Condition: the session holds no stripe.
-    pub fn ask_loader<R: Wait>(&mut self, rt: &R, ask: LoadAsk) -> LoadDone<LoadAsk>
-        requires { self.old.hands.held ≡ 0 }
+    /// Conditions: the session holds no stripe, and the ask's reservation asks the loader first.
+    pub fn ask_loader<R: Wait>(&mut self, rt: &R, ask: Ask) -> LoadDone<Ask>
+        requires held { self.old.hands.held ≡ 0 }
+        requires first { asks_loader ask.reservation.first ≡ true }
         ensures ask { result.ask ≡ ask }
         ensures origin { result.origin ≡ Live }
         ensures given { is_load_given result.answer ≡ true }
         ensures loader { LoadsOnce (boxed loads) (boxed load_state)
-            self.old.hands.outside.loader ask.key result.answer self.new.hands.outside.loader }
+            self.old.hands.outside.loader ask.reservation.key result.answer self.new.hands.outside.loader }
+        ensures loader_type { KeepsType self.old.hands.outside.loader self.new.hands.outside.loader }
         ensures writer { self.new.hands.outside.writer ≡ self.old.hands.outside.writer }
         ensures held { self.new.hands.held ≡ 0 }
         ensures rest { self.new ≡ record self.old { hands = self.new.hands } }
@@ -147,16 +159,18 @@ impl Session {
     ///
     /// It may wait, as long as the writer does.
     ///
-    /// Conditions: the session holds no stripe, and has a writer.
-    pub fn ask_writer<A: AskWrite, R: Wait>(&mut self, rt: &R, ask: A) -> WriteDone<A>
+    /// Conditions: the session holds no stripe, and has a writer; the ask has a change.
+    pub fn ask_writer<R: Wait>(&mut self, rt: &R, ask: Ask) -> WriteDone<Ask>
         requires held { self.old.hands.held ≡ 0 }
+        requires change { is_some ask.change ≡ true }
         requires writer { IsSome self.old.hands.outside.writer }
         ensures ask { result.ask ≡ ask }
         ensures origin { result.origin ≡ Live }
         ensures given { is_write_given result.answer ≡ true }
         ensures writer { WritesOnce (boxed writes) (boxed write_state)
-            self.old.hands.outside.writer (A.key ask) (A.change ask)
+            self.old.hands.outside.writer ask.reservation.key ask.change
             result.answer self.new.hands.outside.writer }
+        ensures writer_type { KeepsType self.old.hands.outside.writer self.new.hands.outside.writer }
         ensures loader { self.new.hands.outside.loader ≡ self.old.hands.outside.loader }
         ensures held { self.new.hands.held ≡ 0 }
         ensures rest { self.new ≡ record self.old { hands = self.new.hands } }
@@ -170,74 +184,30 @@ impl Session {
     ///
     /// It may wait, as long as the processor and the loader do.
     ///
-    /// Condition: the session holds no stripe.
+    /// Conditions: the session holds no stripe, and the ask's reservation asks the processor first.
     pub fn run_processor<R: Wait>(
         &mut self,
         rt: &R,
-        ask: ProcessAsk,
+        ask: Ask,
         processor: &mut Box<dyn EntryProcessor + Send + Drop>,
         args: &[Value],
-    ) -> ProcDone<ProcessAsk>
-        requires { self.old.hands.held ≡ 0 }
+    ) -> ProcDone<Ask>
+        requires held { self.old.hands.held ≡ 0 }
+        requires first { asks_processor ask.reservation.first ≡ true }
         ensures ask { result.ask ≡ ask }
         ensures origin { result.origin ≡ Live }
         ensures given { is_process_given result.process ≡ true }
         ensures run { RunsOnce processes process_state
-            processor.old ask.key args.now (is_loadable ask.first) (entry_seen ask.first)
+            processor.old ask.reservation.key args.now (is_loadable ask.reservation.first) (entry_seen ask.reservation.first)
             result.load result.process processor.new }
         ensures loader { LoadsIfGiven (boxed loads) (boxed load_state)
-            self.old.hands.outside.loader ask.key result.load self.new.hands.outside.loader }
+            self.old.hands.outside.loader ask.reservation.key result.load self.new.hands.outside.loader }
+        ensures loader_type { KeepsType self.old.hands.outside.loader self.new.hands.outside.loader }
+        ensures processor_type { processor.new.vtable ≡ processor.old.vtable }
         ensures writer { self.new.hands.outside.writer ≡ self.old.hands.outside.writer }
         ensures held { self.new.hands.held ≡ 0 }
         ensures rest { self.new ≡ record self.old { hands = self.new.hands } }
     {
         run_processor(rt, &mut self.hands, processor, ask, args)
-    }
-
-    /// Counts what a first phase has given.
-    pub fn count_begun(&mut self, begun: &Begun)
-        ensures { self.new ≡ record self.old { counts = counts_begun self.old.counts begun.now } }
-    {
-        match begun {
-            Begun::Done(_) => self.counts.own = one_more(self.counts.own),
-            Begun::Load(_) | Begun::Write(_) | Begun::Process(_) => {
-                self.counts.reservations = one_more(self.counts.reservations);
-            }
-            Begun::Joined(_) => self.counts.joins = one_more(self.counts.joins),
-            Begun::Refused(_) => {}
-        }
-    }
-
-    /// Counts that a reservation was committed.
-    pub fn count_ended(&mut self)
-        ensures { self.new ≡ record self.old { counts = counts_ended self.old.counts } }
-    {
-        self.counts.reservations = self.counts.reservations.saturating_sub(1);
-        self.counts.own = one_more(self.counts.own);
-    }
-
-    /// Counts what a pick-up has given.
-    pub fn count_picked(&mut self, picked: &Picked)
-        ensures { self.new ≡ record self.old { counts = counts_picked self.old.counts picked.now } }
-    {
-        match picked {
-            Picked::Answer { .. } => {
-                self.counts.joins = self.counts.joins.saturating_sub(1);
-                self.counts.own = one_more(self.counts.own);
-            }
-            Picked::Again => self.counts.joins = self.counts.joins.saturating_sub(1),
-            Picked::NotYet(_) => {}
-        }
-    }
-}
-
-/// The number after one, up to the last.
-fn one_more(number: u64) -> u64
-    ensures { result ≡ one_more number }
-{
-    if number < u64::MAX {
-        number + 1
-    } else {
-        number
     }
 }

@@ -16,7 +16,8 @@
 --     without_none                        the reservations without a key that none of them has
 --     none_twice                          no key of an empty list stands twice
 --     keys_once, keys_own                 the keys of a stripe differ, and belong to it
-use Rattle.std.proofs.Common.{◌≡◌, ◌==◌, ◌&&◌, ◌||◌, ◌+◌, ℕ, zero, suc, List, [], ◌∷◌, Bool, true, false, cond, not, Option, None, Some, is_none, refl, sym, ap, ◌∙◌, slice_get}
+--     adds_one, gains_one                 a step that is added or gained is one more in the list of own steps
+use Rattle.std.proofs.Common.{◌≡◌, ◌==◌, ◌&&◌, ◌||◌, ◌+◌, ℕ, zero, suc, List, [], ◌∷◌, Bool, true, false, cond, not, Option, None, Some, is_none, refl, sym, ap, ◌∙◌, slice_get, append-nil}
 use Rattle.std.specs.Ordering.{eq_by_cmp}
 use Rattle.std.specs.Map.{keys_of}
 use Rattle.std.specs.FinMap.{find}
@@ -55,7 +56,8 @@ use Rattle.jc_stripe.specs.Keys.{AreKeys}
 use Rattle.jc_stripe.specs.OrderOfUse.{by_use}
 use Rattle.jc_stripe.specs.Phases.{MayBegin, Begins, Steps, new_group, with_joiner, after_commit, after_withdrawal, without_joiner, told_to}
 use Rattle.jc_stripe.specs.Reached.{IsReached, may_share}
-use Rattle.jc_stripe.specs.OnePhase.{is_parked}
+use Rattle.jc_stripe.specs.OnePhase.{is_parked, own_steps, GainsOwn}
+use Rattle.jc_stripe.specs.OwnSteps.{AddsOwn, HasOneMore}
 use Rattle.jc_stripe.proofs.Settled.{claim_left, keyed_callers}
 pub use Rattle.jc_stripe.proofs.Refusing.{asks_none, answering_asks}
 pub use Rattle.jc_stripe.proofs.Settled.{loads_asked}
@@ -219,3 +221,11 @@ keys_own s found reached are =
     let keys : List Bytes = keys_of (by_use s.opening s.history) in
     let own : list_all (is_of s) keys ≡ true = all_keys (is_of s) (by_use s.opening s.history) ∙ reached.used.own in
     all_pass (is_of s) found (sym (list_any-IsPermutation (λ k. not (is_of s k)) keys found are.each) ∙ none_other (is_of s) keys own)
+
+-- 7. One own step more.
+
+pub adds_one : (session : ℕ) (old new : State) (event : Event) (place : ℕ) → AddsOwn session old new event place → HasOneMore event (own_steps session old) (own_steps session new)
+adds_one session old new event place adds = record { before = own_steps session old; after = []; was = sym (append-nil (own_steps session old)); is = adds.own }
+
+pub gains_one : (session : ℕ) (old new : State) (event : Event) (place : ℕ) → GainsOwn session old new event place → HasOneMore event (own_steps session old) (own_steps session new)
+gains_one session old new event place gains = record { before = gains.before; after = gains.after; was = gains.was; is = gains.own }

@@ -1,5 +1,5 @@
 -- A step that was appended keeps a stripe's fields sound.
-use Rattle.std.proofs.Common.{◌≡◌, ◌≤◌, ◌+◌, ◌-◌, ℕ, List, [], ◌∷◌, ◌++◌, map, length, count_by, IsTrue, None, refl, sym, ap, ◌∙◌, subst, arith}
+use Rattle.std.proofs.Common.{◌≡◌, ◌≤◌, ◌+◌, ◌-◌, ℕ, List, [], ◌∷◌, ◌++◌, length, count_by, IsTrue, None, refl, sym, ap, ◌∙◌, subst, arith}
 use Rattle.std.specs.FinMap.{from_entries}
 use Rattle.jc_model.specs.declared.event.Op.{Op}
 use Rattle.jc_model.specs.declared.event.Out.{Out}
@@ -9,12 +9,11 @@ use Rattle.jc_model.specs.Table.{answers_fit}
 use Rattle.jc_model.specs.Group.{Group, events_of, nothing_said}
 use Rattle.jc_entries.specs.ByUse.{ByUse}
 use Rattle.jc_history.specs.Past.{Past, promise}
-use Rattle.jc_reserve.specs.Table.{Table, keys_held}
+use Rattle.jc_reserve.specs.Table.{Table}
 use Rattle.jc_reserve.specs.Reserving as reserving
 use Rattle.jc_inflight.specs.declared.joiner.Joiner.{Joiner}
 use Rattle.jc_inflight.specs.Joining.{callers_of, waits_for}
 use Rattle.jc_inflight.specs.Resolving.{after_resolve}
-use Rattle.jc_stripe.specs.declared.ticket.Note.{Note}
 use Rattle.jc_stripe.specs.declared.ticket.First.TheVariants.{Nobody}
 use Rattle.jc_stripe.specs.declared.stripe.Stripe.TheInside.{Inside}
 use Rattle.jc_stripe.specs.State.{State, IsOut, without_key, waits}
@@ -22,9 +21,8 @@ use Rattle.jc_stripe.specs.OrderOfUse.{by_use, pinned}
 use Rattle.jc_stripe.specs.Refusals.{first_refusal, first_asked, needs_free_key, places_needed}
 use Rattle.jc_stripe.specs.Phases.{MayBegin, Steps, new_group, after_commit}
 use Rattle.jc_stripe.specs.Appending.{NewGroup, AppliesStep, AnswersFirst, group_events, append_group}
-use Rattle.jc_stripe.specs.Inside.{IsStripe, state_of, note_reservation}
+use Rattle.jc_stripe.specs.Inside.{IsStripe, state_of}
 use Rattle.jc_stripe.proofs.Lawfully.{MayShare}
-use Rattle.jc_stripe.proofs.Fields.{left-reserved_of, pinned-reserved_of}
 use Rattle.jc_stripe.proofs.Fitting.{said_fits, said_given}
 use Rattle.jc_stripe.proofs.Settled.{shares_with, claim_asks}
 use Rattle.jc_inflight.proofs.CallerLemmas.{length-callers_of, waiting-answered_from}
@@ -46,15 +44,15 @@ done_at i entries history = record i { entries = entries; history = history }
 -- what is known of it
 pub record IsDone (i : Inside) (caller : Caller) (key : Bytes) (op : Op) (entries : ByUse) (promised_in history : Past) (keys : List Bytes) (made : NewGroup) (done : StepDone) (kept : ℕ) : Type 0 where
   pub sound : IsStripe i
-  pub keys_are : keys ≡ keys_held i.reservations.held
+  pub keys_are : keys ≡ pinned i.reservations.held
   pub is : IsMade (state_of i) caller key op nothing_said made
   pub keeps : AppliesStep i.entries keys key op nothing_said made.victim made.evicted entries
   pub promises : promised_in ≡ promise kept i.history
   pub told : IsTold (length promised_in.events) made [] done
   pub put : history ≡ append_group (group_events (length promised_in.events) made []) kept promised_in
 
-done_entries : (i : Inside) (keys : List Bytes) → IsStripe i → keys ≡ keys_held i.reservations.held → AreEntries (state_of i) i.entries keys
-done_entries i keys sound keys_are = record { list = sound.by_use; capacity = sound.capacity; cache = refl; pinned = keys_are ∙ sym (pinned-reserved_of i.reservations.held); used = sound.state.used }
+done_entries : (i : Inside) (keys : List Bytes) → IsStripe i → keys ≡ pinned i.reservations.held → AreEntries (state_of i) i.entries keys
+done_entries i keys sound keys_are = record { list = sound.by_use; capacity = sound.capacity; cache = refl; pinned = keys_are; used = sound.state.used }
 
 pub done_steps : (i : Inside) (caller : Caller) (key : Bytes) (op : Op) (entries : ByUse) (promised_in history : Past) (keys : List Bytes) (made : NewGroup) (done : StepDone) (kept : ℕ) → IsDone i caller key op entries promised_in history keys made done kept
     → IsTrue (answers_fit i.config op (entry_at (state_of i).cache key) nothing_said) → Steps (state_of i) caller key op nothing_said [] done (state_of (done_at i entries history))
@@ -86,7 +84,7 @@ done_sound i caller key op entries promised_in history keys made done kept d non
 -- 2. A commit.
 
 -- the stripe after it
-abbrev pub committed_at : Inside → ByUse → Table Note → List Joiner → Past → Inside
+abbrev pub committed_at : Inside → ByUse → Table Reservation → List Joiner → Past → Inside
 committed_at i entries table js history = record i { entries = entries; reservations = table; joiners = js; history = history }
 
 -- others may share the load of what is out
@@ -98,12 +96,12 @@ may_share_claimed i r out place (c ∷ cs) sound found said same =
     (known.read_through, known.whole, known.missing, said_given i.config r.first out known.first said)
 
 -- what is known of a commit
-pub record IsCommit (i : Inside) (r : Reservation) (out : Out) (entries : ByUse) (table : Table Note) (js : List Joiner) (history : Past) (keys : List Bytes) (made : NewGroup) (done : StepDone) (kept : ℕ) : Type 0 where
+pub record IsCommit (i : Inside) (r : Reservation) (out : Out) (entries : ByUse) (table : Table Reservation) (js : List Joiner) (history : Past) (keys : List Bytes) (made : NewGroup) (done : StepDone) (kept : ℕ) : Type 0 where
   pub sound : IsStripe i
   pub found : IsOut (state_of i) r
   pub said : AnswersFirst i.config r.first out
-  pub released : table ≡ reserving.without_reservation i.reservations r.key
-  pub keys_are : keys ≡ keys_held table.held
+  pub released : table ≡ reserving.without_reservation (λ (x : Reservation). x.key) i.reservations r.key
+  pub keys_are : keys ≡ pinned table.held
   pub is : IsMade (state_of i) r.caller r.key r.op out made
   pub keeps : AppliesStep i.entries keys r.key r.op out made.victim made.evicted entries
   pub told : IsTold (length i.history.events) made (callers_of r.number i.joiners) done
@@ -111,7 +109,7 @@ pub record IsCommit (i : Inside) (r : Reservation) (out : Out) (entries : ByUse)
   pub joiners : js ≡ after_resolve r.number done.place i.joiners
   pub kept_is : kept ≡ STEP_PLACES + count_by (waits_for r.number) i.joiners
 
-commit_entries : (i : Inside) (r : Reservation) (place : ℕ) (table : Table Note) (keys : List Bytes) → IsStripe i → table ≡ reserving.without_reservation i.reservations r.key → keys ≡ keys_held table.held
+commit_entries : (i : Inside) (r : Reservation) (place : ℕ) (table : Table Reservation) (keys : List Bytes) → IsStripe i → table ≡ reserving.without_reservation (λ (x : Reservation). x.key) i.reservations r.key → keys ≡ pinned table.held
     → AreEntries (after_commit (state_of i) r place) i.entries keys
 commit_entries i r place table keys sound released keys_are =
     let used = sound.state.used in
@@ -119,7 +117,7 @@ commit_entries i r place table keys sound released keys_are =
       list = sound.by_use;
       capacity = sound.capacity;
       cache = refl;
-      pinned = keys_are ∙ ap (λ (t : Table Note). keys_held t.held) released ∙ sym (pinned-reserved_of (reserving.without_reservation i.reservations r.key).held) ∙ ap pinned (left-reserved_of r.key i.reservations.held);
+      pinned = keys_are ∙ ap (λ (t : Table Reservation). pinned t.held) released;
       used = record { once = used.once; own = used.own; cache = used.cache };
     }
 
@@ -127,7 +125,7 @@ commit_entries i r place table keys sound released keys_are =
 made_after : (i : Inside) (r : Reservation) (place : ℕ) (out : Out) (made : NewGroup) → IsMade (state_of i) r.caller r.key r.op out made → IsMade (after_commit (state_of i) r place) r.caller r.key r.op out made
 made_after i r place out made is = record { caller_is = is.caller_is; key_is = is.key_is; op_is = is.op_is; out_is = is.out_is; reply_is = is.reply_is }
 
-pub commit_steps : (i : Inside) (r : Reservation) (out : Out) (entries : ByUse) (table : Table Note) (js : List Joiner) (history : Past) (keys : List Bytes) (made : NewGroup) (done : StepDone) (kept : ℕ)
+pub commit_steps : (i : Inside) (r : Reservation) (out : Out) (entries : ByUse) (table : Table Reservation) (js : List Joiner) (history : Past) (keys : List Bytes) (made : NewGroup) (done : StepDone) (kept : ℕ)
     → IsCommit i r out entries table js history keys made done kept
     → Steps (after_commit (state_of i) r done.place) r.caller r.key r.op out (callers_of r.number i.joiners) done (state_of (committed_at i entries table js history))
 commit_steps i r out entries table js history keys made done kept c =
@@ -139,16 +137,16 @@ commit_steps i r out entries table js history keys made done kept c =
     (may_share_claimed i r out done.place callers c.sound c.found c.said refl)
     (made_after i r done.place out made c.is) c.keeps c.told
     ((λ k. state_of (committed_at i entries (c.released k) (c.joiners k) (c.put k)))
-    ∙ (λ k. record (state_of i) { cache = from_entries entries.list; reservations = left-reserved_of r.key i.reservations.held k; joiners = after_resolve r.number done.place i.joiners; history = i.history.events ++ group_events (length i.history.events) made callers }))
+    ∙ (λ k. record (state_of i) { cache = from_entries entries.list; reservations = without_key r.key i.reservations.held; joiners = after_resolve r.number done.place i.joiners; history = i.history.events ++ group_events (length i.history.events) made callers }))
 
-pub commit_sound : (i : Inside) (r : Reservation) (out : Out) (entries : ByUse) (table : Table Note) (js : List Joiner) (history : Past) (keys : List Bytes) (made : NewGroup) (done : StepDone) (kept : ℕ)
+pub commit_sound : (i : Inside) (r : Reservation) (out : Out) (entries : ByUse) (table : Table Reservation) (js : List Joiner) (history : Past) (keys : List Bytes) (made : NewGroup) (done : StepDone) (kept : ℕ)
     → IsCommit i r out entries table js history keys made done kept → IsStripe (committed_at i entries table js history)
 commit_sound i r out entries table js history keys made done kept c =
     let m : State = after_commit (state_of i) r done.place in
     let callers = callers_of r.number i.joiners in
     let after : history.events ≡ i.history.events ++ group_events (length i.history.events) made callers = ap (λ (p : Past). p.events) c.put in
-    let rest : map note_reservation table.held ≡ without_key r.key (state_of i).reservations = ap (λ (t : Table Note). map note_reservation t.held) c.released ∙ left-reserved_of r.key i.reservations.held in
-    let fewer : length (map note_reservation table.held) ≡ length (without_key r.key (state_of i).reservations) = ap length rest in
+    let rest : table.held ≡ without_key r.key (state_of i).reservations = ap (λ (t : Table Reservation). t.held) c.released in
+    let fewer : length (table.held) ≡ length (without_key r.key (state_of i).reservations) = ap length rest in
     let one = one_exactly r.key (state_of i).reservations r c.sound.state.numbered.once c.found in
     let left : count_by waits js ≡ count_by waits (after_resolve r.number done.place i.joiners) = ap (count_by waits) c.joiners in
     let count = waiting-answered_from r.number done.place (done.place + 1) i.joiners in
@@ -174,7 +172,7 @@ commit_few load js place waiting made w =
 
 -- what it appends fits into the places that it needs
 pub done_few : (i : Inside) (caller : Caller) (key : Bytes) (op : Op) (entries : ByUse) (keys : List Bytes) (made : NewGroup) (place : ℕ) → IsStripe i
-    → first_asked i.config op (entry_at (state_of i).cache key) ≡ Nobody → keys ≡ keys_held i.reservations.held → IsMade (state_of i) caller key op nothing_said made
+    → first_asked i.config op (entry_at (state_of i).cache key) ≡ Nobody → keys ≡ pinned i.reservations.held → IsMade (state_of i) caller key op nothing_said made
     → AppliesStep i.entries keys key op nothing_said made.victim made.evicted entries → length (group_events place made []) ≤ places_needed (needs_free_key (state_of i) key op)
 done_few i caller key op entries keys made place sound nobody keys_are is keeps =
     let m : State = state_of i in

@@ -1,5 +1,5 @@
 -- What a stripe's fields say of its state.
-use Rattle.std.proofs.Common.{List, [], ◌∷◌, ◌||◌, cond, is_some, ◌≡◌, ◌≤◌, ◌<◌, ◌+◌, ◌&&◌, ℕ, length, Bool, true, false, not, IsTrue, ◌↔◌, Option, Some, None, option_map, find, nat_le, nat_lt, refl, sym, ap, ◌∙◌, arith}
+use Rattle.std.proofs.Common.{List, [], ◌∷◌, ◌||◌, cond, is_some, ◌≡◌, ◌≤◌, ◌<◌, ◌+◌, ◌&&◌, ℕ, length, Bool, true, false, not, IsTrue, ◌↔◌, Some, find, nat_le, nat_lt, refl, sym, ap, ◌∙◌, arith}
 use Rattle.std.proofs.lemmas.Bool.Decides.{nat_tests}
 use Rattle.std.specs.List.{list_any}
 use Rattle.std.specs.FinMap.{len, from_entries}
@@ -7,14 +7,10 @@ use Rattle.jc_model.specs.Cache.{Bytes, key_cmp}
 use Rattle.jc_model.specs.Listed.{has_distinct_keys}
 use Rattle.jc_model.proofs.CallerLemmas.{len-distinct}
 use Rattle.jc_history.specs.Past.{places_used}
-use Rattle.jc_reserve.specs.Reserving.{reservation_at}
-use Rattle.jc_stripe.specs.declared.ticket.Note.{Note}
 use Rattle.jc_stripe.specs.declared.stripe.Stripe.TheInside.{Inside}
 use Rattle.jc_stripe.specs.State.{is_key, is_reserved, promised, reservation_of}
-use Rattle.jc_stripe.specs.Refusals.{has_room, last_number, load_at, load_of}
+use Rattle.jc_stripe.specs.Refusals.{has_room, last_number}
 use Rattle.jc_stripe.specs.Inside.{IsStripe, state_of}
-use Rattle.jc_stripe.proofs.Fields.{note_of, found-reserved_of}
-use Rattle.jc_stripe.specs.declared.ticket.Reservation.{Reservation}
 
 -- the places that are gone are those of the events and the promised ones
 pub used_of : (i : Inside) → IsStripe i → places_used i.history ≡ length (state_of i).history + promised (state_of i)
@@ -62,26 +58,6 @@ room_none i call needed sound over =
     let l = sound.limit in
     ap (λ b. b && nat_lt call last_number && nat_lt i.reservations.next last_number) (test_fewer (length (state_of i).history + promised (state_of i) + needed) i.config.history (omega arith))
 
-same_some : {X : Type 0} (x y : X) → Some x ≡ Some y → x ≡ y
-same_some x y h = cc
-
--- the load of a key's reservation
-load_found : (o : Option Reservation) (number : ℕ) (note : Note) → option_map {U = ℕ × Note} (λ r. (r.number, note_of r)) o ≡ Some (number, note) → load_at o ≡ load_of note.first number
-load_found None number note h = cc
-load_found (Some r) number note h =
-    let p = same_some (r.number, note_of r) (number, note) h in
-    λ k. load_of (p k).1.first (p k).0
-
-load_missing : (o : Option Reservation) → option_map {U = ℕ × Note} (λ r. (r.number, note_of r)) o ≡ None → load_at o ≡ None
-load_missing None h = refl
-load_missing (Some r) h = cc
-
-pub load_some : (i : Inside) (key : Bytes) (number : ℕ) (note : Note) → reservation_at i.reservations key ≡ Some (number, note) → load_at (reservation_of (state_of i) key) ≡ load_of note.first number
-load_some i key number note h = load_found _ number note (sym (found-reserved_of i.reservations key) ∙ h)
-
-pub load_none : (i : Inside) (key : Bytes) → reservation_at i.reservations key ≡ None → load_at (reservation_of (state_of i) key) ≡ None
-load_none i key h = load_missing _ (sym (found-reserved_of i.reservations key) ∙ h)
-
 -- how many entries there are
 pub entries_len : (i : Inside) → IsStripe i → length i.entries.list ≤ i.entries.capacity
 entries_len i sound =
@@ -90,16 +66,10 @@ entries_len i sound =
     let c = sound.capacity in
     omega arith
 
-some_map : {X Y : Type 0} (f : X → Y) (o : Option X) → is_some (option_map f o) ≡ is_some o
-some_map f None = refl
-some_map f (Some x) = refl
-
 some_found : {X : Type 0} (p : X → Bool) (xs : List X) → is_some (find p xs) ≡ list_any p xs
 some_found p [] = refl
 some_found p (x ∷ xs) = elim (p x) as (λ b. is_some (cond b (Some x) (find p xs)) ≡ (b || list_any p xs)) [ true ↦ refl | false ↦ some_found p xs ]
 
 -- a key is reserved if the table finds it
-pub reserved_found : (i : Inside) (key : Bytes) → is_some (reservation_at i.reservations key) ≡ is_reserved (state_of i) key
-reserved_found i key =
-    ap is_some (found-reserved_of i.reservations key) ∙ some_map {Y = ℕ × Note} (λ (r : Reservation). (r.number, note_of r)) (find (is_key key) (state_of i).reservations)
-    ∙ some_found (is_key key) (state_of i).reservations
+pub reserved_found : (i : Inside) (key : Bytes) → is_some (reservation_of (state_of i) key) ≡ is_reserved (state_of i) key
+reserved_found i key = some_found (is_key key) (state_of i).reservations

@@ -1,5 +1,4 @@
 pub mod Beside
-pub mod Fields
 pub mod Finishing
 pub mod Fitting
 pub mod Inner
@@ -25,6 +24,7 @@ pub mod Used
 pub mod ParkedSteps
 pub mod OwnPick
 pub mod Own
+pub mod OwnNumbers
 pub mod WholeCalls
 pub mod UniformParts
 pub mod Testing

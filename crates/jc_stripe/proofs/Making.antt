@@ -1,5 +1,5 @@
 -- What each phase makes of a stripe's fields keeps them sound.
-use Rattle.std.proofs.Common.{◌≡◌, ◌≤◌, ◌<◌, ◌+◌, ◌-◌, ◌||◌, ℕ, suc, List, [], ◌∷◌, map, length, count_by, Bool, true, false, cond, not, IsTrue, ◌↔◌, Some, None, find, refl, sym, ap, ◌∙◌, subst, arith, AllPairs, All, if◌then◌else◌}
+use Rattle.std.proofs.Common.{MatchBool, ◌≡◌, ◌≤◌, ◌<◌, ◌+◌, ◌-◌, ◌||◌, ℕ, suc, List, [], ◌∷◌, length, count_by, Bool, true, false, cond, not, IsTrue, ◌↔◌, Some, None, find, refl, sym, ap, ◌∙◌, subst, arith, AllPairs, All, if◌then◌else◌}
 use Rattle.std.specs.List.{list_any, list_all}
 use Rattle.std.specs.Bool.{OnTrue}
 use Rattle.std.specs.Cmp.Lexicographic.{texts_ties}
@@ -19,7 +19,6 @@ use Rattle.jc_inflight.specs.Joining as joining
 use Rattle.jc_inflight.proofs.CallerLemmas.{waiting-after_dissolve}
 use Rattle.jc_types.specs.declared.limits.TheConstants.{STEP_PLACES, HIT_PLACES, JOINERS_MAX}
 use Rattle.jc_inflight.specs.Dissolving.{after_dissolve}
-use Rattle.jc_stripe.specs.declared.ticket.Note.{Note}
 use Rattle.jc_stripe.specs.declared.ticket.First.{First}
 use Rattle.jc_stripe.specs.declared.stripe.Stripe.TheInside.{Inside}
 use Rattle.jc_stripe.specs.Tickets.{JoinClaim}
@@ -28,10 +27,9 @@ use Rattle.jc_stripe.specs.OrderOfUse.{by_use}
 use Rattle.jc_stripe.specs.Refusals.{first_refusal, first_asked, needs_reservation, load_joined, needs_free_key, places_needed}
 use Rattle.jc_stripe.specs.Phases.{MayBegin, is_other_join, with_joiner, after_withdrawal}
 use Rattle.jc_stripe.specs.Reached.{IsReached}
-use Rattle.jc_stripe.specs.Inside.{IsStripe, state_of, note_reservation}
+use Rattle.jc_stripe.specs.Inside.{IsStripe, state_of}
 use Rattle.jc_stripe.proofs.Beside.{belongs_to_no_other}
 use Rattle.jc_stripe.proofs.Inner.{used_of}
-use Rattle.jc_stripe.proofs.Fields.{push-reserved_of, length-reserved_of, left-reserved_of, held-reserved_of}
 use Rattle.jc_stripe.proofs.Refusing.{not_refused, few_out, was_free, ticket_places, next_below, join_places, few_joined}
 use Rattle.jc_stripe.proofs.Tables.{reached_reserved, reached_joined}
 use Rattle.jc_stripe.proofs.Numbering.{first_pairs, later_pairs, without_none}
@@ -42,35 +40,33 @@ use Rattle.jc_stripe.specs.declared.ticket.Reservation.{Reservation}
 -- 1. A reservation.
 
 -- a call that needs a reservation and isn't refused can have it
-pub can_reserve : (i : Inside) (s : State) (caller : Caller) (key : Bytes) (op : Op) → state_of i ≡ s → first_refusal s caller key op ≡ None → needs_reservation s key op ≡ true → CanReserve i.reservations key
+pub can_reserve : (i : Inside) (s : State) (caller : Caller) (key : Bytes) (op : Op) → state_of i ≡ s → first_refusal s caller key op ≡ None → needs_reservation s key op ≡ true → CanReserve (λ (x : Reservation). x.key) i.reservations key
 can_reserve i s caller key op view none needs =
-    let n : length i.reservations.held ≡ length s.reservations = sym (length-reserved_of i.reservations.held) ∙ ap (λ (x : State). length x.reservations) view in
+    let n : length i.reservations.held ≡ length s.reservations = ap (λ (x : State). length x.reservations) view in
     let few = few_out s caller key op none needs in
     let below = next_below s caller.call (places_needed (needs_free_key s key op)) (not_refused s caller key op none).room in
     let next : i.reservations.next ≡ s.next = ap (λ (x : State). x.next) view in
     record {
       room = omega arith;
-      free = held-reserved_of i.reservations key ∙ ap (λ (x : State). is_reserved x key) view ∙ was_free s caller key op none needs;
+      free = ap (λ (x : State). is_reserved x key) view ∙ was_free s caller key op none needs;
       number = omega arith;
     }
 
 -- the state with the key reserved
-pub state-reserved : (i : Inside) (caller : Caller) (key : Bytes) (op : Op) (first : First) (table : Table Note) (history : Past)
-    → table ≡ reserving.with_reservation i.reservations key (record { caller = caller; op = op; first = first }) → history ≡ promise STEP_PLACES i.history
+pub state-reserved : (i : Inside) (caller : Caller) (key : Bytes) (op : Op) (first : First) (table : Table Reservation) (history : Past)
+    → table ≡ reserving.with_reservation i.reservations (new_reservation (state_of i) caller key op first) → history ≡ promise STEP_PLACES i.history
     → state_of (record i { reservations = table; history = history }) ≡ with_reservation (state_of i) (new_reservation (state_of i) caller key op first)
 state-reserved i caller key op first table history t h =
-    let note : Note = record { caller = caller; op = op; first = first } in
-    (λ k. state_of (record i { reservations = t k; history = h k }))
-    ∙ (λ k. record (state_of i) { reservations = push-reserved_of i.reservations.held (record { key = key; reservation = i.reservations.next; note = note }) k; next = i.reservations.next + 1 })
+    λ k. state_of (record i { reservations = t k; history = h k })
 
-pub sound-reserved : (i : Inside) (caller : Caller) (key : Bytes) (op : Op) (first : First) (table : Table Note) (history : Past) → IsStripe i
-    → table ≡ reserving.with_reservation i.reservations key (record { caller = caller; op = op; first = first }) → history ≡ promise STEP_PLACES i.history → IsReached (with_reservation (state_of i) (new_reservation (state_of i) caller key op first))
+pub sound-reserved : (i : Inside) (caller : Caller) (key : Bytes) (op : Op) (first : First) (table : Table Reservation) (history : Past) → IsStripe i
+    → table ≡ reserving.with_reservation i.reservations (new_reservation (state_of i) caller key op first) → history ≡ promise STEP_PLACES i.history → IsReached (with_reservation (state_of i) (new_reservation (state_of i) caller key op first))
     → IsStripe (record i { reservations = table; history = history })
 sound-reserved i caller key op first table history sound t h reached =
     let state = state-reserved i caller key op first table history t h in
     let kept : history.promised ≡ i.history.promised + STEP_PLACES = ap (λ (p : Past). p.promised) h in
     let more : promised (with_reservation (state_of i) (new_reservation (state_of i) caller key op first)) ≡ promised (state_of i) + STEP_PLACES =
-    let n = length-append (map note_reservation i.reservations.held) (new_reservation (state_of i) caller key op first ∷ []) in omega arith in
+    let n = length-append i.reservations.held (new_reservation (state_of i) caller key op first ∷ []) in omega arith in
     record {
       capacity = sound.capacity;
       limit = ap (λ (p : Past). p.limit) h ∙ sound.limit;
@@ -125,14 +121,13 @@ one_exactly key (x ∷ xs) r once h =
     ] refl h
 
 -- the state with the reservation given back
-pub state-withdrawn : (i : Inside) (r : Reservation) (table : Table Note) (js : List Joiner) (history : Past) (n : ℕ) → table ≡ reserving.without_reservation i.reservations r.key → js ≡ after_dissolve r.number i.joiners
+pub state-withdrawn : (i : Inside) (r : Reservation) (table : Table Reservation) (js : List Joiner) (history : Past) (n : ℕ) → table ≡ reserving.without_reservation (λ (x : Reservation). x.key) i.reservations r.key → js ≡ after_dissolve r.number i.joiners
     → history ≡ unpromise n i.history → state_of (record i { reservations = table; joiners = js; history = history }) ≡ after_withdrawal (state_of i) r
 state-withdrawn i r table js history n t j h =
-    (λ k. state_of (record i { reservations = t k; joiners = j k; history = h k }))
-    ∙ (λ k. record (state_of i) { reservations = left-reserved_of r.key i.reservations.held k; joiners = after_dissolve r.number i.joiners })
+    λ k. state_of (record i { reservations = t k; joiners = j k; history = h k })
 
-pub sound-withdrawn : (i : Inside) (r : Reservation) (table : Table Note) (js : List Joiner) (history : Past) (waiting : ℕ) → IsStripe i → find (is_key r.key) (state_of i).reservations ≡ Some r
-    → waiting ≡ count_by (waits_for r.number) i.joiners → table ≡ reserving.without_reservation i.reservations r.key → js ≡ after_dissolve r.number i.joiners → history ≡ unpromise (STEP_PLACES + waiting) i.history
+pub sound-withdrawn : (i : Inside) (r : Reservation) (table : Table Reservation) (js : List Joiner) (history : Past) (waiting : ℕ) → IsStripe i → find (is_key r.key) (state_of i).reservations ≡ Some r
+    → waiting ≡ count_by (waits_for r.number) i.joiners → table ≡ reserving.without_reservation (λ (x : Reservation). x.key) i.reservations r.key → js ≡ after_dissolve r.number i.joiners → history ≡ unpromise (STEP_PLACES + waiting) i.history
     → IsReached (after_withdrawal (state_of i) r) → IsStripe (record i { reservations = table; joiners = js; history = history })
 sound-withdrawn i r table js history waiting sound found w t j h reached =
     let state = state-withdrawn i r table js history (STEP_PLACES + waiting) t j h in
@@ -171,14 +166,36 @@ room_so i n sound h =
     let l = sound.limit in
     omega arith
 
-pub reserve_sound : (i : Inside) (caller : Caller) (key : Bytes) (op : Op) (first : First) (table : Table Note) (history : Past) (fits : Bool) → IsStripe i → first_refusal (state_of i) caller key op ≡ None
+pub reserve_sound : (i : Inside) (caller : Caller) (key : Bytes) (op : Op) (first : First) (table : Table Reservation) (history : Past) (fits : Bool) → IsStripe i → first_refusal (state_of i) caller key op ≡ None
     → needs_reservation (state_of i) key op ≡ true → first_asked i.config op (entry_at (state_of i).cache key) ≡ first → MayBegin (state_of i) caller key
-    → table ≡ reserving.with_reservation i.reservations key (record { caller = caller; op = op; first = first })
+    → table ≡ reserving.with_reservation i.reservations (new_reservation (state_of i) caller key op first)
     → (IsTrue fits ↔ (places_used i.history + STEP_PLACES ≤ i.history.limit)) → history ≡ (if fits then promise STEP_PLACES i.history else i.history) → IsStripe (record i { reservations = table; history = history })
 reserve_sound i caller key op first table history fits sound none needs asks may t f h =
     let places = ticket_places (state_of i) caller key op none needs in
     sound-reserved i caller key op first table history sound t (promised_so STEP_PLACES i.history history fits f h (room_so i STEP_PLACES sound places))
     (reached_reserved (state_of i) caller key op first sound.state may (few_out (state_of i) caller key op none needs) places asks (was_free (state_of i) caller key op none needs))
+
+-- the state has the reservation
+pub reserve_made : (i : Inside) (caller : Caller) (key : Bytes) (op : Op) (first : First) (table : Table Reservation) (history : Past) (fits : Bool) → IsStripe i → first_refusal (state_of i) caller key op ≡ None
+    → needs_reservation (state_of i) key op ≡ true → table ≡ reserving.with_reservation i.reservations (new_reservation (state_of i) caller key op first)
+    → (IsTrue fits ↔ (places_used i.history + STEP_PLACES ≤ i.history.limit)) → history ≡ (if fits then promise STEP_PLACES i.history else i.history)
+    → state_of (record i { reservations = table; history = history }) ≡ with_reservation (state_of i) (new_reservation (state_of i) caller key op first)
+reserve_made i caller key op first table history fits sound none needs t f h =
+    state-reserved i caller key op first table history t
+    (promised_so STEP_PLACES i.history history fits f h (room_so i STEP_PLACES sound (ticket_places (state_of i) caller key op none needs)))
+
+made : {X : Type 0} (b : Bool) (new more old : X) → IsTrue b → MatchBool b (new ≡ more) (new ≡ old) → new ≡ more
+made true new more old t h = h
+made false new more old t h = cc
+
+-- so has the table
+pub table_made : (i : Inside) (caller : Caller) (key : Bytes) (op : Op) (first : First) (number : ℕ) (b : Bool) (table : Table Reservation) → first_refusal (state_of i) caller key op ≡ None
+    → needs_reservation (state_of i) key op ≡ true → number ≡ i.reservations.next → (IsTrue b ↔ CanReserve (λ (x : Reservation). x.key) i.reservations key)
+    → MatchBool b (table ≡ reserving.with_reservation i.reservations (record { caller = caller; key = key; op = op; number = number; first = first })) (table ≡ i.reservations)
+    → table ≡ reserving.with_reservation i.reservations (new_reservation (state_of i) caller key op first)
+table_made i caller key op first number b table none needs n can m =
+    made b table _ _ (can.1 (can_reserve i (state_of i) caller key op refl none needs)) m
+    ∙ (λ k. reserving.with_reservation i.reservations (record { caller = caller; key = key; op = op; number = n k; first = first }))
 
 pub join_sound : (i : Inside) (caller : Caller) (load : ℕ) (key : Bytes) (op : Op) (js : List Joiner) (history : Past) (fits : Bool) → IsStripe i → first_refusal (state_of i) caller key op ≡ None → load_joined (state_of i) key op ≡ Some load
     → MayBegin (state_of i) caller key → js ≡ joining.with_joiner caller key load i.joiners → (IsTrue fits ↔ (places_used i.history + HIT_PLACES ≤ i.history.limit)) → history ≡ (if fits then promise HIT_PLACES i.history else i.history)

@@ -1,17 +1,10 @@
 -- What a test of all reservations, and of all events of a history, says.
 --     all_not        one that fails a test at a place
 --     all_more       a test of the first ones, and of one more
-use Rattle.std.proofs.Common.{◌≡◌, ◌&&◌, ℕ, zero, suc, List, [], ◌∷◌, map, take, Bool, true, false, cond, Option, None, Some, IsSomeAnd, find, option_map, ◌==◌, refl, sym, ap, ◌∙◌, slice_get}
+use Rattle.std.proofs.Common.{◌≡◌, ◌&&◌, ℕ, zero, suc, List, [], ◌∷◌, take, Bool, true, false, Option, None, Some, IsSomeAnd, option_map, ◌==◌, refl, sym, ap, ◌∙◌, slice_get}
 use Rattle.std.proofs.lemmas.Bool.{eqb-true, and_parts, and_from, and_right}
 use Rattle.std.specs.List.{list_all}
-use Rattle.std.specs.Cmp.Lexicographic.{same_text}
-use Rattle.jc_model.specs.Cache.{Bytes}
 use Rattle.jc_inflight.specs.declared.joiner.Joiner.{Joiner}
-use Rattle.jc_reserve.specs.declared.held.Held.{Held}
-use Rattle.jc_reserve.specs.Reserving.{has_key}
-use Rattle.jc_stripe.specs.declared.ticket.Note.{Note}
-use Rattle.jc_stripe.specs.State.{is_key}
-use Rattle.jc_stripe.specs.Inside.{note_reservation}
 
 pub all_not : {A : Type 0} (p : A → Bool) (xs : List A) (i : ℕ) (x : A) → slice_get xs i ≡ Some x → p x ≡ false → list_all p xs ≡ false
 all_not p [] i x h n = cc
@@ -23,28 +16,6 @@ all_more p [] i x h t before = cc
 all_more p (y ∷ ys) zero x h t before = let is : y ≡ x = cc in and_from _ _ (ap p is ∙ t) refl
 all_more p (y ∷ ys) (suc i) x h t before =
     let parts = and_parts (p y) (list_all p (take i ys)) before in and_from _ _ parts.0 (all_more p ys i x h t parts.1)
-
--- what is found at a key is its reservation
-pub held_found : (key : Bytes) (hs : List (Held Note)) (number : ℕ) (note : Note) → option_map {U = ℕ × Note} (λ h. (h.reservation, h.note)) (find (has_key key) hs) ≡ Some (number, note)
-    → find (is_key key) (map note_reservation hs) ≡ Some (note_reservation (record { key = key; reservation = number; note = note }))
-held_found key [] number note h = cc
-held_found key (x ∷ xs) number note h =
-    elim (has_key key x) as (λ b. has_key key x ≡ b → option_map {U = ℕ × Note} (λ h. (h.reservation, h.note)) (cond b (Some x) (find (has_key key) xs)) ≡ Some (number, note)
-    → cond b (Some (note_reservation x)) (find (is_key key) (map note_reservation xs)) ≡ Some (note_reservation (record { key = key; reservation = number; note = note }))) [
-      | true ↦ λ e h.
-          let pair : ◌≡◌ {A = ℕ × Note} (x.reservation, x.note) (number, note) = cc in
-          let k : key ≡ x.key = same_text key x.key (sym e) in
-          λ i. Some (note_reservation (record { key = sym k i; reservation = (pair i).0; note = (pair i).1 }))
-      | false ↦ λ e h. held_found key xs number note h
-    ] refl h
-
-pub held_missing : (key : Bytes) (hs : List (Held Note)) → option_map {U = ℕ × Note} (λ h. (h.reservation, h.note)) (find (has_key key) hs) ≡ None → find (is_key key) (map note_reservation hs) ≡ None
-held_missing key [] h = refl
-held_missing key (x ∷ xs) h =
-    elim (has_key key x) as (λ b. option_map {U = ℕ × Note} (λ h. (h.reservation, h.note)) (cond b (Some x) (find (has_key key) xs)) ≡ None → cond b (Some (note_reservation x)) (find (is_key key) (map note_reservation xs)) ≡ None) [
-      | true ↦ λ h. cc
-      | false ↦ λ h. held_missing key xs h
-    ] h
 
 -- the load that a joiner has joined
 pub load_then : (o : Option Joiner) (load other : ℕ) → option_map (λ j. j.load) o ≡ Some load → (load == other) ≡ true → IsSomeAnd o (λ j. j.load ≡ other)

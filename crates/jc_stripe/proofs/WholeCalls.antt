@@ -1,7 +1,7 @@
 -- A first phase that reserves its key, and its commit, with nothing between, are one step. And what a session's numbers tell.
 --     whole_call         the law of a whole call
 --     caller_numbers     the law of a session's numbers
-use Rattle.std.proofs.Common.{◌≡◌, ◌<◌, ◌==◌, ◌&&◌, ◌||◌, ◌+◌, ℕ, List, [], ◌∷◌, ◌++◌, map, filter, Bool, true, false, cond, not, Option, None, Some, is_none, nat_lt, refl, sym, ap, ◌∙◌, subst, arith}
+use Rattle.std.proofs.Common.{◌≡◌, ◌<◌, ◌==◌, ◌&&◌, ◌||◌, ◌+◌, ℕ, List, [], ◌∷◌, ◌++◌, map, filter, Bool, true, false, cond, not, Option, None, Some, nat_lt, refl, sym, ap, ◌∙◌, subst, arith}
 use Rattle.std.proofs.lemmas.Bool.Decides.{nat_tests}
 use Rattle.std.proofs.lemmas.Cmp.{nat_list_eq_equiv}
 use Rattle.std.proofs.lemmas.List.Folds.{list_all-append}
@@ -12,13 +12,10 @@ use Rattle.jc_types.proofs.CallerLemmas.{all_imply, found_holds}
 use Rattle.jc_types.specs.declared.caller.Caller.{Caller}
 use Rattle.jc_model.specs.declared.event.Event.{Event}
 use Rattle.jc_model.specs.declared.event.Event.TheVariants.{Step, Evict}
-use Rattle.jc_types.specs.declared.config.Config.{Config}
 use Rattle.jc_model.specs.declared.event.Op.{Op}
-use Rattle.jc_model.specs.declared.event.Op.TheVariants.{Get, ContainsKey, Put, GetAndPut, PutIfAbsent, Remove, RemoveIf, GetAndRemove, Replace, ReplaceIf, GetAndReplace, Clear, LoadAll, Invoke}
-use Rattle.jc_model.specs.Table.{always_if}
 use Rattle.jc_model.specs.declared.event.Out.{Out}
 use Rattle.jc_model.specs.declared.event.Cause.{Cause}
-use Rattle.jc_model.specs.Cache.{Bytes, entry_at}
+use Rattle.jc_model.specs.Cache.{Bytes}
 use Rattle.jc_model.specs.Group.{Group, victim_events, step_event, evicted_events, nothing_said}
 use Rattle.jc_model.specs.Legal.{may_come}
 use Rattle.jc_inflight.specs.declared.joiner.Joiner.{Joiner}
@@ -29,7 +26,7 @@ use Rattle.jc_stripe.specs.declared.ticket.Reservation.{Reservation}
 use Rattle.jc_stripe.specs.declared.begun.StepDone.{StepDone}
 use Rattle.jc_stripe.specs.Tickets.{TicketClaim}
 use Rattle.jc_stripe.specs.State.{State, is_key, is_reserved, reservation_of, new_reservation, with_reservation, without_key}
-use Rattle.jc_stripe.specs.Refusals.{first_by, first_asked, reserves, load_at, may_join, load_joined, needs_reservation}
+use Rattle.jc_stripe.specs.Refusals.{needs_reservation}
 use Rattle.jc_stripe.specs.Phases.{is_other_call, is_other_join, new_group, after_commit, Steps, Commits}
 use Rattle.jc_stripe.specs.Reached.{IsReached, JoinFits, AllJoin}
 use Rattle.jc_stripe.specs.OwnSteps.{is_before_call, HasNoCallFrom, CallerNumbers, WholeCall, JoinsOnlyLoads}

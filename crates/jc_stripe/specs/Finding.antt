@@ -5,7 +5,7 @@
 use Rattle.std.specs.Prelude.{Bool, ◌&&◌, is_none}
 use Rattle.jc_model.specs.declared.event.Op.{Op}
 use Rattle.jc_model.specs.Cache.{Bytes, entry_at}
-use Rattle.jc_stripe.specs.declared.needs.Found.{Found}
+use Rattle.jc_stripe.specs.declared.call_rules.Found.{Found}
 use Rattle.jc_stripe.specs.State.{State, is_reserved}
 use Rattle.jc_stripe.specs.Refusals.{first_asked, reserves, load_joined, needs_free_key}
 

@@ -1,5 +1,6 @@
 -- The laws of the phases, over every state.
 --     StaysReached      each phase leads from a reached state to a reached one
+--     ReachedIsLegal    a reached state's history is legal from its opening
 --     IsSameStripe      one state is of the same stripe as another: of the same shape, number, origin and opening
 --     Extends           one state comes after another: of the same stripe, with the earlier history as a prefix of its own
 --     Grows             a phase appends to the history of its stripe and changes nothing that is in it
@@ -11,6 +12,7 @@ use Rattle.jc_model.specs.declared.event.Event.{Event}
 use Rattle.jc_model.specs.declared.event.Op.{Op}
 use Rattle.jc_model.specs.declared.event.Out.{Out}
 use Rattle.jc_model.specs.Cache.{Bytes, entry_at}
+use Rattle.jc_model.specs.Legal.{Legal}
 use Rattle.jc_stripe.specs.declared.ticket.Reservation.{Reservation}
 use Rattle.jc_stripe.specs.declared.begun.Begun.{Begun}
 use Rattle.jc_stripe.specs.declared.begun.StepDone.{StepDone}
@@ -25,6 +27,9 @@ pub record StaysReached : Type 0 where
   pub commits : (old new : State) (r : Reservation) (out : Out) (done : StepDone) → IsReached old → Commits old r out done new → IsReached new
   pub withdraws : (old new : State) (r : Reservation) → IsReached old → Withdraws old r new → IsReached new
   pub picks_up : (old new : State) (join : JoinClaim) (p : Picked) → IsReached old → PicksUp old join p new → IsReached new
+
+abbrev pub ReachedIsLegal : Type 0
+ReachedIsLegal = (state : State) → IsReached state → Legal state.config state.opening state.history
 
 -- the later state is of the same stripe
 pub record IsSameStripe (old new : State) : Type 0 where

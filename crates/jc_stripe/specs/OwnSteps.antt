@@ -8,12 +8,17 @@
 --     HasNoCallFrom    no step, reservation or join of a session has this call number or a later one
 --     CallerNumbers    the law of a session's numbers: a call with such a number may begin at any key of the stripe, and once its steps
 --                      were appended and nothing of it is out, the next number is such a number
+--     HasOneMore       a list of steps has this one more than another, somewhere in it
+--     OwnNumbers       the law of own steps' numbers: if they are all of earlier calls, a step of this call may come after them, at
+--                      any key; a step of this call more, and they are all of calls before the next one; so they stay with a further
+--                      one; and if a step of this call may come at a key, it may after one more at another key
 --     StepsBehind      the law of places: a step that may come after a history is at a place behind it
 --     WholeCall        the law of a whole call: a first phase that reserves its key, and its commit, are one step of that caller,
 --                      operation and key
 --     JoinsOnlyLoads   the law of joins: a first phase that finds no load of its key does not join
-use Rattle.std.specs.Prelude.{◌≡◌, ◌≤◌, ◌==◌, ◌+◌, ℕ, List, [], ◌∷◌, ◌++◌, length, Bool, true, not, ◌||◌, Option, None, Some, IsTrue, slice_get, nat_lt}
+use Rattle.std.specs.Prelude.{◌≡◌, ◌≤◌, ◌==◌, ◌+◌, ℕ, List, [], ◌∷◌, ◌++◌, length, Bool, true, false, not, ◌||◌, Option, None, Some, IsTrue, slice_get, nat_lt}
 use Rattle.std.specs.List.{list_all}
+use Rattle.std.specs.Cmp.Lexicographic.{pointwise}
 use Rattle.jc_types.specs.declared.caller.Caller.{Caller}
 use Rattle.jc_model.specs.declared.event.Op.{Op}
 use Rattle.jc_model.specs.declared.event.Op.TheVariants.{Get}
@@ -78,6 +83,22 @@ pub record CallerNumbers : Type 0 where
   pub refused : (old new : State) (caller : Caller) (key : Bytes) (op : Op) (refusal : Refusal) → HasNoCallFrom old caller.session caller.call → Begins old caller key op (Refused refusal) new → HasNoCallFrom new caller.session (caller.call + 1)
   pub committed : (old mid new : State) (caller : Caller) (key : Bytes) (op : Op) (ticket : TicketClaim) (out : Out) (done : StepDone) → IsReached old → HasNoCallFrom old caller.session caller.call
       → Begins old caller key op (Asks ticket) mid → Commits mid ticket.reservation out done new → HasNoCallFrom new caller.session (caller.call + 1)
+
+-- a list of steps has this one more
+pub record HasOneMore (event : Event) (old new : List Event) : Type 0 where
+  pub before : List Event
+  pub after : List Event
+  pub was : old ≡ before ++ after
+  pub is : new ≡ before ++ event ∷ after
+
+pub record OwnNumbers : Type 0 where
+  pub may_come : (own : List Event) (caller : Caller) (key : Bytes) → list_all (is_before_call caller.session caller.call) own ≡ true → may_come_all own caller key ≡ true
+  pub next : (old new : List Event) (caller : Caller) (op : Op) (key : Bytes) (out : Out) (shared_with : Option ℕ) (reply : Reply) → HasOneMore (Step caller op key out shared_with reply) old new
+      → list_all (is_before_call caller.session caller.call) old ≡ true → list_all (is_before_call caller.session (caller.call + 1)) new ≡ true
+  pub further : (old new : List Event) (caller : Caller) (op : Op) (key : Bytes) (out : Out) (shared_with : Option ℕ) (reply : Reply) → HasOneMore (Step caller op key out shared_with reply) old new
+      → list_all (is_before_call caller.session (caller.call + 1)) old ≡ true → list_all (is_before_call caller.session (caller.call + 1)) new ≡ true
+  pub other_key : (old new : List Event) (caller : Caller) (op : Op) (key other : Bytes) (out : Out) (shared_with : Option ℕ) (reply : Reply) → HasOneMore (Step caller op key out shared_with reply) old new
+      → pointwise ◌==◌ key other ≡ false → may_come_all old caller other ≡ true → may_come_all new caller other ≡ true
 
 abbrev pub StepsBehind : Type 0
 StepsBehind = (history more : List Event) (caller : Caller) (op : Op) (key : Bytes) (out : Out) (shared_with : Option ℕ) (reply : Reply) (place : ℕ) → may_come_all history caller key ≡ true

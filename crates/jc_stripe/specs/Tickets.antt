@@ -1,7 +1,9 @@
 -- What tickets and joins are, as data.
 --     TicketClaim       the ticket of a reservation: the whole reservation, whether the one whom it asks first was asked, and whether the
 --                       writer was asked after a processor
---     Claim             what is asked for a reservation: the whole reservation, and for a writer the change of the store
+--     ReservationId     a reservation as an ask names it: its key, its number, and whom it asks first
+--     Claim             what is asked for a reservation, and for a writer the change of the store
+--     id_of             a reservation as an ask names it
 --     claim_of          what is asked first for a reservation
 --     asks_loader       the one whom a reservation asks first is the loader
 --     asks_writer       the one whom a reservation asks first is the writer
@@ -23,8 +25,13 @@ pub record TicketClaim : Type 0 where
   pub asked : Bool
   pub writer_asked : Bool  -- after the processor
 
+pub record ReservationId : Type 0 where
+  pub key : Bytes
+  pub number : ℕ
+  pub first : First
+
 pub record Claim : Type 0 where
-  pub reservation : Reservation
+  pub reservation : ReservationId
   pub change : Option Change
 
 abbrev pub asks_loader : First → Bool
@@ -51,8 +58,11 @@ change_asked Loader = None
 change_asked (Writer change) = Some change
 change_asked (Processor entry loads) = None
 
+abbrev pub id_of : Reservation → ReservationId
+id_of r = record { key = r.key; number = r.number; first = r.first }
+
 abbrev pub claim_of : Reservation → Claim
-claim_of r = record { reservation = r; change = change_asked r.first }
+claim_of r = record { reservation = id_of r; change = change_asked r.first }
 
 abbrev pub entry_seen : First → Option Bytes
 entry_seen Nobody = None

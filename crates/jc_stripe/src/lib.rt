@@ -5,7 +5,7 @@
 
 mod appending;
 mod begun;
-mod needs;
+mod call_rules;
 pub mod phase_laws;
 mod stripe;
 mod ticket;

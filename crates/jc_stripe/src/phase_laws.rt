@@ -1,13 +1,18 @@
 //! The laws of the phases, over every stripe. Each function does nothing: what it says is its contract.
-ghost use Rattle.jc_stripe.specs.Laws.{StaysReached, Grows, KeepsReserved};
+ghost use Rattle.jc_stripe.specs.Laws.{StaysReached, ReachedIsLegal, Grows, KeepsReserved};
 ghost use Rattle.jc_stripe.specs.OnePhase.{OnePhase};
-ghost use Rattle.jc_stripe.specs.OwnSteps.{OwnSteps, CallerNumbers, StepsBehind, WholeCall, JoinsOnlyLoads};
+ghost use Rattle.jc_stripe.specs.OwnSteps.{OwnSteps, CallerNumbers, OwnNumbers, StepsBehind, WholeCall, JoinsOnlyLoads};
 
 /// Whatever phase a stripe makes, it stays as every stripe is (`IsReached`): among other things its history is legal from its
 /// opening and leaves its entries, its tables are within their limits, each reservation still asks what it asked and its step
 /// may still come, and each joiner that waits still finds its load.
 pub fn stays_reached()
     ensures { StaysReached }
+{}
+
+/// A stripe's history is legal from its opening: what whoever takes a stripe from a lock may rest on.
+pub fn is_legal()
+    ensures { ReachedIsLegal }
 {}
 
 /// Whatever phase a stripe makes, what is in its history stays there, more may follow it, and its opening is the same.
@@ -39,6 +44,13 @@ pub fn own_steps()
 /// steps and its joiners let a call begin, its whole history here does, so nobody needs to scan the history.
 pub fn caller_numbers()
     ensures { CallerNumbers }
+{}
+
+/// The same of a list of own steps alone, for those who know a session's own steps and no stripe: if they are all of earlier calls,
+/// the call may begin at any key; with one more, which is of this call, they are all before the next call, and stay so with a
+/// further one; and if the call may begin at a key, it may after a step that it has made at another key.
+pub fn own_numbers()
+    ensures { OwnNumbers }
 {}
 
 /// A step that may still come after a history is not in it: whoever finds it later finds it behind.

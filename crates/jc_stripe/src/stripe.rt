@@ -19,17 +19,17 @@ ghost use Rattle.jc_stripe.specs.Effects.{HasReport, change_due, report_answer, 
 ghost use Rattle.jc_stripe.specs.OnePhase.{IsPhaseOf};
 
 mod beginning;
+mod conditions;
 mod finding;
 mod looking;
-mod testing;
 
 use crate::appending::{append_group, make_step};
 use crate::begun::{Begun, Picked, StepDone};
-use crate::ticket::{Ask, Join, Note, Reservation, Ticket};
+use crate::ticket::{Ask, Join, Reservation, Ticket};
 use jc_entries::Entries;
 use jc_history::History;
 use jc_inflight::{JoinState, Joiners};
-use jc_model::{Change, Event, Op, Out, WriteAnswer};
+use jc_model::{Event, Op, Out, WriteAnswer};
 use jc_mutentry::ProcDone;
 use jc_outside::{LoadDone, Origin, WriteDone};
 use jc_reserve::Reservations;
@@ -57,7 +57,7 @@ pub struct Stripe {
     number: usize,
     origin: Origin,
     entries: Entries,
-    reservations: Reservations<Note>,
+    reservations: Reservations<Reservation>,
     joiners: Joiners,
     history: History,
 }
@@ -313,7 +313,6 @@ impl Stripe {
         requires answers { AnswersFirst self.old.config reservation.now.first out.now }
         ensures { Commits self.old reservation.now out.now result self.new }
     {
-        let _types: Option<&Change> = None;
         let key = reservation.key;
         let load = reservation.number;
         let _ = self.reservations.release(&key);
@@ -339,7 +338,6 @@ impl Stripe {
         requires { IsOut self.old reservation.now }
         ensures { Withdraws self.old reservation.now self.new }
     {
-        let _types: Option<&Change> = None;
         let _ = self.reservations.release(&reservation.key);
         let waiting = self.joiners.dissolve(reservation.number);
         self.history.unpromise(STEP_PLACES + waiting as usize);

@@ -7,11 +7,12 @@
 ghost use Rattle.std.specs.Prelude.{◌≡◌, true, false, Some, is_some};
 ghost use Rattle.jc_mutentry.specs.Done as processed;
 ghost use Rattle.jc_stripe.specs.declared.ticket.First.TheVariants.{Nobody};
-ghost use Rattle.jc_stripe.specs.Tickets.{change_asked, claim_of, entry_seen};
+ghost use Rattle.jc_stripe.specs.Tickets.{change_asked, claim_of, entry_seen, id_of};
 
 use jc_model::{Change, Op};
 use jc_mutentry::{AskProcess, ProcDone};
 use jc_outside::AskWrite;
+use jc_reserve::Reserved;
 use jc_types::{Caller, Key, Value};
 use std::marker::Model;
 
@@ -33,30 +34,6 @@ pub enum First {
     },
 }
 
-/// What a stripe keeps of a reservation beside its key and number.
-#[derive(Clone, Copy, Debug, PartialEq, Eq)]
-pub(crate) struct Note {
-    pub(crate) caller: Caller,
-    pub(crate) op: Op,
-    pub(crate) first: First,
-}
-
-/// A note that nobody reads, with which a table of a fixed size fills its free places.
-impl Default for Note {
-    ghost is_default = { λ note. note.first ≡ Nobody };
-
-    fn default() -> Note {
-        Note {
-            caller: Caller {
-                session: 0,
-                call: 0,
-            },
-            op: Op::Get,
-            first: First::Nobody,
-        }
-    }
-}
-
 /// A key that a call has reserved.
 #[derive(Clone, Copy, Debug, PartialEq, Eq)]
 pub struct Reservation {
@@ -70,6 +47,34 @@ pub struct Reservation {
     pub number: u64,
     /// Whom the call asks first.
     pub first: First,
+}
+
+/// No reservation: it asks nobody. A table fills its free places with it.
+impl Default for Reservation {
+    ghost is_default = { λ r. r.first ≡ Nobody };
+
+    fn default() -> Reservation {
+        Reservation {
+            caller: Caller {
+                session: 0,
+                call: 0,
+            },
+            key: Key::default(),
+            op: Op::Get,
+            number: 0,
+            first: First::Nobody,
+        }
+    }
+}
+
+impl Reserved for Reservation {
+    ghost key = { λ r. r.key };
+
+    ghost number = { λ r. r.number };
+
+    fn key(&self) -> &Key {
+        &self.key
+    }
 }
 
 impl First {
@@ -135,10 +140,8 @@ impl Ticket {
         ensures asked { self.new ≡ record self.old { asked = true } }
     {
         self.is_asked = true;
-        Ask {
-            reservation: self.reservation,
-            change: self.reservation.first.change(),
-        }
+        let change = self.reservation.first.change();
+        Ask::new(&self.reservation, change)
     }
 
     /// What to ask the writer for after the processor: the reservation's key, and the change of the store that is the processor's
@@ -151,14 +154,11 @@ impl Ticket {
         requires writer { self.old.writer_asked ≡ false }
         requires claim { done.now.ask ≡ claim_of self.old.reservation }
         requires change { is_some (processed.effect_change done.now.load done.now.process) ≡ true }
-        ensures ask { result ≡ record { reservation = self.old.reservation; change = processed.effect_change done.now.load done.now.process } }
+        ensures ask { result ≡ record { reservation = id_of self.old.reservation; change = processed.effect_change done.now.load done.now.process } }
         ensures writer_asked { self.new ≡ record self.old { writer_asked = true } }
     {
         self.is_writer_asked = true;
-        Ask {
-            reservation: self.reservation,
-            change: done.change(),
-        }
+        Ask::new(&self.reservation, done.change())
     }
 
     /// The ticket is spent.
@@ -175,8 +175,12 @@ impl Ticket {
 }
 
 /// What the loader, the writer or the processor is asked for. It is made by a ticket alone, and one done value is made of it.
+///
+/// It names its reservation by key, number and whom it asks first, and has no copy of the rest.
 pub struct Ask {
-    reservation: Reservation,
+    key: Key,
+    number: u64,
+    first: First,
     change: Option<Change>,
 }
 
@@ -185,19 +189,38 @@ impl Model for Ask {
 
     ghost Value = { Claim };
 
-    ghost view = { λ a. record { reservation = a.reservation; change = a.change } };
+    ghost view = { λ a. record {
+      reservation = record { key = a.key; number = a.number; first = a.first };
+      change = a.change;
+    } };
+}
+
+impl Ask {
+    /// What is asked for a reservation, and for a writer the change of the store.
+    fn new(reservation: &Reservation, change: Option<Change>) -> Self
+        ensures { result ≡ record { reservation = id_of reservation.now; change = change } }
+    {
+        Ask {
+            key: reservation.key,
+            number: reservation.number,
+            first: reservation.first,
+            change,
+        }
+    }
 }
 
 impl jc_outside::Ask for Ask {
     ghost key = { λ a. a.reservation.key };
 
     fn key(&self) -> &Key {
-        &self.reservation.key
+        &self.key
     }
 
     fn spend(self) {
         let Ask {
-            reservation: _,
+            key: _,
+            number: _,
+            first: _,
             change: _,
         } = self;
     }
@@ -222,11 +245,11 @@ impl AskProcess for Ask {
     ghost may_load = { λ a. is_loadable a.reservation.first };
 
     fn initial(&self) -> Option<Value> {
-        self.reservation.first.entry()
+        self.first.entry()
     }
 
     fn may_load(&self) -> bool {
-        match self.reservation.first {
+        match self.first {
             First::Processor { entry: _, may_load } => may_load,
             First::Nobody | First::Loader | First::Writer(_) => false,
         }

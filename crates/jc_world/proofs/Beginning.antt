@@ -1,9 +1,10 @@
 -- Callers' order: what changes nothing of it, the start, a call that begins, and the conditions on its first phase.
 --     order_stored, order_parted     after a change of the store, and of what was told of a key
---     order_start, order_called      at the start, and once a call has begun
+--     reached_empty, start_is        the stripes of the start, which are reached
+--     order_called                   once a call has begun
 --     may_start_at, begins_at        the conditions on a first phase
 --     may_turn, part_turn            a call may work at a key that it starts, and at one that it has reserved
-use Rattle.jc_world.proofs.Common.{◌≡◌, ℕ, zero, suc, ◌+◌, Bool, true, false, cond, not, ◌&&◌, ◌||◌, List, [], ◌∷◌, ◌++◌, length, is_some, is_none, IsSomeAnd, ◌==◌, slice_get, Some, None, Ok, Option, find, sym, refl, ap, ◌∙◌, subst, append-nil, add-zero, zero-add, arith, not-true, eqb-true, eq-eqb, and_parts, and_from, or_left, or_right, false_from_ne_true, nat_list_cmp_total, pointwise, get, insert, len-empty, get-insert, all_filter, is_session, check, stripe_of, Caller, Config, Bytes, Cache, key_cmp, may_come, is_of_stripe, Op, Get, belongs_to, Joiner, may_come_all, is_other_call, is_other_join, MayBegin, IsReached, State, is_of, is_key, Reservation, Command, Part, Premises, WorldEvent, CallState, new_call, has_number, op_at, op_for, is_turn, opened, is_playable, is_new, is_free, may_start, fits, IsWorldStripe, is_up_to, has_parked_answer, is_served_in, is_served, FitsKey, FitsCall, CallsFit, IsHeld, IsCallOf, IsOwned, AllOwned, IsCalled, AllCalled, IsSoundWorld, Parts, WorldState, home, stripe_for, empty_stripe, empty_stripes, start, is_busy, open_call, part_of, is_joined}
+use Rattle.jc_world.proofs.Common.{◌≡◌, ℕ, zero, suc, ◌+◌, Bool, true, false, cond, not, ◌&&◌, ◌||◌, List, [], ◌∷◌, ◌++◌, length, is_some, is_none, IsSomeAnd, ◌==◌, slice_get, Some, None, Ok, Option, find, sym, refl, ap, ◌∙◌, subst, append-nil, add-zero, zero-add, arith, not-true, eqb-true, eq-eqb, and_parts, and_from, or_left, or_right, false_from_ne_true, nat_list_cmp_total, pointwise, get, insert, len-empty, get-insert, all_filter, is_session, check, stripe_of, Caller, Config, Bytes, Cache, key_cmp, may_come, is_of_stripe, Op, Get, belongs_to, Joiner, may_come_all, is_other_call, is_other_join, MayBegin, IsReached, State, is_of, is_key, Reservation, Command, Part, Premises, WorldEvent, CallState, new_call, has_number, op_at, op_for, is_turn, opened, is_playable, is_new, is_free, may_start, fits, IsWorldStripe, is_up_to, has_parked_answer, is_served_in, is_served, FitsKey, FitsCall, CallsFit, IsHeld, IsCallOf, IsOwned, IsCalled, AllCalled, IsSoundWorld, Parts, WorldState, home, stripe_for, empty_stripe, empty_stripes, is_busy, open_call, part_of, is_joined}
 use Rattle.jc_world.proofs.Numbered.{some_of}
 use Rattle.jc_world.proofs.Halves.{HasOrder}
 use Rattle.jc_world.proofs.Shares.{found_test, shape_same, fact_found, each_map, each_test}
@@ -57,10 +58,10 @@ calls_same w n calls last order served fit =
     calls_all w n calls (λ u h. fits_same w n u last order (λ q op is. served u.caller q) h) fit
 
 -- the stripes, the order and the last number are the same: the calls fit, and each reservation is owned as before
-pub order_beside : (w : WorldState) (calls : List CallState) (parts : Parts) (store : Cache) (premises : Premises) → CallsFit (record w { calls = calls; parts = parts; store = store; premises = premises }) calls
-    → ((r : Reservation) → IsOwned w r → IsOwned (record w { calls = calls; parts = parts; store = store; premises = premises }) r) → IsSoundWorld w → HasOrder (record w { calls = calls; parts = parts; store = store; premises = premises })
-order_beside w calls parts store premises fit owned old =
-    let new : WorldState = record w { calls = calls; parts = parts; store = store; premises = premises } in
+pub order_beside : (w : WorldState) (calls : List CallState) (parts : Parts) (store : Cache) (premises : Premises) (fresh : Bool) → CallsFit (record w { calls = calls; parts = parts; store = store; premises = premises; is_fresh = fresh }) calls
+    → ((r : Reservation) → IsOwned w r → IsOwned (record w { calls = calls; parts = parts; store = store; premises = premises; is_fresh = fresh }) r) → IsSoundWorld w → HasOrder (record w { calls = calls; parts = parts; store = store; premises = premises; is_fresh = fresh })
+order_beside w calls parts store premises fresh fit owned old =
+    let new : WorldState = record w { calls = calls; parts = parts; store = store; premises = premises; is_fresh = fresh } in
     record {
       shape = shape_same w new refl refl refl old.shape;
       order = old.order;
@@ -70,8 +71,8 @@ order_beside w calls parts store premises fit owned old =
     }
 
 -- the store changes
-pub order_stored : (w : WorldState) (store : Cache) (premises : Premises) → IsSoundWorld w → HasOrder (record w { store = store; premises = premises })
-order_stored w store premises old = order_beside w w.calls w.parts store premises (calls_same w (record w { store = store; premises = premises }) w.calls refl refl (λ c q h. h) old.calls) (λ r h. record { part = h.part; call = h.call }) old
+pub order_stored : (w : WorldState) (store : Cache) (premises : Premises) (fresh : Bool) → IsSoundWorld w → HasOrder (record w { store = store; premises = premises; is_fresh = fresh })
+order_stored w store premises fresh old = order_beside w w.calls w.parts store premises fresh (calls_same w (record w { store = store; premises = premises; is_fresh = fresh }) w.calls refl refl (λ c q h. h) old.calls) (λ r h. record { part = h.part; call = h.call }) old
 
 -- a key's part stays, of the same call
 pub owned_part : (parts : Parts) (key q : Bytes) (part : Part) (call : ℕ) → IsSomeAnd (get parts q) (λ p. p.reservation.caller.call ≡ call) → (q ≡ key → part.reservation.caller.call ≡ call) → IsSomeAnd (get (insert parts key part) q) (λ p. p.reservation.caller.call ≡ call)
@@ -85,7 +86,7 @@ pub order_parted : (w : WorldState) (key : Bytes) (old part : Part) (premises : 
     → HasOrder (record w { parts = insert w.parts key part; premises = premises; store = store })
 order_parted w key old part premises store there same was =
     let new : WorldState = record w { parts = insert w.parts key part; premises = premises; store = store } in
-    order_beside w w.calls (insert w.parts key part) store premises (calls_same w new w.calls refl refl (λ c q h. h) was.calls)
+    order_beside w w.calls (insert w.parts key part) store premises w.is_fresh (calls_same w new w.calls refl refl (λ c q h. h) was.calls)
     (λ r h. record {
       part = owned_part w.parts key r.key part r.caller.call h.part (λ e.
           let found = some_of (get w.parts r.key) (λ p. p.reservation.caller.call ≡ r.caller.call) h.part in
@@ -108,7 +109,7 @@ empty_count config base zero = refl
 empty_count config base (suc count) = ap suc (empty_count config (base + 1) count)
 
 -- an empty stripe is reached
-reached_empty : (config : Config) (n : ℕ) → check config ≡ Ok tt → IsReached (empty_stripe config n)
+pub reached_empty : (config : Config) (n : ℕ) → check config ≡ Ok tt → IsReached (empty_stripe config n)
 reached_empty config n fits = record {
   config_fits = fits;
   opening = refl;
@@ -130,27 +131,9 @@ reached_empty config n fits = record {
   between = refl;
 }
 
--- and one of the start
-start_stripe : (config : Config) (n : ℕ) → check config ≡ Ok tt → IsWorldStripe (start config) n (empty_stripe config n)
-start_stripe config n fits = record { config_is = refl; number_is = refl; origin_is = refl; reached = reached_empty config n fits; share = refl }
-
 -- and each stripe of the start is an empty one
 pub start_is : (config : Config) (n : ℕ) (s : State) → slice_get (empty_stripes config 0 config.stripes) n ≡ Some s → s ≡ empty_stripe config n
 start_is config n s h = empty_at config 0 config.stripes n s h ∙ ap (empty_stripe config) (zero-add n)
-
--- before anything has happened
-pub order_start : (config : Config) → check config ≡ Ok tt → HasOrder (start config)
-order_start config fits = record {
-  shape = record {
-    config_fits = fits;
-    count = empty_count config 0 config.stripes;
-    each = λ n s here. let P : State → Type 0 = λ s. IsWorldStripe (start config) n s in subst P (sym (start_is config n s here)) (start_stripe config n fits);
-  };
-  order = refl;
-  numbers = refl;
-  calls = tt;
-  owned = λ n s here. let P : State → Type 0 = λ s. AllOwned (start config) s.reservations in subst P (sym (start_is config n s here)) tt;
-}
 
 -- 3. A new call.
 
@@ -163,7 +146,7 @@ called_parts a b c d h =
 
 -- the world with more calls
 abbrev begun_world : WorldState → ℕ → List CallState → WorldState
-begun_world w call more = record w { last = Some call; calls = w.calls ++ more }
+begun_world w call more = record w { last = Some call; calls = w.calls ++ more; is_fresh = false }
 
 -- a call fits after a new number
 fits_more : (w : WorldState) (call : ℕ) (more : List CallState) (x : CallState) → is_new w.last call ≡ true → FitsCall w x → FitsCall (begun_world w call more) x
@@ -188,7 +171,7 @@ order_more w call more is fit old =
 
 -- a session begins a call
 pub order_called : (w : WorldState) (call session : ℕ) (command : Command) → fits w (WorldEvent.Call call session command) ≡ true → IsSoundWorld w
-    → HasOrder (record w { last = Some call; calls = w.calls ++ opened (new_call call session command) })
+    → HasOrder (record w { last = Some call; calls = w.calls ++ opened (new_call call session command); is_fresh = false })
 order_called w call session command fit old =
     let u : CallState = new_call call session command in
     let one : WorldState = begun_world w call (u ∷ []) in

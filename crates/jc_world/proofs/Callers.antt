@@ -2,7 +2,7 @@
 --     order_key                       after each kind of change at a key
 --     order_happens, order_opened     after any event that fits, and after an entry of the store's opening
 --     order_is, has_shares            the order is one legal history over all stripes, and each stripe's history is its part of it
-use Rattle.jc_world.proofs.Common.{◌≡◌, ℕ, zero, suc, ◌+◌, ◌%◌, ◌<◌, Bool, true, false, cond, not, ◌&&◌, ◌||◌, ◌⊎◌, List, [], ◌∷◌, ◌++◌, length, is_none, IsSomeAnd, nat_lt, ◌==◌, slice_get, slice_set, Some, None, sum, Option, option_map, find, sym, refl, ap, ◌∙◌, subst, inl, inr, arith, not-true, eqb-true, and_parts, false_from_ne_true, nat_list_cmp_total, nat_list_eq_equiv, eq_by_cmp_equiv, pointwise, texts_ties, empty, get, insert, remove, get-insert, get-remove, list_all, eq_by_cmp, all_imply, Caller, Config, Refusal, empty_opens, Bytes, Cache, key_cmp, nothing_said, events_of, of_stripe, IsHistory, Op, Get, Out, belongs_to, is_waiting, waits_for, callers_of, after_resolve, JoinState, Again, Answered, Waiting, Joiner, StaysReached, IsSameStripe, Extends, may_come_all, new_group, Steps, with_joiner, Begins, after_commit, Commits, Withdraws, without_joiner, PicksUp, JoinFits, IsReached, State, is_of, is_key, is_reserved, with_reservation, without_key, IsOut, JoinClaim, Begun, Picked, StepDone, Reservation, Part, Premises, Progress, Shown, WorldEvent, cache_at, IsOrder, HasShares, SweepState, CallState, has_number, op_at, op_for, open_keys, is_turn, going_on, with_met, replaced, settle, drop_call, with_found, with_stripe, with_phase, step_of, fault_in, with_settled, with_met_by, without_call, with_look, new_part, with_part, without_part, with_join, without_join, Happens, is_free, may_leave, fits, IsWorldStripe, is_up_to, has_answer, has_parked_answer, is_served_in, is_served, FitsCall, CallsFit, Each, IsHeld, IsCallOf, IsOwned, AllOwned, IsCalled, IsSoundWorld, Parts, Joins, WorldState, home, stripe_for, open_call, part_of, out_of, join_of, is_joined, with_stored}
+use Rattle.jc_world.proofs.Common.{◌≡◌, ℕ, zero, suc, ◌+◌, ◌%◌, ◌<◌, Bool, true, false, cond, not, ◌&&◌, ◌||◌, ◌⊎◌, List, [], ◌∷◌, ◌++◌, length, is_none, IsSomeAnd, nat_lt, ◌==◌, slice_get, slice_set, Some, None, sum, Option, option_map, find, sym, refl, ap, ◌∙◌, subst, inl, inr, arith, not-true, eqb-true, and_parts, false_from_ne_true, nat_list_cmp_total, nat_list_eq_equiv, eq_by_cmp_equiv, pointwise, texts_ties, get, insert, remove, get-insert, get-remove, list_all, eq_by_cmp, all_imply, Caller, Config, Refusal, Bytes, Cache, key_cmp, nothing_said, events_of, of_stripe, IsHistory, IsOpening, opens_well, Op, Get, Out, belongs_to, is_waiting, waits_for, callers_of, after_resolve, JoinState, Again, Answered, Waiting, Joiner, StaysReached, IsSameStripe, Extends, may_come_all, new_group, Steps, with_joiner, Begins, after_commit, Commits, Withdraws, without_joiner, PicksUp, JoinFits, IsReached, State, is_of, is_key, is_reserved, with_reservation, without_key, IsOut, JoinClaim, Begun, Picked, StepDone, Reservation, Part, Premises, PartProgress, Shown, WorldEvent, cache_at, opening_at, IsOrder, HasShares, SweepState, CallState, has_number, op_at, op_for, open_keys, is_turn, going_on, with_met, replaced, settle, drop_call, with_found, with_stripe, with_phase, step_of, fault_in, with_settled, with_met_by, without_call, with_look, new_part, with_part, without_part, with_join, without_join, Happens, is_free, may_leave, fits, IsWorldStripe, is_up_to, has_answer, has_parked_answer, is_served_in, is_served, FitsCall, CallsFit, Each, IsHeld, IsCallOf, IsOwned, AllOwned, IsCalled, IsSoundWorld, Parts, Joins, WorldState, home, stripe_for, open_call, part_of, out_of, join_of, is_joined, with_stored}
 use Rattle.jc_world.proofs.Numbered.{some_of}
 use Rattle.jc_inflight.specs.Taking.{without_joiner as without}
 use Rattle.jc_world.proofs.Halves.{HasOrder, order_half}
@@ -39,7 +39,7 @@ order_refused : (w : WorldState) (u : CallState) (key : Bytes) (op : Op) (met : 
 order_refused w u key op met may old =
     let call = u.caller.call in
     let new : WorldState = with_settled w call key met in
-    order_beside w (settle call key met w.calls) w.parts w.store w.premises
+    order_beside w (settle call key met w.calls) w.parts w.store w.premises w.is_fresh
     (calls_settled w new call key met (IsFound w) w.calls (λ x v left found h. fits_left w new call key x v left refl refl (λ q o is k. k) h) (each_found w w.calls old.calls) old.calls)
     (λ r h. record { part = h.part; call = call_kept w call key met r (not_own w call key r may.none h) (may_turn w u key op may) h }) old
 
@@ -47,7 +47,7 @@ order_refused w u key op met may old =
 order_over : (w : WorldState) (call : ℕ) (u : CallState) → list_all (is_free w call) (open_keys u) ≡ true → open_call w call ≡ Some u → IsSoundWorld w → HasOrder (without_call w call)
 order_over w call u free is old =
     let new : WorldState = without_call w call in
-    order_beside w (drop_call call w.calls) w.parts w.store w.premises
+    order_beside w (drop_call call w.calls) w.parts w.store w.premises w.is_fresh
     (calls_filter w new (is_other call) (IsFound w) w.calls (λ v other found h. fits_same w new v refl refl (λ q o is k. k) h) (each_found w w.calls old.calls) old.calls)
     (λ r h.
     let v = some_of (open_call w r.caller.call) (IsCallOf r.caller.session r.key r.op) h.call in
@@ -204,7 +204,7 @@ free_part w key from part old there free is =
     let t : true ≡ false = sym busy ∙ ap (λ s. is_reserved s key) same ∙ free in cc
 
 -- the key is reserved, and has a part
-order_reserved : (w : WorldState) (u : CallState) (key : Bytes) (op : Op) (from to : State) (p : Progress) (r : Reservation) → stripe_for w key ≡ Some from → is_reserved from key ≡ false
+order_reserved : (w : WorldState) (u : CallState) (key : Bytes) (op : Op) (from to : State) (p : PartProgress) (r : Reservation) → stripe_for w key ≡ Some from → is_reserved from key ≡ false
     → r.caller ≡ u.caller → r.key ≡ key → r.op ≡ op → to ≡ with_reservation from r → IsReached to
     → MayStart w u key op → IsSoundWorld w → HasOrder (with_part (with_stripe w key to) key (new_part p r))
 order_reserved w u key op from to p r there free caller_is key_is op_is is reached may old =
@@ -523,7 +523,7 @@ order_taken : (w : WorldState) (call : ℕ) (left : CallState → Option CallSta
     → IsSoundWorld w → HasOrder (record w { calls = replaced call left w.calls })
 order_taken w call left u here taken called old =
     let new : WorldState = record w { calls = replaced call left w.calls } in
-    order_beside w (replaced call left w.calls) w.parts w.store w.premises
+    order_beside w (replaced call left w.calls) w.parts w.store w.premises w.is_fresh
     (calls_taken w new call left u here taken
     (λ x h. fits_same w new x refl refl (λ q op is k. k) h)
     (λ v goes h. fits_taken w new u v (taken v goes) refl refl (λ q op is k. k) h) old.calls)
@@ -588,12 +588,12 @@ order_happens stays w new (WorldEvent.Process call key source calls fail) seen f
 order_happens stays w new (WorldEvent.Change call key) seen fit h back old = subst HasOrder (sym h.5) (order_part w call key h.0 _ w.premises _ h.2 refl old)
 order_happens stays w new (WorldEvent.Report call left fault) seen fit h back old = order_half new (back tt)
 order_happens stays w new (WorldEvent.Leave call) seen fit h back old = subst HasOrder (sym h.1) (order_left w call fit old)
-order_happens stays w new (WorldEvent.Foreign key value) seen fit h back old = subst HasOrder (sym h.1) (order_stored w _ _ old)
+order_happens stays w new (WorldEvent.Foreign key value) seen fit h back old = subst HasOrder (sym h.1) (order_stored w _ _ false old)
 order_happens stays w new e seen fit h back old = let k = key_change w new e seen refl h in order_key stays w new e k.0 seen k.1 fit old
 
 -- an entry that the store has from the start
 pub order_opened : (w : WorldState) (key value : Bytes) → IsSoundWorld w → HasOrder (with_stored w key value)
-order_opened w key value old = order_stored w (with_stored w key value).store w.premises old
+order_opened w key value old = order_stored w (with_stored w key value).store w.premises w.is_fresh old
 
 -- 8. The whole history.
 
@@ -603,21 +603,24 @@ there_is [] n h = absurd (omega arith)
 there_is (x ∷ xs) zero h = (x, refl)
 there_is (x ∷ xs) (suc n) h = there_is xs n (omega arith)
 
--- a stripe's part of the order is a legal history
-history_of_stripe : (w : WorldState) (n : ℕ) (s : State) → slice_get w.stripes n ≡ Some s → IsWorldStripe w n s → IsHistory w.config empty (of_stripe w.config.stripes n w.order) (cache_at w n)
+-- a stripe's part of the order is a legal history, from its opening
+history_of_stripe : (w : WorldState) (n : ℕ) (s : State) → slice_get w.stripes n ≡ Some s → IsWorldStripe w n s → IsHistory w.config (opening_at w n) (of_stripe w.config.stripes n w.order) (cache_at w n)
 history_of_stripe w n s there at =
-    rw there (rw at.share (rw at.reached.opening at (rw at.config_is at at.reached.legal)))
+    rw there (rw at.share (rw at.config_is at at.reached.legal))
+
+opening_of_stripe : (w : WorldState) (n : ℕ) (s : State) → slice_get w.stripes n ≡ Some s → IsWorldStripe w n s → IsOpening w.config n (opening_at w n)
+opening_of_stripe w n s there at =
+    rw there (rw at.number_is at (rw at.config_is at (opens_well s at.reached)))
 
 -- and so is the whole order
 pub order_is : (w : WorldState) → IsSoundWorld w → IsOrder w
-order_is w old = record {
-  config_fits = old.shape.config_fits;
-  openings = λ n h. empty_opens w.config n;
-  parts = λ n h.
-      let s = there_is w.stripes n (let e = old.shape.count in omega arith) in
-      history_of_stripe w n s.0 s.1 (old.shape.each n s.0 s.1);
-  order = old.order;
-}
+order_is w old =
+    let at : (n : ℕ) → n < w.config.stripes → (s : State) × (slice_get w.stripes n ≡ Some s) = λ n h. there_is w.stripes n (let e = old.shape.count in omega arith) in record {
+      config_fits = old.shape.config_fits;
+      openings = λ n h. let s = at n h in opening_of_stripe w n s.0 s.1 (old.shape.each n s.0 s.1);
+      parts = λ n h. let s = at n h in history_of_stripe w n s.0 s.1 (old.shape.each n s.0 s.1);
+      order = old.order;
+    }
 
 -- with each stripe's history as its part
 pub has_shares : (w : WorldState) → IsSoundWorld w → HasShares w

@@ -39,12 +39,12 @@ pub use Rattle.jc_types.specs.declared.config.Config.{Config}
 pub use Rattle.jc_types.specs.declared.limits.TheConstants.{JOINERS_MAX, STEP_PLACES, STRIPES_MAX}
 pub use Rattle.jc_types.specs.declared.refusal.Refusal.{Refusal}
 pub use Rattle.jc_types.specs.declared.refusal.Refusal.TheVariants.{TooManyKeys, WriterFailed}
-pub use Rattle.jc_model.proofs.CallerLemmas.{none_is, same_key, get-with_entry, empty_opens}
+pub use Rattle.jc_model.proofs.CallerLemmas.{none_is, same_key, get-with_entry}
 pub use Rattle.jc_model.specs.Batches.{is_among}
 pub use Rattle.jc_model.specs.Cache.{Bytes, Cache, entry_at, with_entry, key_cmp}
 pub use Rattle.jc_model.specs.Group.{Group, nothing_said, load_only, write_only, victim_events, evicted_events, step_event, shared_event, step_place, events_of, history_of, without_victim, cache_before_step, cache_after_step, without_own, cache_after_group, cache_after_groups}
 pub use Rattle.jc_model.specs.Lawful.{loads_whole}
-pub use Rattle.jc_model.specs.Legal.{may_come, may_follow, in_order, event_key, is_of_stripe, of_stripe, IsHistory}
+pub use Rattle.jc_model.specs.Legal.{may_come, may_follow, in_order, event_key, is_of_stripe, of_stripe, IsHistory, IsOpening}
 pub use Rattle.jc_model.specs.Processor.{found_in}
 pub use Rattle.jc_model.specs.Table.{holds, is_load_given, always_if, ask_if, write_ask, is_write_given, is_invoke, entry_without_fault, entry_after, seq_entry}
 pub use Rattle.jc_model.specs.declared.event.Cause.{Cause}
@@ -71,6 +71,7 @@ pub use Rattle.jc_mutentry.specs.Done.{ProcessResult, effect_change}
 pub use Rattle.jc_outside.proofs.CallerLemmas.{get-entries, insert-entries}
 pub use Rattle.jc_outside.specs.declared.done.Origin.TheVariants.{Played}
 pub use Rattle.jc_stripe.proofs.CallerLemmas.{step_at, joined_parks, withdrawn_parks, beginner_parks, commit_parks, committer_parks, sharers_park, picker_parks, picked_parks, others_park, again_parks_same, asks_invoking, invokes, keys_once, keys_own}
+pub use Rattle.jc_world.proofs.OpensWell.{opens_well}
 pub use Rattle.jc_stripe.specs.Effects.{change_due}
 pub use Rattle.jc_stripe.specs.Keys.{AreKeys}
 pub use Rattle.jc_stripe.specs.Laws.{StaysReached, IsSameStripe, Extends, Grows, KeepsReserved}
@@ -81,7 +82,7 @@ pub use Rattle.jc_stripe.specs.Phases.{is_other_call, is_other_join, MayBegin, o
 pub use Rattle.jc_stripe.specs.Reached.{AllAsk, JoinFits, AllJoin, are_apart, is_own, IsReached}
 pub use Rattle.jc_stripe.specs.Refusals.{writer_for, first_by, first_asked, reserves, answers_at_once, load_of, load_at, load_joined, needs_free_key, places_needed, first_refusal}
 pub use Rattle.jc_stripe.specs.State.{State, is_of, is_key, is_reserved, reservation_of, new_reservation, with_reservation, without_key, without_reservation, IsOut, IsJoined}
-pub use Rattle.jc_stripe.specs.Tickets.{Ticket, ProcessClaim, asks_loader, asks_writer, asks_processor, entry_seen, JoinClaim}
+pub use Rattle.jc_stripe.specs.Tickets.{TicketClaim, Claim, claim_of, asks_loader, asks_writer, asks_processor, entry_seen, JoinClaim}
 pub use Rattle.jc_stripe.specs.declared.begun.Begun.{Begun}
 pub use Rattle.jc_stripe.specs.declared.begun.Picked.{Picked}
 pub use Rattle.jc_stripe.specs.declared.begun.StepDone.{StepDone}
@@ -92,24 +93,24 @@ pub use Rattle.jc_world.specs.declared.command.Command.{Command}
 pub use Rattle.jc_world.specs.declared.event.Outcome.{Outcome}
 pub use Rattle.jc_world.specs.declared.event.Over.{Over}
 pub use Rattle.jc_world.specs.declared.event.Part.{Part}
-pub use Rattle.jc_world.specs.declared.event.PickedUp.{PickedUp}
+pub use Rattle.jc_world.specs.declared.event.JoinAnswer.{JoinAnswer}
 pub use Rattle.jc_world.specs.declared.event.Premises.{Premises}
-pub use Rattle.jc_world.specs.declared.event.Progress.{Progress}
-pub use Rattle.jc_world.specs.declared.event.Progress.TheVariants.{Loading, Processed, Processing, Writing, WritingEffect}
+pub use Rattle.jc_world.specs.declared.event.PartProgress.{PartProgress}
+pub use Rattle.jc_world.specs.declared.event.PartProgress.TheVariants.{Loading, Processed, Processing, Writing, WritingEffect}
 pub use Rattle.jc_world.specs.declared.event.Shown.{Shown}
 pub use Rattle.jc_world.specs.declared.event.Stepped.{Stepped}
 pub use Rattle.jc_world.specs.declared.event.WorldEvent.{WorldEvent}
 pub use Rattle.jc_world.specs.declared.stripes.Stripes.TheInside.{Inside}
 pub use Rattle.jc_world.specs.declared.tasks.Tasks.{Tasks}
-pub use Rattle.jc_world.specs.Audit.{IsCache, differs, differing, cache_in, cache_at, IsOrder, HasShares}
+pub use Rattle.jc_world.specs.Audit.{IsCache, differs, differing, cache_in, cache_at, opening_in, opening_at, IsOrder, HasShares}
 pub use Rattle.jc_world.specs.Calls.{Task, at_each, put_each_of, SweepState, sweep_of, takes_turns, puts_off, CallState, new_call, has_number, is_of_session, op_in, op_at, op_found, op_or_found, op_for, is_open, open_in, open_keys, current_key, is_turn, keys_at_work, may_work, is_going, has_too_many_keys, opened, going_on, over_of, with_met, settled, replaced, settle, over_settled, drop_call, has_looked, has_looked_at_each, next_sweep, with_found, look}
 pub use Rattle.jc_world.specs.Coherent.{Coherent, all_hold}
 pub use Rattle.jc_world.specs.Ending.{IsLeft, AreLeft, out_at, IsPartOut, HasHeld, IsJoinOut, HasJoins, NoneReserved}
-pub use Rattle.jc_world.specs.Events.{with_stripe, with_phase, step_of, not_over, shown_begun, fault_in, with_settled, over_by, with_met_by, without_call, with_look, new_load, new_write, new_process, new_part, with_part, with_new_part, without_part, with_join, without_join, BeginsAs, Starts, RefusesAs, Ends, Picks, after_answer, with_change, after_change, with_report, after_report, reported_key, reported_keys, keys_reported, reported_at, after_reports, run_result, progress_after, after_process, Happens, Step, Run, RunAppending, is_fit, AllFit}
+pub use Rattle.jc_world.specs.Events.{with_stripe, with_phase, step_of, not_over, shown_begun, fault_in, with_settled, over_by, with_met_by, without_call, with_look, asks_as, new_progress, new_part, with_part, with_new_part, without_part, with_join, without_join, BeginsAs, ReservesAs, Starts, RefusesAs, Ends, Picks, after_answer, with_change, after_change, with_report, after_report, reported_key, reported_keys, keys_reported, reported_at, after_reports, run_result, progress_after, after_process, Happens, Step, Run, RunAppending, is_fit, AllFit}
 pub use Rattle.jc_world.specs.Fits.{is_playable, is_new, is_free, may_start, may_leave, waits_in, waits_at, may_report, is_to_look, may_look, fits}
 pub use Rattle.jc_world.specs.Gathered.{or_else, found_after}
-pub use Rattle.jc_world.specs.Headline.{start_with, with_all_premises, is_answer, is_load, is_loaded}
-pub use Rattle.jc_world.specs.Held.{parts_of, joins_of}
+pub use Rattle.jc_world.specs.Headline.{IsOpeningStripe, IsOpeningWorld, start_with, with_all_premises, is_answer, is_load, is_loaded}
+pub use Rattle.jc_world.specs.Held.{IsAnswerable, parts_of, joins_of}
 pub use Rattle.jc_world.specs.Inside.{world_of}
 pub use Rattle.jc_world.specs.OpenCalls.{tasks_of, first_open, IsFirstKept, are_new, TakesKeys}
 pub use Rattle.jc_world.specs.PickUps.{ends_join, is_last_pick_up, ends_load, IsEnd, Resolves}
@@ -120,4 +121,4 @@ pub use Rattle.jc_world.specs.Reserved.{is_appended}
 pub use Rattle.jc_world.specs.Sound.{IsWorldStripe, IsShaped, is_up_to, number_up_to, has_answer, has_parked_answer, is_served_in, is_served, is_apart, FitsKey, FitsCall, CallsFit, Each, is_of_asked, is_due_in, is_due, AllDue, IsHeld, IsCallOf, IsOwned, AllOwned, IsWaitedFor, AllWaitedFor, IsCalled, AllCalled, Agrees, IsWrittenFor, LoadAgrees, WriteAgrees, ProgressAgrees, KeyAgrees, Sweeps, IsSoundWorld}
 pub use Rattle.jc_world.specs.Together.{looks, opening_events, BeginFits, at_call, key_at, AreAt, FitTogether}
 pub use Rattle.jc_world.specs.Turns.{history_in, history_at, turns_of, after_turn, merge, OrderedStripes, IsPhase, IsQuietPhase, ordered_stripes, AreTurns, IsMergeable}
-pub use Rattle.jc_world.specs.World.{Parts, JoinKey, join_cmp, join_key, Joins, WorldState, home, stripe_for, entry_in, cached_entry, empty_stripe, empty_stripes, start, is_fresh, is_busy, open_call, of_call, part_of, has_progress, waits_for_load, waits_for_process, waits_for_report, is_answered, is_unasked, is_untouched, has_changed, writer_change_in, writer_change, out_in, out_of, join_of, has_joined, is_joined, is_free_of, with_stored}
+pub use Rattle.jc_world.specs.World.{Parts, JoinKey, join_cmp, join_key, Joins, WorldState, home, stripe_for, entry_in, cached_entry, empty_stripe, empty_stripes, start, is_busy, open_call, of_call, part_of, has_progress, waits_for_load, waits_for_process, waits_for_report, is_answered, is_unasked, is_untouched, has_changed, writer_change_in, writer_change, out_in, out_of, join_of, has_joined, is_joined, is_free_of, with_stored}

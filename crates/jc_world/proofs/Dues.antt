@@ -3,7 +3,7 @@
 --     due_run                    the progress of a key once its processor has run
 --     dues_reported              the writer has returned for a key
 --     dues_happens               any event that fits
-use Rattle.jc_world.proofs.Common.{◌≡◌, ℕ, true, is_some, is_none, Some, None, Option, option_map, sym, refl, ap, ◌∙◌, subst, get, insert, remove, get-empty, Config, WriterFailed, Bytes, entry_at, key_cmp, Change, WriteAnswer, ProcessResult, change_due, Reservation, Part, Progress, Loading, Shown, WorldEvent, open_keys, with_met_by, new_part, with_change, with_report, after_report, reported_keys, keys_reported, run_result, progress_after, Happens, load_from, report_for, is_due_in, is_due, AllDue, Parts, WorldState, start, part_of}
+use Rattle.jc_world.proofs.Common.{◌≡◌, ℕ, true, is_some, is_none, Some, None, Option, option_map, sym, refl, ap, subst, get, insert, remove, Config, WriterFailed, Bytes, entry_at, Change, WriteAnswer, ProcessResult, Claim, change_due, Reservation, Part, PartProgress, Loading, Shown, WorldEvent, open_keys, with_met_by, new_part, with_change, with_report, after_report, reported_keys, keys_reported, run_result, progress_after, Happens, load_from, report_for, is_due_in, is_due, AllDue, Parts, WorldState, part_of}
 use Rattle.jc_world.proofs.Holding.{is_part}
 use Rattle.jc_world.proofs.Maps.{keys_ordered, each_put, each_left}
 use Rattle.jc_world.proofs.Lemmas.{KeyChange, by_nothing, by_refusal, by_step, by_reservation, by_join, by_commit, by_withdrawal, by_answer, by_retry, key_change, each_report}
@@ -18,15 +18,15 @@ dues_remove config parts key all = each_left keys_ordered (λ q part. is_due con
 
 -- 2. A part stays.
 
-due_change : (config : Config) (r : Reservation) (p : Progress) → is_due_in config r p ≡ true → is_due_in config r (with_change p) ≡ true
+due_change : (config : Config) (r : Reservation) (p : PartProgress) → is_due_in config r p ≡ true → is_due_in config r (with_change p) ≡ true
 due_change config r (Loading answer) h = h
 due_change config r p h = h
 
-due_report : (config : Config) (r : Reservation) (p : Progress) (report : WriteAnswer) → is_due_in config r p ≡ true → is_due_in config r (with_report p report) ≡ true
+due_report : (config : Config) (r : Reservation) (p : PartProgress) (report : WriteAnswer) → is_due_in config r p ≡ true → is_due_in config r (with_report p report) ≡ true
 due_report config r (Loading answer) report h = h
 due_report config r p report h = h
 
-due_run : (config : Config) (r : Reservation) (done : ProcessResult Reservation) → is_due_in config r (progress_after (change_due config done) done) ≡ true
+due_run : (config : Config) (r : Reservation) (done : ProcessResult Claim) → is_due_in config r (progress_after (change_due config done) done) ≡ true
 due_run config r done = go (change_due config done) refl
   where
     go : (change : Option Change) → change_due config done ≡ change → is_due_in config r (progress_after change done) ≡ true
@@ -73,7 +73,3 @@ dues_happens w new (WorldEvent.Call call session command) seen h old = subst All
 dues_happens w new (WorldEvent.Leave call) seen h old = subst AllDueAt (sym h.1) old
 dues_happens w new (WorldEvent.Foreign key value) seen h old = subst AllDueAt (sym h.1) old
 dues_happens w new e seen h old = let k = key_change w new e seen refl h in dues_key w new e k.0 seen k.1 old
-
--- nothing is reserved at the start
-pub dues_start : (config : Config) → AllDueAt (start config)
-dues_start config key part there = absurd (let e : Some part ≡ None = sym there ∙ get-empty key_cmp key in cc)

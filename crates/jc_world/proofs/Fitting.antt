@@ -6,7 +6,7 @@
 --     start_fits     a call's first phase, after its beginning
 --     looks_fit_all  the looks of a call
 --     rest_fits      what follows in a line, if its first event fits
-use Rattle.jc_world.proofs.Common.{◌≡◌, ℕ, zero, suc, ◌+◌, ◌<◌, ◌≤◌, true, false, cond, not, ◌||◌, List, [], ◌∷◌, ◌++◌, is_some, is_none, IsSomeAnd, nat_lt, nat_le, Some, None, Option, find, sym, refl, ap, ◌∙◌, subst, inl, inr, arith, lt-ltb, eq-eqb, and_parts, and_from, false_from_ne_true, nat_tests, nat_eq_equiv, find-append, get, list_any, option_or, Caller, Bytes, Op, Get, State, JoinClaim, Command, Outcome, Part, Progress, Loading, Shown, WorldEvent, at_each, SweepState, sweep_of, CallState, new_call, has_number, op_at, is_open, is_going, has_too_many_keys, opened, going_on, has_looked, has_looked_at_each, with_found, with_look, Starts, Ends, Picks, with_change, Happens, is_fit, AllFit, is_new, is_free, is_to_look, may_look, fits, is_up_to, IsCallOf, IsSoundWorld, looks, WorldState, open_call, of_call, part_of, has_progress, waits_for_report, is_untouched, is_joined}
+use Rattle.jc_world.proofs.Common.{◌≡◌, ℕ, zero, suc, ◌+◌, ◌<◌, ◌≤◌, true, false, cond, not, ◌||◌, List, [], ◌∷◌, ◌++◌, is_some, is_none, IsSomeAnd, nat_lt, nat_le, Some, None, Option, find, sym, refl, ap, ◌∙◌, subst, inl, inr, arith, lt-ltb, eq-eqb, and_parts, and_from, false_from_ne_true, nat_tests, nat_eq_equiv, find-append, get, list_any, option_or, Caller, Bytes, Op, Get, State, JoinClaim, Command, Outcome, Part, PartProgress, Loading, Shown, WorldEvent, at_each, SweepState, sweep_of, CallState, new_call, has_number, op_at, is_open, is_going, has_too_many_keys, opened, going_on, has_looked, has_looked_at_each, with_found, with_look, Starts, Ends, Picks, with_change, Happens, is_fit, AllFit, is_new, is_free, is_to_look, may_look, fits, is_up_to, IsCallOf, IsSoundWorld, looks, WorldState, open_call, of_call, part_of, has_progress, waits_for_report, is_untouched, is_joined}
 use Rattle.jc_world.proofs.Holding.{call_on}
 use Rattle.jc_world.proofs.Lemmas.{missing, same_found, found_number, fits_found, of_call-at, begun_cases, found_replaced, join_there, joined_no_part}
 use Rattle.jc_world.proofs.Unseen.{missed, unseen, seen_below}
@@ -62,7 +62,7 @@ still_waits call o part is waits =
     ap (λ b. has_progress waits_for_report (cond b (Some (record part { progress = with_change part.progress })) None)) (eq-eqb part.reservation.caller.call call (of_call-at call o part is).1)
     ∙ unchanged part.progress ∙ sym (ap (has_progress waits_for_report) is) ∙ waits
   where
-    unchanged : (p : Progress) → waits_for_report (with_change p) ≡ waits_for_report p
+    unchanged : (p : PartProgress) → waits_for_report (with_change p) ≡ waits_for_report p
     unchanged (Loading answer) = refl
     unchanged p = refl
 
@@ -149,7 +149,7 @@ looks_begun w old call session c s fit sweeps =
     ap (λ more. find (has_number call) (w.calls ++ more)) opens
     ∙ find-append (has_number call) w.calls (u ∷ []) ∙ ap (λ o. option_or o (find (has_number call) (u ∷ []))) (new_under w call new old) ∙ ap (λ b. cond b (Some u) None) (nat_eq_equiv.refl call)
     in
-    let next : WorldState = record w { last = Some call; calls = w.calls ++ opened u } in
+    let next : WorldState = record w { last = Some call; calls = w.calls ++ opened u; is_fresh = false } in
     fits_then w (WorldEvent.Call call session c) (looks call 0 w.config.stripes) fit (λ seen mid happens.
     subst (λ m. AllFit m (looks call 0 w.config.stripes)) (sym happens.1)
     (looks_fit call w.config.stripes 0 next u s here sweeps (none_seen s.looked facts.1) (all_left w.config.stripes)))

@@ -1,5 +1,5 @@
 -- What is known of a held key whose event fits.
-use Rattle.jc_world.proofs.Common.{◌≡◌, ℕ, Bool, true, false, cond, not, ◌&&◌, IsSomeAnd, ◌==◌, Some, None, Option, sym, refl, ap, ◌∙◌, get, Bytes, is_write_given, is_key, Part, Progress, Loading, Processing, Writing, WorldEvent, op_at, fits, IsHeld, IsCallOf, IsOwned, IsSoundWorld, WorldState, home, stripe_for, open_call, of_call, part_of, has_progress, is_answered, is_unasked, is_untouched}
+use Rattle.jc_world.proofs.Common.{◌≡◌, ℕ, Bool, true, false, cond, not, ◌&&◌, IsSomeAnd, ◌==◌, Some, None, Option, sym, refl, ap, ◌∙◌, get, Bytes, is_write_given, is_key, Part, PartProgress, Loading, Processing, Writing, WorldEvent, op_at, fits, IsHeld, IsCallOf, IsOwned, IsSoundWorld, WorldState, home, stripe_for, open_call, of_call, part_of, has_progress, is_answered, is_unasked, is_untouched}
 use Rattle.jc_world.proofs.Lemmas.{fact_found, some_of}
 
 pub is_part : (o : Option Part) (call : ℕ) (part : Part) → of_call call o ≡ Some part → o ≡ Some part
@@ -16,7 +16,7 @@ of_key test o call none h = go (of_call call o) refl h
     go (Some part) e h = let there = is_part o call part e in (part, e, there, ap test there ∙ h)
 
 -- of what is untouched nobody was asked
-untouched_open : (p : Progress) → is_untouched p ≡ true → is_unasked p ≡ true
+untouched_open : (p : PartProgress) → is_untouched p ≡ true → is_unasked p ≡ true
 untouched_open (Loading answer) h = h
 untouched_open Processing h = refl
 untouched_open (Writing is_changed report) h = not_given is_changed (is_write_given report) h

@@ -4,58 +4,10 @@
 --     found_next     the stripes that are left, once one was gone through
 --     agrees         an entry of a coherent world doesn't differ
 --     none_differ    so none does
-use Rattle.jc_world.proofs.Common.{◌≡◌, ℕ, zero, suc, ◌+◌, ◌<◌, Bool, true, false, cond, not, ◌&&◌, List, [], ◌∷◌, ◌++◌, map, length, get_or, drop, ◌==◌, slice_get, Some, None, filter, Option, sym, refl, ap, ◌∙◌, add-one, arith, drop-cons, ne_eqb, and_parts, and_right, nat_list_cmp_total, list_all-append, eq_by_cmp_equiv, texts_ties, is_sorted, entries, entries_sorted, get, remove, from_entries, get-empty, get-remove, get-from_entries, below_all, list_all, is_eq, is_lt, eq_by_cmp, T, Ordering, Less, stripe_of, Config, same_key, get-with_entry, Bytes, Cache, entry_at, key_cmp, Group, victim_events, evicted_events, step_event, shared_event, step_place, events_of, history_of, without_victim, cache_before_step, cache_after_step, without_own, cache_after_group, cache_after_groups, event_key, holds, seq_entry, Cause, Event, is_own, IsReached, State, is_of, IsCache, differs, differing, Coherent, or_else, found_after, IsSoundWorld, WorldState, home, entry_in, cached_entry, has_progress, has_changed}
+use Rattle.jc_world.proofs.Common.{◌≡◌, ℕ, zero, suc, ◌+◌, ◌<◌, Bool, true, false, cond, not, ◌&&◌, List, [], ◌∷◌, map, length, get_or, drop, ◌==◌, slice_get, Some, None, filter, Option, sym, refl, ap, ◌∙◌, add-one, arith, drop-cons, ne_eqb, and_parts, and_right, nat_list_cmp_total, eq_by_cmp_equiv, texts_ties, is_sorted, entries, entries_sorted, get, from_entries, get-from_entries, below_all, list_all, is_eq, is_lt, eq_by_cmp, T, Ordering, Less, stripe_of, Config, same_key, Bytes, Cache, entry_at, key_cmp, holds, IsReached, by_use, State, is_of, IsCache, differs, differing, Coherent, or_else, found_after, IsSoundWorld, WorldState, home, entry_in, cached_entry, has_progress, has_changed}
 use Rattle.std.specs.FinMap.{find, get-entries}
 
--- 1. What a group leaves at other keys.
-
--- a key that isn't there stays out if one is removed
-none_removed : (cache : Cache) (key gone : Bytes) → entry_at cache key ≡ None → entry_at (remove cache gone) key ≡ None
-none_removed cache key gone h = get-remove nat_list_cmp_total cache gone key ∙ ap (cond (eq_by_cmp key_cmp key gone) None) h ∙ none (eq_by_cmp key_cmp key gone)
-  where
-    none : (b : Bool) → cond {A = Option Bytes} b None None ≡ None
-    none true = refl
-    none false = refl
-
--- if a full stripe's victim is removed
-none_without : (cache : Cache) (key : Bytes) (gone : Option Bytes) → entry_at cache key ≡ None → entry_at (without_victim cache gone) key ≡ None
-none_without cache key None h = h
-none_without cache key (Some gone) h = none_removed cache key gone h
-
--- and if the step's own key is
-none_evicted : (cache : Cache) (key own : Bytes) (cause : Option Cause) → entry_at cache key ≡ None → entry_at (without_own cache own cause) key ≡ None
-none_evicted cache key own None h = h
-none_evicted cache key own (Some cause) h = none_removed cache key own h
-
--- so it stays out in a group whose step is of another key
-none_left : (cache : Cache) (group : Group) (key : Bytes) → eq_by_cmp key_cmp key group.step.key ≡ false → entry_at cache key ≡ None → entry_at (cache_after_group cache group) key ≡ None
-none_left cache group key apart h = none_evicted (cache_after_step cache group) key group.step.key group.evicted (
-    get-with_entry (cache_before_step cache group) group.step.key (seq_entry (cache_before_step cache group) group.step) key
-    ∙ ap (λ b. cond b (seq_entry (cache_before_step cache group) group.step) (entry_at (cache_before_step cache group) key)) apart
-    ∙ none_without cache key group.victim h
-    )
-
--- what holds of each event of a group holds of its step
-of_step : (p : Event → Bool) (place : ℕ) (group : Group) → list_all p (events_of place group) ≡ true → p (step_event group) ≡ true
-of_step p place group h =
-    let shared = map (shared_event (step_place place group) group.step.key group.step.out.load) group.joined in
-    let own = evicted_events group.step.key group.evicted in
-    let front = victim_events group.victim in
-    let step = step_event group ∷ shared in
-    let most = and_parts (list_all p (front ++ step)) (list_all p own) (sym (list_all-append p (front ++ step) own) ∙ h) in
-    let parts = and_parts (list_all p front) (list_all p step) (sym (list_all-append p front step) ∙ most.0) in
-    (and_parts (p (step_event group)) (list_all p shared) parts.1).0
-
--- events of other keys leave a key out
-none_after : (p : Event → Bool) (key : Bytes) → ((e : Event) → p e ≡ true → eq_by_cmp key_cmp key (event_key e) ≡ false) → (place : ℕ) (groups : List Group) (cache : Cache)
-    → list_all p (history_of place groups) ≡ true → entry_at cache key ≡ None → entry_at (cache_after_groups cache groups) key ≡ None
-none_after p key f place [] cache h none = none
-none_after p key f place (group ∷ groups) cache h none =
-    let next = place + length (events_of place group) in
-    let parts = and_parts (list_all p (events_of place group)) (list_all p (history_of next groups)) (sym (list_all-append p (events_of place group) (history_of next groups)) ∙ h) in
-    none_after p key f next groups (cache_after_group cache group) parts.1 (none_left cache group key (f (step_event group) (of_step p place group parts.0)) none)
-
--- 2. What a stripe caches.
+-- 1. What a stripe caches.
 
 -- a key of another stripe isn't one of this stripe's
 other_key : (s : State) (key own : Bytes) → is_of s key ≡ false → is_of s own ≡ true → eq_by_cmp key_cmp key own ≡ false
@@ -65,16 +17,20 @@ other_key s key own off on =
       | false ↦ λ e. refl
     ] refl
 
+-- nor is it found among entries that are all of this stripe's keys
+none_of_others : (s : State) (key : Bytes) (es : List (Bytes × Bytes)) → is_of s key ≡ false → list_all (λ (e : Bytes × Bytes). is_of s e.0) es ≡ true → find key_cmp key es ≡ None
+none_of_others s key [] off own = refl
+none_of_others s key (e ∷ es) off own =
+    let parts = and_parts (is_of s e.0) (list_all (λ (e : Bytes × Bytes). is_of s e.0) es) own in
+    ap (λ b. cond b (Some e.1) (find key_cmp key es)) (other_key s key e.0 off parts.0) ∙ none_of_others s key es off parts.1
+
 -- a stripe caches no key of another
 pub homes : (s : State) (key : Bytes) → IsReached s → is_of s key ≡ false → entry_at s.cache key ≡ None
 homes s key reached off =
-    let h = reached.legal in
-    ap (λ c. entry_at c key) h.left
-    ∙ none_after (is_own s) key (λ e own. other_key s key (event_key e) off own) 0 h.groups (from_entries s.opening)
-    (ap (list_all (is_own s)) (sym h.spelled) ∙ reached.own)
-    (ap (λ (o : List (Bytes × Bytes)). entry_at (from_entries o) key) reached.opening ∙ get-empty key_cmp key)
+    let listed = by_use s.opening s.history in
+    ap (λ c. entry_at c key) reached.used.cache ∙ get-from_entries nat_list_cmp_total listed key ∙ none_of_others s key listed off reached.used.own
 
--- 3. What all stripes cache.
+-- 2. What all stripes cache.
 
 -- stripes that cache nothing for a key add nothing
 found_none : (found : Option Bytes) (stripes : List State) (key : Bytes) → ((i : ℕ) (s : State) → slice_get stripes i ≡ Some s → entry_at s.cache key ≡ None) → found_after found stripes key ≡ found
@@ -111,7 +67,7 @@ found_next stripes n s here next listed key within is cache e =
     ∙ ap (λ k. found_after (or_else (entry_at s.cache key) here) (drop k stripes) key) (add-one n)
     ∙ ap (λ ss. found_after here ss key) (sym (drop-cons stripes n s within ∙ ap (λ t. t ∷ drop (suc n) stripes) (sym is)))
 
--- 4. What differs.
+-- 3. What differs.
 
 -- a truth is true
 is_true : (b : Bool) → T b → b ≡ true

@@ -1,9 +1,9 @@
 -- Each event keeps what the joins and the joiners of a world say.
 --     joins_called, joins_taken, joins_parted, joins_stored     what changes the calls, a part or the store alone
 --     joins_phase, joins_joined, joins_picked, joins_key        by the kind of the change at a key
---     joins_start, joins_happens       before anything has happened, and after any event that fits
-use Rattle.jc_world.proofs.Common.{◌≡◌, ℕ, ◌+◌, Bool, true, false, not, ◌&&◌, List, [], ◌∷◌, ◌++◌, is_some, is_none, IsSomeAnd, ◌==◌, slice_get, slice_set, Some, None, Ok, Option, find, sym, refl, ap, ◌∙◌, subst, eqb-true, eq-eqb, and_parts, and_from, false_from_ne_true, nat_eq_equiv, nat_list_eq_equiv, pointwise, get, insert, remove, get-empty, list_all, check, Caller, Config, Refusal, none_is, Bytes, Cache, Event, Op, Get, belongs_to, after_resolve, Waiting, Joiner, with_joiner, without_joiner, State, IsJoined, JoinClaim, Reservation, Command, Part, Premises, Shown, WorldEvent, SweepState, CallState, new_call, has_number, op_at, open_keys, is_turn, opened, settle, drop_call, with_stripe, with_phase, fault_in, with_settled, with_met_by, without_call, with_look, new_part, with_join, Happens, is_free, may_leave, fits, IsCallOf, IsWaitedFor, AllWaitedFor, IsCalled, AllCalled, IsSoundWorld, Parts, JoinKey, join_cmp, join_key, WorldState, home, stripe_for, start, open_call, of_call, part_of, join_of, is_joined}
-use Rattle.jc_world.proofs.Lemmas.{denied, missing, joins_half, is_some_and, set_cases, found_test, each_map, fact_found, each_pushed, each_kept, find_over, find_pushed, same_bytes, of_call-at, open_now, IsTurnOf, still_called, joiner_of, find_kept, joined_resolved, joined_dissolved, joined_front, joined_last, called_resolved, called_dissolved, joined_no_part, other_key, none_inserted, none_removed, part_other, joins_get, start_is, MayStart, may_turn, part_turn, Picking, picking, picking_turn, looked_called, met_called, at_stripe, stripe_put, KeyChange, by_nothing, by_refusal, by_step, by_reservation, by_join, by_commit, by_withdrawal, by_answer, by_retry, key_change, may_of, some_of, IsReport}
+--     joins_happens                    after any event that fits
+use Rattle.jc_world.proofs.Common.{◌≡◌, ℕ, ◌+◌, Bool, true, false, not, ◌&&◌, List, [], ◌∷◌, ◌++◌, is_some, is_none, IsSomeAnd, ◌==◌, slice_get, slice_set, Some, None, Option, find, sym, refl, ap, ◌∙◌, subst, eqb-true, eq-eqb, and_parts, and_from, false_from_ne_true, nat_eq_equiv, nat_list_eq_equiv, pointwise, get, insert, remove, list_all, Caller, Refusal, none_is, Bytes, Cache, Event, Op, Get, belongs_to, after_resolve, Waiting, Joiner, with_joiner, without_joiner, State, IsJoined, JoinClaim, Reservation, Command, Part, Premises, Shown, WorldEvent, SweepState, CallState, new_call, has_number, op_at, open_keys, is_turn, opened, settle, drop_call, with_stripe, with_phase, fault_in, with_settled, with_met_by, without_call, with_look, new_part, with_join, Happens, is_free, may_leave, fits, IsCallOf, IsWaitedFor, AllWaitedFor, IsCalled, AllCalled, IsSoundWorld, Parts, JoinKey, join_key, WorldState, home, stripe_for, start, open_call, of_call, part_of, join_of, is_joined}
+use Rattle.jc_world.proofs.Lemmas.{denied, missing, joins_half, is_some_and, set_cases, found_test, each_map, fact_found, each_pushed, each_kept, find_over, find_pushed, same_bytes, of_call-at, open_now, IsTurnOf, still_called, joiner_of, find_kept, joined_resolved, joined_dissolved, joined_front, joined_last, called_resolved, called_dissolved, joined_no_part, other_key, none_inserted, none_removed, part_other, joins_get, MayStart, may_turn, part_turn, Picking, picking, picking_turn, looked_called, met_called, at_stripe, stripe_put, KeyChange, by_nothing, by_refusal, by_step, by_reservation, by_join, by_commit, by_withdrawal, by_answer, by_retry, key_change, may_of, some_of, IsReport}
 use Rattle.jc_inflight.specs.Taking.{without_joiner as without}
 use Rattle.jc_world.proofs.Halves.{HasJoins}
 use Rattle.jc_world.proofs.Maps.{joins_ordered, get-here, get-left, still-there, each_put, each_left}
@@ -38,39 +38,39 @@ called_set w n key from to there here rest old m s =
 -- 2. What leaves the stripes.
 
 -- the stripes and the joins are the same, and the calls that have joined continue without a part
-joins_beside : (w : WorldState) (last : Option ℕ) (calls : List CallState) (parts : Parts) (store : Cache) (premises : Premises)
+joins_beside : (w : WorldState) (last : Option ℕ) (calls : List CallState) (parts : Parts) (store : Cache) (premises : Premises) (fresh : Bool)
     → ((number session : ℕ) (q : Bytes) → is_joined w number q ≡ true → IsSomeAnd (open_call w number) (IsCallOf session q Get) → IsSomeAnd (find (has_number number) calls) (IsCallOf session q Get))
     → ((number : ℕ) (q : Bytes) → part_of w number q ≡ None → of_call number (get parts q) ≡ None) → IsSoundWorld w
-    → HasJoins (record w { last = last; calls = calls; parts = parts; store = store; premises = premises })
-joins_beside w last calls parts store premises still none old =
-    let new : WorldState = record w { last = last; calls = calls; parts = parts; store = store; premises = premises } in
+    → HasJoins (record w { last = last; calls = calls; parts = parts; store = store; premises = premises; is_fresh = fresh })
+joins_beside w last calls parts store premises fresh still none old =
+    let new : WorldState = record w { last = last; calls = calls; parts = parts; store = store; premises = premises; is_fresh = fresh } in
     record {
       joins = kept_joins w new (λ j t h. record { out = h.out; call = still j.caller.call j.caller.session j.key t h.call; no_part = none j.caller.call j.key h.no_part }) old;
       called = λ m s at. each_map (IsCalled w m) (IsCalled new m) s.joiners (λ j h. record { home_is = h.home_is; join = h.join; call = still j.caller.call j.caller.session j.key h.join h.call }) (old.called m s at);
     }
 
 -- the store changes
-pub joins_stored : (w : WorldState) (store : Cache) (premises : Premises) → IsSoundWorld w → HasJoins (record w { store = store; premises = premises })
-joins_stored w store premises old = joins_beside w w.last w.calls w.parts store premises (λ number session q t h. h) (λ number q h. h) old
+pub joins_stored : (w : WorldState) (store : Cache) (premises : Premises) (fresh : Bool) → IsSoundWorld w → HasJoins (record w { store = store; premises = premises; is_fresh = fresh })
+joins_stored w store premises fresh old = joins_beside w w.last w.calls w.parts store premises fresh (λ number session q t h. h) (λ number q h. h) old
 
 -- a key's part stays
 pub joins_parted : (w : WorldState) (call : ℕ) (key : Bytes) (was part : Part) (premises : Premises) (store : Cache) → part_of w call key ≡ Some was → part.reservation.caller.call ≡ was.reservation.caller.call → IsSoundWorld w
     → HasJoins (record w { parts = insert w.parts key part; premises = premises; store = store })
 joins_parted w call key was part premises store is same old =
     let there = (of_call-at call (get w.parts key) was is).0 in
-    joins_beside w w.last w.calls (insert w.parts key part) store premises (λ number session q t h. h)
+    joins_beside w w.last w.calls (insert w.parts key part) store premises w.is_fresh (λ number session q t h. h)
     (λ number q none. none_inserted w.parts key q part number none (λ e. ap (λ c. c == number) same ∙ part_other (get w.parts key) was number there (ap (λ k. of_call number (get w.parts k)) (sym e) ∙ none))) old
 
 -- a call begins
-joins_called : (w : WorldState) (call session : ℕ) (command : Command) → IsSoundWorld w → HasJoins (record w { last = Some call; calls = w.calls ++ opened (new_call call session command) })
+joins_called : (w : WorldState) (call session : ℕ) (command : Command) → IsSoundWorld w → HasJoins (record w { last = Some call; calls = w.calls ++ opened (new_call call session command); is_fresh = false })
 joins_called w call session command old =
     let more : List CallState = opened (new_call call session command) in
-    joins_beside w (Some call) (w.calls ++ more) w.parts w.store w.premises (λ number session q t h. find_pushed (has_number number) w.calls more (IsCallOf session q Get) h) (λ number q h. h) old
+    joins_beside w (Some call) (w.calls ++ more) w.parts w.store w.premises false (λ number session q t h. find_pushed (has_number number) w.calls more (IsCallOf session q Get) h) (λ number q h. h) old
 
 -- a call has taken keys, or has met something, and each continues at each of its keys
 joins_taken : (w : WorldState) (calls : List CallState)
     → ((number session : ℕ) (q : Bytes) (op : Op) → IsSomeAnd (open_call w number) (IsCallOf session q op) → IsSomeAnd (find (has_number number) calls) (IsCallOf session q op)) → IsSoundWorld w → HasJoins (record w { calls = calls })
-joins_taken w calls still old = joins_beside w w.last calls w.parts w.store w.premises (λ number session q t h. still number session q Get h) (λ number q h. h) old
+joins_taken w calls still old = joins_beside w w.last calls w.parts w.store w.premises w.is_fresh (λ number session q t h. still number session q Get h) (λ number q h. h) old
 
 joins_looked : (w : WorldState) (call stripe : ℕ) (keys : List Bytes) (s : SweepState) (u : CallState) → open_call w call ≡ Some u → u.sweep ≡ Some s → IsSoundWorld w → HasJoins (with_look w call stripe keys s)
 joins_looked w call stripe keys s u here sweeps old = joins_taken w (with_look w call stripe keys s).calls (looked_called w call stripe keys s u here sweeps) old
@@ -86,7 +86,7 @@ still_under w call key met free turn number session q joined h = still_called ca
 -- a first phase was refused, and the key has its last refusal
 joins_refused : (w : WorldState) (call : ℕ) (key : Bytes) (met : Option Refusal) → is_joined w call key ≡ false → IsTurnOf w.calls call key → IsSoundWorld w → HasJoins (with_settled w call key met)
 joins_refused w call key met free turn old =
-    joins_beside w w.last (settle call key met w.calls) w.parts w.store w.premises (λ number session q t h. still_under w call key met free turn number session q t h) (λ number q h. h) old
+    joins_beside w w.last (settle call key met w.calls) w.parts w.store w.premises w.is_fresh (λ number session q t h. still_under w call key met free turn number session q t h) (λ number q h. h) old
 
 -- a call without any join goes
 still_beside : (w : WorldState) (call : ℕ) (u : CallState) → open_call w call ≡ Some u → list_all (is_free w call) (open_keys u) ≡ true → (number session : ℕ) (q : Bytes) → is_joined w number q ≡ true
@@ -300,14 +300,7 @@ joins_key w new e key seen (by_answer call join from to x e_is join_is there h h
 joins_key w new e key seen (by_retry call join from to e_is join_is there h is shows ends) fit old =
     subst HasJoins (sym is) (joins_picked w call key join from to w.calls join_is there h.2 (all_go_on w call key) old)
 
--- 8. Before anything has happened, and any event that fits.
-
--- before anything has happened
-pub joins_start : (config : Config) → check config ≡ Ok tt → HasJoins (start config)
-joins_start config fits = record {
-  joins = λ at j is. let t : None ≡ Some j = sym (get-empty join_cmp at) ∙ is in cc;
-  called = λ n s here. let P : State → Type 0 = λ s. AllCalled (start config) n s.joiners in subst P (sym (start_is config n s here)) tt;
-}
+-- 8. Any event that fits.
 
 -- a call leaves
 joins_left : (w : WorldState) (call : ℕ) → may_leave w call (open_call w call) ≡ true → IsSoundWorld w → HasJoins (without_call w call)
@@ -316,7 +309,7 @@ joins_left w call fit old = go (open_call w call) refl
     go : (o : Option CallState) → open_call w call ≡ o → HasJoins (without_call w call)
     go None e = let t : false ≡ true = ap (may_leave w call) (sym e) ∙ fit in cc
     go (Some u) e =
-        joins_beside w w.last (drop_call call w.calls) w.parts w.store w.premises
+        joins_beside w w.last (drop_call call w.calls) w.parts w.store w.premises w.is_fresh
         (λ number session q t h. still_beside w call u e (sym (ap (may_leave w call) e) ∙ fit) number session q t h) (λ number q h. h) old
 
 -- by the kind of the event
@@ -329,5 +322,5 @@ joins_happens w new (WorldEvent.Process call key source calls fail) seen fit h b
 joins_happens w new (WorldEvent.Change call key) seen fit h back old = subst HasJoins (sym h.5) (joins_parted w call key h.0 _ w.premises _ h.2 refl old)
 joins_happens w new (WorldEvent.Report call left fault) seen fit h back old = joins_half new (back tt)
 joins_happens w new (WorldEvent.Leave call) seen fit h back old = subst HasJoins (sym h.1) (joins_left w call fit old)
-joins_happens w new (WorldEvent.Foreign key value) seen fit h back old = subst HasJoins (sym h.1) (joins_stored w _ _ old)
+joins_happens w new (WorldEvent.Foreign key value) seen fit h back old = subst HasJoins (sym h.1) (joins_stored w _ _ false old)
 joins_happens w new e seen fit h back old = let k = key_change w new e seen refl h in joins_key w new e k.0 seen k.1 fit old

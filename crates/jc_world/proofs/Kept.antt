@@ -1,5 +1,5 @@
 -- Each event keeps what the parts and the store of a world say.
-use Rattle.jc_world.proofs.Common.{◌≡◌, ℕ, zero, suc, ◌+◌, Bool, true, false, cond, ◌&&◌, List, [], ◌∷◌, ◌++◌, is_some, is_none, IsSomeAnd, slice_get, slice_set, Some, None, Ok, Option, find, sym, refl, ap, ◌∙◌, subst, and_parts, and_from, nat_list_cmp_total, beq, texts_ties, get, insert, remove, get-empty, get-insert, get-remove, eq_by_cmp, check, Caller, Config, same_key, get-with_entry, Bytes, Cache, entry_at, with_entry, key_cmp, nothing_said, write_only, found_in, holds, write_ask, is_write_given, entry_after, Change, Event, LoadAnswer, Op, ProcessAnswer, WriteAnswer, EntryCall, callers_of, ProcessResult, Played, asks_invoking, change_due, Steps, Begins, after_commit, Commits, Withdraws, AllAsk, first_asked, State, is_key, is_reserved, without_key, IsOut, asks_processor, Begun, StepDone, First, Loader, Writer, Reservation, Command, Part, Premises, Progress, Loading, Processed, Processing, Writing, WritingEffect, Shown, WorldEvent, CallState, new_call, has_number, op_at, opened, settle, drop_call, Coherent, all_hold, with_stripe, with_phase, step_of, fault_in, without_call, new_part, with_part, without_part, after_answer, with_change, after_change, with_report, after_report, run_result, progress_after, after_process, may_leave, fits, changed_to, is_true_load, is_done, is_true_report, with_foreign_write, premises_hold, is_of_asked, is_due_in, IsHeld, Agrees, IsWrittenFor, LoadAgrees, ProgressAgrees, KeyAgrees, IsSoundWorld, Parts, join_key, Joins, WorldState, home, stripe_for, entry_in, cached_entry, empty_stripes, start, open_call, part_of, has_progress, waits_for_load, waits_for_process, waits_for_report, is_answered, is_untouched, has_changed, writer_change_in, writer_change, out_in, out_of, with_stored}
+use Rattle.jc_world.proofs.Common.{◌≡◌, ℕ, Bool, true, false, cond, ◌&&◌, List, [], ◌∷◌, ◌++◌, is_some, is_none, IsSomeAnd, slice_get, slice_set, Some, None, Option, find, sym, refl, ap, ◌∙◌, subst, and_parts, and_from, nat_list_cmp_total, beq, texts_ties, get, insert, remove, get-insert, get-remove, eq_by_cmp, Caller, Config, same_key, get-with_entry, Bytes, Cache, entry_at, with_entry, key_cmp, nothing_said, write_only, found_in, holds, write_ask, is_write_given, entry_after, Change, Event, LoadAnswer, Op, ProcessAnswer, WriteAnswer, EntryCall, callers_of, ProcessResult, Claim, claim_of, Played, asks_invoking, change_due, Steps, Begins, after_commit, Commits, Withdraws, AllAsk, first_asked, State, is_key, is_reserved, without_key, IsOut, asks_processor, Begun, StepDone, First, Loader, Writer, Reservation, Command, Part, Premises, PartProgress, Loading, Processed, Processing, Writing, WritingEffect, Shown, WorldEvent, CallState, new_call, has_number, op_at, opened, settle, drop_call, Coherent, all_hold, with_stripe, with_phase, step_of, fault_in, without_call, new_part, with_part, without_part, after_answer, with_change, after_change, with_report, after_report, run_result, progress_after, after_process, may_leave, fits, changed_to, is_true_load, is_done, is_true_report, with_foreign_write, premises_hold, is_of_asked, is_due_in, IsHeld, Agrees, IsWrittenFor, LoadAgrees, ProgressAgrees, KeyAgrees, IsSoundWorld, Parts, join_key, Joins, WorldState, home, stripe_for, entry_in, cached_entry, open_call, part_of, has_progress, waits_for_load, waits_for_process, waits_for_report, is_answered, is_untouched, has_changed, writer_change_in, writer_change, out_in, out_of, with_stored}
 use Rattle.jc_world.proofs.Lemmas.{denied, missing, HasParts, is_some_and, picking, at_stripe, stripe_put, home_stripe, split, tied, agrees_stepped, writes, loads_asked, writes_asked, loads, asks_nobody, found_more, out_reserved, new_out, found_left, invoke_is, write_due, agrees_processed, agrees_effect, KeyChange, by_nothing, by_refusal, by_step, by_reservation, by_join, by_commit, by_withdrawal, by_answer, by_retry, some_of}
 use Rattle.jc_world.proofs.Holding.{call_on, is_part}
 use Rattle.jc_world.proofs.Maps.{keys_ordered, each_put}
@@ -76,7 +76,7 @@ told_on : (o : Option Part) (stored entry next : Option Bytes) → (Agrees entry
 told_on None stored entry next f h = f h
 told_on (Some part) stored entry next f h = go part.progress h
   where
-    go : (p : Progress) → ProgressAgrees p part.reservation.first stored entry → ProgressAgrees p part.reservation.first stored next
+    go : (p : PartProgress) → ProgressAgrees p part.reservation.first stored entry → ProgressAgrees p part.reservation.first stored next
     go (Loading answer) h = record { loaded = h.loaded; unwritten = f h.unwritten }
     go Processing h = f h
     go (Processed loaded process) h = record { loaded = h.loaded; unwritten = f h.unwritten }
@@ -92,7 +92,7 @@ told_at : (o : Option Part) (part : Part) (stored entry : Option Bytes) → o �
 told_at o part stored entry e h = let P : Option Part → Type 0 = λ o. KeyAgrees o stored entry in subst P e h
 
 -- as long as the writer hasn't changed the store, the entry agrees with it
-unwritten_in : (p : Progress) (first : First) (stored entry : Option Bytes) → has_changed p ≡ false → ProgressAgrees p first stored entry → Agrees entry stored
+unwritten_in : (p : PartProgress) (first : First) (stored entry : Option Bytes) → has_changed p ≡ false → ProgressAgrees p first stored entry → Agrees entry stored
 unwritten_in (Writing is_changed report) first stored entry e h = h.unwritten e
 unwritten_in Processing first stored entry e h = h
 unwritten_in (WritingEffect loaded process is_changed report) first stored entry e h = h.unwritten e
@@ -121,11 +121,11 @@ none_under : (call : ℕ) (calls : List CallState) (u : CallState) → calls ≡
 none_under call calls u none h = let e : None ≡ Some u = ap (find (has_number call)) (sym none) ∙ h in cc
 
 -- a call is under way, so one has begun
-begun_before : (w : WorldState) (call : ℕ) (u : CallState) → open_call w call ≡ Some u → IsSoundWorld w → is_none w.last ≡ true → ⊥
+begun_before : (w : WorldState) (call : ℕ) (u : CallState) → open_call w call ≡ Some u → IsSoundWorld w → w.is_fresh ≡ true → ⊥
 begun_before w call u is old none = none_under call w.calls u (old.idle none) is
 
 -- nor is it if a key has a part
-worn : (w : WorldState) (key : Bytes) (part : Part) → get w.parts key ≡ Some part → IsSoundWorld w → is_none w.last ≡ true → ⊥
+worn : (w : WorldState) (key : Bytes) (part : Part) → get w.parts key ≡ Some part → IsSoundWorld w → w.is_fresh ≡ true → ⊥
 worn w key part there old none =
     let on = some_of (open_call w part.reservation.caller.call) (λ u. op_at u key ≡ Some part.reservation.op) (call_on w key part there old) in
     begun_before w part.reservation.caller.call on.0 on.1 old none
@@ -151,37 +151,37 @@ told_insert w parts store key new all one q =
 -- 4. Answers, changes and reports.
 
 -- an answer that was due is of whom was asked, and so is a report
-load_asked_of : (p : Progress) (first : First) (answer : LoadAnswer) → waits_for_load p ≡ true → is_of_asked p first ≡ true → is_of_asked (Loading answer) first ≡ true
+load_asked_of : (p : PartProgress) (first : First) (answer : LoadAnswer) → waits_for_load p ≡ true → is_of_asked p first ≡ true → is_of_asked (Loading answer) first ≡ true
 load_asked_of (Loading was) first answer due h = h
 load_asked_of p first answer due h = cc
 
-run_asked_of : (p : Progress) (first : First) (change : Option Change) (done : ProcessResult Reservation) → waits_for_process p ≡ true → is_of_asked p first ≡ true → is_of_asked (progress_after change done) first ≡ true
+run_asked_of : (p : PartProgress) (first : First) (change : Option Change) (done : ProcessResult Claim) → waits_for_process p ≡ true → is_of_asked p first ≡ true → is_of_asked (progress_after change done) first ≡ true
 run_asked_of Processing first None done due h = h
 run_asked_of Processing first (Some change) done due h = h
 run_asked_of p first change done due h = cc
 
-change_asked_of : (p : Progress) (first : First) → is_of_asked p first ≡ true → is_of_asked (with_change p) first ≡ true
+change_asked_of : (p : PartProgress) (first : First) → is_of_asked p first ≡ true → is_of_asked (with_change p) first ≡ true
 change_asked_of (Loading answer) first h = h
 change_asked_of p first h = h
 
-report_asked_of : (p : Progress) (first : First) (report : WriteAnswer) → is_of_asked p first ≡ true → is_of_asked (with_report p report) first ≡ true
+report_asked_of : (p : PartProgress) (first : First) (report : WriteAnswer) → is_of_asked p first ≡ true → is_of_asked (with_report p report) first ≡ true
 report_asked_of (Loading answer) first report h = h
 report_asked_of p first report h = h
 
 -- what is known once the loader has answered
-told_load : (p : Progress) (first : First) (answer : LoadAnswer) (stored entry : Option Bytes) → waits_for_load p ≡ true → Agrees (found_in answer) stored → ProgressAgrees p first stored entry → LoadAgrees answer stored entry
+told_load : (p : PartProgress) (first : First) (answer : LoadAnswer) (stored entry : Option Bytes) → waits_for_load p ≡ true → Agrees (found_in answer) stored → ProgressAgrees p first stored entry → LoadAgrees answer stored entry
 told_load (Loading was) first answer stored entry due found h = record { loaded = found; unwritten = h.unwritten }
 told_load p first answer stored entry due found h = cc
 
 -- once the processor has run
-told_run : (p : Progress) (first : First) (change : Option Change) (done : ProcessResult Reservation) (stored entry : Option Bytes) → waits_for_process p ≡ true → Agrees (found_in done.load) stored → ProgressAgrees p first stored entry
+told_run : (p : PartProgress) (first : First) (change : Option Change) (done : ProcessResult Claim) (stored entry : Option Bytes) → waits_for_process p ≡ true → Agrees (found_in done.load) stored → ProgressAgrees p first stored entry
     → ProgressAgrees (progress_after change done) first stored entry
 told_run Processing first None done stored entry due found h = record { loaded = found; unwritten = h }
 told_run Processing first (Some change) done stored entry due found h = record { written = λ e. absurd (let t : false ≡ true = e in cc); unwritten = λ e. h; honest = λ e. absurd (let t : false ≡ true = e in cc) }
 told_run p first change done stored entry due found h = cc
 
 -- once the writer has changed the store
-told_change : (p : Progress) (first : First) (change : Change) (entry : Option Bytes) → waits_for_report p ≡ true → writer_change_in first p ≡ Some change → ProgressAgrees (with_change p) first (changed_to change) entry
+told_change : (p : PartProgress) (first : First) (change : Change) (entry : Option Bytes) → waits_for_report p ≡ true → writer_change_in first p ≡ Some change → ProgressAgrees (with_change p) first (changed_to change) entry
 told_change (Loading answer) first change entry due asks = cc
 told_change (Writing is_changed report) first change entry due asks = record {
   written = λ e. let W : Option Change → Type 0 = λ o. IsWrittenFor o (changed_to change) in subst W (sym asks) refl;
@@ -197,13 +197,13 @@ told_change (WritingEffect loaded process is_changed report) first change entry 
 }
 
 -- and once it has returned
-told_report : (p : Progress) (first : First) (report : WriteAnswer) (stored entry : Option Bytes) → waits_for_report p ≡ true → is_true_report report (has_changed p) ≡ true → ProgressAgrees p first stored entry → ProgressAgrees (with_report p report) first stored entry
+told_report : (p : PartProgress) (first : First) (report : WriteAnswer) (stored entry : Option Bytes) → waits_for_report p ≡ true → is_true_report report (has_changed p) ≡ true → ProgressAgrees p first stored entry → ProgressAgrees (with_report p report) first stored entry
 told_report (Writing is_changed was) first report stored entry due honest h = record { written = h.written; unwritten = h.unwritten; honest = λ e. same_test is_changed (is_done report) honest }
 told_report (WritingEffect loaded process is_changed was) first report stored entry due honest h = record { written = h.written; unwritten = h.unwritten; honest = λ e. same_test is_changed (is_done report) honest }
 told_report p first report stored entry due honest h = cc
 
 -- a held key stays held: whom it asked stays, and what is then known of all keys holds
-parts_progressed : (w : WorldState) (call : ℕ) (key : Bytes) (part : Part) (p : Progress) (store : Cache) (premises : Premises) → part_of w call key ≡ Some part
+parts_progressed : (w : WorldState) (call : ℕ) (key : Bytes) (part : Part) (p : PartProgress) (store : Cache) (premises : Premises) → part_of w call key ≡ Some part
     → (is_of_asked part.progress part.reservation.first ≡ true → is_of_asked p part.reservation.first ≡ true)
     → (all_hold (record w { premises = premises }) ≡ true → AllTold w (insert w.parts key (record part { progress = p })) store) → IsSoundWorld w
     → HasParts (record w { store = store; parts = insert w.parts key (record part { progress = p }); premises = premises })
@@ -272,16 +272,16 @@ parts_reported w call key part report is waits old =
     (told_report part.progress part.reservation.first report (entry_at w.store key) (cached_entry w key) due hold.1 one)) old
 
 -- somebody else has written the store
-pub parts_disturbed : (w : WorldState) (store : Cache) → IsSoundWorld w → HasParts (record w { store = store; premises = with_foreign_write w.premises })
+pub parts_disturbed : (w : WorldState) (store : Cache) → IsSoundWorld w → HasParts (record w { store = store; premises = with_foreign_write w.premises; is_fresh = false })
 parts_disturbed w store old = record {
   held = old.held;
   told = λ h. absurd (undisturbed w.config.write_through w.premises.writers w.premises.loaders h);
-  cold = old.cold;
-  idle = old.idle;
+  cold = λ f. absurd (let t : false ≡ true = f in cc);
+  idle = λ f. absurd (let t : false ≡ true = f in cc);
 }
 
 -- a value is stored before anything has happened
-pub parts_stored : (w : WorldState) (key value : Bytes) → is_none w.last ≡ true → IsSoundWorld w → HasParts (with_stored w key value)
+pub parts_stored : (w : WorldState) (key value : Bytes) → w.is_fresh ≡ true → IsSoundWorld w → HasParts (with_stored w key value)
 parts_stored w key value new old = record {
   held = old.held;
   told = λ h q. told_none (get w.parts q) (entry_at (with_entry w.store key (Some value)) q) (cached_entry w q) (missing (get w.parts q) (λ p there. worn w q p there old new)) (old.cold new q);
@@ -291,31 +291,12 @@ parts_stored w key value new old = record {
 
 -- 5. A world that begins, and a call that does.
 
--- an empty stripe caches nothing
-cached_none : (config : Config) (first count number : ℕ) (key : Bytes) → entry_in (slice_get (empty_stripes config first count) number) key ≡ None
-cached_none config first zero number key = refl
-cached_none config first (suc count) zero key = get-empty key_cmp key
-cached_none config first (suc count) (suc number) key = cached_none config (first + 1) count number key
-
--- nothing is cached, reserved or under way before anything has happened
-pub parts_start : (config : Config) → check config ≡ Ok tt → HasParts (start config)
-parts_start config fits =
-    let w = start config in
-    let none : (key : Bytes) → cached_entry w key ≡ None = λ key. cached_none config 0 config.stripes (home w key) key in
-    let free : (key : Bytes) → get w.parts key ≡ None = λ key. get-empty key_cmp key in
-    record {
-      held = λ key part there. absurd (let e : Some part ≡ None = sym there ∙ free key in cc);
-      told = λ hold key. told_none (get w.parts key) (entry_at w.store key) (cached_entry w key) (free key) (none key);
-      cold = λ f key. none key;
-      idle = λ f. refl;
-    }
-
 -- a call has begun
 pub parts_called : (w : WorldState) (call session : ℕ) (command : Command) → fits w (WorldEvent.Call call session command) ≡ true → IsSoundWorld w
-    → HasParts (record w { last = Some call; calls = w.calls ++ opened (new_call call session command) })
+    → HasParts (record w { last = Some call; calls = w.calls ++ opened (new_call call session command); is_fresh = false })
 parts_called w call session command fit old =
     let more : List CallState = opened (new_call call session command) in
-    let n : WorldState = record w { last = Some call; calls = w.calls ++ more } in
+    let n : WorldState = record w { last = Some call; calls = w.calls ++ more; is_fresh = false } in
     record {
       held = old.held;
       told = old.told;
@@ -390,7 +371,7 @@ held_reserving from next r q p reservations h =
 -- so there is one part more
 parts_reserving : (w : WorldState) (key : Bytes) (from next : State) (r : Reservation) (part : Part) → stripe_for w key ≡ Some from → is_reserved from key ≡ false
     → next.reservations ≡ from.reservations ++ r ∷ [] → next.cache ≡ from.cache → IsHeld next key part
-    → ((stored entry : Option Bytes) → Agrees entry stored → ProgressAgrees part.progress part.reservation.first stored entry) → (is_none w.last ≡ true → ⊥) → IsSoundWorld w
+    → ((stored entry : Option Bytes) → Agrees entry stored → ProgressAgrees part.progress part.reservation.first stored entry) → (w.is_fresh ≡ true → ⊥) → IsSoundWorld w
     → HasParts (with_part (with_stripe w key next) key part)
 parts_reserving w key from next r part at free reservations cache one new used old =
     let n = with_part (with_stripe w key next) key part in
@@ -406,13 +387,13 @@ parts_reserving w key from next r part at free reservations cache one new used o
     }
 
 -- a reservation is made of a key that was free: its part has it
-held_new : (key : Bytes) (from next : State) (p : Progress) (r : Reservation) → is_reserved from key ≡ false → r.key ≡ key → next.reservations ≡ from.reservations ++ r ∷ [] → is_of_asked p r.first ≡ true
+held_new : (key : Bytes) (from next : State) (p : PartProgress) (r : Reservation) → is_reserved from key ≡ false → r.key ≡ key → next.reservations ≡ from.reservations ++ r ∷ [] → is_of_asked p r.first ≡ true
     → IsHeld next key (new_part p r)
 held_new key from next p r free key_is reservations asked =
     record { key_is = key_is; out = rw reservations (new_out from r (ap (is_reserved from) key_is ∙ free)); asked = asked }
 
 -- a stripe is another, whose entries and reservations are the same
-parts_aside : (w : WorldState) (key : Bytes) (from next : State) (calls : List CallState) (joins : Joins) → stripe_for w key ≡ Some from → next.cache ≡ from.cache → next.reservations ≡ from.reservations → (is_none w.last ≡ true → ⊥) → IsSoundWorld w
+parts_aside : (w : WorldState) (key : Bytes) (from next : State) (calls : List CallState) (joins : Joins) → stripe_for w key ≡ Some from → next.cache ≡ from.cache → next.reservations ≡ from.reservations → (w.is_fresh ≡ true → ⊥) → IsSoundWorld w
     → HasParts (record w { stripes = slice_set w.stripes (home w key) next; calls = calls; joins = joins })
 parts_aside w key from next calls joins at cache reservations used old = record {
   held = held_set w key from next at (λ q p h. held_on from next q p (ap (find (is_key p.reservation.key)) reservations ∙ h.out) h) old;
@@ -432,17 +413,17 @@ agrees_written op entry stored change WriteAnswer.Done was asked given written u
     subst (λ o. Agrees o stored) (written (sym honest) ∙ sym (writes op entry change asked)) (agrees_same stored)
 
 -- what a commit leaves agrees with the store: a reservation still asks what it asked
-agrees_ended : (config : Config) (r : Reservation) (p : Progress) (op : Op) (first : First) (entry stored : Option Bytes) → first_asked config op entry ≡ first → is_of_asked p first ≡ true → is_answered p ≡ true → config.write_through ≡ true → is_due_in config r p ≡ true
+agrees_ended : (config : Config) (r : Reservation) (p : PartProgress) (op : Op) (first : First) (entry stored : Option Bytes) → first_asked config op entry ≡ first → is_of_asked p first ≡ true → is_answered p ≡ true → config.write_through ≡ true → is_due_in config r p ≡ true
     → ProgressAgrees p first stored entry → Agrees (entry_after op entry (out_in p)) stored
 agrees_ended config r (Loading answer) op Loader entry stored asks asked over on due h = loads op entry answer stored (loads_asked config op entry asks) h.unwritten h.loaded
 agrees_ended config r (Writing is_changed report) op (Writer change) entry stored asks asked over on due h =
     agrees_written op entry stored change report is_changed (writes_asked config op entry change asks) over h.written h.unwritten (h.honest over)
 agrees_ended config r (Processed loaded process) op first entry stored asks asked over on due h =
-    let done : ProcessResult Reservation = record { ask = r; origin = Played; load = loaded; process = process } in
+    let done : ProcessResult Claim = record { ask = claim_of r; origin = Played; load = loaded; process = process } in
     rw (invoke_is op (asks_invoking config op entry (ap asks_processor asks ∙ asked)))
     (agrees_processed loaded process entry stored (ap is_none (sym (write_due config done on)) ∙ due) h)
 agrees_ended config r (WritingEffect loaded process is_changed report) op first entry stored asks asked over on due h =
-    let done : ProcessResult Reservation = record { ask = r; origin = Played; load = loaded; process = process } in
+    let done : ProcessResult Claim = record { ask = claim_of r; origin = Played; load = loaded; process = process } in
     rw (invoke_is op (asks_invoking config op entry (ap asks_processor asks ∙ asked)))
     (agrees_effect loaded process is_changed report entry stored (ap is_some (sym (write_due config done on)) ∙ due) over h)
 agrees_ended config r p op first entry stored asks asked over on due h = cc
@@ -531,7 +512,7 @@ parts_committed w call key part from next order calls done is answered at commit
 -- 8. A reservation is given back, a call leaves, and an answer is picked up.
 
 -- of what is untouched the store is as it was
-unchanged : (p : Progress) → is_untouched p ≡ true → has_changed p ≡ false
+unchanged : (p : PartProgress) → is_untouched p ≡ true → has_changed p ≡ false
 unchanged (Writing true report) h = cc
 unchanged (WritingEffect loaded process is_changed report) h = cc
 unchanged p h = refl

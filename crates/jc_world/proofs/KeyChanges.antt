@@ -7,13 +7,12 @@
 --     change_of                 each event that fits makes one of these changes
 --     IsStart, may_of           it is the start of a call at a key; in a sound world the call may start there
 --     Move                      the same, as far as configuration, stripes and order go
-use Rattle.jc_world.proofs.Common.{◌≡◌, ℕ, Bool, true, false, ◌++◌, slice_set, Some, Option, sym, refl, ap, ◌∙◌, inl, inr, Caller, Config, Refusal, Bytes, is_load_given, Op, Begins, Commits, Withdraws, PicksUp, reserves, State, is_reserved, new_reservation, with_reservation, Ticket, ProcessClaim, asks_loader, asks_writer, JoinClaim, Begun, Picked, Loader, Reservation, Outcome, Part, PickedUp, Progress, Shown, Stepped, WorldEvent, CallState, new_call, op_at, with_stripe, with_phase, step_of, not_over, shown_begun, fault_in, with_settled, new_load, new_write, new_process, with_new_part, without_part, with_join, without_join, Starts, Ends, Picks, Happens, Step, fits, ends_load, is_answer_at, is_of_asked, is_due_in, Agrees, ProgressAgrees, IsSoundWorld, WorldState, home, stripe_for, open_call, part_of, out_in, out_of, join_of}
+use Rattle.jc_world.proofs.Common.{◌≡◌, ℕ, Bool, true, false, ◌++◌, slice_set, Some, Option, sym, refl, ap, ◌∙◌, inl, inr, Caller, Config, Refusal, Bytes, is_load_given, Op, Begins, Commits, Withdraws, PicksUp, reserves, State, is_reserved, new_reservation, with_reservation, TicketClaim, JoinClaim, Begun, Picked, First, Loader, Nobody, Processor, Writer, Reservation, Outcome, Part, JoinAnswer, PartProgress, Shown, Stepped, WorldEvent, CallState, new_call, op_at, with_stripe, with_phase, step_of, not_over, shown_begun, fault_in, with_settled, new_progress, with_new_part, without_part, with_join, without_join, ReservesAs, Starts, Ends, Picks, Happens, Step, fits, ends_load, is_answer_at, is_of_asked, is_due_in, Agrees, ProgressAgrees, IsSoundWorld, WorldState, home, stripe_for, open_call, part_of, out_in, out_of, join_of}
 use Rattle.jc_world.proofs.Beginning.{MayStart, may_start_at}
 use Rattle.jc_world.proofs.Shares.{added}
 use Rattle.jc_world.proofs.NewCalls.{begun_cases}
 use Rattle.jc_world.proofs.Beside.{beside}
-use Rattle.jc_world.proofs.Processors.{processor_free}
-use Rattle.jc_world.proofs.Reservations.{was_free, writer_alone}
+use Rattle.jc_world.proofs.Reservations.{was_free}
 
 -- 1. What an event shows.
 
@@ -26,7 +25,7 @@ EndsNone e seen = (r : Reservation) → ends_load r (e, seen) ≡ false
 -- 2. An event at a key.
 
 -- a first phase that reserves the key: of its progress nothing was told yet
-pub record Reserves (from : State) (caller : Caller) (key : Bytes) (op : Op) (p : Progress) (r : Reservation) (to : State) : Type 0 where
+pub record Reserves (from : State) (caller : Caller) (key : Bytes) (op : Op) (p : PartProgress) (r : Reservation) (to : State) : Type 0 where
   pub b : Begun
   pub begins : Begins from caller key op b to
   pub free : is_reserved from key ≡ false
@@ -50,7 +49,7 @@ pub data KeyChange (w new : WorldState) (e : WorldEvent) (key : Bytes) (seen : S
   by_refusal : (u : CallState) (op : Op) (refusal : Refusal) → IsStart w e key u op → new ≡ with_settled w u.caller.call key (Some refusal) → AnswersNone seen.outcome → EndsNone e seen → KeyChange w new e key seen
   by_step : (u : CallState) (op : Op) (from to : State) (x : Stepped) → IsStart w e key u op → stripe_for w key ≡ Some from → Begins from u.caller key op (Begun.Done (step_of x)) to → x.stripe ≡ home w key
       → new ≡ with_settled (with_phase w key from to) u.caller.call key (fault_in x.reply) → seen.outcome ≡ Outcome.Stepped x → EndsNone e seen → KeyChange w new e key seen
-  by_reservation : (u : CallState) (op : Op) (from to : State) (p : Progress) (r : Reservation) → IsStart w e key u op → stripe_for w key ≡ Some from → Reserves from u.caller key op p r to
+  by_reservation : (u : CallState) (op : Op) (from to : State) (p : PartProgress) (r : Reservation) → IsStart w e key u op → stripe_for w key ≡ Some from → Reserves from u.caller key op p r to
       → new ≡ with_new_part w key to p r → AnswersNone seen.outcome → EndsNone e seen → KeyChange w new e key seen
   by_join : (u : CallState) (op : Op) (from to : State) (join : JoinClaim) → IsStart w e key u op → stripe_for w key ≡ Some from → Begins from u.caller key op (Begun.Joined join) to
       → new ≡ with_join (with_stripe w key to) join → AnswersNone seen.outcome → EndsNone e seen → KeyChange w new e key seen
@@ -58,10 +57,53 @@ pub data KeyChange (w new : WorldState) (e : WorldEvent) (key : Bytes) (seen : S
       → new ≡ without_part (with_settled (with_phase w key from to) call key (fault_in x.reply)) key → seen.outcome ≡ Outcome.Stepped x → KeyChange w new e key seen
   by_withdrawal : (call : ℕ) (part : Part) (from to : State) → e ≡ WorldEvent.Withdraw call key → part_of w call key ≡ Some part → stripe_for w key ≡ Some from → Withdraws from part.reservation to
       → new ≡ without_part (with_stripe w key to) key → seen ≡ not_over Outcome.Withdrawn → KeyChange w new e key seen
-  by_answer : (call : ℕ) (join : JoinClaim) (from to : State) (x : PickedUp) → e ≡ WorldEvent.PickUp call key → join_of w call key ≡ Some join → stripe_for w key ≡ Some from → PicksUp from join (Picked.Answer x.reply x.place x.shared) to → x.stripe ≡ home w key
+  by_answer : (call : ℕ) (join : JoinClaim) (from to : State) (x : JoinAnswer) → e ≡ WorldEvent.PickUp call key → join_of w call key ≡ Some join → stripe_for w key ≡ Some from → PicksUp from join (Picked.Answer x.reply x.place x.shared) to → x.stripe ≡ home w key
       → new ≡ with_settled (without_join (with_stripe w key to) call key) call key (fault_in x.reply) → seen.outcome ≡ Outcome.PickedUp x → EndsNone e seen → KeyChange w new e key seen
   by_retry : (call : ℕ) (join : JoinClaim) (from to : State) → e ≡ WorldEvent.PickUp call key → join_of w call key ≡ Some join → stripe_for w key ≡ Some from → PicksUp from join Picked.Again to
       → new ≡ without_join (with_stripe w key to) call key → seen.outcome ≡ Outcome.Again → EndsNone e seen → KeyChange w new e key seen
+
+-- nothing was told yet of a key that was just reserved
+new_asked : (first : First) → reserves first ≡ true → is_of_asked (new_progress first) first ≡ true
+new_asked Nobody due = cc
+new_asked Loader due = refl
+new_asked (Writer change) due = refl
+new_asked (Processor entry may_load) due = refl
+
+new_untold : (first : First) (stored entry : Option Bytes) → reserves first ≡ true → Agrees entry stored → ProgressAgrees (new_progress first) first stored entry
+new_untold Nobody stored entry due agrees = cc
+new_untold Loader stored entry due agrees = record { loaded = tt; unwritten = agrees }
+new_untold (Writer change) stored entry due agrees = record { written = λ e. cc; unwritten = λ e. agrees; honest = λ e. cc }
+new_untold (Processor seen may_load) stored entry due agrees = agrees
+
+new_due : (config : Config) (r : Reservation) (first : First) → is_due_in config r (new_progress first) ≡ true
+new_due config r Nobody = refl
+new_due config r Loader = refl
+new_due config r (Writer change) = refl
+new_due config r (Processor entry may_load) = refl
+
+new_unloaded : (first : First) → is_load_given (out_in (new_progress first)).load ≡ false
+new_unloaded Nobody = refl
+new_unloaded Loader = refl
+new_unloaded (Writer change) = refl
+new_unloaded (Processor entry may_load) = refl
+
+-- a key is reserved
+reserved_change : (w new : WorldState) (e : WorldEvent) (u : CallState) (key : Bytes) (op : Op) (from to : State) (o : Outcome) (s : Shown) → AnswersNone s.outcome → EndsNone e s → IsStart w e key u op → stripe_for w key ≡ Some from
+    → ReservesAs w u.caller key op from to o new → KeyChange w new e key s
+reserved_change w new e u key op from to o s none ends may there h =
+    let r = h.0.reservation in
+    let m = h.1 in
+    by_reservation u op from to (new_progress r.first) r may there (record {
+      b = Begun.Asks h.0;
+      begins = m;
+      free = was_free from u.caller key op r.first m.0 m.1 m.2 m.3;
+      is = ap (λ (t : TicketClaim). t.reservation) m.4;
+      after = m.5;
+      asked = new_asked r.first m.3;
+      untold = λ stored entry agrees. new_untold r.first stored entry m.3 agrees;
+      due = λ config. new_due config r r.first;
+      unloaded = new_unloaded r.first;
+    }) h.3 none ends
 
 -- by what is shown of a first phase
 pub start_change : (w new : WorldState) (e : WorldEvent) (u : CallState) (key : Bytes) (op : Op) (from to : State) (seen : Outcome) (s : Shown) → s.outcome ≡ seen → EndsNone e s → IsStart w e key u op → stripe_for w key ≡ Some from
@@ -69,44 +111,9 @@ pub start_change : (w new : WorldState) (e : WorldEvent) (u : CallState) (key : 
 start_change w new e u key op from to (Outcome.Refused refusal) s shows ends may there h = by_refusal u op refusal may h.1 (λ n p. ap (is_answer_at n p) shows) ends
 start_change w new e u key op from to (Outcome.PutOff refusal) s shows ends may there h = by_nothing h.1 (λ n p. ap (is_answer_at n p) shows) ends
 start_change w new e u key op from to (Outcome.Stepped x) s shows ends may there h = by_step u op from to x may there h.0 h.1 h.2 shows ends
-start_change w new e u key op from to Outcome.Loads s shows ends may there h =
-    let ask = ap (λ (t : Ticket). t.reservation.first) h.1.3 in
-    by_reservation u op from to new_load h.0.reservation may there (record {
-      b = Begun.Load h.0;
-      begins = h.1;
-      free = was_free from u.caller key op Loader h.1.0 h.1.1 h.1.2 refl;
-      is = ap (λ (t : Ticket). t.reservation) h.1.3 ∙ ap (new_reservation from u.caller key op) (sym ask);
-      after = h.1.4;
-      asked = ap asks_loader ask;
-      untold = λ stored entry agrees. record { loaded = tt; unwritten = agrees };
-      due = λ config. refl;
-      unloaded = refl;
-    }) h.2 (λ n p. ap (is_answer_at n p) shows) ends
-start_change w new e u key op from to (Outcome.Asks change) s shows ends may there h =
-    let first = h.0.reservation.first in
-    by_reservation u op from to new_write h.0.reservation may there (record {
-      b = Begun.Write h.0;
-      begins = h.1;
-      free = was_free from u.caller key op first h.1.0 (writer_alone from key op first h.1.1 h.1.2) h.1.1 (ap reserves h.2);
-      is = ap (λ (t : Ticket). t.reservation) h.1.3;
-      after = h.1.4;
-      asked = ap asks_writer h.2;
-      untold = λ stored entry agrees. record { written = λ e. cc; unwritten = λ e. agrees; honest = λ e. cc };
-      due = λ config. refl;
-      unloaded = refl;
-    }) h.3 (λ n p. ap (is_answer_at n p) shows) ends
-start_change w new e u key op from to (Outcome.Processes entry) s shows ends may there h =
-    by_reservation u op from to new_process h.0.reservation may there (record {
-      b = Begun.Process h.0;
-      begins = h.1;
-      free = processor_free from to u.caller key op h.0 h.1;
-      is = ap (λ (t : ProcessClaim). t.reservation) h.1.3;
-      after = h.1.4;
-      asked = h.1.2;
-      untold = λ stored entry agrees. agrees;
-      due = λ config. refl;
-      unloaded = refl;
-    }) h.3 (λ n p. ap (is_answer_at n p) shows) ends
+start_change w new e u key op from to Outcome.Loads s shows ends may there h = reserved_change w new e u key op from to Outcome.Loads s (λ n p. ap (is_answer_at n p) shows) ends may there h
+start_change w new e u key op from to (Outcome.Asks change) s shows ends may there h = reserved_change w new e u key op from to (Outcome.Asks change) s (λ n p. ap (is_answer_at n p) shows) ends may there h
+start_change w new e u key op from to (Outcome.Processes entry) s shows ends may there h = reserved_change w new e u key op from to (Outcome.Processes entry) s (λ n p. ap (is_answer_at n p) shows) ends may there h
 start_change w new e u key op from to Outcome.Joins s shows ends may there h = by_join u op from to h.0 may there h.1 h.2 (λ n p. ap (is_answer_at n p) shows) ends
 start_change w new e u key op from to seen s shows ends may there h = absurd h
 

@@ -10,12 +10,12 @@ pub use Rattle.jc_world.proofs.TaskLists.{keys-at_each, at_each-more, put_each_o
 pub use Rattle.jc_world.proofs.Found.{lookup-found, found_new}
 pub use Rattle.jc_world.proofs.Joiners.{joiner_of, find_kept, joined_resolved, joined_dissolved, joined_front, joined_last, called_resolved, called_dissolved, join_at, join_there, joined_no_part, other_key, none_inserted, none_removed, part_other}
 pub use Rattle.jc_world.proofs.LoadKeys.{found_holds, same_number, load_there, joins_get}
-pub use Rattle.jc_world.proofs.Beginning.{order_stored, empty_count, start_is, order_start, MayStart, may_start_at, may_turn, part_turn, begins_with, begins_at}
+pub use Rattle.jc_world.proofs.Beginning.{order_stored, empty_count, reached_empty, start_is, MayStart, may_start_at, may_turn, part_turn, begins_with, begins_at}
 pub use Rattle.jc_world.proofs.Callers.{Picking, picking, picking_turn, looked_called, met_called, order_met, order_part, part_key, order_happens, order_opened, order_is, has_shares}
 pub use Rattle.jc_world.proofs.Places.{at_stripe_apart, at_stripe, stripe_put, few_stripes, home_stripe}
 pub use Rattle.jc_world.proofs.Entries.{split, tied, agrees_stepped, writes, loads_asked, writes_asked, loads, asks_nobody}
-pub use Rattle.jc_world.proofs.Reservations.{found_more, out_reserved, was_free, writer_alone, new_out, found_left}
-pub use Rattle.jc_world.proofs.Processors.{processor_free, invoke_is, write_due, agrees_processed, agrees_effect}
+pub use Rattle.jc_world.proofs.Reservations.{found_more, out_reserved, was_free, new_out, found_left}
+pub use Rattle.jc_world.proofs.Processors.{invoke_is, write_due, agrees_processed, agrees_effect}
 pub use Rattle.jc_world.proofs.KeyChanges.{AnswersNone, IsStart, KeyChange, by_nothing, by_refusal, by_step, by_reservation, by_join, by_commit, by_withdrawal, by_answer, by_retry, start_change, end_change, pick_change, key_change, StripeChange, by_key, beside_stripes, change_of, may_of, Move, no_move, quiet_move, step_move, move_step}
 pub use Rattle.jc_world.proofs.Numbered.{some_of, within, at_index, made_more}
 pub use Rattle.jc_world.proofs.Returns.{each_report, IsReport}

@@ -63,7 +63,7 @@ pub begun_length : (old new : State) (caller : Caller) (key : Bytes) (op : Op) (
 begun_length old new caller key op (Begun.Refused refusal) h = same_length old new (ap (λ (s : State). s.history) h.1)
 begun_length old new caller key op (Begun.Done done) h = steps_length old new caller key op nothing_said [] done h.2 (omega arith)
 begun_length old new caller key op (Begun.Joined join) h = same_length old new (ap (λ (s : State). s.history) h.3)
-begun_length old new caller key op b h = same_length old new (ap (λ (s : State). s.history) h.4)
+begun_length old new caller key op (Begun.Asks ticket) h = same_length old new (ap (λ (s : State). s.history) h.5)
 
 -- a last phase
 pub ended_length : (old new : State) (r : Reservation) (out : Out) (done : StepDone) → IsReached old → Commits old r out done new → IsLonger old new

@@ -33,6 +33,8 @@ pub mod Beside
 pub mod Holding
 pub mod Lengths
 pub mod Phased
+pub mod Opened
+pub mod OpensWell
 pub mod Sounding
 pub mod Reopening
 pub mod ReservedEntries

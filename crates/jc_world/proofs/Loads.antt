@@ -2,9 +2,10 @@
 --     total          how many steps of a key have an answer of their own, and one more if one is kept
 --     total_step     each event raises that by one if it is an answer for the key, and else leaves it
 --     total_run      so a run raises it by its answers
-use Rattle.jc_world.proofs.Common.{◌≡◌, ℕ, ◌+◌, Bool, true, false, cond, ◌&&◌, List, [], ◌∷◌, ◌++◌, map, length, drop, ◌==◌, Some, None, count_by, Option, option_map, zip, sym, refl, ap, ◌∙◌, inl, inr, arith, drop-append_seam, not-true, and_parts, and_right, nat_list_cmp_total, sum_by-cons, sum_by-append, pointwise, texts_ties, get, insert, remove, get-empty, get-insert, get-remove, eq_by_cmp, Caller, Config, WriterFailed, Bytes, entry_at, key_cmp, Group, nothing_said, victim_events, evicted_events, step_event, shared_event, step_place, events_of, is_load_given, Cause, Change, Event, LoadAnswer, Op, Out, WriteAnswer, callers_of, ProcessResult, change_due, new_group, Steps, after_commit, State, StepDone, Reservation, Outcome, Part, Progress, Loading, Processed, Processing, WritingEffect, Shown, WorldEvent, open_keys, step_of, with_met_by, new_part, with_change, with_report, reported_keys, keys_reported, run_result, progress_after, after_process, Happens, Step, Run, fits, start_with, is_answer, is_load, is_loaded, read_answer, load_from, report_for, IsSoundWorld, Parts, WorldState, part_of, has_progress, waits_for_load, waits_for_process, is_untouched, out_in, out_of}
+use Rattle.jc_world.proofs.Common.{◌≡◌, ℕ, ◌+◌, Bool, true, false, cond, ◌&&◌, List, [], ◌∷◌, ◌++◌, map, length, drop, ◌==◌, Some, None, count_by, Option, option_map, zip, sym, refl, ap, ◌∙◌, inl, inr, arith, drop-append_seam, not-true, and_parts, and_right, nat_list_cmp_total, sum_by-cons, sum_by-append, pointwise, texts_ties, get, insert, remove, get-insert, get-remove, eq_by_cmp, Caller, WriterFailed, Bytes, entry_at, key_cmp, Group, nothing_said, victim_events, evicted_events, step_event, shared_event, step_place, events_of, is_load_given, Cause, Change, Event, LoadAnswer, Op, Out, WriteAnswer, callers_of, ProcessResult, Claim, change_due, new_group, Steps, after_commit, State, StepDone, Outcome, Part, PartProgress, Loading, Processed, Processing, WritingEffect, Shown, WorldEvent, open_keys, step_of, with_met_by, new_part, with_change, with_report, reported_keys, keys_reported, run_result, progress_after, after_process, Happens, Step, Run, fits, IsOpeningWorld, is_answer, is_load, is_loaded, read_answer, load_from, report_for, IsSoundWorld, Parts, WorldState, part_of, has_progress, waits_for_load, waits_for_process, is_untouched, out_in, out_of}
 use Rattle.jc_world.proofs.Lemmas.{added, part_key, split, KeyChange, by_nothing, by_refusal, by_step, by_reservation, by_join, by_commit, by_withdrawal, by_answer, by_retry, key_change, each_report}
 use Rattle.jc_world.proofs.Kept.{unheld}
+use Rattle.jc_world.proofs.Opened.{no_part}
 use Rattle.jc_world.proofs.Sounding.{Laws, sound_step}
 use Rattle.jc_world.proofs.Holding.{is_part}
 
@@ -89,7 +90,7 @@ loaded_at w key q part there same = ap is_loaded (ap (get w.parts) same ∙ ther
 no_answer : (o : Option Part) (part : Part) → o ≡ Some part → has_progress waits_for_load o ≡ true → is_load_given (out_of part).load ≡ false
 no_answer o part is waits = go part.progress (sym (ap (has_progress waits_for_load) is) ∙ waits)
   where
-    go : (p : Progress) → waits_for_load p ≡ true → is_load_given (out_in p).load ≡ false
+    go : (p : PartProgress) → waits_for_load p ≡ true → is_load_given (out_in p).load ≡ false
     go (Loading answer) h = not-true (is_load_given answer) h
     go (Processed loaded process) h = cc
     go (WritingEffect loaded process is_changed report) h = cc
@@ -99,7 +100,7 @@ no_answer o part is waits = go part.progress (sym (ap (has_progress waits_for_lo
 no_run : (o : Option Part) (part : Part) → o ≡ Some part → has_progress waits_for_process o ≡ true → is_load_given (out_of part).load ≡ false
 no_run o part is waits = go part.progress (sym (ap (has_progress waits_for_process) is) ∙ waits)
   where
-    go : (p : Progress) → waits_for_process p ≡ true → is_load_given (out_in p).load ≡ false
+    go : (p : PartProgress) → waits_for_process p ≡ true → is_load_given (out_in p).load ≡ false
     go Processing h = refl
     go p h = cc
 
@@ -107,23 +108,23 @@ no_run o part is waits = go part.progress (sym (ap (has_progress waits_for_proce
 no_touch : (o : Option Part) (part : Part) → o ≡ Some part → has_progress is_untouched o ≡ true → is_load_given (out_of part).load ≡ false
 no_touch o part is untouched = go part.progress (sym (ap (has_progress is_untouched) is) ∙ untouched)
   where
-    go : (p : Progress) → is_untouched p ≡ true → is_load_given (out_in p).load ≡ false
+    go : (p : PartProgress) → is_untouched p ≡ true → is_load_given (out_in p).load ≡ false
     go (Loading answer) h = not-true (is_load_given answer) h
     go (Processed loaded process) h = cc
     go (WritingEffect loaded process is_changed report) h = cc
     go p h = refl
 
 -- what the writer does is no answer of the loader
-change_loads : (p : Progress) → is_load_given (out_in (with_change p)).load ≡ is_load_given (out_in p).load
+change_loads : (p : PartProgress) → is_load_given (out_in (with_change p)).load ≡ is_load_given (out_in p).load
 change_loads (Loading answer) = refl
 change_loads p = refl
 
-report_loads : (p : Progress) (report : WriteAnswer) → is_load_given (out_in (with_report p report)).load ≡ is_load_given (out_in p).load
+report_loads : (p : PartProgress) (report : WriteAnswer) → is_load_given (out_in (with_report p report)).load ≡ is_load_given (out_in p).load
 report_loads (Loading answer) report = refl
 report_loads p report = refl
 
 -- what a processor's loader answered is kept
-run_loads : (change : Option Change) (done : ProcessResult Reservation) → is_load_given (out_in (progress_after change done)).load ≡ is_load_given done.load
+run_loads : (change : Option Change) (done : ProcessResult Claim) → is_load_given (out_in (progress_after change done)).load ≡ is_load_given done.load
 run_loads None done = refl
 run_loads (Some change) done = refl
 
@@ -148,7 +149,7 @@ total_answered w call key q part answer is waits given =
     ∙ ap (λ b. one_if b + total w q) (sym (texts_ties q key))
 
 -- a processor has run
-total_processed : (w : WorldState) (call : ℕ) (key q : Bytes) (part : Part) (done : ProcessResult Reservation) → part_of w call key ≡ Some part → has_progress waits_for_process (part_of w call key) ≡ true
+total_processed : (w : WorldState) (call : ℕ) (key q : Bytes) (part : Part) (done : ProcessResult Claim) → part_of w call key ≡ Some part → has_progress waits_for_process (part_of w call key) ≡ true
     → total (after_process w key part done) q ≡ one_if (pointwise ◌==◌ q key && is_load_given done.load) + total w q
 total_processed w call key q part done is waits =
     let there = is_part (get w.parts key) call part is in
@@ -265,7 +266,6 @@ total_run laws w new (e ∷ es) (s ∷ ss) q (mid, step, rest) old =
     omega arith
 total_run laws w new es ss q run old = absurd run
 
--- nothing was counted before anything has happened
-pub total_opened : (config : Config) (stored : List (Bytes × Bytes)) (q : Bytes) → total (start_with config stored) q ≡ 0
-total_opened config [] q = ap (λ o. 0 + one_if (is_loaded o)) (get-empty key_cmp q)
-total_opened config (e ∷ es) q = total_opened config es q
+-- nothing was counted in an opening
+pub total_opened : (w : WorldState) (q : Bytes) → IsOpeningWorld w → total w q ≡ 0
+total_opened w q h = λ i. count_by (is_load q) (h.order i) + one_if (is_loaded (no_part w h q i))

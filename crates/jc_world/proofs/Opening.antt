@@ -65,7 +65,7 @@ single : (w : WorldState) → IsSoundWorld w → (call session : ℕ) (op : Op) 
 single w old call session op key fit =
     let u : CallState = new_call call session (Command.Single op key) in
     let new : is_new w.last call ≡ true = (and_parts _ _ (and_parts _ _ fit).0).1 in
-    let next : WorldState = record w { last = Some call; calls = w.calls ++ u ∷ [] } in
+    let next : WorldState = record w { last = Some call; calls = w.calls ++ u ∷ []; is_fresh = false } in
     fits_then w (WorldEvent.Call call session (Command.Single op key)) (WorldEvent.Start call key ∷ []) fit (λ seen mid happens.
     subst (λ m. AllFit m (WorldEvent.Start call key ∷ [])) (sym happens.1)
     (one_fits next (WorldEvent.Start call key)

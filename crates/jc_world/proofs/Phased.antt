@@ -1,7 +1,6 @@
 -- What the machine of a world does in a first and a last phase is what the definitions say.
-use Rattle.jc_world.proofs.Common.{◌≡◌, ℕ, zero, suc, true, false, cond, ◌&&◌, List, [], ◌∷◌, ◌++◌, length, drop, is_some, IsSomeAnd, slice_get, slice_set, Some, None, Option, sym, refl, ap, ◌∙◌, subst, subst₂, append-nil, and_parts, get, insert, remove, Config, Refusal, Bytes, Event, Op, Played, MayBegin, Commits, Withdraws, PicksUp, reserves, State, IsOut, IsJoined, Ticket, ProcessClaim, asks_writer, entry_seen, JoinClaim, Begun, Picked, StepDone, First, Loader, Nobody, Reservation, Outcome, Over, Part, PickedUp, Progress, Shown, Stepped, WorldEvent, puts_off, CallState, op_at, is_turn, settle, over_settled, step_of, not_over, fault_in, over_by, new_load, new_write, new_process, new_part, with_new_part, BeginsAs, Starts, RefusesAs, Happens, is_free, may_start, fits, is_due, IsHeld, IsSoundWorld, OrderedStripes, IsPhase, IsQuietPhase, Parts, join_key, WorldState, home, stripe_for, open_call, part_of, out_of, join_of}
-use Rattle.jc_world.specs.NewTickets.{IsNewTicket, HoldsTicket}
-use Rattle.jc_world.proofs.Lemmas.{missing, join_at, may_start_at, begins_at, was_free, writer_alone, processor_free, some_of}
+use Rattle.jc_world.proofs.Common.{◌≡◌, ℕ, zero, suc, true, false, cond, ◌&&◌, List, [], ◌∷◌, ◌++◌, length, drop, is_some, IsSomeAnd, slice_get, slice_set, Some, None, Option, sym, refl, ap, ◌∙◌, subst, subst₂, append-nil, and_parts, get, insert, remove, Config, Refusal, Bytes, Event, Op, Played, MayBegin, Commits, Withdraws, PicksUp, reserves, State, IsOut, IsJoined, TicketClaim, JoinClaim, Begun, Picked, StepDone, First, Loader, Nobody, Processor, Writer, Reservation, Outcome, Over, Part, JoinAnswer, PartProgress, Shown, Stepped, WorldEvent, puts_off, CallState, op_at, is_turn, settle, over_settled, step_of, not_over, fault_in, over_by, asks_as, new_progress, new_part, with_new_part, BeginsAs, ReservesAs, Starts, RefusesAs, Happens, is_free, may_start, fits, is_due, IsHeld, IsSoundWorld, OrderedStripes, IsPhase, IsQuietPhase, Parts, join_key, WorldState, home, stripe_for, open_call, part_of, out_of, join_of}
+use Rattle.jc_world.proofs.Lemmas.{missing, join_at, may_start_at, begins_at, was_free, some_of}
 use Rattle.jc_world.proofs.Holding.{is_part}
 use Rattle.jc_world.proofs.Kept.{unheld, stripe_at}
 
@@ -112,7 +111,7 @@ started_refused v next call key u op refusal seen stripes order calls p shows ca
     ] refl shows calls_are)
 
 -- a key is reserved, and its stripe appends nothing
-reserved : (v next : WorldState) (key : Bytes) (phase : State → State → Type 0) (stripes : List State) (order : List Event) (parts : Parts) (progress : Progress) (r : Reservation) (q : Phased v (home v key) phase stripes order) → r.key ≡ key → q.to.history ≡ q.from.history
+reserved : (v next : WorldState) (key : Bytes) (phase : State → State → Type 0) (stripes : List State) (order : List Event) (parts : Parts) (progress : PartProgress) (r : Reservation) (q : Phased v (home v key) phase stripes order) → r.key ≡ key → q.to.history ≡ q.from.history
     → parts ≡ insert v.parts r.key (new_part progress r) → next ≡ record v { stripes = stripes; order = order; parts = parts } → next ≡ with_new_part v key q.to progress r
 reserved v next key phase stripes order parts progress r q key_is same put next_is =
     let parts_are = put ∙ ap (λ k. insert v.parts k (new_part progress r)) key_is in
@@ -127,24 +126,23 @@ started_joins v next call key u op join stripes order p next_is =
     ((join, p.phase.made, next_is ∙ (λ i. record v { stripes = p.phase.stripes_are i; order = quiet i; joins = insert v.joins (join_key join) join })), tt, refl)
 
 -- a key is reserved, its ticket is held, and it is shown who is asked
-pub started_ticket : (v next : WorldState) (call : ℕ) (key : Bytes) (u : CallState) (op : Op) (b : Begun) (seen : Shown) (stripes : List State) (order : List Event) (parts : Parts) → StartPhase v call key u op b stripes order
-    → HoldsTicket v.parts b seen parts
+pub started_ticket : (v next : WorldState) (call : ℕ) (key : Bytes) (u : CallState) (op : Op) (ticket : TicketClaim) (seen : Shown) (stripes : List State) (order : List Event) (parts : Parts) → StartPhase v call key u op (Begun.Asks ticket) stripes order
+    → seen ≡ not_over (asks_as ticket.reservation.first) → parts ≡ insert v.parts ticket.reservation.key (new_part (new_progress ticket.reservation.first) ticket.reservation)
     → next ≡ record v { stripes = stripes; order = order; parts = parts } → Happens v (WorldEvent.Start call key) seen next
-started_ticket v next call key u op (Begun.Load ticket) seen stripes order parts p (shown, put) next_is =
+started_ticket v next call key u op ticket seen stripes order parts p shown put next_is =
+    let m = p.phase.made in
+    let first = ticket.reservation.first in
+    let left = reserved v next key _ stripes order parts (new_progress first) ticket.reservation p.phase (ap (λ (t : TicketClaim). t.reservation.key) m.4) (ap (λ (s : State). s.history) m.5) put next_is in
     shown_as v v next (WorldEvent.Start call key) seen _ refl shown
-    (started v next call key u op (Begun.Load ticket) (not_over Outcome.Loads) stripes order p
-    ((ticket, p.phase.made, reserved v next key _ stripes order parts new_load ticket.reservation p.phase (ap (λ (t : Ticket). t.reservation.key) p.phase.made.3) (ap (λ (s : State). s.history) p.phase.made.4) put next_is), tt, refl))
-started_ticket v next call key u op (Begun.Write ticket) seen stripes order parts p (change, first, shown, put) next_is =
-    shown_as v v next (WorldEvent.Start call key) seen _ refl shown
-    (started v next call key u op (Begun.Write ticket) (not_over (Outcome.Asks change)) stripes order p
-    ((ticket, p.phase.made, first, reserved v next key _ stripes order parts new_write ticket.reservation p.phase (ap (λ (t : Ticket). t.reservation.key) p.phase.made.3) (ap (λ (s : State). s.history) p.phase.made.4) put next_is), tt, refl))
-started_ticket v next call key u op (Begun.Process ticket) seen stripes order parts p (shown, put) next_is =
-    shown_as v v next (WorldEvent.Start call key) seen _ refl shown
-    (started v next call key u op (Begun.Process ticket) (not_over (Outcome.Processes (entry_seen ticket.reservation.first))) stripes order p
-    ((ticket, p.phase.made, refl, reserved v next key _ stripes order parts new_process ticket.reservation p.phase (ap (λ (t : ProcessClaim). t.reservation.key) p.phase.made.3) (ap (λ (s : State). s.history) p.phase.made.4) put next_is), tt, refl))
-started_ticket v next call key u op (Begun.Done done) seen stripes order parts p h next_is = absurd h
-started_ticket v next call key u op (Begun.Joined join) seen stripes order parts p h next_is = absurd h
-started_ticket v next call key u op (Begun.Refused refusal) seen stripes order parts p h next_is = absurd h
+    (asked first m.3 (λ o r is. started v next call key u op (Begun.Asks ticket) (not_over o) stripes order p (r (ticket, m, is, left))))
+  where
+    -- of the three outcomes of a key that is reserved
+    asked : (first : First) → reserves first ≡ true → ((o : Outcome) → (ReservesAs v u.caller key op p.phase.from p.phase.to o next → Starts v u.caller key op p.phase.from p.phase.to o next × RefusesAs u.kind o × (None ≡ over_by v u.caller.call key o)) → o ≡ asks_as first → Happens v (WorldEvent.Start call key) (not_over o) next)
+        → Happens v (WorldEvent.Start call key) (not_over (asks_as first)) next
+    asked Nobody due f = cc
+    asked Loader due f = f Outcome.Loads (λ h. (h, tt, refl)) refl
+    asked (Writer change) due f = f (Outcome.Asks change) (λ h. (h, tt, refl)) refl
+    asked (Processor entry may_load) due f = f (Outcome.Processes entry) (λ h. (h, tt, refl)) refl
 
 -- what has just joined had not joined before
 pub free_join : (v : WorldState) (call : ℕ) (u : CallState) (key : Bytes) (op : Op) (join : JoinClaim) (stripes : List State) (order : List Event) → StartPhase v call key u op (Begun.Joined join) stripes order
@@ -153,33 +151,13 @@ free_join v call u key op join stripes order p fit sound =
     ap (get v.joins) (λ i. join_key (p.phase.made.2 i))
     ∙ missing (join_of v u.caller.call key) (λ other e. let t : true ≡ false = sym (ap is_some e) ∙ (may_start_at v call key u op fit p.is p.op_is sound).alone in cc)
 
--- a ticket that was given is new: nothing was asked for it, and nothing is held of its key
-pub new_ticket : (v : WorldState) (call : ℕ) (u : CallState) (key : Bytes) (op : Op) (b : Begun) (stripes : List State) (order : List Event) → StartPhase v call key u op b stripes order → IsSoundWorld v
-    → ((done : StepDone) → b ≡ Begun.Done done → ⊥) → ((join : JoinClaim) → b ≡ Begun.Joined join → ⊥) → ((refusal : Refusal) → b ≡ Begun.Refused refusal → ⊥) → IsNewTicket v.parts b
-new_ticket v call u key op (Begun.Load ticket) stripes order p sound no_step no_join no_refusal =
-    let m = p.phase.made in (
-      ap (λ (t : Ticket). t.asked) m.3,
-      ap (λ (t : Ticket). get v.parts t.reservation.key) m.3 ∙ unheld v key p.phase.from p.phase.at (was_free p.phase.from u.caller key op Loader m.0 m.1 m.2 refl) sound,
-    )
-new_ticket v call u key op (Begun.Write ticket) stripes order p sound no_step no_join no_refusal =
+-- nothing was held of a key that a ticket was given for
+pub free_key : (v : WorldState) (call : ℕ) (u : CallState) (key : Bytes) (op : Op) (ticket : TicketClaim) (stripes : List State) (order : List Event) → StartPhase v call key u op (Begun.Asks ticket) stripes order → IsSoundWorld v
+    → get v.parts ticket.reservation.key ≡ None
+free_key v call u key op ticket stripes order p sound =
     let m = p.phase.made in
-    let first = ticket.reservation.first in (
-      ap (λ (t : Ticket). t.asked) m.3,
-      ap (λ (t : Ticket). get v.parts t.reservation.key) m.3 ∙ unheld v key p.phase.from p.phase.at (was_free p.phase.from u.caller key op first m.0 (writer_alone p.phase.from key op first m.1 m.2) m.1 (writer_reserves first m.2)) sound,
-    )
-  where
-    writer_reserves : (first : First) → asks_writer first ≡ true → reserves first ≡ true
-    writer_reserves Nobody h = cc
-    writer_reserves first h = refl
-new_ticket v call u key op (Begun.Process ticket) stripes order p sound no_step no_join no_refusal =
-    let m = p.phase.made in (
-      ap (λ (t : ProcessClaim). t.asked) m.3,
-      ap (λ (t : ProcessClaim). t.writer_asked) m.3,
-      ap (λ (t : ProcessClaim). get v.parts t.reservation.key) m.3 ∙ unheld v key p.phase.from p.phase.at (processor_free p.phase.from p.phase.to u.caller key op ticket m) sound,
-    )
-new_ticket v call u key op (Begun.Done done) stripes order p sound no_step no_join no_refusal = absurd (no_step done refl)
-new_ticket v call u key op (Begun.Joined join) stripes order p sound no_step no_join no_refusal = absurd (no_join join refl)
-new_ticket v call u key op (Begun.Refused refusal) stripes order p sound no_step no_join no_refusal = absurd (no_refusal refusal refl)
+    ap (λ (t : TicketClaim). get v.parts t.reservation.key) m.4
+    ∙ unheld v key p.phase.from p.phase.at (was_free p.phase.from u.caller key op ticket.reservation.first m.0 m.1 m.2 m.3) sound
 
 -- 4. A last phase.
 
@@ -263,7 +241,7 @@ abbrev pub PicksAs : JoinClaim → Picked → State → State → Type 0
 PicksAs join p from to = PicksUp from join p to
 
 -- the answer was there
-pub picked_answer : (v next : WorldState) (call : ℕ) (key : Bytes) (join : JoinClaim) (number : ℕ) (seen : PickedUp) (over : Option Over) (stripes : List State) → join_of v call key ≡ Some join → number ≡ home v key → seen.stripe ≡ number
+pub picked_answer : (v next : WorldState) (call : ℕ) (key : Bytes) (join : JoinClaim) (number : ℕ) (seen : JoinAnswer) (over : Option Over) (stripes : List State) → join_of v call key ≡ Some join → number ≡ home v key → seen.stripe ≡ number
     → Changed v number (PicksAs join (Picked.Answer seen.reply seen.place seen.shared)) stripes
     → over ≡ over_settled call key (fault_in seen.reply) v.calls
     → next ≡ record v { stripes = stripes; joins = remove v.joins (call, key); calls = settle call key (fault_in seen.reply) v.calls } → Happens v (WorldEvent.PickUp call key) (record { outcome = Outcome.PickedUp seen; over = over }) next

@@ -16,4 +16,4 @@ parts_reopened w none coherent old = record {
 pub sound_reopened : (w : WorldState) → ((key : Bytes) → get w.parts key ≡ None) → Coherent w → IsSoundWorld w → IsSoundWorld (with_all_premises w)
 sound_reopened w none coherent old =
     let premises : Premises = (with_all_premises w).premises in
-    sound (with_all_premises w) (order_stored w w.store premises old) (parts_reopened w none coherent old) old.due (joins_stored w w.store premises old) old.sweeps
+    sound (with_all_premises w) (order_stored w w.store premises w.is_fresh old) (parts_reopened w none coherent old) old.due (joins_stored w w.store premises w.is_fresh old) old.sweeps

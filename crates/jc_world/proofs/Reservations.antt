@@ -1,7 +1,7 @@
 -- A reservation stays out when the stripe's reservations change.
-use Rattle.jc_world.proofs.Common.{◌≡◌, ℕ, Bool, true, false, cond, not, ◌&&◌, ◌||◌, List, [], ◌∷◌, ◌++◌, is_some, is_none, ◌==◌, Some, None, Option, find, sym, refl, ap, ◌∙◌, false_from_ne_true, nat_list_eq_equiv, find-append, pointwise, texts_ties, list_any, option_or, eq_by_cmp, Caller, Refusal, same_key, Bytes, entry_at, key_cmp, always_if, Op, Get, first_by, first_asked, reserves, answers_at_once, load_joined, needs_free_key, places_needed, first_refusal, State, is_key, is_reserved, without_key, asks_writer, First, Loader, Nobody, Reservation}
+use Rattle.jc_world.proofs.Common.{◌≡◌, ℕ, Bool, true, false, cond, not, ◌&&◌, ◌||◌, List, [], ◌∷◌, ◌++◌, is_some, ◌==◌, Some, None, Option, find, sym, refl, ap, ◌∙◌, false_from_ne_true, nat_list_eq_equiv, find-append, pointwise, texts_ties, list_any, option_or, eq_by_cmp, Caller, Refusal, same_key, Bytes, entry_at, key_cmp, Op, first_asked, reserves, answers_at_once, load_joined, needs_free_key, places_needed, first_refusal, State, is_key, is_reserved, without_key, First, Nobody, Reservation}
 use Rattle.jc_stripe.specs.Refusals.{has_room}
-use Rattle.jc_stripe.proofs.CallerLemmas.{asks_none, answering_asks}
+use Rattle.jc_stripe.proofs.CallerLemmas.{answering_asks}
 use Rattle.jc_world.proofs.Joiners.{find_kept}
 
 -- what is found is found in a longer list
@@ -38,15 +38,6 @@ was_free s caller key op first none alone asks due =
     let answering = only_answers (answers_at_once s.config op (entry_at s.cache key)) (load_joined s key op) (needs_none s caller key op none there) alone in
     let e = answering_asks s.config op (entry_at s.cache key) answering in
     let f : reserves Nobody ≡ true = ap reserves (sym e ∙ asks) ∙ due in cc)
-
--- what asks the writer is no `Get`, so it joins no load
-pub writer_alone : (s : State) (key : Bytes) (op : Op) (first : First) → first_asked s.config op (entry_at s.cache key) ≡ first → asks_writer first ≡ true → load_joined s key op ≡ None
-writer_alone s key Get first h writes = loads_only (s.config.read_through && is_none (entry_at s.cache key)) s.config.write_through h
-  where
-    loads_only : (b write : Bool) → first_by (always_if b) (cond write None None) ≡ first → load_joined s key Get ≡ None
-    loads_only true write h = let t : asks_writer Loader ≡ true = ap asks_writer h ∙ writes in cc
-    loads_only false write h = let t : asks_writer Nobody ≡ true = ap asks_writer (sym (asks_none write) ∙ h) ∙ writes in cc
-writer_alone s key op first h writes = refl
 
 -- the last of a list is found, if none before it passes the test
 pub found_last : {A : Type 0} (p : A → Bool) (xs : List A) (r : A) → list_any p xs ≡ false → p r ≡ true → find p (xs ++ r ∷ []) ≡ Some r

@@ -4,12 +4,13 @@
 --     Gives          a phase raises that by one at the places that it answers, and leaves it at the others
 --     gives_done, gives_commit, gives_picked and so on      what each kind of phase answers
 --     owed_run        so a run raises it by the answers that it shows
-use Rattle.jc_world.proofs.Common.{◌≡◌, ℕ, zero, suc, ◌+◌, Bool, true, false, cond, ◌&&◌, List, [], ◌∷◌, ◌++◌, map, length, ◌==◌, slice_get, slice_set, Some, None, count_by, Option, sym, refl, ap, ◌∙◌, inl, inr, arith, and-false, eqb-suc-suc, eqb-suc-zero, eqb-zero-suc, eqb-true, eqb-false, eq-eqb, and_parts, sum_by-cons, list_all, Caller, Config, Bytes, Group, nothing_said, victim_events, evicted_events, step_event, shared_event, step_place, events_of, of_stripe, Cause, Event, LoadAnswer, Op, Get, Out, Reply, callers_of, Joiner, joined_parks, withdrawn_parks, beginner_parks, commit_parks, committer_parks, sharers_park, picker_parks, picked_parks, others_park, again_parks_same, Extends, Grows, is_parked, MayBegin, new_group, Steps, Begins, after_commit, Commits, without_joiner, PicksUp, IsReached, State, JoinClaim, Begun, Picked, StepDone, Reservation, Outcome, Shown, WorldEvent, step_of, Step, Run, fits, start_with, is_answer_at, joiners_in, joiners_at, times_shown, IsSoundWorld, WorldState, home, stripe_for, out_of}
+use Rattle.jc_world.proofs.Common.{◌≡◌, ℕ, zero, suc, ◌+◌, Bool, true, false, cond, ◌&&◌, List, [], ◌∷◌, ◌++◌, map, length, ◌==◌, slice_get, slice_set, Some, None, count_by, Option, sym, refl, ap, ◌∙◌, inl, inr, arith, and-false, eqb-suc-suc, eqb-suc-zero, eqb-zero-suc, eqb-true, eqb-false, eq-eqb, and_parts, sum_by-cons, list_all, Caller, Config, Bytes, Group, nothing_said, victim_events, evicted_events, step_event, shared_event, step_place, events_of, of_stripe, Cause, Event, LoadAnswer, Op, Get, Out, Reply, callers_of, Joiner, joined_parks, withdrawn_parks, beginner_parks, commit_parks, committer_parks, sharers_park, picker_parks, picked_parks, others_park, again_parks_same, Extends, Grows, is_parked, MayBegin, new_group, Steps, Begins, after_commit, Commits, without_joiner, PicksUp, IsReached, State, JoinClaim, Begun, Picked, StepDone, Reservation, Outcome, Shown, WorldEvent, step_of, Step, Run, fits, IsOpeningWorld, is_answer_at, joiners_in, joiners_at, times_shown, IsSoundWorld, WorldState, home, stripe_for, out_of}
 use Rattle.jc_world.proofs.Lemmas.{added, share_stays, begins_with, stripe_put, AnswersNone, KeyChange, by_nothing, by_refusal, by_step, by_reservation, by_join, by_commit, by_withdrawal, by_answer, by_retry, StripeChange, by_key, beside_stripes, change_of, may_of}
 use Rattle.jc_world.proofs.Merging.{other_set}
 use Rattle.jc_world.proofs.Loads.{one_if}
+use Rattle.jc_world.proofs.Opened.{sound_opening}
 use Rattle.jc_world.proofs.Sounding.{Laws, sound_step}
-use Rattle.jc_world.proofs.Standing.{config_run, config_opened}
+use Rattle.jc_world.proofs.Standing.{config_run}
 
 -- 1. How often an answer is to have been shown.
 
@@ -230,19 +231,18 @@ owed_run laws grows w new (e ∷ es) (s ∷ ss) number place (mid, step, rest) o
     omega arith
 owed_run laws grows w new es ss number place run old = absurd run
 
--- nothing is owed before anything has happened
-owed_opened : (config : Config) (stored : List (Bytes × Bytes)) (number place : ℕ) → owed (start_with config stored) number place ≡ 0
-owed_opened config [] number place = refl
-owed_opened config (e ∷ es) number place = owed_opened config es number place
+-- nothing is owed in an opening
+owed_opened : (w : WorldState) (number place : ℕ) → IsOpeningWorld w → owed w number place ≡ 0
+owed_opened w number place h = ap (λ es. times_owed (joiners_at w number) (slice_get (of_stripe w.config.stripes number es) place)) h.order
 
 -- so what is owed was shown
-pub shown_once : Laws → Grows → (config : Config) (stored : List (Bytes × Bytes)) (new : WorldState) (es : List WorldEvent) (ss : List Shown) (number place : ℕ) (caller : Caller) (op : Op) (key : Bytes) (out : Out) (shared : Option ℕ) (reply : Reply)
-    → Run (start_with config stored) es ss new → IsSoundWorld (start_with config stored) → slice_get (of_stripe config.stripes number new.order) place ≡ Some (Event.Step caller op key out shared reply)
+pub shown_once : Laws → Grows → (opening new : WorldState) (es : List WorldEvent) (ss : List Shown) (number place : ℕ) (caller : Caller) (op : Op) (key : Bytes) (out : Out) (shared : Option ℕ) (reply : Reply)
+    → IsOpeningWorld opening → Run opening es ss new → slice_get (of_stripe opening.config.stripes number new.order) place ≡ Some (Event.Step caller op key out shared reply)
     → count_by (answers_at number place) ss ≡ times_shown (is_parked (joiners_at new number) caller key)
-shown_once laws grows config stored new es ss number place caller op key out shared reply run sound there =
-    let total = owed_run laws grows (start_with config stored) new es ss number place run sound in
-    let none = owed_opened config stored number place in
+shown_once laws grows opening new es ss number place caller op key out shared reply opens run there =
+    let total = owed_run laws grows opening new es ss number place run (sound_opening opening opens) in
+    let none = owed_opened opening number place opens in
     let is : owed new number place ≡ times_shown (is_parked (joiners_at new number) caller key) =
-    ap (λ (c : Config). times_owed (joiners_at new number) (slice_get (of_stripe c.stripes number new.order) place)) (config_run (start_with config stored) new es ss run ∙ config_opened config stored)
+    ap (λ (c : Config). times_owed (joiners_at new number) (slice_get (of_stripe c.stripes number new.order) place)) (config_run opening new es ss run)
     ∙ ap (times_owed (joiners_at new number)) there in
     omega arith

@@ -1,10 +1,10 @@
 -- Each event leads from a sound world to a sound one, and so does each run.
-use Rattle.jc_world.proofs.Common.{◌≡◌, ℕ, true, List, [], ◌∷◌, is_none, OnOk, OnErr, Some, Ok, Err, Option, Result, option_map, sym, refl, ap, ◌∙◌, subst, inl, inr, and_parts, check, Config, Refusal, WriterFailed, Bytes, entry_at, with_entry, is_load_given, WriteAnswer, StaysReached, KeepsReserved, Part, Shown, WorldEvent, CallState, open_keys, with_met_by, after_report, reported_keys, keys_reported, Happens, Step, Run, fits, start_with, read_answer, load_from, report_for, IsSoundWorld, WorldState, start, is_fresh, open_call, part_of, has_progress, waits_for_load, waits_for_report, with_stored}
-use Rattle.jc_world.proofs.Lemmas.{HasParts, sound, order_start, order_met, order_part, order_happens, order_opened, key_change, each_report, IsReport}
-use Rattle.jc_world.proofs.Joins.{joins_met, joins_parted, joins_start, joins_happens, joins_stored}
-use Rattle.jc_world.proofs.Dues.{dues_reported, dues_start, dues_happens}
+use Rattle.jc_world.proofs.Common.{◌≡◌, ℕ, true, List, [], ◌∷◌, OnOk, OnErr, Some, Ok, Err, Option, Result, option_map, sym, refl, ap, ◌∙◌, subst, inl, inr, and_parts, Refusal, WriterFailed, Bytes, entry_at, with_entry, is_load_given, WriteAnswer, StaysReached, KeepsReserved, Part, Shown, WorldEvent, CallState, open_keys, with_met_by, after_report, reported_keys, keys_reported, Happens, Step, Run, fits, read_answer, load_from, report_for, IsSoundWorld, WorldState, open_call, part_of, has_progress, waits_for_load, waits_for_report, with_stored}
+use Rattle.jc_world.proofs.Lemmas.{HasParts, sound, order_met, order_part, order_happens, order_opened, key_change, each_report, IsReport}
+use Rattle.jc_world.proofs.Joins.{joins_met, joins_parted, joins_happens, joins_stored}
+use Rattle.jc_world.proofs.Dues.{dues_reported, dues_happens}
 use Rattle.jc_world.proofs.Sweeps.{sweeps_met, sweeps_happens}
-use Rattle.jc_world.proofs.Kept.{parts_half, parts_processed, parts_start, parts_called, parts_answered, parts_changed, parts_reported, parts_disturbed, parts_stored, parts_left, parts_over, parts_key}
+use Rattle.jc_world.proofs.Kept.{parts_half, parts_processed, parts_called, parts_answered, parts_changed, parts_reported, parts_disturbed, parts_stored, parts_left, parts_over, parts_key}
 
 -- the writer has returned for a key
 sound_reported : (w : WorldState) (call : ℕ) (key : Bytes) (part : Part) (report : WriteAnswer) → part_of w call key ≡ Some part → waits_for_report part.progress ≡ true → IsSoundWorld w → IsSoundWorld (after_report w key part report)
@@ -55,17 +55,9 @@ sound_run laws old new [] [] run h = subst IsSoundWorld (sym run) h
 sound_run laws old new (e ∷ es) (s ∷ ss) (mid, step, rest) h = sound_run laws mid new es ss rest (sound_step laws old e s mid step h)
 sound_run laws old new es ss run h = absurd run
 
-pub sound_start : (config : Config) → check config ≡ Ok tt → IsSoundWorld (start config)
-sound_start config fits = sound (start config) (order_start config fits) (parts_start config fits) (dues_start config) (joins_start config fits) tt
+pub sound_stored : (w : WorldState) (key value : Bytes) → w.is_fresh ≡ true → IsSoundWorld w → IsSoundWorld (with_stored w key value)
+sound_stored w key value none h = sound (with_stored w key value) (order_opened w key value h) (parts_stored w key value none h) h.due (joins_stored w (with_stored w key value).store w.premises w.is_fresh h) h.sweeps
 
-pub sound_stored : (w : WorldState) (key value : Bytes) → is_none w.last ≡ true → IsSoundWorld w → IsSoundWorld (with_stored w key value)
-sound_stored w key value none h = sound (with_stored w key value) (order_opened w key value h) (parts_stored w key value none h) h.due (joins_stored w (with_stored w key value).store w.premises h) h.sweeps
-
-pub sound_set : {A E : Type 0} (r : Result A E) (old new : WorldState) (key value : Bytes) → OnOk r (new ≡ with_stored old key value) → OnErr r (new ≡ old) → is_fresh old ≡ true → IsSoundWorld old → IsSoundWorld new
-sound_set (Ok x) old new key value ok err fresh h = subst IsSoundWorld (sym ok) (sound_stored old key value (and_parts (is_none old.last) old.premises.quiet fresh).0 h)
+pub sound_set : {A E : Type 0} (r : Result A E) (old new : WorldState) (key value : Bytes) → OnOk r (new ≡ with_stored old key value) → OnErr r (new ≡ old) → old.is_fresh ≡ true → IsSoundWorld old → IsSoundWorld new
+sound_set (Ok x) old new key value ok err fresh h = subst IsSoundWorld (sym ok) (sound_stored old key value fresh h)
 sound_set (Err e) old new key value ok err fresh h = subst IsSoundWorld (sym err) h
-
--- an opening is sound, and nothing has happened in it
-pub sound_opened : (config : Config) (stored : List (Bytes × Bytes)) → check config ≡ Ok tt → IsSoundWorld (start_with config stored) × (is_none (start_with config stored).last ≡ true)
-sound_opened config [] fits = (sound_start config fits, refl)
-sound_opened config (e ∷ es) fits = let rest = sound_opened config es fits in (sound_stored (start_with config es) e.0 e.1 rest.1 rest.0, rest.1)

@@ -4,10 +4,11 @@
 --     AllBegun       what is under way, reserved and joined is so of calls that have begun
 --     AllStand       each answer that was shown is that of its call's step, and the call has begun before it
 --     stands_run     so a run of events keeps that
-use Rattle.jc_world.proofs.Common.{◌≡◌, ℕ, zero, suc, true, false, cond, not, List, [], ◌∷◌, ◌++◌, length, take, slice_get, slice_set, Some, None, Option, option_map, zip, sym, refl, ap, ◌∙◌, subst, subst₂, inl, inr, append_assoc, append-nil, arith, take-append_seam, and_from, nat_eq_equiv, take-append-le, filter-append, slice_get_within, get, insert, remove, get-empty, stripe_of, Caller, Config, Refusal, WriterFailed, Bytes, key_cmp, nothing_said, is_of_stripe, of_stripe, Op, Get, Out, Reply, callers_of, step_at, after_commit, State, JoinClaim, Reservation, Command, Outcome, Part, Shown, WorldEvent, CallState, new_call, has_number, op_for, open_keys, is_going, has_too_many_keys, opened, going_on, with_met, settle, with_found, step_of, with_met_by, new_part, reported_keys, keys_reported, Happens, Step, Run, start_with, report_for, IsReplyOfStep, Stands, is_answer_at, Each, IsSoundWorld, Parts, JoinKey, join_cmp, join_key, Joins, WorldState, home, stripe_for, open_call, part_of, out_of}
+use Rattle.jc_world.proofs.Common.{◌≡◌, ℕ, zero, suc, true, false, cond, not, List, [], ◌∷◌, ◌++◌, length, take, slice_get, slice_set, Some, None, Option, option_map, zip, sym, refl, ap, ◌∙◌, subst, subst₂, inl, inr, append_assoc, append-nil, arith, take-append_seam, and_from, nat_eq_equiv, take-append-le, filter-append, slice_get_within, get, insert, remove, stripe_of, Caller, Config, Refusal, WriterFailed, Bytes, nothing_said, is_of_stripe, of_stripe, Op, Get, Out, Reply, callers_of, step_at, after_commit, State, JoinClaim, Reservation, Command, Outcome, Part, Shown, WorldEvent, CallState, new_call, has_number, op_for, open_keys, is_going, has_too_many_keys, opened, going_on, with_met, settle, with_found, step_of, with_met_by, new_part, reported_keys, keys_reported, Happens, Step, Run, IsOpeningWorld, report_for, IsReplyOfStep, Stands, is_answer_at, Each, IsSoundWorld, Parts, JoinKey, join_key, Joins, WorldState, home, stripe_for, open_call, part_of, out_of}
 use Rattle.jc_model.specs.declared.event.Event.{Event as StripeEvent}
 use Rattle.jc_world.proofs.Lemmas.{still_at, each_map, fact_found, each_pushed, each_filter, added, found_number, of_call-at, done_for, Left, each_settled, begun_shown, Taken, taken_of, taken_met, each_taken, join_at, joins_get, part_key, stripe_put, AnswersNone, IsStart, KeyChange, by_nothing, by_refusal, by_step, by_reservation, by_join, by_commit, by_withdrawal, by_answer, by_retry, key_change, StripeChange, by_key, beside_stripes, change_of, Move, no_move, quiet_move, step_move, move_step, each_report}
 use Rattle.jc_world.proofs.Maps.{keys_ordered, joins_ordered, each_put, each_left}
+use Rattle.jc_world.proofs.Opened.{no_part, no_join, sound_opening}
 use Rattle.jc_world.proofs.Sounding.{Laws, sound_step}
 
 -- 1. Places of lists.
@@ -43,15 +44,11 @@ later_as w new seen (step_move from to x config order shows) = record { config =
 pub later_step : (w new : WorldState) (e : WorldEvent) (seen : Shown) → Step w e seen new → IsLater w new
 later_step w new e seen step = later_as w new seen.outcome (move_step w new e seen step)
 
--- a run keeps the configuration, and so does what the store holds at the start
+-- a run keeps the configuration
 pub config_run : (w new : WorldState) (es : List WorldEvent) (ss : List Shown) → Run w es ss new → new.config ≡ w.config
 config_run w new [] [] run = ap (λ (x : WorldState). x.config) run
 config_run w new (e ∷ es) (s ∷ ss) (mid, step, rest) = config_run mid new es ss rest ∙ (later_step w mid e s step).config
 config_run w new es ss run = absurd run
-
-pub config_opened : (config : Config) (stored : List (Bytes × Bytes)) → (start_with config stored).config ≡ config
-config_opened config [] = refl
-config_opened config (e ∷ es) = config_opened config es
 
 -- 3. What was shown stays true.
 
@@ -226,10 +223,13 @@ begun_step : (shows : List (WorldEvent × Shown)) (w new : WorldState) (e : Worl
 begun_step shows w new e seen last (inl (fit, happens)) old = begun_happens shows w new e seen last happens old
 begun_step shows w new e seen last (inr (unfit, shows_it, is)) old = subst (AllBegun shows) (sym is) old
 
--- nothing is under way at the start
-begun_opened : (shows : List (WorldEvent × Shown)) (config : Config) (stored : List (Bytes × Bytes)) → AllBegun shows (start_with config stored)
-begun_opened shows config [] = record { calls = tt; parts = λ key part is. let t : None ≡ Some part = sym (get-empty key_cmp key) ∙ is in cc; joins = λ at join is. let t : None ≡ Some join = sym (get-empty join_cmp at) ∙ is in cc }
-begun_opened shows config (e ∷ es) = let rest = begun_opened shows config es in record { calls = rest.calls; parts = rest.parts; joins = rest.joins }
+-- nothing is under way in an opening
+begun_opened : (shows : List (WorldEvent × Shown)) (w : WorldState) → IsOpeningWorld w → AllBegun shows w
+begun_opened shows w h = record {
+  calls = subst (Each (IsBegun shows)) (sym h.calls) tt;
+  parts = λ key part is. let t : None ≡ Some part = sym (no_part w h key) ∙ is in cc;
+  joins = λ at join is. let t : None ≡ Some join = sym (no_join w h at) ∙ is in cc;
+}
 
 -- 5. A new answer.
 
@@ -340,6 +340,7 @@ stands_run laws shows w new (e ∷ es) (s ∷ ss) (mid, step, rest) old begun st
     (stands_run laws now mid new es ss rest sound more (stands_more shows w mid e s (later_step w mid e s step) stand (stands_step shows w mid e s step old sound begun)))
 stands_run laws shows w new es ss run old begun stand = absurd run
 
--- from the start
-pub stands_opened : Laws → (config : Config) (stored : List (Bytes × Bytes)) (new : WorldState) (es : List WorldEvent) (ss : List Shown) → Run (start_with config stored) es ss new → IsSoundWorld (start_with config stored) → AllStand new (zip es ss)
-stands_opened laws config stored new es ss run sound = stands_run laws [] (start_with config stored) new es ss run sound (begun_opened [] config stored) (λ at e seen is. cc)
+-- from an opening
+pub stands_opened : Laws → (opening new : WorldState) (es : List WorldEvent) (ss : List Shown) → IsOpeningWorld opening → Run opening es ss new → AllStand new (zip es ss)
+stands_opened laws opening new es ss opens run =
+    stands_run laws [] opening new es ss run (sound_opening opening opens) (begun_opened [] opening opens) (λ at e seen is. cc)

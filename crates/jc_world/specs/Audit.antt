@@ -4,11 +4,13 @@
 --     differing     the keys of such entries
 --     cache_in      what a stripe caches, and nothing if there is no stripe
 --     cache_at      what the stripe with a number caches
---     IsOrder       the order is one legal history over all stripes from empty ones, and what is cached is what it leaves
+--     opening_in    the entries with which a stripe opened, and nothing if there is no stripe
+--     opening_at    those of the stripe with a number
+--     IsOrder       the order is one legal history over all stripes from their openings, and what is cached is what it leaves
 --     HasShares      each stripe's history is its part of the order: a place in a stripe counts the events of that stripe alone
 --     IsAudit       what an audit says
 use Rattle.std.specs.Prelude.{◌≡◌, ◌↔◌, ℕ, List, Bool, not, ◌&&◌, IsTrue, Option, None, Some, length, map, filter, slice_get}
-use Rattle.std.specs.FinMap.{get, entries, empty}
+use Rattle.std.specs.FinMap.{get, entries, empty, from_entries}
 use Rattle.jc_model.specs.Cache.{Bytes, Cache, entry_at}
 use Rattle.jc_model.specs.Table.{holds}
 use Rattle.jc_model.specs.Legal.{IsWholeHistory, of_stripe}
@@ -33,8 +35,15 @@ cache_in (Some stripe) = stripe.cache
 abbrev pub cache_at : WorldState → ℕ → Cache
 cache_at w number = cache_in (slice_get w.stripes number)
 
+abbrev pub opening_in : Option State → Cache
+opening_in None = empty
+opening_in (Some stripe) = from_entries stripe.opening
+
+abbrev pub opening_at : WorldState → ℕ → Cache
+opening_at w number = opening_in (slice_get w.stripes number)
+
 abbrev pub IsOrder : WorldState → Type 0
-IsOrder w = IsWholeHistory w.config (λ number. empty) w.order (cache_at w)
+IsOrder w = IsWholeHistory w.config (opening_at w) w.order (cache_at w)
 
 abbrev pub HasShares : WorldState → Type 0
 HasShares w =

@@ -13,12 +13,14 @@
 --     with_met_by                 the world in which a call has met this
 --     without_call                the world without a call that leaves
 --     with_look                   the world in which a call has looked at a stripe, and taken these keys
---     new_load, new_write, new_process     the progress of a key whose loader, writer or processor is to be asked
+--     new_progress                the progress of a key that was just reserved, by whom its reservation asks first
+--     asks_as                     what is shown of a key that was just reserved
 --     new_part                    what is kept of a key that was just reserved
 --     with_part, without_part     the world with this part of a key, and with none
 --     with_new_part            the world in which a call has reserved its key
 --     with_join, without_join     the world with one join more, and without a call's join of a key
 --     BeginsAs                    the first phase of a call, by what it returns
+--     ReservesAs                  a first phase that reserves its key, with what is shown of it
 --     Starts                      a first phase, by what is shown of it
 --     RefusesAs                   a refusal is shown as one that a call of a kind is to try again, or as its last for the key
 --     Ends                        a last phase
@@ -71,10 +73,11 @@ use Rattle.jc_stripe.specs.Effects.{change_due}
 use Rattle.jc_stripe.specs.declared.begun.StepDone.{StepDone}
 use Rattle.jc_stripe.specs.declared.begun.Begun.{Begun}
 use Rattle.jc_stripe.specs.declared.begun.Begun.TheVariants as begun
-use Rattle.jc_stripe.specs.declared.ticket.First.TheVariants.{Writer}
+use Rattle.jc_stripe.specs.declared.ticket.First.{First}
+use Rattle.jc_stripe.specs.declared.ticket.First.TheVariants.{Nobody, Loader, Writer, Processor}
 use Rattle.jc_stripe.specs.declared.ticket.Reservation.{Reservation}
 use Rattle.jc_stripe.specs.declared.begun.Picked.TheVariants as picked
-use Rattle.jc_stripe.specs.Tickets.{Ticket, ProcessClaim, JoinClaim, entry_seen, is_loadable}
+use Rattle.jc_stripe.specs.Tickets.{TicketClaim, Claim, claim_of, JoinClaim, entry_seen, is_loadable}
 use Rattle.jc_stripe.specs.State.{State}
 use Rattle.jc_stripe.specs.Keys.{AreKeys}
 use Rattle.jc_stripe.specs.Phases.{Begins, Commits, Withdraws, PicksUp}
@@ -89,8 +92,8 @@ use Rattle.jc_world.specs.declared.event.Stepped.{Stepped}
 use Rattle.jc_world.specs.declared.reports.ReportedKey.{ReportedKey}
 use Rattle.jc_world.specs.Calls.{CallState, SweepState, open_keys, puts_off, op_at, new_call, has_too_many_keys, opened, over_of, settle, over_settled, meet, drop_call, with_found, look}
 use Rattle.jc_world.specs.declared.event.Part.{Part}
-use Rattle.jc_world.specs.declared.event.Progress.{Progress}
-use Rattle.jc_world.specs.declared.event.Progress.TheVariants.{Loading, Writing, Processing, Processed, WritingEffect}
+use Rattle.jc_world.specs.declared.event.PartProgress.{PartProgress}
+use Rattle.jc_world.specs.declared.event.PartProgress.TheVariants.{Loading, Writing, Processing, Processed, WritingEffect}
 use Rattle.jc_world.specs.World.{WorldState, home, stripe_for, open_call, of_call, part_of, Parts, waits_for_report, has_changed, join_of, join_key, out_of, writer_change}
 use Rattle.jc_world.specs.Premises.{read_answer, changed_to, report_for, is_true_load, is_true_report, with_loader, with_writer, with_foreign_write, load_from}
 use Rattle.jc_world.specs.declared.process.Processed.{Processed as ProcessShown}
@@ -116,7 +119,7 @@ step_of seen =
     record { reply = seen.reply; place = seen.place; victim = seen.victim; evicted = seen.evicted }
 
 abbrev pub with_call : WorldState → CallState → WorldState
-with_call w u = record w { last = Some u.caller.call; calls = w.calls ++ opened u }
+with_call w u = record w { last = Some u.caller.call; calls = w.calls ++ opened u; is_fresh = false }
 
 abbrev pub not_over : Outcome → Shown
 not_over o = record { outcome = o; over = None }
@@ -157,23 +160,26 @@ with_look w call stripe keys sweep =
     record w { calls = look call w.config.stripes stripe keys sweep w.calls }
 
 -- what is kept of a key that was reserved
-abbrev pub new_load : Progress
-new_load = Loading load.NotAsked
+abbrev pub new_progress : First → PartProgress
+new_progress Nobody = Processing  -- no reservation asks nobody
+new_progress Loader = Loading load.NotAsked
+new_progress (Writer change) = Writing false write.NotAsked
+new_progress (Processor entry may_load) = Processing
 
-abbrev pub new_write : Progress
-new_write = Writing false write.NotAsked
+abbrev pub asks_as : First → Outcome
+asks_as Nobody = outcome.Unfit  -- no reservation asks nobody
+asks_as Loader = outcome.Loads
+asks_as (Writer change) = outcome.Asks change
+asks_as (Processor entry may_load) = outcome.Processes entry
 
-abbrev pub new_process : Progress
-new_process = Processing
-
-abbrev pub new_part : Progress → Reservation → Part
+abbrev pub new_part : PartProgress → Reservation → Part
 new_part progress r = record { reservation = r; progress = progress }
 
 abbrev pub with_part : WorldState → Bytes → Part → WorldState
 with_part w key part = record w { parts = insert w.parts key part }
 
 -- a key is reserved, and its stripe is then at another state
-abbrev pub with_new_part : WorldState → Bytes → State → Progress → Reservation → WorldState
+abbrev pub with_new_part : WorldState → Bytes → State → PartProgress → Reservation → WorldState
 with_new_part w key to progress r =
     with_part (with_stripe w key to) key (new_part progress r)
 
@@ -192,6 +198,13 @@ without_join w call key = record w { joins = remove w.joins (call, key) }
 abbrev pub BeginsAs : Caller → Bytes → Op → Begun → State → State → Type 0
 BeginsAs caller key op b from to = Begins from caller key op b to
 
+-- the key is reserved, and the one is to be asked whom its reservation asks first
+abbrev pub ReservesAs : WorldState → Caller → Bytes → Op → State → State → Outcome → WorldState → Type 0
+ReservesAs old caller key op from to o new =
+    (ticket : TicketClaim) × BeginsAs caller key op (begun.Asks ticket) from to
+    × (o ≡ asks_as ticket.reservation.first)
+    × (new ≡ with_new_part old key to (new_progress ticket.reservation.first) ticket.reservation)
+
 -- at a key whose stripe is at `from`, and is then at `to`
 abbrev pub Starts : WorldState → Caller → Bytes → Op → State → State → Outcome → WorldState → Type 0
 Starts old caller key op from to (outcome.Refused refusal) new =
@@ -203,16 +216,11 @@ Starts old caller key op from to (outcome.Stepped seen) new =
     BeginsAs caller key op (begun.Done (step_of seen)) from to × (seen.stripe ≡ home old key)
     × (new ≡ with_settled (with_phase old key from to) caller.call key (fault_in seen.reply))
 Starts old caller key op from to outcome.Loads new =
-    (ticket : Ticket) × BeginsAs caller key op (begun.Load ticket) from to
-    × (new ≡ with_new_part old key to new_load ticket.reservation)
+    ReservesAs old caller key op from to outcome.Loads new
 Starts old caller key op from to (outcome.Asks change) new =
-    (ticket : Ticket) × BeginsAs caller key op (begun.Write ticket) from to
-    × (ticket.reservation.first ≡ Writer change)
-    × (new ≡ with_new_part old key to new_write ticket.reservation)
+    ReservesAs old caller key op from to (outcome.Asks change) new
 Starts old caller key op from to (outcome.Processes entry) new =
-    (ticket : ProcessClaim) × BeginsAs caller key op (begun.Process ticket) from to
-    × (entry ≡ entry_seen ticket.reservation.first)
-    × (new ≡ with_new_part old key to new_process ticket.reservation)
+    ReservesAs old caller key op from to (outcome.Processes entry) new
 Starts old caller key op from to outcome.Joins new =
     (join : JoinClaim) × BeginsAs caller key op (begun.Joined join) from to
     × (new ≡ with_join (with_stripe old key to) join)
@@ -245,7 +253,7 @@ Picks old call key join from to o new = ⊥
 -- 3. Outside answers.
 
 -- the world with this progress of a reserved key
-abbrev pub with_progress : WorldState → Bytes → Part → Progress → WorldState
+abbrev pub with_progress : WorldState → Bytes → Part → PartProgress → WorldState
 with_progress w key part progress = with_part w key (record part { progress = progress })
 
 -- the loader's answer is kept
@@ -254,7 +262,7 @@ after_answer w key part answer =
     let honest = is_true_load answer (entry_at w.store key) in
     record (with_progress w key part (Loading answer)) { premises = with_loader w.premises honest }
 
-abbrev pub with_change : Progress → Progress
+abbrev pub with_change : PartProgress → PartProgress
 with_change (Loading answer) = Loading answer
 with_change (Writing is_changed report) = Writing true report
 with_change Processing = Processing
@@ -267,7 +275,7 @@ after_change w key part change =
     let progress = with_change part.progress in
     record (with_progress w key part progress) { store = with_entry w.store key (changed_to change) }
 
-abbrev pub with_report : Progress → WriteAnswer → Progress
+abbrev pub with_report : PartProgress → WriteAnswer → PartProgress
 with_report (Loading answer) report = Loading answer
 with_report (Writing is_changed was) report = Writing is_changed report
 with_report Processing report = Processing
@@ -319,21 +327,21 @@ abbrev pub run_answers : Reservation → LoadAnswer → List EntryCall → List 
 run_answers r answer calls = played_answers (is_loadable r.first) (entry_seen r.first) answer calls
 
 abbrev pub run_result : Reservation → LoadAnswer → List EntryCall → Option ℕ
-    → ProcessResult Reservation
+    → ProcessResult Claim
 run_result r answer calls fail =
     record {
-      ask = r;
+      ask = claim_of r;
       origin = Played;
       load = played_load (is_loadable r.first) (entry_seen r.first) answer calls;
       process = played_outcome (is_loadable r.first) (entry_seen r.first) answer calls fail;
     }
 
-abbrev pub progress_after : Option Change → ProcessResult Reservation → Progress
+abbrev pub progress_after : Option Change → ProcessResult Claim → PartProgress
 progress_after None done = Processed done.load done.process
 progress_after (Some change) done = WritingEffect done.load done.process false write.NotAsked
 
 -- what the processor did is kept, and the writer is asked for its net effect if that is due
-abbrev pub after_process : WorldState → Bytes → Part → ProcessResult Reservation → WorldState
+abbrev pub after_process : WorldState → Bytes → Part → ProcessResult Claim → WorldState
 after_process w key part done =
     let progress = progress_after (change_due w.config done) done in
     let honest = is_true_load done.load (entry_at w.store key) in
@@ -410,7 +418,7 @@ Happens old (event.PickUp call key) seen new =
 Happens old (event.Foreign key value) seen new =
     let store = with_entry old.store key value in
     (seen ≡ not_over outcome.Written)
-    × (new ≡ record old { store = store; premises = with_foreign_write old.premises })
+    × (new ≡ record old { store = store; premises = with_foreign_write old.premises; is_fresh = false })
 
 -- 5. Steps and runs.
 

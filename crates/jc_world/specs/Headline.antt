@@ -1,6 +1,10 @@
 -- The headline, over every run.
---     start_with        a world at its start, with these values in its store
---     Reaches           after a list of events, which showed a list, a world that began so is at this state
+--     IsOpeningStripe   nothing has happened in a stripe yet, and what it caches is its opening
+--     IsOpeningWorld    nothing has happened in a world yet. Its stripes may cache entries from before, and its store has any; the
+--                       premises are taken to hold only if the one agrees with the other
+--     start_with        a world at its start, with nothing cached and these values in its store
+--     StartsOpen        such a world is an opening
+--     Reaches           after a list of events, which showed a list, an opening world is at this state
 --     StaysLegal        after every list of events the order is one legal history, what is cached is what it leaves, and each
 --                       stripe's history is its part of the order
 --     StaysCoherent     after every list of events, as long as the premises held, the world is coherent
@@ -12,48 +16,76 @@
 --     is_loaded         an answer of the loader is kept for the commit
 --     CountsLoads       after every list of events, the answers that loaders gave for a key are as many as its steps that had the
 --                       loader asked and aren't shared, and the answer that is kept for a commit, together
-use Rattle.std.specs.Prelude.{◌≡◌, ◌==◌, ◌+◌, ◌&&◌, List, [], ◌∷◌, zip, count_by, Bool, true, false, Option, None, Some, Ok, if◌then◌else◌}
+use Rattle.std.specs.Prelude.{◌≡◌, ◌==◌, ◌+◌, ◌&&◌, ℕ, List, length, slice_get, [], ◌∷◌, zip, count_by, Bool, true, false, Option, None, Some, Ok, if◌then◌else◌}
 use Rattle.std.specs.Cmp.Lexicographic.{pointwise}
-use Rattle.std.specs.FinMap.{get}
+use Rattle.std.specs.FinMap.{get, empty}
 use Rattle.jc_types.specs.declared.config.Config.{Config}
 use Rattle.jc_types.specs.Limits.{check}
 use Rattle.jc_model.specs.declared.event.Event.{Event}
 use Rattle.jc_model.specs.declared.event.Event.TheVariants as stripe
 use Rattle.jc_model.specs.Cache.{Bytes}
 use Rattle.jc_model.specs.Table.{is_load_given}
+use Rattle.jc_outside.specs.declared.done.Origin.TheVariants.{Played}
+use Rattle.jc_stripe.specs.State.{State}
+use Rattle.jc_stripe.specs.Reached.{IsReached}
 use Rattle.jc_world.specs.declared.event.Part.{Part}
 use Rattle.jc_world.specs.declared.event.WorldEvent.{WorldEvent}
 use Rattle.jc_world.specs.declared.event.WorldEvent.TheVariants as event
 use Rattle.jc_world.specs.declared.event.Outcome.{Outcome}
 use Rattle.jc_world.specs.declared.event.Outcome.TheVariants as outcome
 use Rattle.jc_world.specs.declared.event.Shown.{Shown}
-use Rattle.jc_world.specs.World.{WorldState, start, out_of, with_stored}
+use Rattle.jc_world.specs.World.{WorldState, start, out_of, with_stored, cached_entry}
 use Rattle.jc_world.specs.Events.{Run}
 use Rattle.jc_world.specs.Coherent.{Coherent, all_hold}
 use Rattle.jc_world.specs.Audit.{IsOrder, HasShares}
 
--- a world at its start, with these values in its store
+-- nothing has happened in a stripe yet
+pub record IsOpeningStripe (config : Config) (number : ℕ) (s : State) : Type 0 where
+  pub config_is : s.config ≡ config
+  pub number_is : s.stripe ≡ number
+  pub origin_is : s.origin ≡ Played
+  pub reached : IsReached s
+  pub history : s.history ≡ []
+  pub reservations : s.reservations ≡ []
+  pub joiners : s.joiners ≡ []
+
+-- nothing has happened in a world yet
+pub record IsOpeningWorld (w : WorldState) : Type 0 where
+  pub config_fits : check w.config ≡ Ok tt
+  pub count : length w.stripes ≡ w.config.stripes
+  pub each : (number : ℕ) (s : State) → slice_get w.stripes number ≡ Some s
+      → IsOpeningStripe w.config number s
+  pub order : w.order ≡ []
+  pub calls : w.calls ≡ []
+  pub parts : w.parts ≡ empty
+  pub joins : w.joins ≡ empty
+  pub cold : w.is_fresh ≡ true → (key : Bytes) → cached_entry w key ≡ None
+  pub coherent : all_hold w ≡ true → Coherent w
+
+-- a world at its start, with nothing cached and these values in its store
 abbrev pub start_with : Config → List (Bytes × Bytes) → WorldState
 start_with config [] = start config
 start_with config (entry ∷ entries) = with_stored (start_with config entries) entry.0 entry.1
 
--- after these events, which showed this, such a world is at `new`
-abbrev pub Reaches : Config → List (Bytes × Bytes) → List WorldEvent → List Shown → WorldState
-    → Type 0
-Reaches config stored events seen new =
-    (check config ≡ Ok tt) × Run (start_with config stored) events seen new
+-- which is an opening
+abbrev pub StartsOpen : Type 0
+StartsOpen =
+    (config : Config) (stored : List (Bytes × Bytes))
+    → check config ≡ Ok tt → IsOpeningWorld (start_with config stored)
+
+-- after these events, which showed this, an opening world is at `new`
+abbrev pub Reaches : WorldState → List WorldEvent → List Shown → WorldState → Type 0
+Reaches opening events seen new = IsOpeningWorld opening × Run opening events seen new
 
 abbrev pub StaysLegal : Type 0
 StaysLegal =
-    (config : Config) (stored : List (Bytes × Bytes)) (events : List WorldEvent) (seen : List Shown)
-    (new : WorldState)
-    → Reaches config stored events seen new → IsOrder new × HasShares new
+    (opening : WorldState) (events : List WorldEvent) (seen : List Shown) (new : WorldState)
+    → Reaches opening events seen new → IsOrder new × HasShares new
 
 abbrev pub StaysCoherent : Type 0
 StaysCoherent =
-    (config : Config) (stored : List (Bytes × Bytes)) (events : List WorldEvent) (seen : List Shown)
-    (new : WorldState)
-    → Reaches config stored events seen new → all_hold new ≡ true → Coherent new
+    (opening : WorldState) (events : List WorldEvent) (seen : List Shown) (new : WorldState)
+    → Reaches opening events seen new → all_hold new ≡ true → Coherent new
 
 abbrev pub with_all_premises : WorldState → WorldState
 with_all_premises w =
@@ -61,11 +93,11 @@ with_all_premises w =
 
 abbrev pub StaysCoherentFrom : Type 0
 StaysCoherentFrom =
-    (config : Config) (stored : List (Bytes × Bytes)) (before events : List WorldEvent)
-    (seen_before seen : List Shown) (opening new : WorldState)
-    → Reaches config stored before seen_before opening
-    → ((key : Bytes) → get opening.parts key ≡ None) → Coherent opening
-    → Run (with_all_premises opening) events seen new → all_hold new ≡ true → Coherent new
+    (opening : WorldState) (before events : List WorldEvent) (seen_before seen : List Shown)
+    (from new : WorldState)
+    → Reaches opening before seen_before from
+    → ((key : Bytes) → get from.parts key ≡ None) → Coherent from
+    → Run (with_all_premises from) events seen new → all_hold new ≡ true → Coherent new
 
 -- an answer of the loader for a key, which was taken
 abbrev pub is_answer : Bytes → WorldEvent → Outcome → Bool
@@ -89,8 +121,8 @@ is_loaded (Some part) = is_load_given (out_of part).load
 
 abbrev pub CountsLoads : Type 0
 CountsLoads =
-    (config : Config) (stored : List (Bytes × Bytes)) (events : List WorldEvent) (seen : List Shown)
-    (new : WorldState) (key : Bytes)
-    → Reaches config stored events seen new
+    (opening : WorldState) (events : List WorldEvent) (seen : List Shown) (new : WorldState)
+    (key : Bytes)
+    → Reaches opening events seen new
     → count_by (λ (e : WorldEvent × Shown). is_answer key e.0 e.1.outcome) (zip events seen)
     ≡ count_by (is_load key) new.order + (if is_loaded (get new.parts key) then 1 else 0)

@@ -16,4 +16,5 @@ world_of m =
       parts = parts_of m.held;
       joins = joins_of m.joins;
       premises = m.premises;
+      is_fresh = m.is_fresh;
     }

@@ -1,5 +1,4 @@
 pub mod Calls
-pub mod NewTickets
 pub mod OpenCalls
 pub mod World
 pub mod Premises

@@ -10,7 +10,6 @@
 use Rattle.std.specs.Prelude.{◌≡◌, ◌==◌, ◌&&◌, ℕ, List, zip, take, slice_get, Bool, true, false, Some}
 use Rattle.std.specs.List.{list_any}
 use Rattle.std.specs.Cmp.Lexicographic.{pointwise}
-use Rattle.jc_types.specs.declared.config.Config.{Config}
 use Rattle.jc_model.specs.Cache.{Bytes}
 use Rattle.jc_stripe.specs.Tickets.{asks_loader}
 use Rattle.jc_stripe.specs.declared.ticket.Reservation.{Reservation}
@@ -64,10 +63,10 @@ Resolves w shows load o = ⊥
 
 abbrev pub AnswersJoins : Type 0
 AnswersJoins =
-    (config : Config) (stored : List (Bytes × Bytes)) (before between : List WorldEvent)
+    (opening : WorldState) (before between : List WorldEvent)
     (seen_before seen_between : List Shown) (old joined new newer : WorldState)
     (call : ℕ) (key : Bytes) (s : Shown)
-    → Reaches config stored before seen_before old
+    → Reaches opening before seen_before old
     → Step old (event.Start call key) (not_over outcome.Joins) joined
     → Run joined between seen_between new
     → list_any (is_last_pick_up call key) (zip between seen_between) ≡ false

@@ -9,7 +9,6 @@
 --     StepsShownOnce  after every list of events, each step of the order was shown exactly once, or its answer is parked
 use Rattle.std.specs.Prelude.{◌≡◌, ◌==◌, ◌&&◌, ℕ, List, [], take, zip, count_by, slice_get, Bool, false, Option, None, Some, if◌then◌else◌}
 use Rattle.jc_types.specs.declared.caller.Caller.{Caller}
-use Rattle.jc_types.specs.declared.config.Config.{Config}
 use Rattle.jc_model.specs.declared.event.Op.{Op}
 use Rattle.jc_model.specs.declared.event.Out.{Out}
 use Rattle.jc_model.specs.declared.event.Reply.{Reply}
@@ -62,9 +61,8 @@ Stands w shows e o = Unit {0}
 
 abbrev pub RepliesStand : Type 0
 RepliesStand =
-    (config : Config) (stored : List (Bytes × Bytes)) (events : List WorldEvent) (seen : List Shown)
-    (new : WorldState)
-    → Reaches config stored events seen new
+    (opening : WorldState) (events : List WorldEvent) (seen : List Shown) (new : WorldState)
+    → Reaches opening events seen new
     → (at : ℕ) (e : WorldEvent) (s : Shown) → slice_get (zip events seen) at ≡ Some (e, s)
     → Stands new (take at (zip events seen)) e s.outcome
 
@@ -87,12 +85,11 @@ times_shown parked = if parked then 0 else 1
 
 abbrev pub StepsShownOnce : Type 0
 StepsShownOnce =
-    (config : Config) (stored : List (Bytes × Bytes)) (events : List WorldEvent) (seen : List Shown)
-    (new : WorldState)
-    → Reaches config stored events seen new
+    (opening : WorldState) (events : List WorldEvent) (seen : List Shown) (new : WorldState)
+    → Reaches opening events seen new
     → (stripe place : ℕ) (caller : Caller) (op : Op) (key : Bytes) (out : Out) (shared : Option ℕ)
     (reply : Reply)
-    → slice_get (of_stripe config.stripes stripe new.order) place
+    → slice_get (of_stripe opening.config.stripes stripe new.order) place
     ≡ Some (Step caller op key out shared reply)
     → count_by (λ s. is_answer_at stripe place s.outcome) seen
     ≡ times_shown (is_parked (joiners_at new stripe) caller key)

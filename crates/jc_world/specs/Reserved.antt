@@ -5,7 +5,6 @@
 --     EntryStays        the cached entry of a reserved key stays as long as the reservation is out, whatever happens meanwhile
 use Rattle.std.specs.Prelude.{◌≡◌, List, Bool, true, false, Some}
 use Rattle.std.specs.FinMap.{get}
-use Rattle.jc_types.specs.declared.config.Config.{Config}
 use Rattle.jc_model.specs.Cache.{Bytes}
 use Rattle.jc_world.specs.declared.event.Part.{Part}
 use Rattle.jc_world.specs.declared.event.WorldEvent.{WorldEvent}
@@ -22,16 +21,16 @@ is_appended o = false
 
 abbrev pub OnlyStepsChange : Type 0
 OnlyStepsChange =
-    (config : Config) (stored : List (Bytes × Bytes)) (events : List WorldEvent) (seen : List Shown)
+    (opening : WorldState) (events : List WorldEvent) (seen : List Shown)
     (old new : WorldState) (e : WorldEvent) (s : Shown)
-    → Reaches config stored events seen old → Step old e s new → is_appended s.outcome ≡ false
+    → Reaches opening events seen old → Step old e s new → is_appended s.outcome ≡ false
     → (new.order ≡ old.order) × ((key : Bytes) → cached_entry new key ≡ cached_entry old key)
 
 -- the part of a key names its reservation: it is out in both worlds
 abbrev pub EntryStays : Type 0
 EntryStays =
-    (config : Config) (stored : List (Bytes × Bytes)) (before after : List WorldEvent)
+    (opening : WorldState) (before after : List WorldEvent)
     (seen_before seen_after : List Shown) (old new : WorldState) (key : Bytes) (was is : Part)
-    → Reaches config stored before seen_before old → Run old after seen_after new
+    → Reaches opening before seen_before old → Run old after seen_after new
     → get old.parts key ≡ Some was → get new.parts key ≡ Some is → is.reservation ≡ was.reservation
     → cached_entry new key ≡ cached_entry old key

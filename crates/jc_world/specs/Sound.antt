@@ -29,7 +29,7 @@
 --                                   cached one
 --     Sweeps                        a call that is still to look at a stripe: the keys that it has taken are of those at which it has
 --                                   looked
---     IsSoundWorld                  all of it; and before a call has begun, nothing is cached, reserved, joined or under way
+--     IsSoundWorld                  all of it; and in a fresh world nothing is cached, reserved, joined or under way
 use Rattle.std.specs.Prelude.{◌≡◌, ◌==◌, ℕ, List, [], ◌∷◌, length, Ok, Bool, true, false, not, ◌&&◌, Option, None, Some, IfSome, IsSomeAnd, is_none, is_some, find, slice_get, nat_le}
 use Rattle.std.specs.List.{list_all}
 use Rattle.std.specs.Map.{lookup}
@@ -59,14 +59,14 @@ use Rattle.jc_inflight.specs.declared.joiner.JoinState.{JoinState}
 use Rattle.jc_inflight.specs.declared.joiner.JoinState.TheVariants.{Waiting, Answered, Again}
 use Rattle.jc_inflight.specs.Joining.{belongs_to}
 use Rattle.jc_stripe.specs.declared.ticket.Reservation.{Reservation}
-use Rattle.jc_stripe.specs.Tickets.{JoinClaim, asks_loader, asks_writer, asks_processor, change_asked}
+use Rattle.jc_stripe.specs.Tickets.{JoinClaim, claim_of, asks_loader, asks_writer, asks_processor, change_asked}
 use Rattle.jc_stripe.specs.State.{State, IsOut, IsJoined}
 use Rattle.jc_stripe.specs.Reached.{IsReached}
 use Rattle.jc_stripe.specs.OwnSteps.{may_come_all}
 use Rattle.jc_world.specs.Calls.{CallState, SweepState, has_looked, op_at, op_for, is_turn}
 use Rattle.jc_world.specs.declared.event.Part.{Part}
-use Rattle.jc_world.specs.declared.event.Progress.{Progress}
-use Rattle.jc_world.specs.declared.event.Progress.TheVariants.{Loading, Writing, Processing, Processed, WritingEffect}
+use Rattle.jc_world.specs.declared.event.PartProgress.{PartProgress}
+use Rattle.jc_world.specs.declared.event.PartProgress.TheVariants.{Loading, Writing, Processing, Processed, WritingEffect}
 use Rattle.jc_world.specs.World.{WorldState, home, stripe_for, cached_entry, open_call, part_of, JoinKey, Joins, join_key, is_joined, Parts}
 use Rattle.jc_world.specs.Premises.{changed_to, is_done}
 use Rattle.jc_world.specs.Coherent.{all_hold}
@@ -138,7 +138,7 @@ abbrev pub Each : {A : Type 0} → (A → Type 0) → List A → Type 0
 Each P [] = Unit {0}
 Each P (x ∷ xs) = P x × Each P xs
 
-abbrev pub is_of_asked : Progress → First → Bool
+abbrev pub is_of_asked : PartProgress → First → Bool
 is_of_asked (Loading answer) first = asks_loader first
 is_of_asked (Writing is_changed report) first = asks_writer first
 is_of_asked Processing first = asks_processor first
@@ -146,14 +146,14 @@ is_of_asked (Processed loaded process) first = asks_processor first
 is_of_asked (WritingEffect loaded process is_changed report) first = asks_processor first
 
 -- after a processor the writer is asked exactly if it has to be
-abbrev pub is_due_in : Config → Reservation → Progress → Bool
+abbrev pub is_due_in : Config → Reservation → PartProgress → Bool
 is_due_in config r (Loading answer) = true
 is_due_in config r (Writing is_changed report) = true
 is_due_in config r Processing = true
 is_due_in config r (Processed loaded process) =
-    is_none (change_due config (record { ask = r; origin = Played; load = loaded; process = process }))
+    is_none (change_due config (record { ask = claim_of r; origin = Played; load = loaded; process = process }))
 is_due_in config r (WritingEffect loaded process is_changed report) =
-    is_some (change_due config (record { ask = r; origin = Played; load = loaded; process = process }))
+    is_some (change_due config (record { ask = claim_of r; origin = Played; load = loaded; process = process }))
 
 abbrev pub is_due : Config → Part → Bool
 is_due config part = is_due_in config part.reservation part.progress
@@ -220,7 +220,7 @@ pub record WriteAgrees (change : Option Change) (is_changed : Bool) (report : Wr
   pub unwritten : is_changed ≡ false → Agrees entry stored
   pub honest : is_write_given report ≡ true → is_done report ≡ is_changed
 
-abbrev pub ProgressAgrees : Progress → First → Option Bytes → Option Bytes → Type 0
+abbrev pub ProgressAgrees : PartProgress → First → Option Bytes → Option Bytes → Type 0
 ProgressAgrees (Loading answer) first stored entry = LoadAgrees answer stored entry
 ProgressAgrees (Writing is_changed report) first stored entry =
     WriteAgrees (change_asked first) is_changed report stored entry
@@ -242,7 +242,7 @@ Sweeps config u =
     → (key : Bytes) → is_some (lookup (pointwise ◌==◌ key) u.tasks) ≡ true
     → has_looked sweep.looked (stripe_of key config.stripes) ≡ true
 
--- 7. The world. Before a call has begun, nothing is cached, reserved, joined or under way.
+-- 7. The world. In a fresh one nothing is cached, reserved, joined or under way.
 pub record IsSoundWorld (w : WorldState) : Type 0 where
   pub shape : IsShaped w
   pub order : in_order w.order ≡ true
@@ -259,5 +259,5 @@ pub record IsSoundWorld (w : WorldState) : Type 0 where
       → AllCalled w number s.joiners
   pub told : all_hold w ≡ true → (key : Bytes)
       → KeyAgrees (get w.parts key) (entry_at w.store key) (cached_entry w key)
-  pub cold : is_none w.last ≡ true → (key : Bytes) → cached_entry w key ≡ None
-  pub idle : is_none w.last ≡ true → w.calls ≡ []
+  pub cold : w.is_fresh ≡ true → (key : Bytes) → cached_entry w key ≡ None
+  pub idle : w.is_fresh ≡ true → w.calls ≡ []

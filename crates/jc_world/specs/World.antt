@@ -11,7 +11,6 @@
 --     cached_entry                    what is cached for a key
 --     empty_stripe, empty_stripes     a stripe in which nothing has happened, and as many as are asked for, from a number on
 --     start                           a world before anything has happened
---     is_fresh                        no call has begun, and nobody else has written the store
 --     is_busy                         a session has a call under way
 --     open_call                       the call with this number, if it is under way
 --     of_call                         a part, if it is this call's
@@ -52,8 +51,8 @@ use Rattle.jc_stripe.specs.Tickets.{JoinClaim, change_asked}
 use Rattle.jc_stripe.specs.State.{State}
 use Rattle.jc_world.specs.Calls.{CallState, has_number, is_of_session}
 use Rattle.jc_world.specs.declared.event.Part.{Part}
-use Rattle.jc_world.specs.declared.event.Progress.{Progress}
-use Rattle.jc_world.specs.declared.event.Progress.TheVariants.{Loading, Writing, Processing, Processed, WritingEffect}
+use Rattle.jc_world.specs.declared.event.PartProgress.{PartProgress}
+use Rattle.jc_world.specs.declared.event.PartProgress.TheVariants.{Loading, Writing, Processing, Processed, WritingEffect}
 use Rattle.jc_world.specs.declared.event.Premises.{Premises}
 
 -- by key, what the call that has reserved it asked and heard so far
@@ -85,6 +84,7 @@ pub record WorldState : Type 0 where
   pub parts : Parts
   pub joins : Joins
   pub premises : Premises  -- what has held so far of loaders, writers and others
+  pub is_fresh : Bool  -- no call has begun yet, and nobody else has written the store
 
 -- 1. Stripes.
 
@@ -135,13 +135,10 @@ start config =
       parts = empty;
       joins = empty;
       premises = record { writers = true; loaders = true; quiet = true };
+      is_fresh = true;
     }
 
 -- 2. Calls.
-
--- nothing has happened in a world, but for what its store was given
-abbrev pub is_fresh : WorldState → Bool
-is_fresh w = is_none w.last && w.premises.quiet
 
 -- the session has a call under way
 abbrev pub is_busy : WorldState → ℕ → Bool
@@ -160,12 +157,12 @@ abbrev pub part_of : WorldState → ℕ → Bytes → Option Part
 part_of w call key = of_call call (map.get w.parts key)
 
 -- a key is reserved, and its progress passes this test
-abbrev pub has_progress : (Progress → Bool) → Option Part → Bool
+abbrev pub has_progress : (PartProgress → Bool) → Option Part → Bool
 has_progress test None = false
 has_progress test (Some part) = test part.progress
 
 -- the loader was asked, and hasn't answered
-abbrev pub waits_for_load : Progress → Bool
+abbrev pub waits_for_load : PartProgress → Bool
 waits_for_load (Loading answer) = not (is_load_given answer)
 waits_for_load (Writing is_changed report) = false
 waits_for_load Processing = false
@@ -173,7 +170,7 @@ waits_for_load (Processed loaded process) = false
 waits_for_load (WritingEffect loaded process is_changed report) = false
 
 -- the processor was asked, and hasn't run
-abbrev pub waits_for_process : Progress → Bool
+abbrev pub waits_for_process : PartProgress → Bool
 waits_for_process (Loading answer) = false
 waits_for_process (Writing is_changed report) = false
 waits_for_process Processing = true
@@ -181,7 +178,7 @@ waits_for_process (Processed loaded process) = false
 waits_for_process (WritingEffect loaded process is_changed report) = false
 
 -- the writer was asked, and hasn't returned
-abbrev pub waits_for_report : Progress → Bool
+abbrev pub waits_for_report : PartProgress → Bool
 waits_for_report (Loading answer) = false
 waits_for_report (Writing is_changed report) = not (is_write_given report)
 waits_for_report Processing = false
@@ -189,7 +186,7 @@ waits_for_report (Processed loaded process) = false
 waits_for_report (WritingEffect loaded process is_changed report) = not (is_write_given report)
 
 -- all that was asked is answered
-abbrev pub is_answered : Progress → Bool
+abbrev pub is_answered : PartProgress → Bool
 is_answered (Loading answer) = is_load_given answer
 is_answered (Writing is_changed report) = is_write_given report
 is_answered Processing = false
@@ -197,7 +194,7 @@ is_answered (Processed loaded process) = true
 is_answered (WritingEffect loaded process is_changed report) = is_write_given report
 
 -- the ticket has not asked anybody yet: the loader and the writer have answered as soon as they are asked
-abbrev pub is_unasked : Progress → Bool
+abbrev pub is_unasked : PartProgress → Bool
 is_unasked (Loading answer) = not (is_load_given answer)
 is_unasked (Writing is_changed report) = not (is_write_given report)
 is_unasked Processing = true
@@ -205,7 +202,7 @@ is_unasked (Processed loaded process) = false
 is_unasked (WritingEffect loaded process is_changed report) = false
 
 -- nothing was answered outside, and nothing done
-abbrev pub is_untouched : Progress → Bool
+abbrev pub is_untouched : PartProgress → Bool
 is_untouched (Loading answer) = not (is_load_given answer)
 is_untouched (Writing is_changed report) = not is_changed && not (is_write_given report)
 is_untouched Processing = true
@@ -213,7 +210,7 @@ is_untouched (Processed loaded process) = false
 is_untouched (WritingEffect loaded process is_changed report) = false
 
 -- the writer has changed the store
-abbrev pub has_changed : Progress → Bool
+abbrev pub has_changed : PartProgress → Bool
 has_changed (Loading answer) = false
 has_changed (Writing is_changed report) = is_changed
 has_changed Processing = false
@@ -221,7 +218,7 @@ has_changed (Processed loaded process) = false
 has_changed (WritingEffect loaded process is_changed report) = is_changed
 
 -- what the writer is asked for: the change that it was asked for first, or the processor's net effect
-abbrev pub writer_change_in : First → Progress → Option Change
+abbrev pub writer_change_in : First → PartProgress → Option Change
 writer_change_in first (Loading answer) = None
 writer_change_in first (Writing is_changed report) = change_asked first
 writer_change_in first Processing = None
@@ -232,7 +229,7 @@ abbrev pub writer_change : Part → Option Change
 writer_change part = writer_change_in part.reservation.first part.progress
 
 -- the outside answers
-abbrev pub out_in : Progress → Out
+abbrev pub out_in : PartProgress → Out
 out_in (Loading answer) = load_only answer
 out_in (Writing is_changed report) = write_only report
 out_in Processing = nothing_said

@@ -104,8 +104,6 @@ pub(crate) fn begin(
         calls.new.items ≡ calls.old.items ++ opened (new_call caller.call caller.session command.now)) }
     ensures err { OnErr result (calls.new.items ≡ calls.old.items) }
 {
-    // Names the types that the prover looks for: see docs/CONTRIBUTING.md, "Idioms that the prover asks for".
-    let _types: Option<&(Op, Value)> = None;
     if let Command::Single { op, key } = command {
         calls.push(OpenCall::single(caller, op, key))?;
         show(seen, Outcome::Begun);
@@ -128,8 +126,6 @@ fn begin_any(
         calls.new.items ≡ calls.old.items ++ opened (new_call caller.call caller.session command.now)) }
     ensures err { OnErr result (calls.new.items ≡ calls.old.items) }
 {
-    // Names the types that the prover looks for: see docs/CONTRIBUTING.md, "Idioms that the prover asks for".
-    let _types: Option<&(Op, Value)> = None;
     if command.has_too_many_keys() {
         show(seen, Outcome::Refused(Refusal::TooManyKeys));
         return Ok(());

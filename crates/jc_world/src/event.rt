@@ -1,9 +1,9 @@
 //! What may happen in a world, what is shown of it, and what a world keeps of its calls.
-ghost use Rattle.std.specs.Prelude.{◌≡◌};
+ghost use Rattle.std.specs.Prelude.{◌≡◌, true};
 ghost use Rattle.jc_world.specs.World.{waits_for_load, waits_for_process, waits_for_report, is_answered, is_unasked};
 ghost use Rattle.jc_world.specs.World.{is_untouched, has_changed};
 ghost use Rattle.jc_world.specs.declared.event.Outcome.TheVariants as outcome;
-ghost use Rattle.jc_world.specs.Events.{not_over};
+ghost use Rattle.jc_world.specs.Events.{not_over, with_change, with_report};
 
 use crate::command::Command;
 use crate::process::{EntryCalls, LoadSource, Processed};
@@ -161,7 +161,7 @@ pub struct Stepped {
 
 /// The answer of a load that a call had joined.
 #[derive(Clone, Copy, Debug, PartialEq, Eq)]
-pub struct PickedUp {
+pub struct JoinAnswer {
     /// What the call is answered.
     pub reply: Reply,
     /// The number of the key's stripe, from 0.
@@ -229,7 +229,7 @@ pub enum Outcome {
     /// The call is over, without a reply.
     Left,
     /// The load that the call had joined is committed, and this is its answer, with which the key has its reply.
-    PickedUp(PickedUp),
+    PickedUp(JoinAnswer),
     /// The load that the call has joined isn't over.
     Waits,
     /// The load that the call had joined was withdrawn: the call is to retry at the key.
@@ -275,12 +275,12 @@ pub struct Part {
     /// change, or the entry processor.
     pub reservation: Reservation,
     /// What the one who was asked has done and answered so far.
-    pub progress: Progress,
+    pub progress: PartProgress,
 }
 
 /// What was done and answered so far for a reserved key.
 #[derive(Clone, Copy, Debug, PartialEq, Eq)]
-pub enum Progress {
+pub enum PartProgress {
     /// The loader was asked.
     Loading {
         /// Its answer: `NotAsked` until it has come.
@@ -315,17 +315,17 @@ pub enum Progress {
     },
 }
 
-impl Progress {
+impl PartProgress {
     /// Whether the loader was asked, and hasn't answered.
     pub(crate) fn waits_for_load(&self) -> bool
         ensures { result ≡ waits_for_load self.now }
     {
         match self {
-            Progress::Loading { answer } => !answer.is_given(),
-            Progress::Writing { .. }
-            | Progress::Processing
-            | Progress::Processed { .. }
-            | Progress::WritingEffect { .. } => false,
+            PartProgress::Loading { answer } => !answer.is_given(),
+            PartProgress::Writing { .. }
+            | PartProgress::Processing
+            | PartProgress::Processed { .. }
+            | PartProgress::WritingEffect { .. } => false,
         }
     }
 
@@ -334,11 +334,11 @@ impl Progress {
         ensures { result ≡ waits_for_process self.now }
     {
         match self {
-            Progress::Processing => true,
-            Progress::Loading { .. }
-            | Progress::Writing { .. }
-            | Progress::Processed { .. }
-            | Progress::WritingEffect { .. } => false,
+            PartProgress::Processing => true,
+            PartProgress::Loading { .. }
+            | PartProgress::Writing { .. }
+            | PartProgress::Processed { .. }
+            | PartProgress::WritingEffect { .. } => false,
         }
     }
 
@@ -347,10 +347,12 @@ impl Progress {
         ensures { result ≡ waits_for_report self.now }
     {
         match self {
-            Progress::Writing { report, .. } | Progress::WritingEffect { report, .. } => {
+            PartProgress::Writing { report, .. } | PartProgress::WritingEffect { report, .. } => {
                 !report.is_given()
             }
-            Progress::Loading { .. } | Progress::Processing | Progress::Processed { .. } => false,
+            PartProgress::Loading { .. }
+            | PartProgress::Processing
+            | PartProgress::Processed { .. } => false,
         }
     }
 
@@ -359,12 +361,12 @@ impl Progress {
         ensures { result ≡ is_answered self.now }
     {
         match self {
-            Progress::Loading { answer } => answer.is_given(),
-            Progress::Writing { report, .. } | Progress::WritingEffect { report, .. } => {
+            PartProgress::Loading { answer } => answer.is_given(),
+            PartProgress::Writing { report, .. } | PartProgress::WritingEffect { report, .. } => {
                 report.is_given()
             }
-            Progress::Processing => false,
-            Progress::Processed { .. } => true,
+            PartProgress::Processing => false,
+            PartProgress::Processed { .. } => true,
         }
     }
 
@@ -373,10 +375,38 @@ impl Progress {
         ensures { result ≡ is_unasked self.now }
     {
         match self {
-            Progress::Loading { answer } => !answer.is_given(),
-            Progress::Writing { report, .. } => !report.is_given(),
-            Progress::Processing => true,
-            Progress::Processed { .. } | Progress::WritingEffect { .. } => false,
+            PartProgress::Loading { answer } => !answer.is_given(),
+            PartProgress::Writing { report, .. } => !report.is_given(),
+            PartProgress::Processing => true,
+            PartProgress::Processed { .. } | PartProgress::WritingEffect { .. } => false,
+        }
+    }
+
+    /// The writer has changed the store.
+    pub(crate) fn change(&mut self)
+        requires { waits_for_report self.old ≡ true }
+        ensures { self.new ≡ with_change self.old }
+    {
+        match self {
+            PartProgress::Writing { is_changed, .. } => *is_changed = true,
+            PartProgress::WritingEffect { is_changed, .. } => *is_changed = true,
+            PartProgress::Loading { .. }
+            | PartProgress::Processing
+            | PartProgress::Processed { .. } => {}
+        }
+    }
+
+    /// The writer has returned with this.
+    pub(crate) fn report(&mut self, answer: WriteAnswer)
+        requires { waits_for_report self.old ≡ true }
+        ensures { self.new ≡ with_report self.old answer }
+    {
+        match self {
+            PartProgress::Writing { report, .. } => *report = answer,
+            PartProgress::WritingEffect { report, .. } => *report = answer,
+            PartProgress::Loading { .. }
+            | PartProgress::Processing
+            | PartProgress::Processed { .. } => {}
         }
     }
 
@@ -385,10 +415,10 @@ impl Progress {
         ensures { result ≡ is_untouched self.now }
     {
         match self {
-            Progress::Loading { answer } => !answer.is_given(),
-            Progress::Writing { is_changed, report } => !*is_changed && !report.is_given(),
-            Progress::Processing => true,
-            Progress::Processed { .. } | Progress::WritingEffect { .. } => false,
+            PartProgress::Loading { answer } => !answer.is_given(),
+            PartProgress::Writing { is_changed, report } => !*is_changed && !report.is_given(),
+            PartProgress::Processing => true,
+            PartProgress::Processed { .. } | PartProgress::WritingEffect { .. } => false,
         }
     }
 
@@ -397,10 +427,11 @@ impl Progress {
         ensures { result ≡ has_changed self.now }
     {
         match self {
-            Progress::Writing { is_changed, .. } | Progress::WritingEffect { is_changed, .. } => {
-                *is_changed
-            }
-            Progress::Loading { .. } | Progress::Processing | Progress::Processed { .. } => false,
+            PartProgress::Writing { is_changed, .. }
+            | PartProgress::WritingEffect { is_changed, .. } => { *is_changed }
+            PartProgress::Loading { .. }
+            | PartProgress::Processing
+            | PartProgress::Processed { .. } => false,
         }
     }
 }

@@ -1,13 +1,19 @@
 //! The headline, as laws over every run.
-ghost use Rattle.jc_world.specs.Headline.{StaysLegal, StaysCoherent, StaysCoherentFrom, CountsLoads};
+ghost use Rattle.jc_world.specs.Headline.{StartsOpen, StaysLegal, StaysCoherent, StaysCoherentFrom, CountsLoads};
 
 use jc_stripe::phase_laws::{keeps_reserved, stays_reached};
 
-/// After every list of events, on a world of any shape within its limits and with any values in its store at the start: the order
-/// of all events is one legal history over all stripes, each stripe's history is its part of it, and what each stripe
-/// caches is what its part leaves.
+/// A world at its start, of any shape within its limits, with nothing cached and any values in its store, is an opening: nothing
+/// has happened in it yet. The laws over runs start from an opening, which may also cache entries from before.
+pub fn starts_open()
+    ensures { StartsOpen }
+{}
+
+/// After every list of events, from an opening: the order of all events is one legal history over all stripes, each stripe's
+/// history is its part of it, and what each stripe caches is what its part leaves.
 ///
-/// That a reply and a place that are shown are those of a step of that history is said by the clause of `World::play`.
+/// That a reply and a place that are shown are those of a step of that history is the law
+/// [`replies_stand`](crate::replies::replies_stand).
 pub fn stays_legal()
     ensures { StaysLegal }
 {
@@ -15,7 +21,7 @@ pub fn stays_legal()
     keeps_reserved();
 }
 
-/// After every list of events, on such a world: if write-through is on, nobody else has written the store, each writer has
+/// After every list of events, from a coherent opening: if write-through is on, nobody else has written the store, each writer has
 /// reported success exactly if it had changed the store, and each loader has answered what the store held or failed, then each
 /// cached value is the store's, but for keys whose writer has changed the store and whose call isn't committed.
 pub fn stays_coherent()
@@ -35,7 +41,7 @@ pub fn stays_coherent_from()
     keeps_reserved();
 }
 
-/// After every list of events, on such a world, for each key: the answers that loaders gave for it are as many as the steps of the
+/// After every list of events, from an opening, for each key: the answers that loaders gave for it are as many as the steps of the
 /// order that had the loader asked and aren't shared, and the answer that is kept for a commit, if there is one, together.
 ///
 /// It is a count, and doesn't say which answer is in which step.

@@ -8,154 +8,62 @@ ghost use Rattle.jc_stripe.specs.declared.begun.StepDone.{StepDone};
 ghost use Rattle.jc_stripe.specs.State.{IsOut};
 ghost use Rattle.jc_stripe.specs.Phases.{Commits, Withdraws};
 ghost use Rattle.jc_stripe.specs.Effects.{change_due};
-ghost use Rattle.jc_stripe.specs.Tickets.{asks_loader, asks_writer, asks_processor};
-ghost use Rattle.jc_stripe.specs.declared.ticket.First.TheVariants.{Writer};
+ghost use Rattle.jc_stripe.specs.Refusals.{reserves};
 ghost use Rattle.jc_outside.specs.declared.done.Origin.TheVariants.{Played};
-ghost use Rattle.jc_world.specs.declared.event.Progress.TheVariants.{Loading};
+ghost use Rattle.jc_world.specs.declared.event.PartProgress.TheVariants.{Loading};
 ghost use Rattle.jc_world.specs.Premises.{changed_to};
 ghost use Rattle.jc_world.specs.World.{has_changed, out_of, is_answered, is_unasked, waits_for_load, waits_for_process};
 ghost use Rattle.jc_world.specs.World.{waits_for_report, writer_change};
-ghost use Rattle.jc_world.specs.Events.{new_load, new_write, new_process, new_part, with_change, with_report, run_answers};
-ghost use Rattle.jc_world.specs.Events.{run_result, progress_after, reported_part};
+ghost use Rattle.jc_world.specs.Events.{new_part, new_progress, with_change, with_report, run_answers, run_result, progress_after, reported_part};
 ghost use Rattle.jc_world.specs.Sound.{is_due};
-ghost use Rattle.jc_world.specs.Held.{load_in, report_in};
 
-use crate::event::{Part, Progress};
+use crate::event::{Part, PartProgress};
 use crate::outside::entry_after;
 use crate::reports::ReportedKey;
-use crate::run::{
-    Run, RunShown, change_effect, commit_run, progress_in, report_effect, run_process,
-    writer_change_in,
-};
+use crate::run::{RunShown, change_asked, change_due, commit_run, new_progress, progress_after};
 use jc_model::{Change, Contents, EntryAnswer, EntryCall, LoadAnswer, WriteAnswer};
-use jc_stripe::{
-    First, LoadAsk, LoadDone, LoadTicket, ProcessTicket, Reservation, StepDone, Stripe, WriteAsk,
-    WriteDone, WriteTicket, played_load, played_write,
-};
+use jc_mutentry::played_process;
+use jc_stripe::{Ask, ProcDone, Reservation, StepDone, Stripe, Ticket, played_load, played_write};
 use jc_types::{Config, Key};
 use std::alloc::AllocError;
 use std::marker::Model;
 use std::mem;
 
-/// A loader's answer, and the done value that was made of it, which the commit alone can read.
-pub(crate) struct Loaded {
-    done: LoadDone<LoadAsk>,
-    answer: LoadAnswer,
+/// A key that a call has reserved: its ticket, and what was done and answered for it so far. It can't be copied or dropped.
+///
+/// The loader and the writer are asked at the commit, with the answer that they gave: a done value is made of the ask then. The
+/// entry processor is asked as it runs.
+pub(crate) struct HeldKey {
+    ticket: Ticket,
+    run: Option<ProcDone<Ask>>,
+    progress: PartProgress,
 }
 
-/// A writer's report, and the done value that was made of it, which the commit alone can read.
-pub(crate) struct Written {
-    done: WriteDone<WriteAsk>,
-    report: WriteAnswer,
-}
-
-/// Who is asked for a reserved key, with the ticket. The ask is taken when the answer comes: so the ticket was asked exactly if
-/// the answer is there.
-pub(crate) enum Asked {
-    /// The loader.
-    Loader {
-        ticket: LoadTicket,
-        loaded: Option<Loaded>,
-    },
-    /// The writer, which may have changed the store before it returns.
-    Writer {
-        ticket: WriteTicket,
-        is_changed: bool,
-        written: Option<Written>,
-    },
-    /// The entry processor.
-    Processor {
-        ticket: ProcessTicket,
-        run: Option<Run>,
-    },
-}
-
-/// A key that a call has reserved, with its ticket. It can't be copied or dropped.
-pub(crate) struct Held {
-    asked: Asked,
-}
-
-impl Model for Held {
+impl Model for HeldKey {
     ghost use Rattle.jc_world.specs.declared.event.Part.{Part};
 
     ghost Value = { Part };
 
-    ghost use Rattle.jc_world.specs.Held.{part_in, IsAnswerable};
+    ghost use Rattle.jc_world.specs.Held.{IsAnswerable};
 
-    ghost view = { λ h. part_in h.asked };
+    ghost view = { λ h. record { reservation = h.ticket.reservation; progress = h.progress } };
 
-    ghost invariant = { λ h. IsAnswerable h.asked };
+    ghost invariant = { λ h. IsAnswerable h.ticket h.run h.progress };
 }
 
-/// What the writer is asked for.
-pub(crate) fn change_for(ticket: &WriteTicket) -> Change
-    ensures { ticket.now.reservation.first ≡ Writer result }
-{
-    match ticket.reservation().first {
-        First::Writer(change) => change,
-        First::Nobody | First::Loader | First::Processor { .. } => unreachable!(),
-    }
-}
-
-/// What the loader answered so far.
-fn load_in(loaded: &Option<Loaded>) -> LoadAnswer
-    ensures { result ≡ load_in loaded.now }
-{
-    match loaded {
-        Some(loaded) => loaded.answer,
-        None => LoadAnswer::NotAsked,
-    }
-}
-
-/// What the writer reported so far.
-fn report_in(written: &Option<Written>) -> WriteAnswer
-    ensures { result ≡ report_in written.now }
-{
-    match written {
-        Some(written) => written.report,
-        None => WriteAnswer::NotAsked,
-    }
-}
-
-impl Held {
-    /// The loader is to be asked.
-    pub(crate) fn loading(ticket: LoadTicket) -> Held
-        requires unasked { ticket.asked ≡ false }
-        requires loader { asks_loader ticket.reservation.first ≡ true }
-        ensures { result ≡ new_part new_load ticket.reservation }
-    {
-        Held {
-            asked: Asked::Loader {
-                ticket,
-                loaded: None,
-            },
-        }
-    }
-
-    /// The writer is to be asked.
-    pub(crate) fn writing(ticket: WriteTicket) -> Held
-        requires unasked { ticket.asked ≡ false }
-        requires writer { asks_writer ticket.reservation.first ≡ true }
-        ensures { result ≡ new_part new_write ticket.reservation }
-    {
-        Held {
-            asked: Asked::Writer {
-                ticket,
-                is_changed: false,
-                written: None,
-            },
-        }
-    }
-
-    /// The entry processor is to be asked.
-    pub(crate) fn processing(ticket: ProcessTicket) -> Held
+impl HeldKey {
+    /// A key that was just reserved: the one whom its ticket asks first is to be asked.
+    pub(crate) fn new(ticket: Ticket) -> HeldKey
+        requires reserves { reserves ticket.reservation.first ≡ true }
         requires unasked { ticket.asked ≡ false }
         requires writer { ticket.writer_asked ≡ false }
-        requires processor { asks_processor ticket.reservation.first ≡ true }
-        ensures { result ≡ new_part new_process ticket.reservation }
+        ensures { result ≡ new_part (new_progress ticket.reservation.first) ticket.reservation }
     {
-        Held {
-            asked: Asked::Processor { ticket, run: None },
+        let progress = new_progress(&ticket.reservation().first);
+        HeldKey {
+            ticket,
+            run: None,
+            progress,
         }
     }
 
@@ -163,15 +71,7 @@ impl Held {
     fn reservation(&self) -> &Reservation
         ensures { result.now ≡ self.now.reservation }
     {
-        match &self.asked {
-            Asked::Loader { ticket, loaded: _ } => ticket.reservation(),
-            Asked::Writer {
-                ticket,
-                is_changed: _,
-                written: _,
-            } => ticket.reservation(),
-            Asked::Processor { ticket, run: _ } => ticket.reservation(),
-        }
+        self.ticket.reservation()
     }
 
     /// The key.
@@ -189,23 +89,10 @@ impl Held {
     }
 
     /// What the one who was asked has done and answered so far.
-    pub(crate) fn progress(&self) -> Progress
-        ensures { result ≡ self.now.progress }
+    pub(crate) fn progress(&self) -> &PartProgress
+        ensures { result.now ≡ self.now.progress }
     {
-        match &self.asked {
-            Asked::Loader { ticket: _, loaded } => Progress::Loading {
-                answer: load_in(loaded),
-            },
-            Asked::Writer {
-                ticket: _,
-                is_changed,
-                written,
-            } => Progress::Writing {
-                is_changed: *is_changed,
-                report: report_in(written),
-            },
-            Asked::Processor { ticket: _, run } => progress_in(run),
-        }
+        &self.progress
     }
 
     /// What was asked and answered, as data.
@@ -214,7 +101,7 @@ impl Held {
     {
         Part {
             reservation: *self.reservation(),
-            progress: self.progress(),
+            progress: self.progress,
         }
     }
 
@@ -224,23 +111,7 @@ impl Held {
         requires given { is_load_given answer ≡ true }
         ensures { self.new ≡ record self.old { progress = Loading answer } }
     {
-        match &mut self.asked {
-            Asked::Loader { ticket, loaded } => {
-                let kept = answer;
-                let done = played_load(ticket.ask(), answer);
-                let said = Loaded { done, answer: kept };
-                match mem::replace(loaded, Some(said)) {
-                    None => {}
-                    Some(_former) => unreachable!(),
-                }
-            }
-            Asked::Writer {
-                ticket: _,
-                is_changed: _,
-                written: _,
-            }
-            | Asked::Processor { ticket: _, run: _ } => unreachable!(),
-        }
+        self.progress = PartProgress::Loading { answer };
     }
 
     /// The entry processor runs: it makes these calls, and its loader answers so if it is asked. What each call was answered is
@@ -265,19 +136,30 @@ impl Held {
               (run_result self.old.reservation load calls.now fail);
         } }
     {
-        match &mut self.asked {
-            Asked::Processor { ticket, run } => {
-                run_process(ticket, run, config, load, calls, fail, answers)
-            }
-            Asked::Loader {
-                ticket: _,
-                loaded: _,
-            }
-            | Asked::Writer {
-                ticket: _,
-                is_changed: _,
-                written: _,
-            } => unreachable!(),
+        let done = played_process(self.ticket.ask(), calls, fail, load, answers);
+        let load = *done.load();
+        let change = change_due(config, &done);
+        self.progress = progress_after(&change, &done);
+        match mem::replace(&mut self.run, Some(done)) {
+            None => {}
+            Some(_former) => unreachable!(),
+        }
+        RunShown { load, change }
+    }
+
+    /// What the writer is asked for, if it is.
+    fn writer_change(&self) -> Option<Change>
+        ensures { result ≡ writer_change self.now }
+    {
+        match &self.progress {
+            PartProgress::Writing { .. } => change_asked(&self.reservation().first),
+            PartProgress::WritingEffect { .. } => match &self.run {
+                Some(done) => done.change(),
+                None => unreachable!(),
+            },
+            PartProgress::Loading { .. }
+            | PartProgress::Processing
+            | PartProgress::Processed { .. } => None,
         }
     }
 
@@ -289,40 +171,13 @@ impl Held {
             × (store.new ≡ with_entry store.old key.now (changed_to change))) }
         ensures err { OnErr result ((self.new ≡ self.old) × (store.new ≡ store.old)) }
     {
-        match &mut self.asked {
-            Asked::Loader {
-                ticket: _,
-                loaded: _,
-            } => unreachable!(),
-            Asked::Writer {
-                ticket,
-                is_changed,
-                written: _,
-            } => {
-                let change = change_for(ticket);
+        match self.writer_change() {
+            Some(change) => {
                 store.set(key, entry_after(&change))?;
-                *is_changed = true;
+                self.progress.change();
                 Ok(())
             }
-            Asked::Processor { ticket, run } => change_effect(ticket, run, store, key),
-        }
-    }
-
-    /// What the writer is asked for, if it is.
-    fn writer_change(&self) -> Option<Change>
-        ensures { result ≡ writer_change self.now }
-    {
-        match &self.asked {
-            Asked::Loader {
-                ticket: _,
-                loaded: _,
-            } => None,
-            Asked::Writer {
-                ticket,
-                is_changed: _,
-                written: _,
-            } => Some(change_for(ticket)),
-            Asked::Processor { ticket, run } => writer_change_in(ticket, run),
+            None => unreachable!(),
         }
     }
 
@@ -330,15 +185,14 @@ impl Held {
     pub(crate) fn reported(&self, key: &Key) -> Option<ReportedKey>
         ensures { result ≡ reported_part key.now self.now }
     {
-        let progress = self.progress();
-        if !progress.waits_for_report() {
+        if !self.progress.waits_for_report() {
             return None;
         }
         match self.writer_change() {
             Some(change) => Some(ReportedKey {
                 key: *key,
                 change,
-                is_changed: progress.has_changed(),
+                is_changed: self.progress.has_changed(),
             }),
             None => None,
         }
@@ -352,27 +206,8 @@ impl Held {
         ensures report { self.new ≡
             record self.old { progress = with_report self.old.progress report } }
     {
-        match &mut self.asked {
-            Asked::Loader {
-                ticket: _,
-                loaded: _,
-            } => unreachable!(),
-            Asked::Writer {
-                ticket,
-                is_changed,
-                written,
-            } => {
-                let kept = report;
-                let done = played_write(ticket.ask(), report);
-                let said = Written { done, report: kept };
-                match mem::replace(written, Some(said)) {
-                    None => {}
-                    Some(_former) => unreachable!(),
-                }
-                *is_changed
-            }
-            Asked::Processor { ticket, run } => report_effect(ticket, run, report),
-        }
+        self.progress.report(report);
+        self.progress.has_changed()
     }
 
     /// The last phase.
@@ -383,29 +218,29 @@ impl Held {
         requires due { is_due stripe.old.config self ≡ true }
         ensures { Commits stripe.old self.reservation (out_of self) result stripe.new }
     {
-        let Held { asked } = self;
-        match asked {
-            Asked::Loader { ticket, loaded } => match loaded {
-                Some(loaded) => {
-                    let Loaded { done, answer: _ } = loaded;
+        let HeldKey {
+            ticket,
+            run,
+            progress,
+        } = self;
+        let mut ticket = ticket;
+        match run {
+            Some(done) => commit_run(ticket, done, &progress, stripe),
+            None => match progress {
+                PartProgress::Loading { answer } => {
+                    let done = played_load(ticket.ask(), answer);
                     stripe.commit_load(ticket, done)
                 }
-                None => unreachable!(),
-            },
-            Asked::Writer {
-                ticket,
-                is_changed: _,
-                written,
-            } => match written {
-                Some(written) => {
-                    let Written { done, report: _ } = written;
+                PartProgress::Writing {
+                    is_changed: _,
+                    report,
+                } => {
+                    let done = played_write(ticket.ask(), report);
                     stripe.commit_write(ticket, done)
                 }
-                None => unreachable!(),
-            },
-            Asked::Processor { ticket, run } => match run {
-                Some(run) => commit_run(ticket, run, stripe),
-                None => unreachable!(),
+                PartProgress::Processing
+                | PartProgress::Processed { .. }
+                | PartProgress::WritingEffect { .. } => unreachable!(),
             },
         }
     }
@@ -416,24 +251,14 @@ impl Held {
         requires open { is_unasked self.progress ≡ true }
         ensures { Withdraws stripe.old self.reservation stripe.new }
     {
-        let Held { asked } = self;
-        match asked {
-            Asked::Loader { ticket, loaded } => match loaded {
-                None => stripe.withdraw_load(ticket),
-                Some(_loaded) => unreachable!(),
-            },
-            Asked::Writer {
-                ticket,
-                is_changed: _,
-                written,
-            } => match written {
-                None => stripe.withdraw_write(ticket),
-                Some(_written) => unreachable!(),
-            },
-            Asked::Processor { ticket, run } => match run {
-                None => stripe.withdraw_process(ticket),
-                Some(_run) => unreachable!(),
-            },
+        let HeldKey {
+            ticket,
+            run,
+            progress: _,
+        } = self;
+        match run {
+            None => stripe.withdraw(ticket),
+            Some(_run) => unreachable!(),
         }
     }
 

@@ -6,32 +6,30 @@ ghost use Rattle.indexmap.specs.IndexMap.{spare, index_map_len};
 ghost use Rattle.jc_model.specs.declared.event.Change.{Change};
 ghost use Rattle.jc_model.specs.Cache.{Bytes, with_entry};
 ghost use Rattle.jc_model.specs.Table.{is_load_given, is_write_given};
-ghost use Rattle.jc_stripe.specs.declared.ticket.First.TheVariants.{Writer};
-ghost use Rattle.jc_stripe.specs.Tickets.{entry_seen};
+ghost use Rattle.jc_stripe.specs.Refusals.{reserves};
 ghost use Rattle.jc_stripe.specs.Effects.{change_due};
 ghost use Rattle.jc_world.specs.declared.event.Part.{Part};
-ghost use Rattle.jc_world.specs.declared.event.Progress.TheVariants.{Loading};
+ghost use Rattle.jc_world.specs.declared.event.PartProgress.TheVariants.{Loading};
 ghost use Rattle.jc_world.specs.Premises.{changed_to};
 ghost use Rattle.jc_world.specs.World.{has_changed, has_progress, of_call, waits_for_load, waits_for_process, waits_for_report};
 ghost use Rattle.jc_world.specs.World.{writer_change};
 ghost use Rattle.jc_world.specs.Fits.{waits_in};
-ghost use Rattle.jc_world.specs.Events.{new_load, new_write, new_process, new_part, with_change, with_report, reported_key};
+ghost use Rattle.jc_world.specs.Events.{asks_as, new_part, new_progress, not_over, with_change, with_report, reported_key};
 ghost use Rattle.jc_world.specs.Events.{run_answers, run_result, progress_after};
 ghost use Rattle.jc_world.specs.Held.{parts_of};
-ghost use Rattle.jc_world.specs.NewTickets.{IsNewTicket, HoldsTicket};
 
-use crate::event::{Outcome, Shown, show};
-use crate::held::{Held, change_for};
+use crate::event::{Shown, show};
+use crate::held::HeldKey;
 use crate::reports::ReportedKey;
-use crate::run::RunShown;
+use crate::run::{RunShown, asks_as};
 use indexmap::IndexMap;
 use jc_model::{Change, Contents, EntryAnswer, EntryCall, LoadAnswer, WriteAnswer};
-use jc_stripe::{Begun, LoadTicket, ProcessTicket, WriteTicket};
-use jc_types::{Config, Key, Value};
+use jc_stripe::Ticket;
+use jc_types::{Config, Key};
 use std::alloc::AllocError;
 
 /// The keys that are held, each with its ticket.
-pub(crate) type HeldKeys = IndexMap<Key, Held>;
+pub(crate) type HeldKeys = IndexMap<Key, HeldKey>;
 
 /// Makes room for one more key.
 pub(crate) fn make_room(held: &mut HeldKeys) -> Result<(), AllocError>
@@ -42,7 +40,7 @@ pub(crate) fn make_room(held: &mut HeldKeys) -> Result<(), AllocError>
 }
 
 /// Puts a key in that isn't there, for which room was made before.
-fn put_reserved(held: &mut HeldKeys, key: &Key, one: Held)
+fn put_reserved(held: &mut HeldKeys, key: &Key, one: HeldKey)
     requires room { 0 < spare held.old }
     requires free { map.get (parts_of held.old) key.now ≡ None }
     ensures { parts_of held.new ≡ map.insert (parts_of held.old) key.now one }
@@ -58,81 +56,30 @@ fn put_reserved(held: &mut HeldKeys, key: &Key, one: Held)
 ///
 /// It is a function of its own, so that a call that reserves nothing doesn't clear the room of its tickets.
 #[inline(never)]
-pub(crate) fn hold(held: &mut HeldKeys, begun: Begun, seen: &mut Shown)
+pub(crate) fn hold(held: &mut HeldKeys, ticket: Ticket, seen: &mut Shown)
     requires room { 0 < spare held.old }
-    requires new { IsNewTicket (parts_of held.old) begun }
-    ensures { HoldsTicket (parts_of held.old) begun seen.new (parts_of held.new) }
-{
-    match begun {
-        Begun::Load(ticket) => {
-            hold_load(held, ticket);
-            show(seen, Outcome::Loads);
-        }
-        Begun::Write(ticket) => {
-            let change = hold_write(held, ticket);
-            show(seen, Outcome::Asks(change));
-        }
-        Begun::Process(ticket) => {
-            let entry = hold_process(held, ticket);
-            show(seen, Outcome::Processes(entry));
-        }
-        Begun::Done(_) | Begun::Refused(_) => unreachable!(),
-        Begun::Joined(_join) => unreachable!(),
-    }
-}
-
-/// A call has reserved its key, and the loader is to be asked.
-fn hold_load(held: &mut HeldKeys, ticket: LoadTicket)
-    requires room { 0 < spare held.old }
-    requires unasked { ticket.asked ≡ false }
-    requires free { map.get (parts_of held.old) ticket.reservation.key ≡ None }
-    ensures { parts_of held.new ≡
-        map.insert (parts_of held.old) ticket.reservation.key (new_part new_load ticket.reservation) }
-{
-    let key = ticket.reservation().key;
-    put_reserved(held, &key, Held::loading(ticket));
-}
-
-/// A call has reserved its key, and the writer is to be asked for this change.
-fn hold_write(held: &mut HeldKeys, ticket: WriteTicket) -> Change
-    requires room { 0 < spare held.old }
-    requires unasked { ticket.asked ≡ false }
-    requires free { map.get (parts_of held.old) ticket.reservation.key ≡ None }
-    ensures change { ticket.reservation.first ≡ Writer result }
-    ensures parts { parts_of held.new ≡
-        map.insert (parts_of held.old) ticket.reservation.key (new_part new_write ticket.reservation) }
-{
-    let change = change_for(&ticket);
-    let key = ticket.reservation().key;
-    put_reserved(held, &key, Held::writing(ticket));
-    change
-}
-
-/// A call has reserved its key, and the entry processor is to be asked, about this entry.
-fn hold_process(held: &mut HeldKeys, ticket: ProcessTicket) -> Option<Value>
-    requires room { 0 < spare held.old }
+    requires reserves { reserves ticket.reservation.first ≡ true }
     requires unasked { ticket.asked ≡ false }
     requires writer { ticket.writer_asked ≡ false }
     requires free { map.get (parts_of held.old) ticket.reservation.key ≡ None }
-    ensures entry { result ≡ entry_seen ticket.reservation.first }
-    ensures parts { parts_of held.new ≡
-        map.insert (parts_of held.old) ticket.reservation.key (new_part new_process ticket.reservation) }
+    ensures shown { seen.new ≡ not_over (asks_as ticket.reservation.first) }
+    ensures parts { parts_of held.new ≡ map.insert (parts_of held.old) ticket.reservation.key
+        (new_part (new_progress ticket.reservation.first) ticket.reservation) }
 {
-    let entry = *ticket.entry();
     let key = ticket.reservation().key;
-    put_reserved(held, &key, Held::processing(ticket));
-    entry
+    show(seen, asks_as(&ticket.reservation().first));
+    put_reserved(held, &key, HeldKey::new(ticket));
 }
 
 /// What is held of a key. An empty map is asked for nothing: to hash a key costs time, and most calls hold none.
-pub(crate) fn held_at<'a>(held: &'a HeldKeys, key: &Key) -> Option<&'a Held>
+pub(crate) fn held_at<'a>(held: &'a HeldKeys, key: &Key) -> Option<&'a HeldKey>
     ensures { option_copied result ≡ map.get (parts_of held.now) key.now }
 {
     if held.is_empty() { None } else { held.get(key) }
 }
 
 /// What a call holds of a key.
-pub(crate) fn held_by<'a>(held: &'a HeldKeys, call: u64, key: &Key) -> Option<&'a Held>
+pub(crate) fn held_by<'a>(held: &'a HeldKeys, call: u64, key: &Key) -> Option<&'a HeldKey>
     ensures { option_copied result ≡ of_call call (map.get (parts_of held.now) key.now) }
 {
     match held_at(held, key) {
@@ -235,7 +182,7 @@ pub(crate) fn process(
 }
 
 /// Takes a key out. The last one takes its place.
-pub(crate) fn take(held: &mut HeldKeys, key: &Key) -> Held
+pub(crate) fn take(held: &mut HeldKeys, key: &Key) -> HeldKey
     requires { IsTrue (is_some (map.get (parts_of held.old) key.now)) }
     ensures one { map.get (parts_of held.old) key.now ≡ Some result }
     ensures parts { parts_of held.new ≡ map.remove (parts_of held.old) key.now }
@@ -247,7 +194,7 @@ pub(crate) fn take(held: &mut HeldKeys, key: &Key) -> Held
 }
 
 /// Takes any key out.
-pub(crate) fn take_any(held: &mut HeldKeys) -> Option<Held>
+pub(crate) fn take_any(held: &mut HeldKeys) -> Option<HeldKey>
     ensures some { IfSome result (λ one. (key : Bytes)
         × (map.get (parts_of held.old) key ≡ Some one)
         × (parts_of held.new ≡ map.remove (parts_of held.old) key)) }

@@ -27,7 +27,9 @@ pub mod world;
 
 pub use audit::Audit;
 pub use command::{CallKind, Command};
-pub use event::{Outcome, Over, Part, PickedUp, Premises, Progress, Shown, Stepped, WorldEvent};
+pub use event::{
+    JoinAnswer, Outcome, Over, Part, PartProgress, Premises, Shown, Stepped, WorldEvent,
+};
 pub use open_call::OpenCall;
 pub use process::{EntryCalls, LoadSource, Processed};
 pub use read_only::ReadOnlyList;

@@ -4,7 +4,7 @@ ghost use Rattle.std.specs.FinMap as map;
 ghost use Rattle.jc_types.specs.Limits.{check};
 ghost use Rattle.jc_model.specs.Cache.{entry_at};
 ghost use Rattle.jc_world.specs.declared.event.WorldEvent.TheVariants as event;
-ghost use Rattle.jc_world.specs.World.{start, is_busy, is_fresh, open_call, part_of, is_joined, with_stored};
+ghost use Rattle.jc_world.specs.World.{start, is_busy, open_call, part_of, is_joined, with_stored};
 ghost use Rattle.jc_world.specs.Fits.{fits, is_new};
 ghost use Rattle.jc_world.specs.Events.{Happens, Step};
 ghost use Rattle.jc_world.specs.Sound.{IsSoundWorld};
@@ -18,8 +18,8 @@ mod processing;
 use crate::calls::{begin, drop_call, fault_in, find_call, has_call, is_above, refuse, settle};
 use crate::command::Command;
 use crate::ending::{end_all, pick_all};
-use crate::event::{Outcome, PickedUp, Premises, Shown, WorldEvent, show, show_end};
-use crate::held::Held;
+use crate::event::{JoinAnswer, Outcome, Premises, Shown, WorldEvent, show, show_end};
+use crate::held::HeldKey;
 use crate::held_keys::{HeldKeys, held_at, held_by, hold, make_room, take};
 use crate::joined::{Joins, has_joined, make_join_room, put_join, take_join};
 use crate::open_call::OpenCall;
@@ -41,6 +41,7 @@ pub(crate) struct Machine {
     held: HeldKeys,
     joins: Joins,
     premises: Premises,
+    is_fresh: bool,
 }
 
 impl Model for Machine {
@@ -78,14 +79,15 @@ impl Machine {
                 loaders: true,
                 quiet: true,
             },
+            is_fresh: true,
         })
     }
 
     /// Whether no call has begun, and nobody else has written the store.
     pub(crate) fn is_fresh(&self) -> bool
-        ensures { result ≡ is_fresh self.now }
+        ensures { result ≡ self.now.is_fresh }
     {
-        self.last.is_none() && self.premises.quiet
+        self.is_fresh
     }
 
     /// Whether a call's number is above that of every call so far.
@@ -117,14 +119,14 @@ impl Machine {
     }
 
     /// What is held of a key.
-    fn reserved(&self, key: &Key) -> Option<&Held>
+    fn reserved(&self, key: &Key) -> Option<&HeldKey>
         ensures { option_copied result ≡ map.get self.now.parts key.now }
     {
         held_at(&self.held, key)
     }
 
     /// What a call holds of a key.
-    pub(crate) fn held_by(&self, call: u64, key: &Key) -> Option<&Held>
+    pub(crate) fn held_by(&self, call: u64, key: &Key) -> Option<&HeldKey>
         ensures { option_copied result ≡ part_of self.now call key.now }
     {
         held_by(&self.held, call, key)
@@ -228,6 +230,7 @@ impl Machine {
         let caller = Caller { session, call };
         begin(self.alloc, &mut self.calls, caller, command, seen)?;
         self.last = Some(call);
+        self.is_fresh = false;
         Ok(())
     }
 
@@ -239,8 +242,6 @@ impl Machine {
         ensures ok { OnOk result (Happens self.old (event.Start call key.now) seen.new self.new) }
         ensures err { OnErr result (self.new ≡ self.old) }
     {
-        // Names the types that the prover looks for: see docs/CONTRIBUTING.md, "Idioms that the prover asks for".
-        let _types: Option<&Change> = None;
         make_room(&mut self.held)?;
         make_join_room(&mut self.joins)?;
         self.stripes.reserve()?;
@@ -263,7 +264,7 @@ impl Machine {
             Begun::Refused(refusal) => {
                 refuse(&mut self.calls, kind, caller.call, key, refusal, seen);
             }
-            begun => hold(&mut self.held, begun, seen),
+            Begun::Asks(ticket) => hold(&mut self.held, ticket, seen),
         }
         Ok(())
     }
@@ -318,7 +319,7 @@ impl Machine {
                 shared_with: shared,
             } => {
                 let over = settle(&mut self.calls, call, key, fault_in(&reply));
-                let answer = PickedUp {
+                let answer = JoinAnswer {
                     reply,
                     stripe,
                     place: step,
@@ -349,6 +350,7 @@ impl Machine {
             held,
             joins,
             premises: _,
+            is_fresh: _,
         } = self;
         let mut items = stripes.into_items();
         end_all(&config, &mut items, held, &joins);

@@ -63,7 +63,6 @@ impl EntryCalls {
         ensures ok { OnOk result (self.new ≡ self.old ++ call ∷ []) }
         ensures err { OnErr result (self.new ≡ self.old) }
     {
-        let _types: Option<&Value> = None;
         self.list.push(call)?;
         Ok(())
     }
@@ -79,7 +78,6 @@ impl EntryCalls {
     pub fn copy(&self, alloc: Global) -> Result<EntryCalls, AllocError>
         ensures { IfOk result (λ calls. calls ≡ self.now) }
     {
-        let _types: Option<&Value> = None;
         let mut list = Vec::with_capacity(alloc, self.list.len())?;
         list.extend_from_slice(&self.list)?;
         Ok(EntryCalls { list })

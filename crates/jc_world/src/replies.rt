@@ -3,8 +3,7 @@ ghost use Rattle.jc_world.specs.Replies.{RepliesStand, StepsShownOnce};
 
 use jc_stripe::phase_laws::{grows, keeps_reserved, stays_reached};
 
-/// After every list of events, on a world of any shape within its limits and with any values in its store at the start: each
-/// answer that was shown, of a first phase, a commit or a pick-up, is that of a step of the order. The call whose answer it is
+/// After every list of events, from an opening of a world: each answer that was shown, of a first phase, a commit or a pick-up, is that of a step of the order. The call whose answer it is
 /// had begun before. The stripe that was shown is that of the call's key, and at the place that was shown is a step of that
 /// caller, with the operation and the key of the call, and with the reply that was shown. A pick-up was also shown the place of
 /// the step whose load it shares; every other answer is that of a step that shares no load.
@@ -15,7 +14,7 @@ pub fn replies_stand()
     keeps_reserved();
 }
 
-/// After every list of events, on such a world: each step of the order was shown exactly once, as the answer with its stripe and
+/// After every list of events, from an opening: each step of the order was shown exactly once, as the answer with its stripe and
 /// its place, unless its answer is parked for a call that has joined a load. Then it wasn't shown yet.
 ///
 /// That each answer went to the call of its step is said by [`replies_stand`].

@@ -13,7 +13,7 @@ ghost use Rattle.jc_world.specs.Events.{BeginsAs, step_of};
 ghost use Rattle.jc_world.specs.Turns.{IsPhase, IsQuietPhase, history_at, merge, AreTurns};
 
 use crate::event::Stepped;
-use crate::held::Held;
+use crate::held::HeldKey;
 use jc_model::{Effect, Event, LoadAnswer, Op, Out, ProcessAnswer, Reply, WriteAnswer};
 use jc_stripe::phase_laws::grows;
 use jc_stripe::{Begun, Join, Origin, Picked, StepDone, Stripe};
@@ -84,7 +84,7 @@ impl Stripes {
     }
 
     /// The last phase of a key on its stripe. What it appends is at the end of the order, too.
-    pub(crate) fn commit(&mut self, number: usize, held: Held) -> StepDone
+    pub(crate) fn commit(&mut self, number: usize, held: HeldKey) -> StepDone
         requires out { IsSomeAnd (slice_get self.old.stripes number) (λ s. IsOut s held.reservation
             × (s.origin ≡ Played) × (is_due s.config held ≡ true)) }
         requires answered { is_answered held.progress ≡ true }
@@ -101,7 +101,7 @@ impl Stripes {
     }
 
     /// Gives a key's reservation back.
-    pub(crate) fn withdraw(&mut self, number: usize, held: Held)
+    pub(crate) fn withdraw(&mut self, number: usize, held: HeldKey)
         requires out { IsSomeAnd (slice_get self.old.stripes number) (λ s. IsOut s held.reservation) }
         requires open { is_unasked held.progress ≡ true }
         ensures { IsQuietPhase self.old number (λ from to. Withdraws from held.reservation to) self.new }

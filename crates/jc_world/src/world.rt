@@ -2,7 +2,7 @@
 ghost use Rattle.std.specs.Prelude.{[], ◌≡◌, ◌≤◌, ◌⊎◌, ◌<◌, true, IsTrue, IfOk, IfErr, IsOk, option_copied, OnErr, OnOk, Ok, is_some};
 ghost use Rattle.std.specs.Prelude.{Err, take, length};
 ghost use Rattle.jc_types.specs.Limits.{check};
-ghost use Rattle.jc_world.specs.World.{start, is_busy, is_fresh, open_call, part_of, has_progress, waits_for_load, waits_for_process};
+ghost use Rattle.jc_world.specs.World.{start, is_busy, open_call, part_of, has_progress, waits_for_load, waits_for_process};
 ghost use Rattle.jc_world.specs.World.{waits_for_report, is_joined, with_stored};
 ghost use Rattle.jc_world.specs.Fits.{fits, is_new};
 ghost use Rattle.jc_world.specs.Events.{RunAppending};
@@ -11,7 +11,7 @@ ghost use Rattle.jc_world.specs.Coherent.{all_hold, Coherent};
 ghost use Rattle.jc_world.specs.Audit.{IsOrder, HasShares, IsAudit};
 
 use crate::audit::Audit;
-use crate::event::{Part, PickedUp, Shown, Stepped, WorldEvent, nothing_shown};
+use crate::event::{JoinAnswer, Part, Shown, Stepped, WorldEvent, nothing_shown};
 use crate::machine::Machine;
 use crate::open_call::OpenCall;
 use crate::reports::ReportedKey;
@@ -66,7 +66,7 @@ impl World {
     ///
     /// Conditions: the world is fresh, as [`is_fresh`](World::is_fresh) says.
     pub fn set(&mut self, key: &Key, value: &Value) -> Result<(), AllocError>
-        requires { is_fresh self.old.world ≡ true }
+        requires { self.old.world.is_fresh ≡ true }
         ensures ok { OnOk result (
             self.new ≡ record self.old { world = with_stored self.old.world key.now value.now }) }
         ensures err { OnErr result (self.new ≡ self.old) }
@@ -86,19 +86,6 @@ impl World {
             × RunAppending self.old.world (take self.new.taken events.now)
             shown.old.items shown.new.items self.new.world) }
     {
-        // Names the types that the prover looks for: see docs/CONTRIBUTING.md, "Idioms that the prover asks for".
-        let _types: Option<
-            (
-                Reply,
-                Stepped,
-                Eviction,
-                PickedUp,
-                ReportedKey,
-                LoadAnswer,
-                Change,
-                Value,
-            ),
-        > = None;
         stays_reached();
         keeps_reserved();
         self.played = 0;
@@ -137,7 +124,7 @@ impl World {
 
     /// Whether no call has begun, and nobody else has written the store.
     pub fn is_fresh(&self) -> bool
-        ensures { result ≡ is_fresh self.now.world }
+        ensures { result ≡ self.now.world.is_fresh }
     {
         self.machine.is_fresh()
     }

@@ -1,8 +1,6 @@
 //! An entry processor that counts.
 use itoa::Buffer;
-use jc_mutentry::{EntryProcessor, MutableEntry};
-use jc_outside::CacheLoader;
-use jc_types::Value;
+use jc_cache::{CacheLoader, EntryProcessor, MutableEntry, Value};
 use std::str::from_utf8;
 
 /// The code of a value that spells no number below `u32::MAX`.

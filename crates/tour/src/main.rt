@@ -7,13 +7,9 @@ mod increment;
 
 use increment::Increment;
 use indexmap::IndexSet;
-use jc_cache::Cache;
+use jc_cache::{Cache, CacheLoader, CacheWriter, Config, EntryProcessor, Key, Session, Value};
 use jc_invoke::{invoke, invoke_all};
-use jc_mutentry::EntryProcessor;
-use jc_outside::{CacheLoader, CacheWriter};
-use jc_session::Session;
 use jc_store::{SharedCounts, SharedStore, Store};
-use jc_types::{Config, Key, Value};
 use std::alloc::Global;
 use std::sync::Wait;
 
@@ -27,6 +23,7 @@ fn increment_each(
     increment: &mut Box<dyn EntryProcessor + Send + Drop>,
 ) -> anyhow::Result<()>
     requires { MayCall cache.old session.old }
+    ensures { MayCall cache.new session.new }
 {
     for (key, sum) in &invoke_all(alloc, rt, cache, session, keys, increment, &[])? {
         println!(rt; "increment both: {key:?} is {sum:?}")?;
@@ -34,7 +31,7 @@ fn increment_each(
     Ok(())
 }
 
-/// Some calls. As each of them does, it has the condition that the session is of this cache and may call it.
+/// Some calls. As each of them does, it has the condition that the session is of this cache and may call it, and hands it on.
 fn visit(
     alloc: Global,
     rt: &(impl Print + Wait),
@@ -43,6 +40,7 @@ fn visit(
     increment: &mut Box<dyn EntryProcessor + Send + Drop>,
 ) -> anyhow::Result<()>
     requires { MayCall cache.old session.old }
+    ensures { MayCall cache.new session.new }
 {
     let (apple, pear, two) = (Key::new(b"apple")?, Key::new(b"pear")?, Value::new(b"2")?);
     let first = cache.get(rt, session, &apple)?;
@@ -60,6 +58,8 @@ fn visit(
     keys.insert(pear)?;
     keys.insert(apple)?;
     increment_each(alloc, rt, cache, session, &keys, increment)?;
+    let last = cache.get(rt, session, &apple)?;
+    println!(rt; "get apple: {last:?}")?;
     println!(rt; "the session has made {} steps", session.own())?;
     Ok(())
 }

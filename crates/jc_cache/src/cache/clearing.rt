@@ -18,7 +18,7 @@ impl Cache {
     /// `HistoryFull`, as [`Stripe::begin`](jc_stripe::Stripe::begin) says; then nothing changes. It leaves the call at its other keys
     /// as it was.
     ///
-    /// Condition: the call may begin at the key.
+    /// Conditions: the session may call the cache, and its current call may begin at the key.
     pub fn clear_at(&mut self, session: &mut Session, key: &Key) -> Result<Reply, Refusal>
         requires may { MayCall self.old session.old }
         requires key { MayCallAt self.old session.old.caller key.now }
@@ -31,9 +31,7 @@ impl Cache {
         match self.start(session, key, &Op::Clear) {
             Started::Done(step) => Ok(step.reply),
             Started::Refused(refusal) => Err(refusal),
-            Started::Load(_call) => unreachable!(),
-            Started::Write(_call) => unreachable!(),
-            Started::Process(_call) => unreachable!(),
+            Started::Asks(_call) => unreachable!(),
             Started::Joined(_call) => unreachable!(),
         }
     }

@@ -20,6 +20,8 @@ impl Cache {
     /// it was. It is refused as [`Stripe::begin`](jc_stripe::Stripe::begin) says; then nothing is asked and nothing changes.
     ///
     /// It may wait, as long as the processor, the loader and the writer do, and holds no stripe meanwhile.
+    ///
+    /// Condition: the session may call the cache.
     pub fn invoke<R: Wait>(
         &mut self,
         rt: &R,
@@ -38,6 +40,8 @@ impl Cache {
     }
 
     /// Begins the session's next call, which may have many keys: it may begin at each. No stripe changes.
+    ///
+    /// Condition: the session may call the cache.
     pub fn begin_call(&self, session: &mut Session)
         requires may { MayCall self.now session.old }
         ensures may { MayCall self.now session.new }
@@ -50,9 +54,9 @@ impl Cache {
     }
 
     /// The session's current call, whole, at one of its keys: it runs a processor there. It gives what [`Cache::invoke`] gives,
-    /// waits as that does, and leaves the call at its other keys as it was.
+    /// is refused and waits as that is and does, and leaves the call at its other keys as it was.
     ///
-    /// Condition: the call may begin at the key.
+    /// Conditions: the session may call the cache, and its current call may begin at the key.
     pub fn invoke_at<R: Wait>(
         &mut self,
         rt: &R,

@@ -1,17 +1,20 @@
 //! The phase calls: each is one take, one phase of the key's stripe by the session's current call, and one give.
-ghost use Rattle.std.specs.Prelude.{◌≡◌, true};
-ghost use Rattle.jc_model.specs.Group.{load_only, write_only};
+ghost use Rattle.std.specs.Prelude.{◌≡◌, ℕ, true};
 ghost use Rattle.jc_stripe.specs.State.{State, IsOut, IsJoined};
 ghost use Rattle.jc_stripe.specs.Phases.{Begins, Commits, PicksUp};
-ghost use Rattle.jc_session.specs.Counting.{counts_begun, counts_ended, counts_picked};
+ghost use Rattle.jc_stripe.specs.Tickets.{asks_loader, asks_processor, asks_writer};
+ghost use Rattle.jc_session.specs.Counting.{counts_after, counts_begun, counts_ended, counts_picked};
 ghost use Rattle.jc_cache.specs.Caches.{IsStripeOf};
+ghost use Rattle.jc_cache.specs.CacheInside.{IsPlaced};
 ghost use Rattle.jc_cache.specs.Sessions.{IsOf, MayCallAt};
 ghost use Rattle.jc_cache.specs.Outstanding.{is_reported_if_due};
 ghost use Rattle.jc_cache.specs.Begun.{begun_of, picked_of, IsOfCache, IsBackOfCache, MakesPhaseAt};
 
 use super::Cache;
-use crate::outstanding::{JoinedCall, LoadedCall, ProcessedCall, WrittenCall};
-use crate::phases;
+use crate::answered::AnsweredCall;
+use crate::joined::JoinedCall;
+use crate::phase::{Phase, make_phase};
+use crate::phases::{Commit, PickUp, Start};
 use crate::started::{PickedUp, Started};
 use jc_model::Op;
 use jc_session::Session;
@@ -34,61 +37,18 @@ impl Cache {
         ensures phase { MakesPhaseAt key.now session.old.caller.session self.old self.new
             (λ a b. Begins a session.old.caller key.now op.now (begun_of result) b) }
     {
-        is_uniform();
-        let at = stripe_of(key, self.config.stripes);
-        let owner = &mut self.owners[at];
-        let begun = phases::start(owner, &mut (), session, key, op);
+        let caller = session.caller();
+        let begun = self.make(session, Start { caller, key, op });
         Started::new(self.mark, begun)
     }
 
-    /// The last phase of a call whose loader has answered.
+    /// The last phase of a call that was answered outside: by the loader, the writer, or the processor, with the writer's report if
+    /// the processor's net effect is to be written.
     ///
     /// Conditions: the session is one of this cache's, and the call is this session's on this cache. Its reservation is out: it
-    /// is the stripe's of its key.
-    pub fn commit_load(&mut self, session: &mut Session, call: LoadedCall) -> StepDone
-        requires own { IsOf self.old session.old }
-        requires cache { call.cache ≡ self.old.mark }
-        requires caller { call.reservation.caller.session ≡ session.old.caller.session }
-        requires out { (a : State) → IsStripeOf self.old call.reservation.key a → IsOut a call.reservation }
-        ensures own { IsOf self.new session.new }
-        ensures session { session.new ≡ record session.old { counts = counts_ended session.old.counts } }
-        ensures phase { MakesPhaseAt call.reservation.key session.old.caller.session self.old self.new
-            (λ a b. Commits a call.reservation (load_only call.answer) result b) }
-    {
-        is_uniform();
-        let at = stripe_of(&call.reservation().key, self.config.stripes);
-        let owner = &mut self.owners[at];
-        let (ticket, done) = call.into_parts();
-        phases::commit_load(owner, &mut (), session, ticket, done)
-    }
-
-    /// The last phase of a call whose writer has reported.
-    ///
-    /// Conditions: the session is one of this cache's, and the call is this session's on this cache. Its reservation is out: it
-    /// is the stripe's of its key.
-    pub fn commit_write(&mut self, session: &mut Session, call: WrittenCall) -> StepDone
-        requires own { IsOf self.old session.old }
-        requires cache { call.cache ≡ self.old.mark }
-        requires caller { call.reservation.caller.session ≡ session.old.caller.session }
-        requires out { (a : State) → IsStripeOf self.old call.reservation.key a → IsOut a call.reservation }
-        ensures own { IsOf self.new session.new }
-        ensures session { session.new ≡ record session.old { counts = counts_ended session.old.counts } }
-        ensures phase { MakesPhaseAt call.reservation.key session.old.caller.session self.old self.new
-            (λ a b. Commits a call.reservation (write_only call.answer) result b) }
-    {
-        is_uniform();
-        let at = stripe_of(&call.reservation().key, self.config.stripes);
-        let owner = &mut self.owners[at];
-        let (ticket, done) = call.into_parts();
-        phases::commit_write(owner, &mut (), session, ticket, done)
-    }
-
-    /// The last phase of a call whose processor has run: with the writer's report, if the processor's net effect is to be written.
-    ///
-    /// Conditions: the session is one of this cache's, and the call is this session's on this cache. Its reservation is out: it
-    /// is the stripe's of its key. The writer was asked exactly if write-through is on and the call has a change to ask for
-    /// ([`ProcessedCall::change`]).
-    pub fn commit_process(&mut self, session: &mut Session, call: ProcessedCall) -> StepDone
+    /// is the stripe's of its key. After a processor the writer was asked exactly if write-through is on and the call has a change
+    /// to ask for ([`AnsweredCall::change`]).
+    pub fn commit(&mut self, session: &mut Session, call: AnsweredCall) -> StepDone
         requires own { IsOf self.old session.old }
         requires cache { call.cache ≡ self.old.mark }
         requires caller { call.reservation.caller.session ≡ session.old.caller.session }
@@ -99,11 +59,8 @@ impl Cache {
         ensures phase { MakesPhaseAt call.reservation.key session.old.caller.session self.old self.new
             (λ a b. Commits a call.reservation call.answer result b) }
     {
-        is_uniform();
-        let at = stripe_of(&call.reservation().key, self.config.stripes);
-        let owner = &mut self.owners[at];
-        let (ticket, done, report) = call.into_parts();
-        phases::commit_process(owner, &mut (), session, ticket, done, report)
+        let (ticket, answered) = call.into_parts();
+        self.make(session, Commit { ticket, answered })
     }
 
     /// Picks up the answer of the load that a call has joined. If the load isn't over, the call comes back and nothing changes.
@@ -121,10 +78,25 @@ impl Cache {
         ensures phase { MakesPhaseAt call.join.key session.old.caller.session self.old self.new
             (λ a b. PicksUp a call.join (picked_of result) b) }
     {
-        is_uniform();
-        let at = stripe_of(call.join().key(), self.config.stripes);
-        let owner = &mut self.owners[at];
-        let picked = phases::pick_up(owner, &mut (), session, call.into_join());
+        let join = call.into_join();
+        let picked = self.make(session, PickUp { join });
         PickedUp::new(self.mark, picked)
+    }
+
+    /// One phase of the session's, on the stripe of its key: one take, the phase, and one give.
+    fn make<P: Phase>(&mut self, session: &mut Session, phase: P) -> P::Answer
+        requires own { IsOf self.old session.old }
+        requires who { P.who phase ≡ session.old.caller.session }
+        requires needs { (i : ℕ) (a : State) → IsStripeOf self.old (P.key phase) a → IsPlaced self.old.config i a → P.needs phase a }
+        ensures own { IsOf self.new session.new }
+        ensures mark { self.new.mark ≡ self.old.mark }
+        ensures session { session.new ≡ record session.old { counts = counts_after session.old.counts (P.counts result) } }
+        ensures phase { MakesPhaseAt (P.key phase) session.old.caller.session self.old self.new
+            (λ a b. P.makes phase a result b) }
+    {
+        is_uniform();
+        let at = stripe_of(phase.key(), self.config.stripes);
+        let owner = &mut self.owners[at];
+        make_phase(owner, &mut (), session, phase)
     }
 }

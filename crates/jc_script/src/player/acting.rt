@@ -258,7 +258,6 @@ fn put_event_at(
 ) -> Result<(), AllocError>
     ensures { OnOk result (events.new.items ≡ events.old.items ++ event_at call act.now key.now ∷ []) }
 {
-    let _types: Option<&(Command, Op, Value, LoadAnswer)> = None;
     events.try_reserve(1)?;
     let key = *key;
     match act {
@@ -296,7 +295,6 @@ fn put_process(
 ) -> Result<(), AllocError>
     ensures { OnOk result (events.new.items ≡ events.old.items ++ event.Process call key load.now calls.now fail ∷ []) }
 {
-    let _types: Option<&(Command, EntryCall, Op, Value, LoadAnswer)> = None;
     let calls = calls.copy(alloc)?;
     events.push(WorldEvent::Process {
         call,
@@ -349,7 +347,6 @@ fn put_report(
 ) -> Result<(), AllocError>
     ensures { OnOk result (events.new.items ≡ events.old.items ++ event.Report call left fault ∷ []) }
 {
-    let _types: Option<&(Command, Op, Value, LoadAnswer)> = None;
     events.push(WorldEvent::Report { call, left, fault })?;
     Ok(())
 }
@@ -357,7 +354,6 @@ fn put_report(
 fn put_leave(events: &mut Vec<WorldEvent>, call: u64) -> Result<(), AllocError>
     ensures { OnOk result (events.new.items ≡ events.old.items ++ event.Leave call ∷ []) }
 {
-    let _types: Option<&(Command, Op, Value, LoadAnswer)> = None;
     events.push(WorldEvent::Leave { call })?;
     Ok(())
 }

@@ -135,7 +135,6 @@ fn put_single(
     ensures { OnOk result (events.new.items
         ≡ event.Call call session (single operation.now) ∷ event.Start call operation.now.key ∷ []) }
 {
-    let _types: Option<&(Op, Value, LoadAnswer)> = None;
     events.clear();
     events.push(WorldEvent::Call {
         call,
@@ -184,7 +183,6 @@ fn put_opening(
 ) -> Result<(), AllocError>
     ensures { OnOk result (events.new.items ≡ opening_events call session command stripes) }
 {
-    let _types: Option<&(Op, Value, LoadAnswer)> = None;
     events.clear();
     let is_sweep = command.is_sweep();
     events.push(WorldEvent::Call {
@@ -202,7 +200,6 @@ fn put_opening(
 fn put_looks(events: &mut Vec<WorldEvent>, call: u64, stripes: usize) -> Result<(), AllocError>
     ensures { OnOk result (events.new.items ≡ events.old.items ++ looks call 0 stripes) }
 {
-    let _types: Option<&(Command, Op, Value, LoadAnswer)> = None;
     for stripe in 0..stripes {
         events.push(WorldEvent::Look { call, stripe })?;
     }

@@ -14,9 +14,9 @@ ghost use Rattle.jc_stripe.specs.declared.begun.Begun.TheVariants.{Done};
 use super::Stripe;
 use crate::appending::{append_group, make_step, touching_step};
 use crate::begun::{Begun, StepDone};
-use crate::needs::{Found, places_needed};
-use crate::ticket::{First, Join, Note, Reservation, Ticket};
-use jc_model::{Change, Op, Out};
+use crate::call_rules::{Found, places_needed};
+use crate::ticket::{First, Join, Reservation, Ticket};
+use jc_model::{Op, Out};
 use jc_types::{Caller, HIT_PLACES, Key, STEP_PLACES, Value};
 
 impl Stripe {
@@ -87,27 +87,16 @@ impl Stripe {
         ensures reservation { result ≡ new_reservation self.old caller key.now op.now first }
         ensures reserved { self.new ≡ with_reservation self.old (new_reservation self.old caller key.now op.now first) }
     {
-        // Names the types of the values that a generic call moves here: the prover looks for their models in the types that a
-        // function names. So do the others of this name below.
-        let _types: Option<&Change> = None;
-        // Copied first: a value counts as moved by the call that takes it.
-        let asked = first;
-        let note = Note {
+        let reservation = Reservation {
             caller,
+            key: *key,
             op: *op,
-            first: asked,
+            number: self.reservations.next_number(),
+            first,
         };
         let _ = self.history.promise(STEP_PLACES);
-        match self.reservations.reserve(key, note) {
-            Some(number) => Reservation {
-                caller,
-                key: *key,
-                op: *op,
-                number,
-                first,
-            },
-            None => unreachable!(),
-        }
+        let _ = self.reservations.reserve(&reservation);
+        reservation
     }
 
     /// Joins a load, and keeps room in the history for the shared step.

@@ -8,10 +8,10 @@ ghost use Rattle.jc_stripe.specs.Refusals.{has_room, first_refusal, load_at};
 ghost use Rattle.jc_stripe.specs.Finding.{found_at};
 
 use super::Stripe;
-use crate::needs::{
+use crate::call_rules::{
     Found, answers_at_once, first_asked, is_to_reserve, load_of, may_join, places_needed,
 };
-use jc_model::{Change, Op};
+use jc_model::Op;
 use jc_types::{Caller, JOINERS_MAX, Key, LAST_NUMBER, RESERVATIONS_MAX, Refusal, Value};
 
 impl Stripe {
@@ -55,11 +55,8 @@ impl Stripe {
         ensures reserved { result.0 ≡ is_reserved self.now key.now }
         ensures load { result.1 ≡ load_at (reservation_of self.now key.now) }
     {
-        // Names the types of the values that a generic call moves here: the prover looks for their models in the types that a
-        // function names.
-        let _types: Option<&Change> = None;
         match self.reservations.find(key) {
-            Some((number, note)) => (true, load_of(&note.first, number)),
+            Some(held) => (true, load_of(&held.first, held.number)),
             None => (false, None),
         }
     }
@@ -92,7 +89,8 @@ impl Stripe {
     pub(super) fn refusal(&self, caller: Caller, found: &Found) -> Option<Refusal>
         ensures { (key : Bytes) (op : Op) → found.now ≡ found_at self.now key op → result ≡ first_refusal self.now caller key op }
     {
-        if !self.has_room(caller.call, places_needed(found.needs_free_key)) {
+        let needed = places_needed(found.needs_free_key);
+        if !self.has_room(caller.call, needed) {
             return Some(Refusal::HistoryFull);
         }
         if found.is_busy {

@@ -6,7 +6,7 @@ use courses::{event_of, plays};
 use jc_model::{Change, Event, Op, Reply, WriteAnswer, legal};
 use jc_stripe::{First, Reservation};
 use jc_types::{Caller, Config, Field, Key, Refusal, Value};
-use jc_world::event::{Outcome, Progress, Shown};
+use jc_world::event::{Outcome, PartProgress, Shown};
 use jc_world::world::World;
 use std::alloc::Global;
 use std::process::Abort;
@@ -213,7 +213,7 @@ fn is_reserved(rt: &impl Abort, world: &World) {
     let a = key_of(rt, "a");
     let part = world.part(101, &a).expect(rt, "a is reserved");
     assert!(rt; is_of_the_put(rt, &part.reservation), "it is the put");
-    let changed = Progress::Writing {
+    let changed = PartProgress::Writing {
         is_changed: true,
         report: WriteAnswer::NotAsked,
     };

@@ -158,6 +158,7 @@ impl Machine {
     {
         self.store.set(key, value)?;
         self.premises.quiet = false;
+        self.is_fresh = false;
         show(seen, Outcome::Written);
         Ok(())
     }

@@ -57,7 +57,6 @@ impl Machine {
             × (self.new ≡ after_process self.old key.now part (run_result part.reservation answer calls.now fail))) }
         ensures err { OnErr result (self.new ≡ self.old) }
     {
-        let _types: Option<&(Change, EntryAnswer, Value)> = None;
         let calls = calls.as_slice();
         let mut answers = Vec::with_capacity(self.alloc, calls.len())?;
         let ran = process(

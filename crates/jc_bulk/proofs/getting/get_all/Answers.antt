@@ -2,7 +2,7 @@ use Rattle.std.proofs.Common.{◌≡◌, inl, List, [], IfOk, subst, arith}
 use Rattle.jc_bulk.specs.Bulk.{HasNoCause}
 use Rattle.jc_bulk.specs.Ends.{KeyEnd, found_entries}
 use Rattle.jc_bulk.specs.Getting.{GetsAll, FailsToGet}
-use Rattle.jc_bulk.specs.Rounds.{LoadRound}
+use Rattle.jc_cache.specs.Rounds.{LoadRound}
 use Rattle.jc_bulk.proofs.ClearingKeys.{then_err}
 use Rattle.jc_bulk.proofs.KeyResults.{any_err}
 use Rattle.jc_bulk.proofs.getting.get_all.Goals as goal

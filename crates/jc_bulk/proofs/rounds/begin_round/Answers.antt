@@ -5,7 +5,8 @@ use Rattle.jc_model.specs.Cache.{Bytes}
 use Rattle.jc_cache.specs.OutstandingAll.{reserved_keys}
 use Rattle.jc_bulk.specs.KeyProgress.{IsHeldBack}
 use Rattle.jc_bulk.specs.InRounds.{IsInRounds}
-use Rattle.jc_bulk.specs.RoundCalls.{Round, kind_for, ops_of, items_of}
+use Rattle.jc_cache.specs.Rounds.{Round}
+use Rattle.jc_bulk.specs.RoundCalls.{kind_for, ops_of}
 use Rattle.jc_bulk.specs.Turns.{AreCounted}
 use Rattle.jc_bulk.specs.Phased.{LeavesCalls}
 use Rattle.jc_bulk.proofs.Crowded.{held_longer}
@@ -19,7 +20,7 @@ loop-place-init g c =
     let ops = ops_of c.args.targets.now in
     let kind = kind_for c.args.targets.now in
     let ps = c.args.progress.now in
-    let none = c.requires.calls.items in
+    let none = ap (λ s. s.items) c.requires.calls in
     let so_far = λ (rounds : List Round) (was : IsInRounds kind rounds ops c.args.cache.now c.args.session.now.caller ps []).
     subst (IsInRounds kind rounds ops c.args.cache.now c.args.session.now.caller ps) (sym none) was in
     record {
@@ -34,8 +35,8 @@ loop-place-init g c =
       empty = λ is. ap length none;
       first = λ before. absurd (omega (arith, before));
       waits = λ place near waits. absurd (c.requires.before place near waits);
-      kind = c.requires.calls.kind_is;
-      space = omega (arith, ap length none, c.requires.calls.room);
+      kind = ap (λ s. s.kind) c.requires.calls;
+      space = omega (arith, ap length none, ap (λ s. s.room) c.requires.calls);
       grows = same_after_all c.args.cache.now;
       others = λ other call differs none. none;
     }
@@ -54,23 +55,23 @@ loop-place-preserved g c =
       counts = λ first counted. one.ensures.counts first (old.counts first counted);
       some = (
         old.some.0,
-        subst (λ w. IsInRounds kind old.some.0 ops one.new.cache w one.new.progress (items_of one.new.calls)) who
-            (one.ensures.rounds old.some.0 (subst (λ w. IsInRounds kind old.some.0 ops c.loop-place.cache w c.loop-place.progress (items_of c.loop-place.calls)) (sym who) old.some.1)),
+        subst (λ w. IsInRounds kind old.some.0 ops one.new.cache w one.new.progress one.new.calls.items) who
+            (one.ensures.rounds old.some.0 (subst (λ w. IsInRounds kind old.some.0 ops c.loop-place.cache w c.loop-place.progress c.loop-place.calls.items) (sym who) old.some.1)),
       );
       rounds = λ rounds was.
-          subst (λ w. IsInRounds kind rounds ops one.new.cache w one.new.progress (items_of one.new.calls)) who
-          (one.ensures.rounds rounds (subst (λ w. IsInRounds kind rounds ops c.loop-place.cache w c.loop-place.progress (items_of c.loop-place.calls)) (sym who) (old.rounds rounds was)));
+          subst (λ w. IsInRounds kind rounds ops one.new.cache w one.new.progress one.new.calls.items) who
+          (one.ensures.rounds rounds (subst (λ w. IsInRounds kind rounds ops c.loop-place.cache w c.loop-place.progress c.loop-place.calls.items) (sym who) (old.rounds rounds was)));
       stay = stay_both start.progress.now c.loop-place.progress one.new.progress old.stay one.ensures.stay;
       behind = one.ensures.behind;
       reached = omega (arith, old.reached);
       empty = λ is. absurd (omega (arith, is, old.reached));
-      first = first_begun c.loop-place.progress one.new.progress c.args.from c.loop-place.place (length (items_of c.loop-place.calls)) one.ensures.stay old.empty old.first one.ensures.first;
-      waits = waits_so_far (λ i. (key : Bytes) → slice_get (keys_of ops) i ≡ Some key → IsHeldBack start.cache.now.config c.args.most (reserved_keys (items_of one.new.calls)) key) c.loop-place.progress one.new.progress c.loop-place.place one.ensures.stay
+      first = first_begun c.loop-place.progress one.new.progress c.args.from c.loop-place.place (length c.loop-place.calls.items) one.ensures.stay old.empty old.first one.ensures.first;
+      waits = waits_so_far (λ i. (key : Bytes) → slice_get (keys_of ops) i ≡ Some key → IsHeldBack start.cache.now.config c.args.most (reserved_keys one.new.calls.items) key) c.loop-place.progress one.new.progress c.loop-place.place one.ensures.stay
           (λ i near waits key at. subst (λ ks. IsHeldBack start.cache.now.config c.args.most ks key) (sym one.ensures.more.1)
-          (held_longer start.cache.now.config c.args.most (reserved_keys (items_of c.loop-place.calls)) one.ensures.more.0 key (old.waits i near waits key at)))
+          (held_longer start.cache.now.config c.args.most (reserved_keys c.loop-place.calls.items) one.ensures.more.0 key (old.waits i near waits key at)))
           (λ waits key at. subst (λ ks. IsHeldBack start.cache.now.config c.args.most ks key) (sym one.ensures.more.1)
-          (held_longer start.cache.now.config c.args.most (reserved_keys (items_of c.loop-place.calls)) one.ensures.more.0 key
-          (subst (λ config. IsHeldBack config c.args.most (reserved_keys (items_of c.loop-place.calls)) key) old.grows.config (one.ensures.waits key at waits))));
+          (held_longer start.cache.now.config c.args.most (reserved_keys c.loop-place.calls.items) one.ensures.more.0 key
+          (subst (λ config. IsHeldBack config c.args.most (reserved_keys c.loop-place.calls.items) key) old.grows.config (one.ensures.waits key at waits))));
       kind = one.ensures.kind ∙ old.kind;
       space = one.ensures.space;
       grows = both_after_all start.cache.now c.loop-place.cache one.new.cache old.grows one.ensures.grows;

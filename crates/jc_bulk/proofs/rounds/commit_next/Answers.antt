@@ -5,7 +5,6 @@ use Rattle.jc_model.specs.declared.event.Event.TheVariants.{Step}
 use Rattle.jc_model.specs.Batches.{is_among}
 use Rattle.jc_cache.specs.OutstandingAll.{reserved_keys}
 use Rattle.jc_bulk.specs.Phased.{AddsSteps}
-use Rattle.jc_bulk.specs.RoundCalls.{answered_call}
 use Rattle.jc_bulk.specs.Starting.{reservations_in}
 use Rattle.jc_bulk.proofs.Turns.{after_all, open_once}
 use Rattle.jc_bulk.proofs.Starting.{keys_same}
@@ -19,7 +18,7 @@ pub commit_first-reply-requires-clause-underway : goal.commit_first-reply-requir
 commit_first-reply-requires-clause-underway g c =
     let rest = c.requires.so_far.2 in
     let all = c.requires.so_far.3 in
-    let key = (answered_call c.args.call).reservation.key in (
+    let key = c.args.call.reservation.key in (
       reservations_in rest,
       all.so_far.underway,
       ap (λ ks. is_among ks key) (keys_same rest) ∙ open_once all.so_far.turns key (reserved_keys rest)
@@ -28,7 +27,7 @@ commit_first-reply-requires-clause-underway g c =
 
 pub returns-clause-so_far : goal.returns-clause-so_far
 returns-clause-so_far g c said targets rest all =
-    let call = answered_call c.args.call in
+    let call = c.args.call in
     let key = call.reservation.key in
     let op = call.reservation.op in
     let who = c.args.session.now.caller in

@@ -2,7 +2,6 @@ use Rattle.std.proofs.Common.{◌≡◌, refl, sym, ap, ◌∙◌, subst, true, 
 use Rattle.std.proofs.lemmas.List.{take_all}
 use Rattle.std.specs.List.{list_all}
 use Rattle.jc_bulk.specs.KeyProgress.{is_closed}
-use Rattle.jc_bulk.specs.RoundCalls.{answered_calls}
 use Rattle.jc_bulk.specs.Turns.{AreCounted}
 use Rattle.jc_bulk.specs.SoFar.{AreAnsweredIn, IsSoFar}
 use Rattle.jc_bulk.specs.Phased.{LeavesCalls}
@@ -36,12 +35,12 @@ loop-place-preserved g c =
       counts = λ first counted. one.ensures.counts first (old.counts first counted);
       some =
           let s = old.some in
-          let next = one.ensures.so_far s.0 s.1 s.2 (subst (λ w. AreAnsweredIn s.0 s.1 c.loop-place.cache w c.loop-place.progress (answered_calls c.loop-place.calls) s.2) (sym who) s.3) in
-          (s.0, s.1, next.0, subst (λ w. AreAnsweredIn s.0 s.1 one.new.cache w one.new.progress (answered_calls one.new.calls) next.0) who next.1);
+          let next = one.ensures.so_far s.0 s.1 s.2 (subst (λ w. AreAnsweredIn s.0 s.1 c.loop-place.cache w c.loop-place.progress c.loop-place.calls s.2) (sym who) s.3) in
+          (s.0, s.1, next.0, subst (λ w. AreAnsweredIn s.0 s.1 one.new.cache w one.new.progress one.new.calls next.0) who next.1);
       so_far = λ said targets out was.
           let s = old.so_far said targets out was in
-          let next = one.ensures.so_far said targets s.0 (subst (λ w. AreAnsweredIn said targets c.loop-place.cache w c.loop-place.progress (answered_calls c.loop-place.calls) s.0) (sym who) s.1) in
-          (next.0, subst (λ w. AreAnsweredIn said targets one.new.cache w one.new.progress (answered_calls one.new.calls) next.0) who next.1);
+          let next = one.ensures.so_far said targets s.0 (subst (λ w. AreAnsweredIn said targets c.loop-place.cache w c.loop-place.progress c.loop-place.calls s.0) (sym who) s.1) in
+          (next.0, subst (λ w. AreAnsweredIn said targets one.new.cache w one.new.progress one.new.calls next.0) who next.1);
       before = one.ensures.before;
       stay = stay_both start.progress.now c.loop-place.progress one.new.progress old.stay one.ensures.stay;
       grows = both_after_all start.cache.now c.loop-place.cache one.new.cache old.grows one.ensures.grows;
@@ -55,7 +54,7 @@ end-requires g c =
     let s = old.some in
     let over : list_all is_closed c.loop-place.progress ≡ true =
     ap (list_all is_closed) (sym (take_all c.loop-place.place c.loop-place.progress (omega (arith, c.loop-place-test.false, old.stay.many)))) ∙ old.before in
-    (none_left s.0 s.1 c.loop-place.cache c.args.session.now.caller c.loop-place.progress (answered_calls c.loop-place.calls) s.2 s.3 over).1
+    (none_left s.0 s.1 c.loop-place.cache c.args.session.now.caller c.loop-place.progress c.loop-place.calls s.2 s.3 over).1
 
 pub returns-clause-counts : goal.returns-clause-counts
 returns-clause-counts g c first counted =
@@ -63,7 +62,7 @@ returns-clause-counts g c first counted =
     let s = old.some in
     let over : list_all is_closed c.loop-place.progress ≡ true =
     ap (list_all is_closed) (sym (take_all c.loop-place.place c.loop-place.progress (omega (arith, c.loop-place-test.false, old.stay.many)))) ∙ old.before in
-    let none = (none_left s.0 s.1 c.loop-place.cache c.args.session.now.caller c.loop-place.progress (answered_calls c.loop-place.calls) s.2 s.3 over).1 in
+    let none = (none_left s.0 s.1 c.loop-place.cache c.args.session.now.caller c.loop-place.progress c.loop-place.calls s.2 s.3 over).1 in
     subst (λ n. AreCounted first c.loop-place.progress n c.loop-place.session.counts) (ap length none) (old.counts first counted)
 
 pub returns-clause-so_far : goal.returns-clause-so_far
@@ -72,5 +71,5 @@ returns-clause-so_far g c said targets out was =
     let over : list_all is_closed c.loop-place.progress ≡ true =
     ap (list_all is_closed) (sym (take_all c.loop-place.place c.loop-place.progress (omega (arith, c.loop-place-test.false, old.stay.many)))) ∙ old.before in
     let next = old.so_far said targets out was in
-    let none = none_left said targets c.loop-place.cache c.args.session.now.caller c.loop-place.progress (answered_calls c.loop-place.calls) next.0 next.1 over in
+    let none = none_left said targets c.loop-place.cache c.args.session.now.caller c.loop-place.progress c.loop-place.calls next.0 next.1 over in
     subst (λ o. IsSoFar said targets c.loop-place.cache c.args.session.now.caller c.loop-place.progress o) none.0 next.1.so_far

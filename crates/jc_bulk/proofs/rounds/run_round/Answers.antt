@@ -1,6 +1,6 @@
 use Rattle.std.proofs.Common.{sym, ap, subst}
 use Rattle.jc_bulk.specs.InRounds.{IsInRounds}
-use Rattle.jc_bulk.specs.RoundCalls.{kind_for, calls_kind, ops_of, items_of}
+use Rattle.jc_bulk.specs.RoundCalls.{kind_for, ops_of}
 use Rattle.jc_bulk.proofs.RunningRounds.{runs_one, later_round}
 use Rattle.jc_bulk.proofs.rounds.run_round.Goals as goal
 
@@ -12,16 +12,16 @@ end_round-returned-requires-clause-rounds g c =
       rounds,
       ops,
       c.requires.distinct,
-      subst (λ kind. IsInRounds kind rounds ops begun.new.cache begun.new.session.caller begun.new.progress (items_of begun.new.calls)) (sym begun.ensures.kind)
-          (subst (λ w. IsInRounds (kind_for c.args.targets.now) rounds ops begun.new.cache w begun.new.progress (items_of begun.new.calls)) (sym (ap (λ s. s.caller) begun.ensures.session)) (begun.ensures.rounds rounds c.requires.rounds.1)),
+      subst (λ kind. IsInRounds kind rounds ops begun.new.cache begun.new.session.caller begun.new.progress begun.new.calls.items) (sym begun.ensures.kind)
+          (subst (λ w. IsInRounds (kind_for c.args.targets.now) rounds ops begun.new.cache w begun.new.progress begun.new.calls.items) (sym (ap (λ s. s.caller) begun.ensures.session)) (begun.ensures.rounds rounds c.requires.rounds.1)),
     )
 
 pub returns-clause-runs : goal.returns-clause-runs
 returns-clause-runs g c =
     let begun = c.begin_round in
     let ended = c.end_round-returned in
-    runs_one _ _ _ _ _ (kind_for c.args.targets.now) (calls_kind begun.new.calls) (ops_of c.args.targets.now) c.args.cache.now begun.new.cache ended.new.cache c.args.session.now begun.new.session ended.new.session
-    c.args.progress.now begun.new.progress ended.new.progress c.args.cause.now c.note_first.new.cause ended.result c.note_fault.new.cause c.note_first-2.new.cause (items_of begun.new.calls)
+    runs_one _ _ _ _ _ (kind_for c.args.targets.now) begun.new.calls.kind (ops_of c.args.targets.now) c.args.cache.now begun.new.cache ended.new.cache c.args.session.now begun.new.session ended.new.session
+    c.args.progress.now begun.new.progress ended.new.progress c.args.cause.now c.note_first.new.cause ended.result c.note_fault.new.cause c.note_first-2.new.cause begun.new.calls.items
     c.requires.distinct begun.ensures.kind c.note_first.ensures c.note_fault.ensures c.note_first-2.ensures begun.ensures.session ended.ensures.session
     begun.ensures.counts ended.ensures.counts begun.ensures.rounds ended.ensures.rounds begun.ensures.stay ended.ensures.stay begun.ensures.grows ended.ensures.grows begun.ensures.others ended.ensures.others
 
@@ -32,5 +32,5 @@ pub returns-clause-waits : goal.returns-clause-waits
 returns-clause-waits g c =
     let begun = c.begin_round in
     let so_far = begun.ensures.rounds c.requires.rounds.0 c.requires.rounds.1 in
-    later_round _ (ops_of c.args.targets.now) begun.new.cache c.args.session.now.caller begun.new.progress c.end_round-returned.new.progress (items_of begun.new.calls) c.args.most c.args.cache.now.config
+    later_round _ (ops_of c.args.targets.now) begun.new.cache c.args.session.now.caller begun.new.progress c.end_round-returned.new.progress begun.new.calls.items c.args.most c.args.cache.now.config
     so_far.so_far c.end_round-returned.ensures.stay c.requires.most begun.ensures.waits

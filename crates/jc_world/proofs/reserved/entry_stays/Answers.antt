@@ -1,11 +1,11 @@
-use Rattle.jc_world.proofs.Common.{start_with}
+use Rattle.jc_world.proofs.Opened.{sound_opening}
 use Rattle.jc_world.proofs.ReservedEntries.{stay_run, stays_held}
-use Rattle.jc_world.proofs.Sounding.{Laws, sound_run, sound_opened}
+use Rattle.jc_world.proofs.Sounding.{Laws, sound_run}
 use Rattle.jc_world.proofs.reserved.entry_stays.Goals as goal
 
 pub returns : goal.returns
-returns c = λ config stored before after seen_before seen_after old new key was is (fits, run_before) run_after there_before there_after same.
+returns c = λ opening before after seen_before seen_after old new key was is (opens, run_before) run_after there_before there_after same.
     let laws : Laws = record { stays = c.stays_reached.ensures; kept = c.keeps_reserved.ensures } in
-    let sound_old = sound_run laws (start_with config stored) old before seen_before run_before (sound_opened config stored fits).0 in
+    let sound_old = sound_run laws opening old before seen_before run_before (sound_opening opening opens) in
     let sound_new = sound_run laws old new after seen_after run_after sound_old in
     stays_held old new key was is there_before there_after same sound_old sound_new (stay_run laws old new after seen_after run_after sound_old)

@@ -67,6 +67,7 @@ returns-clause-call g c =
       ends = subst (λ w. EndsCall e.before w c.args.key.now c.args.op.now e.out c.call.result e.after) (ap (λ s. s.caller) same) e.ends;
       loader = rw (← ap (λ s. s.hands) same) e.loader;
       writer = rw (← ap (λ s. s.hands) same) e.writer;
+      types = rw (← ap (λ s. s.hands) same) e.types;
       left = search rules;
       sessions = sessions_stay _ _ _ _ _ _ _ _ _ e.before e.after c.self.view_is near at e.found e.left
           (subst (λ m. LeavesOthers m e.before e.after) (ap (λ s. s.caller.session) same) e.others) (idle_after e.before e.after _ _ _ _ _ e.ends (all_at _ _ _ e.before idle at e.found));

@@ -61,11 +61,13 @@ returns-clause-call g c =
         ends = e.ends;
         loader = e.loader;
         writer = e.writer;
+        types = e.types;
         left = e.session;
         sessions = sessions_stay _ _ _ _ _ _ _ _ _ e.before e.after c.self.view_is near at e.found e.left
             e.others (idle_after e.before e.after c.args.session.now.caller c.args.key.now Invoke e.out c.invoke.result e.ends (all_at _ _ _ e.before idle at e.found));
       };
       run = c.invoke.ensures.call.run;
+      type = c.invoke.ensures.call.type;
     }
 
 pub returns-clause-keys : goal.returns-clause-keys

@@ -4,4 +4,4 @@ use Rattle.jc_types.proofs.CallerLemmas.{is_some_position}
 use Rattle.jc_reserve.proofs.reservations.Reservations.is_reserved.Goals as goal
 
 pub returns : goal.returns
-returns g c = c.is_some.ensures ∙ ap is_some c.place_of.ensures.place ∙ is_some_position (has_key c.args.key.now) c.args.self.now.held
+returns g c = c.is_some.ensures ∙ ap is_some c.place_of.ensures.place ∙ is_some_position (has_key g.R.Reserved.key c.args.key.now) c.args.self.now.held

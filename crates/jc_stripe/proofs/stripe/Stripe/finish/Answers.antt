@@ -9,7 +9,7 @@ use Rattle.jc_stripe.specs.State.{State, promised}
 use Rattle.jc_stripe.specs.Refusals.{first_refusal, first_asked, needs_free_key, places_needed}
 use Rattle.jc_stripe.specs.Phases.{MayBegin, Steps}
 use Rattle.jc_stripe.specs.Inside.{state_of}
-use Rattle.jc_stripe.specs.declared.needs.Found.{Found}
+use Rattle.jc_stripe.specs.declared.call_rules.Found.{Found}
 use Rattle.jc_stripe.proofs.Used.{find-entry}
 use Rattle.jc_stripe.proofs.Inner.{entries_len}
 use Rattle.jc_stripe.proofs.Fitting.{nobody_fits}

@@ -1,7 +1,7 @@
 use Rattle.std.proofs.Common.{◌≡◌, ◌∙◌, ◌∷◌, true, None, Some, Option, refl, sym, subst, ap}
 use Rattle.std.specs.Option.{option_map_or}
 use Rattle.std.specs.FinMap as finite
-use Rattle.jc_reserve.specs.Table.{keys_held}
+use Rattle.jc_stripe.specs.OrderOfUse.{pinned}
 use Rattle.jc_types.specs.declared.limits.TheConstants.{HIT_PLACES}
 use Rattle.jc_model.specs.declared.event.Op.TheVariants.{Get}
 use Rattle.jc_model.specs.declared.event.Cause.{Cause}
@@ -62,11 +62,11 @@ made c =
     (sym (in_cache c))
 
 is_done : (c : goal.After-append_group)
-    → IsDone c.self.inside c.args.caller c.args.key.now Get c.get.new.self c.promise.new.self c.append_group.new.history (keys_held c.self.inside.reservations.held) c.touching_step-group.result c.append_group.result HIT_PLACES
+    → IsDone c.self.inside c.args.caller c.args.key.now Get c.get.new.self c.promise.new.self c.append_group.new.history (pinned c.self.inside.reservations.held) c.touching_step-group.result c.append_group.result HIT_PLACES
 is_done c =
     let i = c.self.inside in
     let e = c.touching_step-group.ensures in
-    let keys = keys_held i.reservations.held in
+    let keys = pinned i.reservations.held in
     let A : Option Bytes → Option Cause → Type 0 = λ victim evicted. AppliesStep i.entries keys c.args.key.now Get nothing_said victim evicted c.get.new.self in
     let made_victim = c.touching_step-group.result.victim in
     record {
@@ -86,7 +86,7 @@ begins c =
     let asks = hit_asks (state_of i) c.args.key.now c.in-Some.value (in_cache c) in (
       hit_refusal (state_of i) c.args.caller c.args.key.now c.in-Some.value (in_cache c) (room c),
       asks,
-      done_steps i c.args.caller c.args.key.now Get c.get.new.self c.promise.new.self c.append_group.new.history (keys_held i.reservations.held) c.touching_step-group.result c.append_group.result HIT_PLACES (is_done c)
+      done_steps i c.args.caller c.args.key.now Get c.get.new.self c.promise.new.self c.append_group.new.history (pinned i.reservations.held) c.touching_step-group.result c.append_group.result HIT_PLACES (is_done c)
           (nobody_fits i.config Get (entry_at (state_of i).cache c.args.key.now) asks),
     )
 
@@ -95,7 +95,7 @@ invariant_of-self-2 c =
     let i = c.self.inside in
     let May : State → Type 0 = λ s. MayBegin s c.args.caller c.args.key.now in
     let b = begins c in
-    done_sound i c.args.caller c.args.key.now Get c.get.new.self c.promise.new.self c.append_group.new.history (keys_held i.reservations.held) c.touching_step-group.result c.append_group.result HIT_PLACES (is_done c)
+    done_sound i c.args.caller c.args.key.now Get c.get.new.self c.promise.new.self c.append_group.new.history (pinned i.reservations.held) c.touching_step-group.result c.append_group.result HIT_PLACES (is_done c)
     b.0 b.1 (subst May (sym c.self.view_is) c.requires.begins) b.2
 
 pub returns : goal.returns

@@ -1,4 +1,4 @@
-use Rattle.jc_world.proofs.Common.{◌≡◌, true, Some, sym, refl, ap, ◌∙◌, subst, get, insert, remove, JoinClaim, Picked, PickedUp, WorldEvent, settle, over_settled, fits, joins_of, world_of, IsSoundWorld, IsQuietPhase, JoinKey, join_key, Joins, WorldState, join_of, has_joined}
+use Rattle.jc_world.proofs.Common.{◌≡◌, true, Some, sym, refl, ap, ◌∙◌, subst, get, insert, remove, JoinClaim, Picked, JoinAnswer, WorldEvent, settle, over_settled, fits, joins_of, world_of, IsSoundWorld, IsQuietPhase, JoinKey, join_key, Joins, WorldState, join_of, has_joined}
 use Rattle.jc_world.proofs.Maps.{joins_ordered, get-gone, insert-back}
 use Rattle.jc_world.proofs.Phased.{changed_from, PicksAs, joiner_at, picked_answer, picked_again, picked_nothing, Changed, shown_as}
 use Rattle.jc_world.proofs.machine.Machine.pick_up.Goals.{After-take_join-join, After-pick_up}
@@ -55,7 +55,7 @@ returns-in-Answer-clause-ok c =
     let key = c.args.key.now in
     let at = goal.at.returns-in-Answer-clause-ok c in
     let number = c.stripe_of-stripe.result in
-    let seen : PickedUp = record { reply = c.in-Answer.reply; stripe = number; place = c.in-Answer.step; shared = c.in-Answer.shared } in
+    let seen : JoinAnswer = record { reply = c.in-Answer.reply; stripe = number; place = c.in-Answer.step; shared = c.in-Answer.shared } in
     let p : Picked = Picked.Answer seen.reply seen.place seen.shared in
     let next = world_of (record c.self.inside { stripes = c.pick_up.new.self; calls = c.settle-over.new.calls; joins = c.take_join-join.new.joins }) in
     let calls = c.settle-over.ensures.calls ∙ ap (λ m. settle c.args.call key m v.calls) c.fault_in.ensures in

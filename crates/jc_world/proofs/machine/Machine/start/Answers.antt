@@ -1,6 +1,5 @@
-use Rattle.jc_world.proofs.Common.{◌≡◌, ℕ, true, cond, IsSomeAnd, slice_get, Some, find, option_copied, sym, refl, ap, ◌∙◌, subst, subst₂, get, insert, stripe_of, Caller, MayBegin, Begun, Outcome, WorldEvent, puts_off, has_number, settle, over_settled, not_over, BeginsAs, fits, world_of, IsSoundWorld, OrderedStripes, IsPhase, join_key, WorldState, open_call}
-use Rattle.jc_world.proofs.Phased.{start_open, may_begin_at, here, phased_from, shown_as, StartPhase, started_done, started_refused, started_joins, started_ticket, new_ticket, free_join}
-use Rattle.jc_world.specs.NewTickets.{IsNewTicket, HoldsTicket}
+use Rattle.jc_world.proofs.Common.{◌≡◌, ℕ, true, cond, IsSomeAnd, slice_get, Some, find, option_copied, sym, refl, ap, ◌∙◌, subst, subst₂, get, insert, stripe_of, Caller, MayBegin, Begun, TicketClaim, new_part, new_progress, Outcome, WorldEvent, puts_off, has_number, settle, over_settled, not_over, BeginsAs, fits, world_of, IsSoundWorld, OrderedStripes, IsPhase, join_key, WorldState, open_call}
+use Rattle.jc_world.proofs.Phased.{start_open, may_begin_at, here, phased_from, shown_as, StartPhase, started_done, started_refused, started_joins, started_ticket, free_key, free_join}
 use Rattle.jc_world.proofs.machine.Machine.start.Goals.{In-Some, After-begin}
 use Rattle.jc_world.proofs.machine.Machine.start.Goals as goal
 
@@ -46,12 +45,22 @@ begin-requires-clause-begins c =
     let at = subst P (sym c.self.view_is) (may_begin_at w c.args.call key u op c.requires.fits is c.op_at_open-op.ensures c.requires.sound) in
     subst (Q c.stripe_of-number.result c.reserve.new.self) (sym c.caller-caller.ensures) (subst (λ v. Q c.stripe_of-number.result v u.caller) (sym c.in_ok-reserve.ensures.same) (subst (λ n. Q n c.self.inside.stripes u.caller) (sym c.stripe_of-number.ensures) at))
 
-pub hold-requires-clause-new : goal.hold-requires-clause-new
-hold-requires-clause-new c =
+pub hold-requires-clause-reserves : goal.hold-requires-clause-reserves
+hold-requires-clause-reserves c = (ran (goal.at.hold-requires-clause-reserves c).After-begin (Begun.Asks c.in-Asks.ticket) c.in-Asks.is).phase.made.3
+
+pub hold-requires-clause-unasked : goal.hold-requires-clause-unasked
+hold-requires-clause-unasked c = ap (λ (t : TicketClaim). t.asked) (ran (goal.at.hold-requires-clause-unasked c).After-begin (Begun.Asks c.in-Asks.ticket) c.in-Asks.is).phase.made.4
+
+pub hold-requires-clause-writer : goal.hold-requires-clause-writer
+hold-requires-clause-writer c = ap (λ (t : TicketClaim). t.writer_asked) (ran (goal.at.hold-requires-clause-writer c).After-begin (Begun.Asks c.in-Asks.ticket) c.in-Asks.is).phase.made.4
+
+pub hold-requires-clause-free : goal.hold-requires-clause-free
+hold-requires-clause-free c =
     let v : WorldState = world_of c.self.inside in
-    let b = c.begin.result in
-    let new = new_ticket v c.args.call _ c.args.key.now _ b _ _ (ran (goal.at.hold-requires-clause-new c).After-begin b refl) (subst IsSoundWorld (sym c.self.view_is) c.requires.sound) c.in_default-begin.not-Done c.in_default-begin.not-Joined c.in_default-begin.not-Refused in
-    subst (λ parts. IsNewTicket parts b) (sym c.in_ok-make_room.ensures.parts) new
+    let ticket = c.in-Asks.ticket in
+    let p = ran (goal.at.hold-requires-clause-free c).After-begin (Begun.Asks ticket) c.in-Asks.is in
+    ap (λ parts. get parts ticket.reservation.key) c.in_ok-make_room.ensures.parts
+    ∙ free_key v c.args.call _ c.args.key.now _ ticket _ _ p (subst IsSoundWorld (sym c.self.view_is) c.requires.sound)
 
 pub put_join-requires-clause-free : goal.put_join-requires-clause-free
 put_join-requires-clause-free c =
@@ -101,13 +110,14 @@ returns-in-Joined-clause-ok c =
     (started_joins v next c.args.call key _ _ c.in-Joined.join _ _ p
     (λ i. record v { stripes = c.begin.new.self.stripes; order = c.begin.new.self.order; joins = put i; parts = c.in_ok-make_room.ensures.parts i }))
 
-pub returns-in_default-begin-clause-ok : goal.returns-in_default-begin-clause-ok
-returns-in_default-begin-clause-ok c =
+pub returns-in-Asks-clause-ok : goal.returns-in-Asks-clause-ok
+returns-in-Asks-clause-ok c =
     let v : WorldState = world_of c.self.inside in
     let key = c.args.key.now in
-    let b = c.begin.result in
-    let p = ran (goal.at.returns-in_default-begin-clause-ok c).After-begin b refl in
+    let ticket = c.in-Asks.ticket in
+    let p = ran (goal.at.returns-in-Asks-clause-ok c).After-begin (Begun.Asks ticket) c.in-Asks.is in
     let next = world_of (record c.self.inside { stripes = c.begin.new.self; held = c.hold.new.held; joins = c.make_join_room.new.joins }) in
+    let put = c.hold.ensures.parts ∙ ap (λ parts. insert parts ticket.reservation.key (new_part (new_progress ticket.reservation.first) ticket.reservation)) c.in_ok-make_room.ensures.parts in
     shown_as _ v next (WorldEvent.Start c.args.call key) _ _ c.self.view_is refl
-    (started_ticket v next c.args.call key _ _ b c.hold.new.seen _ _ next.parts p (subst (λ parts. HoldsTicket parts b c.hold.new.seen next.parts) c.in_ok-make_room.ensures.parts c.hold.ensures)
+    (started_ticket v next c.args.call key _ _ ticket c.hold.new.seen _ _ next.parts p c.hold.ensures.shown put
     (λ i. record v { stripes = c.begin.new.self.stripes; order = c.begin.new.self.order; parts = next.parts; joins = c.in_ok-make_join_room.ensures.joins i }))

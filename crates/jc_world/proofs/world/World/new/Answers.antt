@@ -1,5 +1,5 @@
 use Rattle.jc_world.proofs.Common.{sym, subst, IsSoundWorld}
-use Rattle.jc_world.proofs.Sounding.{sound_start}
+use Rattle.jc_world.proofs.Opened.{sound_start}
 use Rattle.jc_world.proofs.world.World.new.Goals as goal
 
 pub invariant_of-result : goal.invariant_of-result

@@ -1,0 +1,11 @@
+-- The inside of a batch of loads.
+--     IsLoadBatch    in the list of keys and among the answers is room for so many more; no key has an answer yet
+use Rattle.std.specs.Prelude.{◌≡◌, ◌≤◌, ◌+◌, ℕ, vec_len, vec_capacity}
+use Rattle.std.specs.Global.{Vec}
+use Rattle.jc_model.specs.Cache.{Bytes}
+use Rattle.jc_batch.specs.Answers.{AnswersByKey, no_answers}
+
+pub record IsLoadBatch (room spare : ℕ) (keys : Vec Bytes) (answers : AnswersByKey) : Type 0 where
+  pub keys_room : vec_len keys + room ≤ vec_capacity keys
+  pub answers_room : room ≤ spare
+  pub none : answers ≡ no_answers keys.items

@@ -1,0 +1,83 @@
+//! The answers of a `loadAll`.
+ghost use Rattle.std.specs.Prelude.{◌≡◌, [], IfOk, OnOk};
+ghost use Rattle.std.specs.FinMap.{from_entries};
+ghost use Rattle.jc_model.specs.Cache.{key_cmp};
+ghost use Rattle.jc_batch.specs.Answers.{no_answers, is_asked, answers_with, answer_of};
+
+use indexmap::IndexMap;
+use jc_types::{Key, Value};
+use std::alloc::{AllocError, Global};
+use std::marker::Model;
+
+/// What a loader answers to `loadAll`, for the keys that it was asked: of each the last value that it put, or none.
+///
+/// Contracts see a map from each key that was asked to its answer.
+#[derive(Drop)]
+pub struct Answers {
+    answers: IndexMap<Key, Option<Value>>,
+}
+
+impl Model for Answers {
+    ghost use Rattle.std.specs.Coded.{codes};
+    ghost use Rattle.std.specs.FinMap.{from_entries};
+    ghost use Rattle.jc_model.specs.Cache.{key_cmp};
+    ghost use Rattle.jc_batch.specs.Answers.{AnswersByKey, answers_code};
+
+    ghost Value = { AnswersByKey };
+
+    ghost coded = { Prim.hlevel (codes, answers_code) };
+
+    ghost view = { λ a. from_entries {R = key_cmp} a.answers.entries };
+}
+
+impl Answers {
+    /// No answers yet, of these keys. It makes all the room that answers take; an `Err` says that an allocation failed.
+    pub fn new(alloc: Global, keys: &[Key]) -> Result<Self, AllocError>
+        ensures { IfOk result (λ a. a ≡ no_answers keys.now) }
+    {
+        let mut answers = IndexMap::with_capacity(alloc, keys.len())?;
+        ask_all(&mut answers, keys)?;
+        Ok(Answers { answers })
+    }
+
+    /// The answers of a map from each key that is asked to its answer.
+    pub(crate) fn of(answers: IndexMap<Key, Option<Value>>) -> Self
+        ensures { result ≡ from_entries {R = key_cmp} answers.entries }
+    {
+        Answers { answers }
+    }
+
+    /// Answers this value at a key, in place of what was answered there before, and says whether the key was asked. If it
+    /// wasn't, nothing changes.
+    pub fn put(&mut self, key: &Key, value: &Value) -> bool
+        ensures asked { result ≡ is_asked self.old key.now }
+        ensures answers { self.new ≡ answers_with self.old key.now value.now }
+    {
+        match self.answers.get_mut(key) {
+            Some(answer) => *answer = Some(*value),
+            None => return false,
+        }
+        true
+    }
+
+    /// The answer at a key: none if nothing was put there, or if the key wasn't asked.
+    pub fn get(&self, key: &Key) -> Option<Value>
+        ensures { result ≡ answer_of self.now key.now }
+    {
+        match self.answers.get(key) {
+            Some(answer) => *answer,
+            None => None,
+        }
+    }
+}
+
+/// Puts each of the keys in, with no answer. It takes no memory if there is room.
+fn ask_all(answers: &mut IndexMap<Key, Option<Value>>, keys: &[Key]) -> Result<(), AllocError>
+    requires { answers.old.entries ≡ [] }
+    ensures { OnOk result (from_entries {R = key_cmp} answers.new.entries ≡ no_answers keys.now) }
+{
+    for key in keys {
+        answers.insert(*key, None)?;
+    }
+    Ok(())
+}

@@ -1,0 +1,106 @@
+-- What a seat knows, and what each call leaves of it.
+--     IsPhaseBy           at most one phase of a seat's session leads from one state to another; none, if the seat is no session's
+--     empty_stripe        a stripe of the smallest shape with nothing in it, which a seat that is gone notes
+--     unopened_view       the first seat of a lock that isn't made yet: it holds the stripe, and the slot is empty
+--     opened_view         the same once it has taken the slot
+--     first_view          the first seat of a lock, which gives session numbers out, beginning with 0
+--     spent_view          a seat that is gone
+--     Finds               what a take of a seat may find: a reached state of the noted stripe, whose next reservation number is at least
+--                         the noted one, with the seat's front as a prefix of its history, and of the seat's session just the own steps
+--     after_take          a take notes the state that it found
+--     own_steps_of        the own steps of a session in a state; none, if there is no session
+--     after_give          a give leaves the seat with the whole history as its front
+--     session_number      the number in an option, if it has one
+--     after_split         the seat that gave a session number out
+--     session_view        the seat that was given it
+--     front_note          a note of a seat's front, in a seat of its own
+--     with_note           a seat into which a note was joined
+--     longer              the longer one of two lists
+--     with_longer_front   its front is the longer one of its own and the note's
+--     after_join          both at once: a seat into which another one was joined
+--     IsSeated            a seat isn't spent; if it holds the stripe, it has the slot, which is empty, and else it has no slot
+use Rattle.std.specs.Prelude.{◌≡◌, ℕ, ◌+◌, ◌≤◌, ◌⊎◌, true, false, List, [], ◌∷◌, length, Option, Some, None, cond, nat_lt}
+use Rattle.std.specs.FinMap as map
+use mathlib.Core.List.{IsPrefix}
+use Rattle.atomic_table.specs.Table.{Me}
+use Rattle.jc_model.specs.declared.event.Event.{Event}
+use Rattle.jc_outside.specs.declared.done.Origin.TheVariants.{Played}
+use Rattle.jc_stripe.specs.State.{State}
+use Rattle.jc_stripe.specs.Reached.{IsReached}
+use Rattle.jc_stripe.specs.Laws.{IsSameStripe}
+use Rattle.jc_stripe.specs.OnePhase.{IsPhaseOf, own_steps}
+use Rattle.jc_lock.specs.declared.view.View.{View}
+
+abbrev pub IsPhaseBy : Option ℕ → State → State → Type 0
+IsPhaseBy None old new = new ≡ old
+IsPhaseBy (Some session) old new = IsPhaseOf session old new
+
+-- 1. Seats from the beginning, and seats that are gone.
+
+abbrev pub empty_stripe : State
+empty_stripe = record { config = record { stripes = 1; capacity = 1; history = 16; read_through = false; write_through = false }; stripe = 0; origin = Played; opening = []; cache = map.empty; reservations = []; joiners = []; history = []; next = 0 }
+
+abbrev pub first_view : State → View
+first_view state = record { session = None; next_session = Some 0; spent = false; holds = false; front = state.history; joined_front = []; own = []; noted = state }
+
+abbrev pub unopened_view : State → View
+unopened_view state = record (first_view state) { spent = true; holds = true }
+
+abbrev pub opened_view : View → View
+opened_view v = record v { spent = false }
+
+abbrev pub spent_view : View
+spent_view = record { session = None; next_session = None; spent = true; holds = false; front = []; joined_front = []; own = []; noted = empty_stripe }
+
+-- 2. A take and a give.
+
+pub record Finds (v : View) (state : State) : Type 0 where
+  pub reached : IsReached state
+  pub front : IsPrefix v.front state.history
+  pub next : v.noted.next ≤ state.next
+  pub same : IsSameStripe v.noted state
+  pub own : (session : ℕ) → v.session ≡ Some session → own_steps session state ≡ v.own
+
+abbrev pub after_take : View → State → View
+after_take v state = record v { holds = true; noted = state }
+
+abbrev pub own_steps_of : Option ℕ → State → List Event
+own_steps_of None state = []
+own_steps_of (Some session) state = own_steps session state
+
+abbrev pub after_give : View → State → View
+after_give v state = record v { holds = false; front = state.history; own = own_steps_of v.session state; noted = state }
+
+-- 3. A new session.
+
+abbrev pub session_number : Option ℕ → ℕ
+session_number None = 0
+session_number (Some session) = session
+
+abbrev pub after_split : View → View
+after_split v = record v { next_session = Some (session_number v.next_session + 1) }
+
+abbrev pub session_view : View → View
+session_view v = record { session = Some (session_number v.next_session); next_session = None; spent = v.spent; holds = false; front = v.front; joined_front = []; own = []; noted = v.noted }
+
+-- 4. What one seat has seen, told to another.
+
+abbrev pub front_note : View → View
+front_note v = record v { session = None; next_session = None; holds = false; joined_front = []; own = [] }
+
+abbrev pub with_note : View → View → View
+with_note v w = record v { joined_front = w.front }
+
+abbrev pub longer : List Event → List Event → List Event
+longer xs ys = cond (nat_lt (length xs) (length ys)) ys xs
+
+abbrev pub with_longer_front : View → View
+with_longer_front v = record v { front = longer v.front v.joined_front; joined_front = [] }
+
+abbrev pub after_join : View → View → View
+after_join v w = with_longer_front (with_note v w)
+
+-- 5. What a seat has of the table.
+
+abbrev pub IsSeated : {B : Type 0} → Me (Option B) View → Type 0
+IsSeated me = (me.0.spent ≡ false) × (((me.0.holds ≡ false) × (me.1 ≡ [])) ⊎ ((me.0.holds ≡ true) × (me.1 ≡ (0, None) ∷ [])))

@@ -1,0 +1,156 @@
+//! The rules by which a first phase decides: whether a call answers at once or may join a load, whom it asks first, what it needs.
+ghost use Rattle.std.specs.Prelude.{◌≡◌};
+ghost use Rattle.jc_stripe.specs.Refusals.{answers_at_once, may_join, places_needed, first_asked, is_wanted, writer_for, load_of, reserves, change_for};
+ghost use Rattle.jc_stripe.specs.Finding.{is_to_reserve};
+
+use crate::ticket::First;
+use jc_model::{Change, LoaderAsk, Op, ProcessAnswer};
+use jc_types::{Config, HIT_PLACES, STEP_PLACES, Value};
+
+/// What a call finds at its key, before anything is done.
+#[derive(Clone, Copy)]
+pub(crate) struct Found {
+    pub(crate) entry: Option<Value>,
+    /// The load that the call joins, if there is one.
+    pub(crate) load: Option<u64>,
+    /// Whom the call asks first, unless it joins a load.
+    pub(crate) first: First,
+    /// Whether the call neither answers from the entry nor joins a load.
+    pub(crate) needs_free_key: bool,
+    /// Whether the key is reserved, though the call needs it free.
+    pub(crate) is_busy: bool,
+}
+
+/// Whether a call answers from the cached entry, even while its key is reserved.
+pub(crate) fn answers_at_once(config: &Config, op: &Op, entry: &Option<Value>) -> bool
+    ensures { result ≡ answers_at_once config.now op.now entry.now }
+{
+    match op {
+        Op::Get => entry.is_some() || !config.read_through,
+        Op::ContainsKey => true,
+        Op::Put(_)
+        | Op::GetAndPut(_)
+        | Op::PutIfAbsent(_)
+        | Op::Remove
+        | Op::RemoveIf(_)
+        | Op::GetAndRemove
+        | Op::Replace(_)
+        | Op::ReplaceIf { .. }
+        | Op::GetAndReplace(_)
+        | Op::Clear
+        | Op::LoadAll { .. }
+        | Op::Invoke => false,
+    }
+}
+
+/// Whether an operation may join a load.
+pub(crate) fn may_join(op: &Op) -> bool
+    ensures { result ≡ may_join op.now }
+{
+    match op {
+        Op::Get => true,
+        Op::ContainsKey
+        | Op::Put(_)
+        | Op::GetAndPut(_)
+        | Op::PutIfAbsent(_)
+        | Op::Remove
+        | Op::RemoveIf(_)
+        | Op::GetAndRemove
+        | Op::Replace(_)
+        | Op::ReplaceIf { .. }
+        | Op::GetAndReplace(_)
+        | Op::Clear
+        | Op::LoadAll { .. }
+        | Op::Invoke => false,
+    }
+}
+
+/// The free places that a call needs in the history.
+pub(crate) fn places_needed(needs_free_key: bool) -> usize
+    ensures { result ≡ places_needed needs_free_key }
+{
+    if needs_free_key {
+        STEP_PLACES
+    } else {
+        HIT_PLACES
+    }
+}
+
+/// The load of a reservation, if it asked the loader.
+pub(crate) fn load_of(first: &First, number: u64) -> Option<u64>
+    ensures { result ≡ load_of first.now number }
+{
+    match first {
+        First::Loader => Some(number),
+        First::Nobody | First::Writer(_) | First::Processor { .. } => None,
+    }
+}
+
+/// The writer, for a change that is asked for.
+fn writer_for(change: Option<Change>) -> First
+    ensures { result ≡ writer_for change }
+{
+    match change {
+        Some(change) => First::Writer(change),
+        None => First::Nobody,
+    }
+}
+
+/// The change that the writer is asked for, if write-through is on.
+fn change_for(config: &Config, op: &Op, entry: &Option<Value>) -> Option<Change>
+    ensures { result ≡ change_for config.now op.now entry.now }
+{
+    if config.write_through {
+        op.write_ask(entry, &ProcessAnswer::NotAsked)
+    } else {
+        None
+    }
+}
+
+/// Whether the loader table leaves it to the processor to have its key loaded.
+fn is_wanted(ask: &LoaderAsk) -> bool
+    ensures { result ≡ is_wanted ask.now }
+{
+    match ask {
+        LoaderAsk::Never | LoaderAsk::Always => false,
+        LoaderAsk::IfWanted => true,
+    }
+}
+
+/// Whom a call asks first.
+pub(crate) fn first_asked(config: &Config, op: &Op, entry: &Option<Value>) -> First
+    ensures { result ≡ first_asked config.now op.now entry.now }
+{
+    let ask = op.loader_ask(config.read_through, entry);
+    if op.is_invoke() {
+        return First::Processor {
+            entry: *entry,
+            may_load: is_wanted(&ask),
+        };
+    }
+    match ask {
+        LoaderAsk::Never => writer_for(change_for(config, op, entry)),
+        LoaderAsk::Always => First::Loader,
+        LoaderAsk::IfWanted => First::Processor {
+            entry: None,
+            may_load: true,
+        },
+    }
+}
+
+/// Whether there is anybody to ask, for which a call has to reserve its key.
+pub(crate) fn reserves(first: &First) -> bool
+    ensures { result ≡ reserves first.now }
+{
+    match first {
+        First::Nobody => false,
+        First::Loader | First::Writer(_) | First::Processor { .. } => true,
+    }
+}
+
+/// Whether a call reserves its key.
+pub(crate) fn is_to_reserve(found: &Found) -> bool
+    ensures { result ≡ is_to_reserve found.now }
+{
+    found.load.is_none() && reserves(&found.first)
+}
