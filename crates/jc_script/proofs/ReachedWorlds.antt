@@ -98,7 +98,7 @@ picks_fresh w new call key join from to seen h = absurd h
 -- the writer's returns
 reported_fresh : (w : WorldState) (key : Bytes) (report : WriteAnswer) (part : Option Part) → fresh (reported_at w key report part) ≡ fresh w
 reported_fresh w key report None = refl
-reported_fresh w key report (Some part) = by (waits_for_report part.progress)
+reported_fresh w key report (Some part) = by (waits_for_report part)
   where
     by : (b : Bool) → fresh (cond b (after_report w key part report) w) ≡ fresh w
     by true = refl

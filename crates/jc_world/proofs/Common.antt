@@ -46,7 +46,7 @@ pub use Rattle.jc_model.specs.Group.{Group, nothing_said, load_only, write_only,
 pub use Rattle.jc_model.specs.Lawful.{loads_whole}
 pub use Rattle.jc_model.specs.Legal.{may_come, may_follow, in_order, event_key, is_of_stripe, of_stripe, IsHistory, IsOpening}
 pub use Rattle.jc_model.specs.Processor.{found_in}
-pub use Rattle.jc_model.specs.Table.{holds, is_load_given, always_if, ask_if, write_ask, is_write_given, is_invoke, entry_without_fault, entry_after, seq_entry}
+pub use Rattle.jc_model.specs.Table.{holds, is_load_given, always_if, ask_if, write_ask, is_write_given, is_process_given, is_invoke, entry_without_fault, entry_after, seq_entry}
 pub use Rattle.jc_model.specs.declared.event.Cause.{Cause}
 pub use Rattle.jc_model.specs.declared.event.Change.{Change}
 pub use Rattle.jc_model.specs.declared.event.Change.TheVariants.{Delete, Write}
@@ -96,7 +96,6 @@ pub use Rattle.jc_world.specs.declared.event.Part.{Part}
 pub use Rattle.jc_world.specs.declared.event.JoinAnswer.{JoinAnswer}
 pub use Rattle.jc_world.specs.declared.event.Premises.{Premises}
 pub use Rattle.jc_world.specs.declared.event.PartProgress.{PartProgress}
-pub use Rattle.jc_world.specs.declared.event.PartProgress.TheVariants.{Loading, Processed, Processing, Writing, WritingEffect}
 pub use Rattle.jc_world.specs.declared.event.Shown.{Shown}
 pub use Rattle.jc_world.specs.declared.event.Stepped.{Stepped}
 pub use Rattle.jc_world.specs.declared.event.WorldEvent.{WorldEvent}
@@ -106,7 +105,7 @@ pub use Rattle.jc_world.specs.Audit.{IsCache, differs, differing, cache_in, cach
 pub use Rattle.jc_world.specs.Calls.{Task, at_each, put_each_of, SweepState, sweep_of, takes_turns, puts_off, CallState, new_call, has_number, is_of_session, op_in, op_at, op_found, op_or_found, op_for, is_open, open_in, open_keys, current_key, is_turn, keys_at_work, may_work, is_going, has_too_many_keys, opened, going_on, over_of, with_met, settled, replaced, settle, over_settled, drop_call, has_looked, has_looked_at_each, next_sweep, with_found, look}
 pub use Rattle.jc_world.specs.Coherent.{Coherent, all_hold}
 pub use Rattle.jc_world.specs.Ending.{IsLeft, AreLeft, out_at, IsPartOut, HasHeld, IsJoinOut, HasJoins, NoneReserved}
-pub use Rattle.jc_world.specs.Events.{with_stripe, with_phase, step_of, not_over, shown_begun, fault_in, with_settled, over_by, with_met_by, without_call, with_look, asks_as, new_progress, new_part, with_part, with_new_part, without_part, with_join, without_join, BeginsAs, ReservesAs, Starts, RefusesAs, Ends, Picks, after_answer, with_change, after_change, with_report, after_report, reported_key, reported_keys, keys_reported, reported_at, after_reports, run_result, progress_after, after_process, Happens, Step, Run, RunAppending, is_fit, AllFit}
+pub use Rattle.jc_world.specs.Events.{with_stripe, with_phase, step_of, not_over, shown_begun, fault_in, with_settled, over_by, with_met_by, without_call, with_look, asks_as, new_progress, new_part, with_part, with_new_part, without_part, with_join, without_join, BeginsAs, ReservesAs, Starts, RefusesAs, Ends, Picks, with_loaded, after_answer, with_change, after_change, with_report, after_report, reported_key, reported_keys, keys_reported, reported_at, after_reports, run_result, progress_after, after_process, Happens, Step, Run, RunAppending, is_fit, AllFit}
 pub use Rattle.jc_world.specs.Fits.{is_playable, is_new, is_free, may_start, may_leave, waits_in, waits_at, may_report, is_to_look, may_look, fits}
 pub use Rattle.jc_world.specs.Gathered.{or_else, found_after}
 pub use Rattle.jc_world.specs.Headline.{IsOpeningStripe, IsOpeningWorld, start_with, with_all_premises, is_answer, is_load, is_loaded}
@@ -118,7 +117,7 @@ pub use Rattle.jc_world.specs.PlayedWorld.{PlayedWorld}
 pub use Rattle.jc_world.specs.Premises.{read_answer, load_from, changed_to, report_for, is_true_load, is_done, is_true_report, with_foreign_write, premises_hold}
 pub use Rattle.jc_world.specs.Replies.{IsReplyOfStep, Stands, is_answer_at, joiners_in, joiners_at, times_shown}
 pub use Rattle.jc_world.specs.Reserved.{is_appended}
-pub use Rattle.jc_world.specs.Sound.{IsWorldStripe, IsShaped, is_up_to, number_up_to, has_answer, has_parked_answer, is_served_in, is_served, is_apart, FitsKey, FitsCall, CallsFit, Each, is_of_asked, is_due_in, is_due, AllDue, IsHeld, IsCallOf, IsOwned, AllOwned, IsWaitedFor, AllWaitedFor, IsCalled, AllCalled, Agrees, IsWrittenFor, LoadAgrees, WriteAgrees, ProgressAgrees, KeyAgrees, Sweeps, IsSoundWorld}
+pub use Rattle.jc_world.specs.Sound.{IsWorldStripe, IsShaped, is_up_to, number_up_to, has_answer, has_parked_answer, is_served_in, is_served, is_apart, FitsKey, FitsCall, CallsFit, Each, FitsAsked, change_in, IsDueIn, IsDue, AllDue, IsHeld, IsCallOf, IsOwned, AllOwned, IsWaitedFor, AllWaitedFor, IsCalled, AllCalled, Agrees, LoadAgrees, WriteAgrees, ChangeAgrees, ProgressAgrees, KeyAgrees, Sweeps, IsSoundWorld}
 pub use Rattle.jc_world.specs.Together.{looks, opening_events, BeginFits, at_call, key_at, AreAt, FitTogether}
 pub use Rattle.jc_world.specs.Turns.{history_in, history_at, turns_of, after_turn, merge, OrderedStripes, IsPhase, IsQuietPhase, ordered_stripes, AreTurns, IsMergeable}
-pub use Rattle.jc_world.specs.World.{Parts, JoinKey, join_cmp, join_key, Joins, WorldState, home, stripe_for, entry_in, cached_entry, empty_stripe, empty_stripes, start, is_busy, open_call, of_call, part_of, has_progress, waits_for_load, waits_for_process, waits_for_report, is_answered, is_unasked, is_untouched, has_changed, writer_change_in, writer_change, out_in, out_of, join_of, has_joined, is_joined, is_free_of, with_stored}
+pub use Rattle.jc_world.specs.World.{Parts, JoinKey, join_cmp, join_key, Joins, WorldState, home, stripe_for, entry_in, cached_entry, empty_stripe, empty_stripes, start, is_busy, open_call, of_call, part_of, has_progress, is_unanswered, waits_for_load, waits_for_process, waits_for_report, is_answered, is_untouched, has_changed, writer_change, out_of, join_of, has_joined, is_joined, is_free_of, with_stored}

@@ -3,42 +3,52 @@
 --     due_run                    the progress of a key once its processor has run
 --     dues_reported              the writer has returned for a key
 --     dues_happens               any event that fits
-use Rattle.jc_world.proofs.Common.{◌≡◌, ℕ, true, is_some, is_none, Some, None, Option, option_map, sym, refl, ap, subst, get, insert, remove, Config, WriterFailed, Bytes, entry_at, Change, WriteAnswer, ProcessResult, Claim, change_due, Reservation, Part, PartProgress, Loading, Shown, WorldEvent, open_keys, with_met_by, new_part, with_change, with_report, after_report, reported_keys, keys_reported, run_result, progress_after, Happens, load_from, report_for, is_due_in, is_due, AllDue, Parts, WorldState, part_of}
+use Rattle.jc_world.proofs.Common.{and_parts, fits, asks_loader, is_unanswered, has_progress, waits_for_load, is_load_given, LoadAnswer, First, Loader, Nobody, Processor, Writer, with_loaded, IsDue, IsDueIn, ◌≡◌, ℕ, true, Some, option_map, sym, refl, ap, ◌∙◌, subst, get, insert, remove, Config, WriterFailed, Bytes, entry_at, WriteAnswer, ProcessResult, Claim, change_due, Part, PartProgress, Shown, WorldEvent, open_keys, with_met_by, new_part, with_change, with_report, after_report, reported_keys, keys_reported, run_result, progress_after, Happens, load_from, report_for, AllDue, Parts, WorldState, part_of}
 use Rattle.jc_world.proofs.Holding.{is_part}
 use Rattle.jc_world.proofs.Maps.{keys_ordered, each_put, each_left}
 use Rattle.jc_world.proofs.Lemmas.{KeyChange, by_nothing, by_refusal, by_step, by_reservation, by_join, by_commit, by_withdrawal, by_answer, by_retry, key_change, each_report}
 
 -- 1. One part more, and one less.
 
-dues_insert : (config : Config) (parts : Parts) (key : Bytes) (new : Part) → AllDue config parts → is_due config new ≡ true → AllDue config (insert parts key new)
-dues_insert config parts key new all one = each_put keys_ordered (λ q part. is_due config part ≡ true) parts key new one all
+dues_insert : (config : Config) (parts : Parts) (key : Bytes) (new : Part) → AllDue config parts → IsDue config new → AllDue config (insert parts key new)
+dues_insert config parts key new all one = each_put keys_ordered (λ q part. IsDue config part) parts key new one all
 
 dues_remove : (config : Config) (parts : Parts) (key : Bytes) → AllDue config parts → AllDue config (remove parts key)
-dues_remove config parts key all = each_left keys_ordered (λ q part. is_due config part ≡ true) parts key (λ q part apart is. all q part is)
+dues_remove config parts key all = each_left keys_ordered (λ q part. IsDue config part) parts key (λ q part apart is. all q part is)
 
 -- 2. A part stays.
 
-due_change : (config : Config) (r : Reservation) (p : PartProgress) → is_due_in config r p ≡ true → is_due_in config r (with_change p) ≡ true
-due_change config r (Loading answer) h = h
-due_change config r p h = h
+due_answer : (config : Config) (first : First) (p : PartProgress) (answer : LoadAnswer) → asks_loader first ≡ true → IsDueIn config first (with_loaded p answer)
+due_answer config Loader p answer due = tt
+due_answer config first p answer due = cc
 
-due_report : (config : Config) (r : Reservation) (p : PartProgress) (report : WriteAnswer) → is_due_in config r p ≡ true → is_due_in config r (with_report p report) ≡ true
-due_report config r (Loading answer) report h = h
-due_report config r p report h = h
+due_change : (config : Config) (first : First) (p : PartProgress) → IsDueIn config first p → IsDueIn config first (with_change p)
+due_change config Nobody p h = tt
+due_change config Loader p h = tt
+due_change config (Writer change) p h = tt
+due_change config (Processor entry may_load) p h = h
 
-due_run : (config : Config) (r : Reservation) (done : ProcessResult Claim) → is_due_in config r (progress_after (change_due config done) done) ≡ true
-due_run config r done = go (change_due config done) refl
-  where
-    go : (change : Option Change) → change_due config done ≡ change → is_due_in config r (progress_after change done) ≡ true
-    go None e = ap is_none e
-    go (Some change) e = ap is_some e
+due_report : (config : Config) (first : First) (p : PartProgress) (report : WriteAnswer) → IsDueIn config first p → IsDueIn config first (with_report p report)
+due_report config Nobody p report h = tt
+due_report config Loader p report h = tt
+due_report config (Writer change) p report h = tt
+due_report config (Processor entry may_load) p report h = h
+
+due_run : (config : Config) (first : First) (done : ProcessResult Claim) → IsDueIn config first (progress_after (change_due config done) done)
+due_run config Nobody done = tt
+due_run config Loader done = tt
+due_run config (Writer change) done = tt
+due_run config (Processor entry may_load) done = refl
 
 -- 3. Each event.
+
+loader_asked : (part : Part) → waits_for_load part ≡ true → asks_loader part.reservation.first ≡ true
+loader_asked part waits = (and_parts (asks_loader part.reservation.first) (is_unanswered part.progress.out) waits).0
 
 abbrev pub AllDueAt : WorldState → Type 0
 AllDueAt w = AllDue w.config w.parts
 
-due_of : (w : WorldState) (call : ℕ) (key : Bytes) (part : Part) → part_of w call key ≡ Some part → AllDueAt w → is_due w.config part ≡ true
+due_of : (w : WorldState) (call : ℕ) (key : Bytes) (part : Part) → part_of w call key ≡ Some part → AllDueAt w → IsDue w.config part
 due_of w call key part is old = old key part (is_part (get w.parts key) call part is)
 
 -- by the kind of the change at a key
@@ -55,21 +65,21 @@ dues_key w new e key seen (by_retry call join from to e_is join_is there h is sh
 
 -- the writer has returned for a key
 pub dues_reported : (w : WorldState) (call : ℕ) (key : Bytes) (part : Part) (report : WriteAnswer) → part_of w call key ≡ Some part → AllDueAt w → AllDueAt (after_report w key part report)
-dues_reported w call key part report at old = dues_insert w.config w.parts key _ old (due_report w.config part.reservation part.progress report (due_of w call key part at old))
+dues_reported w call key part report at old = dues_insert w.config w.parts key _ old (due_report w.config part.reservation.first part.progress report (due_of w call key part at old))
 
-pub dues_happens : (w new : WorldState) (e : WorldEvent) (seen : Shown) → Happens w e seen new → AllDueAt w → AllDueAt new
-dues_happens w new (WorldEvent.Look call stripe) seen h old = subst AllDueAt (sym h.9) old
-dues_happens w new (WorldEvent.Read call key) seen h old = subst AllDueAt (sym h.3) (dues_insert w.config w.parts key _ old refl)
-dues_happens w new (WorldEvent.Say call key answer) seen h old = subst AllDueAt (sym h.3) (dues_insert w.config w.parts key _ old refl)
-dues_happens w new (WorldEvent.Process call key source calls fail) seen h old =
+pub dues_happens : (w new : WorldState) (e : WorldEvent) (seen : Shown) → fits w e ≡ true → Happens w e seen new → AllDueAt w → AllDueAt new
+dues_happens w new (WorldEvent.Look call stripe) seen fit h old = subst AllDueAt (sym h.9) old
+dues_happens w new (WorldEvent.Read call key) seen fit h old = subst AllDueAt (sym h.3) (dues_insert w.config w.parts key _ old (due_answer w.config h.0.reservation.first h.0.progress _ (loader_asked h.0 (sym (ap (has_progress waits_for_load) h.1) ∙ fit))))
+dues_happens w new (WorldEvent.Say call key answer) seen fit h old = subst AllDueAt (sym h.3) (dues_insert w.config w.parts key _ old (due_answer w.config h.0.reservation.first h.0.progress _ (loader_asked h.0 (sym (ap (has_progress waits_for_load) h.1) ∙ (and_parts (is_load_given answer) _ fit).1))))
+dues_happens w new (WorldEvent.Process call key source calls fail) seen fit h old =
     let r = h.0.reservation in
-    subst AllDueAt (sym h.3) (dues_insert w.config w.parts key _ old (due_run w.config r (run_result r (load_from source (entry_at w.store key)) calls fail)))
-dues_happens w new (WorldEvent.Change call key) seen h old =
-    subst AllDueAt (sym h.5) (dues_insert w.config w.parts key _ old (due_change w.config h.0.reservation h.0.progress (due_of w call key h.0 h.2 old)))
-dues_happens w new (WorldEvent.Report call left fault) seen h old =
+    subst AllDueAt (sym h.3) (dues_insert w.config w.parts key _ old (due_run w.config r.first (run_result r (load_from source (entry_at w.store key)) calls fail)))
+dues_happens w new (WorldEvent.Change call key) seen fit h old =
+    subst AllDueAt (sym h.5) (dues_insert w.config w.parts key _ old (due_change w.config h.0.reservation.first h.0.progress (due_of w call key h.0 h.2 old)))
+dues_happens w new (WorldEvent.Report call left fault) seen fit h old =
     let answer = report_for h.0.kind left fault in
     subst AllDueAt (sym h.3) (each_report AllDueAt call answer (λ v key part at waits o. dues_reported v call key part (answer key) at o) (with_met_by w call (option_map WriterFailed fault)) (keys_reported (reported_keys w.parts call (open_keys h.0))) old)
-dues_happens w new (WorldEvent.Call call session command) seen h old = subst AllDueAt (sym h.1) old
-dues_happens w new (WorldEvent.Leave call) seen h old = subst AllDueAt (sym h.1) old
-dues_happens w new (WorldEvent.Foreign key value) seen h old = subst AllDueAt (sym h.1) old
-dues_happens w new e seen h old = let k = key_change w new e seen refl h in dues_key w new e k.0 seen k.1 old
+dues_happens w new (WorldEvent.Call call session command) seen fit h old = subst AllDueAt (sym h.1) old
+dues_happens w new (WorldEvent.Leave call) seen fit h old = subst AllDueAt (sym h.1) old
+dues_happens w new (WorldEvent.Foreign key value) seen fit h old = subst AllDueAt (sym h.1) old
+dues_happens w new e seen fit h old = let k = key_change w new e seen refl h in dues_key w new e k.0 seen k.1 old

@@ -1,5 +1,5 @@
 -- What is known of a held key whose event fits.
-use Rattle.jc_world.proofs.Common.{◌≡◌, ℕ, Bool, true, false, cond, not, ◌&&◌, IsSomeAnd, ◌==◌, Some, None, Option, sym, refl, ap, ◌∙◌, get, Bytes, is_write_given, is_key, Part, PartProgress, Loading, Processing, Writing, WorldEvent, op_at, fits, IsHeld, IsCallOf, IsOwned, IsSoundWorld, WorldState, home, stripe_for, open_call, of_call, part_of, has_progress, is_answered, is_unasked, is_untouched}
+use Rattle.jc_world.proofs.Common.{◌≡◌, ℕ, Bool, true, false, cond, not, IsSomeAnd, ◌==◌, Some, None, Option, sym, refl, ap, ◌∙◌, get, Bytes, and_parts, is_key, Part, WorldEvent, op_at, fits, IsHeld, IsCallOf, IsOwned, IsSoundWorld, WorldState, home, stripe_for, open_call, of_call, part_of, has_progress, is_answered, is_unanswered, is_untouched}
 use Rattle.jc_world.proofs.Lemmas.{fact_found, some_of}
 
 pub is_part : (o : Option Part) (call : ℕ) (part : Part) → of_call call o ≡ Some part → o ≡ Some part
@@ -14,17 +14,6 @@ of_key test o call none h = go (of_call call o) refl h
     go : (is : Option Part) → of_call call o ≡ is → test is ≡ true → (part : Part) × (of_call call o ≡ Some part) × (o ≡ Some part) × (test o ≡ true)
     go None e h = absurd (none h)
     go (Some part) e h = let there = is_part o call part e in (part, e, there, ap test there ∙ h)
-
--- of what is untouched nobody was asked
-untouched_open : (p : PartProgress) → is_untouched p ≡ true → is_unasked p ≡ true
-untouched_open (Loading answer) h = h
-untouched_open Processing h = refl
-untouched_open (Writing is_changed report) h = not_given is_changed (is_write_given report) h
-  where
-    not_given : (c b : Bool) → (not c && not b) ≡ true → not b ≡ true
-    not_given true b h = cc
-    not_given false b h = h
-untouched_open p h = cc
 
 -- a call whose commit fits has its key, and so what is held of that is its part
 pub fits_commit : (v w : WorldState) (call : ℕ) (key : Bytes) → v ≡ w → fits w (WorldEvent.Commit call key) ≡ true → (part : Part) × (part_of v call key ≡ Some part) × (get v.parts key ≡ Some part) × (has_progress is_answered (get v.parts key) ≡ true)
@@ -41,10 +30,10 @@ pub fits_withdrawal : (v w : WorldState) (call : ℕ) (key : Bytes) → v ≡ w 
 fits_withdrawal v w call key same fit =
     of_key (has_progress is_untouched) (get v.parts key) call (λ h. cc) (rw same fit)
 
-pub may_withdraw : (v w : WorldState) (call : ℕ) (key : Bytes) (part : Part) → v ≡ w → fits w (WorldEvent.Withdraw call key) ≡ true → get v.parts key ≡ Some part → (part_of v call key ≡ Some part) × (has_progress is_unasked (Some part) ≡ true)
+pub may_withdraw : (v w : WorldState) (call : ℕ) (key : Bytes) (part : Part) → v ≡ w → fits w (WorldEvent.Withdraw call key) ≡ true → get v.parts key ≡ Some part → (part_of v call key ≡ Some part) × (is_unanswered part.progress.out ≡ true)
 may_withdraw v w call key part same fit there =
     let one = fits_withdrawal v w call key same fit in
-    (one.1 ∙ sym one.2 ∙ there, untouched_open part.progress (ap (has_progress is_untouched) (sym there) ∙ one.3))
+    (one.1 ∙ sym one.2 ∙ there, (and_parts (is_unanswered part.progress.out) (not part.progress.is_changed) (ap (has_progress is_untouched) (sym there) ∙ one.3)).0)
 
 -- the call of a held key is under way, with its operation open at that key: its reservation says so
 pub call_on : (w : WorldState) (key : Bytes) (part : Part) → get w.parts key ≡ Some part → IsSoundWorld w → IsSomeAnd (open_call w part.reservation.caller.call) (λ u. op_at u key ≡ Some part.reservation.op)

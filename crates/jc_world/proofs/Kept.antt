@@ -1,6 +1,8 @@
 -- Each event keeps what the parts and the store of a world say.
-use Rattle.jc_world.proofs.Common.{◌≡◌, ℕ, Bool, true, false, cond, ◌&&◌, List, [], ◌∷◌, ◌++◌, is_some, is_none, IsSomeAnd, slice_get, slice_set, Some, None, Option, find, sym, refl, ap, ◌∙◌, subst, and_parts, and_from, nat_list_cmp_total, beq, texts_ties, get, insert, remove, get-insert, get-remove, eq_by_cmp, Caller, Config, same_key, get-with_entry, Bytes, Cache, entry_at, with_entry, key_cmp, nothing_said, write_only, found_in, holds, write_ask, is_write_given, entry_after, Change, Event, LoadAnswer, Op, ProcessAnswer, WriteAnswer, EntryCall, callers_of, ProcessResult, Claim, claim_of, Played, asks_invoking, change_due, Steps, Begins, after_commit, Commits, Withdraws, AllAsk, first_asked, State, is_key, is_reserved, without_key, IsOut, asks_processor, Begun, StepDone, First, Loader, Writer, Reservation, Command, Part, Premises, PartProgress, Loading, Processed, Processing, Writing, WritingEffect, Shown, WorldEvent, CallState, new_call, has_number, op_at, opened, settle, drop_call, Coherent, all_hold, with_stripe, with_phase, step_of, fault_in, without_call, new_part, with_part, without_part, after_answer, with_change, after_change, with_report, after_report, run_result, progress_after, after_process, may_leave, fits, changed_to, is_true_load, is_done, is_true_report, with_foreign_write, premises_hold, is_of_asked, is_due_in, IsHeld, Agrees, IsWrittenFor, LoadAgrees, ProgressAgrees, KeyAgrees, IsSoundWorld, Parts, join_key, Joins, WorldState, home, stripe_for, entry_in, cached_entry, open_call, part_of, has_progress, waits_for_load, waits_for_process, waits_for_report, is_answered, is_untouched, has_changed, writer_change_in, writer_change, out_in, out_of, with_stored}
-use Rattle.jc_world.proofs.Lemmas.{denied, missing, HasParts, is_some_and, picking, at_stripe, stripe_put, home_stripe, split, tied, agrees_stepped, writes, loads_asked, writes_asked, loads, asks_nobody, found_more, out_reserved, new_out, found_left, invoke_is, write_due, agrees_processed, agrees_effect, KeyChange, by_nothing, by_refusal, by_step, by_reservation, by_join, by_commit, by_withdrawal, by_answer, by_retry, some_of}
+use Rattle.jc_world.proofs.Asked.{asked_answer, asked_change, asked_report, asked_run, unwritten_load, unwritten_run}
+use Rattle.jc_world.proofs.Processors.{WrittenFor, run_given}
+use Rattle.jc_world.proofs.Common.{Invoke, not, not-true, effect_change, is_unanswered, with_loaded, FitsAsked, IsDueIn, ChangeAgrees, WriteAgrees, Nobody, Processor, ◌≡◌, ℕ, Bool, true, false, cond, ◌&&◌, List, [], ◌∷◌, ◌++◌, is_some, is_none, IsSomeAnd, slice_get, slice_set, Some, None, Option, find, sym, refl, ap, ◌∙◌, subst, and_parts, and_from, nat_list_cmp_total, beq, texts_ties, get, insert, remove, get-insert, get-remove, eq_by_cmp, Caller, Config, same_key, get-with_entry, Bytes, Cache, entry_at, with_entry, key_cmp, nothing_said, write_only, found_in, holds, write_ask, is_write_given, entry_after, Change, Event, LoadAnswer, Op, ProcessAnswer, WriteAnswer, EntryCall, callers_of, ProcessResult, Claim, asks_invoking, change_due, Steps, Begins, after_commit, Commits, Withdraws, AllAsk, first_asked, State, is_key, is_reserved, without_key, IsOut, asks_processor, Begun, StepDone, First, Loader, Writer, Reservation, Command, Part, Premises, PartProgress, Shown, WorldEvent, CallState, new_call, has_number, op_at, opened, settle, drop_call, Coherent, all_hold, with_stripe, with_phase, step_of, fault_in, without_call, new_part, with_part, without_part, after_answer, with_change, after_change, with_report, after_report, run_result, progress_after, after_process, may_leave, fits, changed_to, is_true_load, is_done, is_true_report, with_foreign_write, premises_hold, IsHeld, Agrees, LoadAgrees, ProgressAgrees, KeyAgrees, IsSoundWorld, Parts, join_key, Joins, WorldState, home, stripe_for, entry_in, cached_entry, open_call, part_of, has_progress, waits_for_load, waits_for_process, waits_for_report, is_answered, is_untouched, has_changed, writer_change, out_of, with_stored}
+use Rattle.jc_world.proofs.Lemmas.{denied, missing, HasParts, is_some_and, picking, at_stripe, stripe_put, home_stripe, split, tied, agrees_stepped, writes, loads_asked, writes_asked, loads, asks_nobody, found_more, out_reserved, new_out, found_left, invoke_is, agrees_processed, agrees_effect, KeyChange, by_nothing, by_refusal, by_step, by_reservation, by_join, by_commit, by_withdrawal, by_answer, by_retry, some_of}
 use Rattle.jc_world.proofs.Holding.{call_on, is_part}
 use Rattle.jc_world.proofs.Maps.{keys_ordered, each_put}
 
@@ -74,13 +76,11 @@ same_test a b h = refl
 -- what a key's part, its entry and the store say, if the entry is changed
 told_on : (o : Option Part) (stored entry next : Option Bytes) → (Agrees entry stored → Agrees next stored) → KeyAgrees o stored entry → KeyAgrees o stored next
 told_on None stored entry next f h = f h
-told_on (Some part) stored entry next f h = go part.progress h
+told_on (Some part) stored entry next f h = go part.progress.change h
   where
-    go : (p : PartProgress) → ProgressAgrees p part.reservation.first stored entry → ProgressAgrees p part.reservation.first stored next
-    go (Loading answer) h = record { loaded = h.loaded; unwritten = f h.unwritten }
-    go Processing h = f h
-    go (Processed loaded process) h = record { loaded = h.loaded; unwritten = f h.unwritten }
-    go p h = record { written = h.written; unwritten = λ e. f (h.unwritten e); honest = h.honest }
+    go : (c : Option Change) → ChangeAgrees c part.progress stored entry → ChangeAgrees c part.progress stored next
+    go None h = record { loaded = h.loaded; unwritten = f h.unwritten }
+    go (Some change) h = record { written = h.written; unwritten = λ e. f (h.unwritten e); honest = h.honest }
 
 -- nothing cached and no part say nothing
 told_none : (o : Option Part) (stored entry : Option Bytes) → o ≡ None → entry ≡ None → KeyAgrees o stored entry
@@ -88,15 +88,16 @@ told_none None stored None h k = tt
 told_none o stored entry h k = cc
 
 -- what is known of a key with this part
-told_at : (o : Option Part) (part : Part) (stored entry : Option Bytes) → o ≡ Some part → KeyAgrees o stored entry → ProgressAgrees part.progress part.reservation.first stored entry
+told_at : (o : Option Part) (part : Part) (stored entry : Option Bytes) → o ≡ Some part → KeyAgrees o stored entry → ProgressAgrees part.progress stored entry
 told_at o part stored entry e h = let P : Option Part → Type 0 = λ o. KeyAgrees o stored entry in subst P e h
 
 -- as long as the writer hasn't changed the store, the entry agrees with it
-unwritten_in : (p : PartProgress) (first : First) (stored entry : Option Bytes) → has_changed p ≡ false → ProgressAgrees p first stored entry → Agrees entry stored
-unwritten_in (Writing is_changed report) first stored entry e h = h.unwritten e
-unwritten_in Processing first stored entry e h = h
-unwritten_in (WritingEffect loaded process is_changed report) first stored entry e h = h.unwritten e
-unwritten_in p first stored entry e h = h.unwritten
+unwritten_in : (p : PartProgress) (stored entry : Option Bytes) → p.is_changed ≡ false → ProgressAgrees p stored entry → Agrees entry stored
+unwritten_in p stored entry e h = go p.change h
+  where
+    go : (c : Option Change) → ChangeAgrees c p stored entry → Agrees entry stored
+    go None h = h.unwritten
+    go (Some change) h = h.unwritten e
 
 -- 2. What is known of a sound world.
 
@@ -141,70 +142,57 @@ held_insert : (w : WorldState) (parts : Parts) (key : Bytes) (new : Part) → Al
 held_insert w parts key new all one = each_put keys_ordered (λ q part. HeldIn (stripe_for w q) q part) parts key new one all
 
 -- what is known of a further part, and of all the others
-told_insert : (w : WorldState) (parts : Parts) (store : Cache) (key : Bytes) (new : Part) → AllTold w parts store → ProgressAgrees new.progress new.reservation.first (entry_at store key) (cached_entry w key) → AllTold w (insert parts key new) store
+told_insert : (w : WorldState) (parts : Parts) (store : Cache) (key : Bytes) (new : Part) → AllTold w parts store → ProgressAgrees new.progress (entry_at store key) (cached_entry w key) → AllTold w (insert parts key new) store
 told_insert w parts store key new all one q =
     rw (get-insert nat_list_cmp_total parts key new q)
     (split q key (λ b. KeyAgrees (cond b (Some new) (get parts q)) (entry_at store q) (cached_entry w q))
-    (λ same. let Q : Bytes → Type 0 = λ k. ProgressAgrees new.progress new.reservation.first (entry_at store k) (cached_entry w k) in subst Q (sym same) one)
+    (λ same. let Q : Bytes → Type 0 = λ k. ProgressAgrees new.progress (entry_at store k) (cached_entry w k) in subst Q (sym same) one)
     (λ apart. all q))
 
 -- 4. Answers, changes and reports.
 
--- an answer that was due is of whom was asked, and so is a report
-load_asked_of : (p : PartProgress) (first : First) (answer : LoadAnswer) → waits_for_load p ≡ true → is_of_asked p first ≡ true → is_of_asked (Loading answer) first ≡ true
-load_asked_of (Loading was) first answer due h = h
-load_asked_of p first answer due h = cc
-
-run_asked_of : (p : PartProgress) (first : First) (change : Option Change) (done : ProcessResult Claim) → waits_for_process p ≡ true → is_of_asked p first ≡ true → is_of_asked (progress_after change done) first ≡ true
-run_asked_of Processing first None done due h = h
-run_asked_of Processing first (Some change) done due h = h
-run_asked_of p first change done due h = cc
-
-change_asked_of : (p : PartProgress) (first : First) → is_of_asked p first ≡ true → is_of_asked (with_change p) first ≡ true
-change_asked_of (Loading answer) first h = h
-change_asked_of p first h = h
-
-report_asked_of : (p : PartProgress) (first : First) (report : WriteAnswer) → is_of_asked p first ≡ true → is_of_asked (with_report p report) first ≡ true
-report_asked_of (Loading answer) first report h = h
-report_asked_of p first report h = h
-
 -- what is known once the loader has answered
-told_load : (p : PartProgress) (first : First) (answer : LoadAnswer) (stored entry : Option Bytes) → waits_for_load p ≡ true → Agrees (found_in answer) stored → ProgressAgrees p first stored entry → LoadAgrees answer stored entry
-told_load (Loading was) first answer stored entry due found h = record { loaded = found; unwritten = h.unwritten }
-told_load p first answer stored entry due found h = cc
+told_load : (p : PartProgress) (answer : LoadAnswer) (stored entry : Option Bytes) → p.change ≡ None → Agrees (found_in answer) stored → ProgressAgrees p stored entry → ProgressAgrees (with_loaded p answer) stored entry
+told_load p answer stored entry none found h =
+    let was : LoadAgrees p.out.load stored entry = subst (λ c. ChangeAgrees c p stored entry) none h in
+    let new : LoadAgrees answer stored entry = record { loaded = found; unwritten = was.unwritten } in
+    subst (λ c. ChangeAgrees c (with_loaded p answer) stored entry) (sym none) new
 
 -- once the processor has run
-told_run : (p : PartProgress) (first : First) (change : Option Change) (done : ProcessResult Claim) (stored entry : Option Bytes) → waits_for_process p ≡ true → Agrees (found_in done.load) stored → ProgressAgrees p first stored entry
-    → ProgressAgrees (progress_after change done) first stored entry
-told_run Processing first None done stored entry due found h = record { loaded = found; unwritten = h }
-told_run Processing first (Some change) done stored entry due found h = record { written = λ e. absurd (let t : false ≡ true = e in cc); unwritten = λ e. h; honest = λ e. absurd (let t : false ≡ true = e in cc) }
-told_run p first change done stored entry due found h = cc
+told_run : (p : PartProgress) (change : Option Change) (done : ProcessResult Claim) (stored entry : Option Bytes) → p.change ≡ None → Agrees (found_in done.load) stored → ProgressAgrees p stored entry → ProgressAgrees (progress_after change done) stored entry
+told_run p change done stored entry none found h =
+    let was : LoadAgrees p.out.load stored entry = subst (λ c. ChangeAgrees c p stored entry) none h in
+    go change was.unwritten
+  where
+    go : (change : Option Change) → Agrees entry stored → ProgressAgrees (progress_after change done) stored entry
+    go None u = record { loaded = found; unwritten = u }
+    go (Some change) u = record { written = λ e. absurd (let t : false ≡ true = e in cc); unwritten = λ e. u; honest = λ e. absurd (let t : false ≡ true = e in cc) }
 
 -- once the writer has changed the store
-told_change : (p : PartProgress) (first : First) (change : Change) (entry : Option Bytes) → waits_for_report p ≡ true → writer_change_in first p ≡ Some change → ProgressAgrees (with_change p) first (changed_to change) entry
-told_change (Loading answer) first change entry due asks = cc
-told_change (Writing is_changed report) first change entry due asks = record {
-  written = λ e. let W : Option Change → Type 0 = λ o. IsWrittenFor o (changed_to change) in subst W (sym asks) refl;
-  unwritten = λ e. absurd (let t : true ≡ false = e in cc);
-  honest = λ e. absurd (denied _ due e);
-}
-told_change Processing first change entry due asks = cc
-told_change (Processed loaded process) first change entry due asks = cc
-told_change (WritingEffect loaded process is_changed report) first change entry due asks = record {
-  written = λ e. let W : Option Change → Type 0 = λ o. IsWrittenFor o (changed_to change) in subst W (sym asks) refl;
-  unwritten = λ e. absurd (let t : true ≡ false = e in cc);
-  honest = λ e. absurd (denied _ due e);
-}
+told_change : (p : PartProgress) (change : Change) (entry : Option Bytes) → not (is_write_given p.out.write) ≡ true → p.change ≡ Some change → ProgressAgrees (with_change p) (changed_to change) entry
+told_change p change entry due asks =
+    let new : ChangeAgrees (Some change) (with_change p) (changed_to change) entry = record {
+      written = λ e. refl;
+      unwritten = λ e. absurd (let t : true ≡ false = e in cc);
+      honest = λ e. absurd (denied _ due e);
+    } in
+    subst (λ c. ChangeAgrees c (with_change p) (changed_to change) entry) (sym asks) new
 
 -- and once it has returned
-told_report : (p : PartProgress) (first : First) (report : WriteAnswer) (stored entry : Option Bytes) → waits_for_report p ≡ true → is_true_report report (has_changed p) ≡ true → ProgressAgrees p first stored entry → ProgressAgrees (with_report p report) first stored entry
-told_report (Writing is_changed was) first report stored entry due honest h = record { written = h.written; unwritten = h.unwritten; honest = λ e. same_test is_changed (is_done report) honest }
-told_report (WritingEffect loaded process is_changed was) first report stored entry due honest h = record { written = h.written; unwritten = h.unwritten; honest = λ e. same_test is_changed (is_done report) honest }
-told_report p first report stored entry due honest h = cc
+told_report : (p : PartProgress) (report : WriteAnswer) (stored entry : Option Bytes) → is_some p.change ≡ true → is_true_report report p.is_changed ≡ true → ProgressAgrees p stored entry → ProgressAgrees (with_report p report) stored entry
+told_report p report stored entry due honest h = go p.change due h
+  where
+    go : (c : Option Change) → is_some c ≡ true → ChangeAgrees c p stored entry → ChangeAgrees c (with_report p report) stored entry
+    go None due h = cc
+    go (Some change) due h = record { written = h.written; unwritten = h.unwritten; honest = λ e. same_test p.is_changed (is_done report) honest }
+
+-- whom a part's reservation asks first, what was told of it is of
+asked_at : (w : WorldState) (key : Bytes) (part : Part) → get w.parts key ≡ Some part → IsSoundWorld w → FitsAsked part.reservation.first part.progress
+asked_at w key part there old = (some_of (stripe_for w key) (λ s. IsHeld s key part) (old.held key part there)).2.asked
 
 -- a held key stays held: whom it asked stays, and what is then known of all keys holds
 parts_progressed : (w : WorldState) (call : ℕ) (key : Bytes) (part : Part) (p : PartProgress) (store : Cache) (premises : Premises) → part_of w call key ≡ Some part
-    → (is_of_asked part.progress part.reservation.first ≡ true → is_of_asked p part.reservation.first ≡ true)
+    → (FitsAsked part.reservation.first part.progress → FitsAsked part.reservation.first p)
     → (all_hold (record w { premises = premises }) ≡ true → AllTold w (insert w.parts key (record part { progress = p })) store) → IsSoundWorld w
     → HasParts (record w { store = store; parts = insert w.parts key (record part { progress = p }); premises = premises })
 parts_progressed w call key part p store premises is asks told old =
@@ -222,54 +210,54 @@ parts_progressed w call key part p store premises is asks told old =
 pub parts_answered : (w : WorldState) (call : ℕ) (key : Bytes) (part : Part) (answer : LoadAnswer) → part_of w call key ≡ Some part → has_progress waits_for_load (part_of w call key) ≡ true → IsSoundWorld w → HasParts (after_answer w key part answer)
 parts_answered w call key part answer is waits old =
     let there = is_part (get w.parts key) call part is in
-    let due : waits_for_load part.progress ≡ true = sym (ap (has_progress waits_for_load) is) ∙ waits in
-    parts_progressed w call key part (Loading answer) w.store (after_answer w key part answer).premises is (load_asked_of part.progress part.reservation.first answer due)
+    let due : waits_for_load part ≡ true = sym (ap (has_progress waits_for_load) is) ∙ waits in
+    parts_progressed w call key part (with_loaded part.progress answer) w.store (after_answer w key part answer).premises is (asked_answer part.reservation.first part.progress answer (and_parts _ _ due).0)
     (λ h.
     let hold = hold_loader w.config.write_through w.premises.writers w.premises.loaders (is_true_load answer (entry_at w.store key)) w.premises.quiet h in
     let one = told_at (get w.parts key) part (entry_at w.store key) (cached_entry w key) there (old.told hold.0 key) in
-    told_insert w w.parts w.store key (record part { progress = Loading answer }) (old.told hold.0)
-    (told_load part.progress part.reservation.first answer (entry_at w.store key) (cached_entry w key) due (true_found answer _ hold.1) one)) old
+    told_insert w w.parts w.store key (record part { progress = with_loaded part.progress answer }) (old.told hold.0)
+    (told_load part.progress answer (entry_at w.store key) (cached_entry w key) (unwritten_load part.reservation.first part.progress (and_parts _ _ due).0 (asked_at w key part there old)) (true_found answer _ hold.1) one)) old
 
 -- the processor has run
 pub parts_processed : (w : WorldState) (key : Bytes) (call : ℕ) (part : Part) (answer : LoadAnswer) (calls : List EntryCall) (fail : Option ℕ) → part_of w call key ≡ Some part → has_progress waits_for_process (part_of w call key) ≡ true → IsSoundWorld w
     → HasParts (after_process w key part (run_result part.reservation answer calls fail))
 parts_processed w key call part answer calls fail is waits old =
     let there = is_part (get w.parts key) call part is in
-    let due : waits_for_process part.progress ≡ true = sym (ap (has_progress waits_for_process) is) ∙ waits in
+    let due : waits_for_process part ≡ true = sym (ap (has_progress waits_for_process) is) ∙ waits in
     let done = run_result part.reservation answer calls fail in
     let change = change_due w.config done in
-    parts_progressed w call key part (progress_after change done) w.store (after_process w key part done).premises is (run_asked_of part.progress part.reservation.first change done due)
+    parts_progressed w call key part (progress_after change done) w.store (after_process w key part done).premises is (λ h. asked_run part.reservation.first change done (and_parts (asks_processor part.reservation.first) _ due).0 (run_given _ _))
     (λ h.
     let hold = hold_loader w.config.write_through w.premises.writers w.premises.loaders (is_true_load done.load (entry_at w.store key)) w.premises.quiet h in
     let one = told_at (get w.parts key) part (entry_at w.store key) (cached_entry w key) there (old.told hold.0 key) in
     told_insert w w.parts w.store key (record part { progress = progress_after change done }) (old.told hold.0)
-    (told_run part.progress part.reservation.first change done (entry_at w.store key) (cached_entry w key) due (true_found done.load _ hold.1) one)) old
+    (told_run part.progress change done (entry_at w.store key) (cached_entry w key) (unwritten_run part.reservation.first part.progress (and_parts _ _ due).0 (and_parts (asks_processor part.reservation.first) _ due).1 (asked_at w key part there old)) (true_found done.load _ hold.1) one)) old
 
 -- the writer has changed the store
 pub parts_changed : (w : WorldState) (call : ℕ) (key : Bytes) (part : Part) (change : Change) → part_of w call key ≡ Some part → writer_change part ≡ Some change → has_progress waits_for_report (part_of w call key) ≡ true → IsSoundWorld w → HasParts (after_change w key part change)
 parts_changed w call key part change is asks waits old =
     let new : Part = record part { progress = with_change part.progress } in
     let store = (after_change w key part change).store in
-    let due : waits_for_report part.progress ≡ true = sym (ap (has_progress waits_for_report) is) ∙ waits in
-    parts_progressed w call key part new.progress store w.premises is (change_asked_of part.progress part.reservation.first)
+    let due : waits_for_report part ≡ true = sym (ap (has_progress waits_for_report) is) ∙ waits in
+    parts_progressed w call key part new.progress store w.premises is (asked_change part.reservation.first part.progress)
     (λ h q.
     rw (get-insert nat_list_cmp_total w.parts key new q)
     (rw (get-with_entry w.store key (changed_to change) q)
     (split q key (λ b. KeyAgrees (cond b (Some new) (get w.parts q)) (cond b (changed_to change) (entry_at w.store q)) (cached_entry w q))
-    (λ same. told_change part.progress part.reservation.first change (cached_entry w q) due asks)
+    (λ same. told_change part.progress change (cached_entry w q) (and_parts (is_some part.progress.change) _ due).1 asks)
     (λ apart. old.told h q)))) old
 
 -- the writer has returned
 pub parts_reported : (w : WorldState) (call : ℕ) (key : Bytes) (part : Part) (report : WriteAnswer) → part_of w call key ≡ Some part → has_progress waits_for_report (part_of w call key) ≡ true → IsSoundWorld w → HasParts (after_report w key part report)
 parts_reported w call key part report is waits old =
     let there = is_part (get w.parts key) call part is in
-    let due : waits_for_report part.progress ≡ true = sym (ap (has_progress waits_for_report) is) ∙ waits in
-    parts_progressed w call key part (with_report part.progress report) w.store (after_report w key part report).premises is (report_asked_of part.progress part.reservation.first report)
+    let due : waits_for_report part ≡ true = sym (ap (has_progress waits_for_report) is) ∙ waits in
+    parts_progressed w call key part (with_report part.progress report) w.store (after_report w key part report).premises is (asked_report part.reservation.first part.progress report (and_parts (is_some part.progress.change) _ due).0)
     (λ h.
-    let hold = hold_writer w.config.write_through w.premises.writers (is_true_report report (has_changed part.progress)) w.premises.loaders w.premises.quiet h in
+    let hold = hold_writer w.config.write_through w.premises.writers (is_true_report report (has_changed part)) w.premises.loaders w.premises.quiet h in
     let one = told_at (get w.parts key) part (entry_at w.store key) (cached_entry w key) there (old.told hold.0 key) in
     told_insert w w.parts w.store key (record part { progress = with_report part.progress report }) (old.told hold.0)
-    (told_report part.progress part.reservation.first report (entry_at w.store key) (cached_entry w key) due hold.1 one)) old
+    (told_report part.progress report (entry_at w.store key) (cached_entry w key) (and_parts (is_some part.progress.change) _ due).0 hold.1 one)) old
 
 -- somebody else has written the store
 pub parts_disturbed : (w : WorldState) (store : Cache) → IsSoundWorld w → HasParts (record w { store = store; premises = with_foreign_write w.premises; is_fresh = false })
@@ -371,7 +359,7 @@ held_reserving from next r q p reservations h =
 -- so there is one part more
 parts_reserving : (w : WorldState) (key : Bytes) (from next : State) (r : Reservation) (part : Part) → stripe_for w key ≡ Some from → is_reserved from key ≡ false
     → next.reservations ≡ from.reservations ++ r ∷ [] → next.cache ≡ from.cache → IsHeld next key part
-    → ((stored entry : Option Bytes) → Agrees entry stored → ProgressAgrees part.progress part.reservation.first stored entry) → (w.is_fresh ≡ true → ⊥) → IsSoundWorld w
+    → ((stored entry : Option Bytes) → Agrees entry stored → ProgressAgrees part.progress stored entry) → (w.is_fresh ≡ true → ⊥) → IsSoundWorld w
     → HasParts (with_part (with_stripe w key next) key part)
 parts_reserving w key from next r part at free reservations cache one new used old =
     let n = with_part (with_stripe w key next) key part in
@@ -387,7 +375,7 @@ parts_reserving w key from next r part at free reservations cache one new used o
     }
 
 -- a reservation is made of a key that was free: its part has it
-held_new : (key : Bytes) (from next : State) (p : PartProgress) (r : Reservation) → is_reserved from key ≡ false → r.key ≡ key → next.reservations ≡ from.reservations ++ r ∷ [] → is_of_asked p r.first ≡ true
+held_new : (key : Bytes) (from next : State) (p : PartProgress) (r : Reservation) → is_reserved from key ≡ false → r.key ≡ key → next.reservations ≡ from.reservations ++ r ∷ [] → FitsAsked r.first p
     → IsHeld next key (new_part p r)
 held_new key from next p r free key_is reservations asked =
     record { key_is = key_is; out = rw reservations (new_out from r (ap (is_reserved from) key_is ∙ free)); asked = asked }
@@ -412,21 +400,34 @@ agrees_written op entry stored change (WriteAnswer.Failed code) was asked given 
 agrees_written op entry stored change WriteAnswer.Done was asked given written unwritten honest =
     subst (λ o. Agrees o stored) (written (sym honest) ∙ sym (writes op entry change asked)) (agrees_same stored)
 
+-- of a writer that was asked and isn't waited for the report is there
+was_given : (c : Option Change) (given : Bool) → is_some c ≡ true → (is_some c && not given) ≡ false → given ≡ true
+was_given None given asked over = cc
+was_given (Some change) true asked over = refl
+was_given (Some change) false asked over = let t : true ≡ false = over in cc
+
 -- what a commit leaves agrees with the store: a reservation still asks what it asked
-agrees_ended : (config : Config) (r : Reservation) (p : PartProgress) (op : Op) (first : First) (entry stored : Option Bytes) → first_asked config op entry ≡ first → is_of_asked p first ≡ true → is_answered p ≡ true → config.write_through ≡ true → is_due_in config r p ≡ true
-    → ProgressAgrees p first stored entry → Agrees (entry_after op entry (out_in p)) stored
-agrees_ended config r (Loading answer) op Loader entry stored asks asked over on due h = loads op entry answer stored (loads_asked config op entry asks) h.unwritten h.loaded
-agrees_ended config r (Writing is_changed report) op (Writer change) entry stored asks asked over on due h =
-    agrees_written op entry stored change report is_changed (writes_asked config op entry change asks) over h.written h.unwritten (h.honest over)
-agrees_ended config r (Processed loaded process) op first entry stored asks asked over on due h =
-    let done : ProcessResult Claim = record { ask = claim_of r; origin = Played; load = loaded; process = process } in
-    rw (invoke_is op (asks_invoking config op entry (ap asks_processor asks ∙ asked)))
-    (agrees_processed loaded process entry stored (ap is_none (sym (write_due config done on)) ∙ due) h)
-agrees_ended config r (WritingEffect loaded process is_changed report) op first entry stored asks asked over on due h =
-    let done : ProcessResult Claim = record { ask = claim_of r; origin = Played; load = loaded; process = process } in
-    rw (invoke_is op (asks_invoking config op entry (ap asks_processor asks ∙ asked)))
-    (agrees_effect loaded process is_changed report entry stored (ap is_some (sym (write_due config done on)) ∙ due) over h)
-agrees_ended config r p op first entry stored asks asked over on due h = cc
+agrees_ended : (config : Config) (p : PartProgress) (op : Op) (first : First) (entry stored : Option Bytes) → first_asked config op entry ≡ first → FitsAsked first p → (is_some p.change && not (is_write_given p.out.write)) ≡ false → config.write_through ≡ true → IsDueIn config first p
+    → ProgressAgrees p stored entry → Agrees (entry_after op entry p.out) stored
+agrees_ended config p op Nobody entry stored asks fits over on due h = absurd fits
+agrees_ended config p op Loader entry stored asks fits over on due h =
+    let now : LoadAgrees p.out.load stored entry = subst (λ c. ChangeAgrees c p stored entry) fits.0 h in
+    subst (λ o. Agrees (entry_after op entry o) stored) (sym fits.1) (loads op entry p.out.load stored (loads_asked config op entry asks) now.unwritten now.loaded)
+agrees_ended config p op (Writer change) entry stored asks fits over on due h =
+    let now : WriteAgrees change p.is_changed p.out.write stored entry = subst (λ c. ChangeAgrees c p stored entry) fits.0 h in
+    let given = was_given p.change (is_write_given p.out.write) (ap is_some fits.0) over in
+    subst (λ o. Agrees (entry_after op entry o) stored) (sym fits.1) (agrees_written op entry stored change p.out.write p.is_changed (writes_asked config op entry change asks) given now.written now.unwritten (now.honest given))
+agrees_ended config p op (Processor seen may_load) entry stored asks fits over on due h =
+    let effect : p.change ≡ effect_change p.out.load p.out.process = due ∙ ap (λ b. cond b (effect_change p.out.load p.out.process) None) on in
+    rw (invoke_is op (asks_invoking config op entry (ap asks_processor asks))) (go p.change refl effect h)
+  where
+    go : (c : Option Change) → p.change ≡ c → p.change ≡ effect_change p.out.load p.out.process → ChangeAgrees c p stored entry → Agrees (entry_after Invoke entry p.out) stored
+    go None e effect h =
+        let P : WriteAnswer → Type 0 = λ r. Agrees (entry_after Invoke entry (record { load = p.out.load; write = r; process = p.out.process })) stored in
+        subst P (sym (fits.0 e)) (agrees_processed p.out.load p.out.process entry stored (ap is_none (sym effect ∙ e)) h)
+    go (Some change) e effect h =
+        let is = sym effect ∙ e in
+        agrees_effect p.out.load p.out.process p.is_changed p.out.write entry stored (ap is_some is) (was_given p.change (is_write_given p.out.write) (ap is_some e) over) (λ t. subst (λ o. WrittenFor o stored) (sym is) (h.written t)) h.unwritten h.honest
 
 -- the reservation that is found asks what it asked
 asks_found : (config : Config) (cache : Cache) (key : Bytes) (rs : List Reservation) (r : Reservation) → find (is_key key) rs ≡ Some r → AllAsk config cache rs → first_asked config r.op (entry_at cache r.key) ≡ r.first
@@ -495,13 +496,14 @@ parts_committed w call key part from next order calls done is answered at commit
           (λ same.
           let B : Bytes → Type 0 = λ k. Agrees (cached_entry n k) (entry_at w.store k) in
           let S : Option State → Type 0 = λ o. Agrees (entry_in o key) (entry_at w.store key) in
-          let T : Option State → Type 0 = λ o. ProgressAgrees part.progress part.reservation.first (entry_at w.store key) (entry_in o key) in
+          let T : Option State → Type 0 = λ o. ProgressAgrees part.progress (entry_at w.store key) (entry_in o key) in
           let told = subst T at (told_at (get w.parts key) part (entry_at w.store key) (cached_entry w key) there (all key)) in
           let asks = ap (λ k. first_asked from.config r.op (entry_at from.cache k)) (sym one.key_is) ∙ asks_found from.config from.cache r.key from.reservations r one.out reached.asks in
           let same_config = config_at w (home w key) from at old in
           let on : from.config.write_through ≡ true = ap (λ (c : Config). c.write_through) same_config ∙ (and_parts w.config.write_through (premises_hold w.premises) hold).0 in
-          let due : is_due_in from.config r part.progress ≡ true = ap (λ (c : Config). is_due_in c r part.progress) same_config ∙ old.due key part there in
-          let leaves = agrees_ended from.config r part.progress r.op r.first (entry_at from.cache key) (entry_at w.store key) asks one.asked (sym (ap (has_progress is_answered) is) ∙ answered) on due told in
+          let due : IsDueIn from.config r.first part.progress = subst (λ (c : Config). IsDueIn c r.first part.progress) (sym same_config) (old.due key part there) in
+          let over = not-true (waits_for_report part) (and_parts (not (waits_for_load part) && not (waits_for_process part)) (not (waits_for_report part)) (sym (ap (has_progress is_answered) is) ∙ answered)).1 in
+          let leaves = agrees_ended from.config part.progress r.op r.first (entry_at from.cache key) (entry_at w.store key) asks one.asked over on due told in
           subst B (sym same) (subst S (sym (stripe_put w.stripes (home w key) from next at)) (agrees_own key part from next done (entry_at w.store key) steps leaves)))
           (λ apart.
           told_set w key from next q at (told_on (get w.parts q) (entry_at w.store q) (entry_at from.cache q) (entry_at next.cache q) (agrees_other key part from next done q (entry_at w.store q) steps apart)) (all q)));
@@ -512,10 +514,8 @@ parts_committed w call key part from next order calls done is answered at commit
 -- 8. A reservation is given back, a call leaves, and an answer is picked up.
 
 -- of what is untouched the store is as it was
-unchanged : (p : PartProgress) → is_untouched p ≡ true → has_changed p ≡ false
-unchanged (Writing true report) h = cc
-unchanged (WritingEffect loaded process is_changed report) h = cc
-unchanged p h = refl
+unchanged : (part : Part) → is_untouched part ≡ true → part.progress.is_changed ≡ false
+unchanged part h = not-true part.progress.is_changed (and_parts (is_unanswered part.progress.out) (not part.progress.is_changed) h).1
 
 -- a reservation is given back, and with it its part
 pub parts_withdrawn : (w : WorldState) (call : ℕ) (key : Bytes) (part : Part) (from next : State) → has_progress is_untouched (part_of w call key) ≡ true → part_of w call key ≡ Some part → stripe_for w key ≡ Some from
@@ -536,7 +536,7 @@ parts_withdrawn w call key part from next fit is at withdraws old =
           (rw (same q)
           (split q key (λ b. KeyAgrees (cond b None (get w.parts q)) (entry_at w.store q) (cached_entry w q))
           (λ e.
-          unwritten_in part.progress part.reservation.first (entry_at w.store q) (cached_entry w q) (unchanged part.progress (sym (ap (has_progress is_untouched) is) ∙ fit)) (rw (ap (get w.parts) e ∙ there) at (old.told hold q)))
+          unwritten_in part.progress (entry_at w.store q) (cached_entry w q) (unchanged part (sym (ap (has_progress is_untouched) is) ∙ fit)) (rw (ap (get w.parts) e ∙ there) at (old.told hold q)))
           (λ apart. old.told hold q)));
       cold = λ f. absurd (worn w key part there old f);
       idle = λ f. absurd (worn w key part there old f);
@@ -585,7 +585,7 @@ parts_key w new e key seen (by_retry call join from to e_is join_is there h is s
 -- a key that no writer has changed agrees with the store
 key_coherent : (o : Option Part) (stored entry : Option Bytes) → KeyAgrees o stored entry → has_progress has_changed o ≡ false → Agrees entry stored
 key_coherent None stored entry h unchanged = h
-key_coherent (Some part) stored entry h unchanged = unwritten_in part.progress part.reservation.first stored entry unchanged h
+key_coherent (Some part) stored entry h unchanged = unwritten_in part.progress stored entry unchanged h
 
 -- the second half of the headline, for one world
 pub coherent : (w : WorldState) → IsSoundWorld w → all_hold w ≡ true → Coherent w

@@ -7,7 +7,8 @@
 --     change_of                 each event that fits makes one of these changes
 --     IsStart, may_of           it is the start of a call at a key; in a sound world the call may start there
 --     Move                      the same, as far as configuration, stripes and order go
-use Rattle.jc_world.proofs.Common.{◌≡◌, ℕ, Bool, true, false, ◌++◌, slice_set, Some, Option, sym, refl, ap, ◌∙◌, inl, inr, Caller, Config, Refusal, Bytes, is_load_given, Op, Begins, Commits, Withdraws, PicksUp, reserves, State, is_reserved, new_reservation, with_reservation, TicketClaim, JoinClaim, Begun, Picked, First, Loader, Nobody, Processor, Writer, Reservation, Outcome, Part, JoinAnswer, PartProgress, Shown, Stepped, WorldEvent, CallState, new_call, op_at, with_stripe, with_phase, step_of, not_over, shown_begun, fault_in, with_settled, new_progress, with_new_part, without_part, with_join, without_join, ReservesAs, Starts, Ends, Picks, Happens, Step, fits, ends_load, is_answer_at, is_of_asked, is_due_in, Agrees, ProgressAgrees, IsSoundWorld, WorldState, home, stripe_for, open_call, part_of, out_in, out_of, join_of}
+use Rattle.jc_world.proofs.Asked.{asked_new}
+use Rattle.jc_world.proofs.Common.{cond, None, Change, FitsAsked, IsDueIn, ◌≡◌, ℕ, Bool, true, false, ◌++◌, slice_set, Some, Option, sym, refl, ap, ◌∙◌, inl, inr, Caller, Config, Refusal, Bytes, is_load_given, Op, Begins, Commits, Withdraws, PicksUp, State, is_reserved, new_reservation, with_reservation, TicketClaim, JoinClaim, Begun, Picked, First, Loader, Nobody, Processor, Writer, Reservation, Outcome, Part, JoinAnswer, PartProgress, Shown, Stepped, WorldEvent, CallState, new_call, op_at, with_stripe, with_phase, step_of, not_over, shown_begun, fault_in, with_settled, new_progress, with_new_part, without_part, with_join, without_join, ReservesAs, Starts, Ends, Picks, Happens, Step, fits, ends_load, is_answer_at, Agrees, ProgressAgrees, IsSoundWorld, WorldState, home, stripe_for, open_call, part_of, out_of, join_of}
 use Rattle.jc_world.proofs.Beginning.{MayStart, may_start_at}
 use Rattle.jc_world.proofs.Shares.{added}
 use Rattle.jc_world.proofs.NewCalls.{begun_cases}
@@ -31,10 +32,10 @@ pub record Reserves (from : State) (caller : Caller) (key : Bytes) (op : Op) (p 
   pub free : is_reserved from key ≡ false
   pub is : r ≡ new_reservation from caller key op r.first
   pub after : to ≡ with_reservation from r
-  pub asked : is_of_asked p r.first ≡ true
-  pub untold : (stored entry : Option Bytes) → Agrees entry stored → ProgressAgrees p r.first stored entry
-  pub due : (config : Config) → is_due_in config r p ≡ true
-  pub unloaded : is_load_given (out_in p).load ≡ false
+  pub asked : FitsAsked r.first p
+  pub untold : (stored entry : Option Bytes) → Agrees entry stored → ProgressAgrees p stored entry
+  pub due : (config : Config) → IsDueIn config r.first p
+  pub unloaded : is_load_given p.out.load ≡ false
 
 -- an event starts this operation of a call at a key
 pub record IsStart (w : WorldState) (e : WorldEvent) (key : Bytes) (u : CallState) (op : Op) : Type 0 where
@@ -63,29 +64,21 @@ pub data KeyChange (w new : WorldState) (e : WorldEvent) (key : Bytes) (seen : S
       → new ≡ without_join (with_stripe w key to) call key → seen.outcome ≡ Outcome.Again → EndsNone e seen → KeyChange w new e key seen
 
 -- nothing was told yet of a key that was just reserved
-new_asked : (first : First) → reserves first ≡ true → is_of_asked (new_progress first) first ≡ true
-new_asked Nobody due = cc
-new_asked Loader due = refl
-new_asked (Writer change) due = refl
-new_asked (Processor entry may_load) due = refl
+new_untold : (first : First) (stored entry : Option Bytes) → Agrees entry stored → ProgressAgrees (new_progress first) stored entry
+new_untold Nobody stored entry agrees = record { loaded = tt; unwritten = agrees }
+new_untold Loader stored entry agrees = record { loaded = tt; unwritten = agrees }
+new_untold (Writer change) stored entry agrees = record { written = λ e. absurd (let t : false ≡ true = e in cc); unwritten = λ e. agrees; honest = λ e. absurd (let t : false ≡ true = e in cc) }
+new_untold (Processor seen may_load) stored entry agrees = record { loaded = tt; unwritten = agrees }
 
-new_untold : (first : First) (stored entry : Option Bytes) → reserves first ≡ true → Agrees entry stored → ProgressAgrees (new_progress first) first stored entry
-new_untold Nobody stored entry due agrees = cc
-new_untold Loader stored entry due agrees = record { loaded = tt; unwritten = agrees }
-new_untold (Writer change) stored entry due agrees = record { written = λ e. cc; unwritten = λ e. agrees; honest = λ e. cc }
-new_untold (Processor seen may_load) stored entry due agrees = agrees
-
-new_due : (config : Config) (r : Reservation) (first : First) → is_due_in config r (new_progress first) ≡ true
-new_due config r Nobody = refl
-new_due config r Loader = refl
-new_due config r (Writer change) = refl
-new_due config r (Processor entry may_load) = refl
-
-new_unloaded : (first : First) → is_load_given (out_in (new_progress first)).load ≡ false
-new_unloaded Nobody = refl
-new_unloaded Loader = refl
-new_unloaded (Writer change) = refl
-new_unloaded (Processor entry may_load) = refl
+new_due : (config : Config) (first : First) → IsDueIn config first (new_progress first)
+new_due config Nobody = tt
+new_due config Loader = tt
+new_due config (Writer change) = tt
+new_due config (Processor entry may_load) = no_ask config.write_through
+  where
+    no_ask : (on : Bool) → ◌≡◌ {A = Option Change} None (cond on None None)
+    no_ask true = refl
+    no_ask false = refl
 
 -- a key is reserved
 reserved_change : (w new : WorldState) (e : WorldEvent) (u : CallState) (key : Bytes) (op : Op) (from to : State) (o : Outcome) (s : Shown) → AnswersNone s.outcome → EndsNone e s → IsStart w e key u op → stripe_for w key ≡ Some from
@@ -99,10 +92,10 @@ reserved_change w new e u key op from to o s none ends may there h =
       free = was_free from u.caller key op r.first m.0 m.1 m.2 m.3;
       is = ap (λ (t : TicketClaim). t.reservation) m.4;
       after = m.5;
-      asked = new_asked r.first m.3;
-      untold = λ stored entry agrees. new_untold r.first stored entry m.3 agrees;
-      due = λ config. new_due config r r.first;
-      unloaded = new_unloaded r.first;
+      asked = asked_new r.first m.3;
+      untold = λ stored entry agrees. new_untold r.first stored entry agrees;
+      due = λ config. new_due config r.first;
+      unloaded = refl;
     }) h.3 none ends
 
 -- by what is shown of a first phase

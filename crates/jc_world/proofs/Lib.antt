@@ -23,6 +23,7 @@ pub mod Places
 pub mod Entries
 pub mod Reservations
 pub mod Processors
+pub mod Asked
 pub mod Dues
 pub mod Kept
 pub mod KeyChanges

@@ -2,7 +2,8 @@
 --     total          how many steps of a key have an answer of their own, and one more if one is kept
 --     total_step     each event raises that by one if it is an answer for the key, and else leaves it
 --     total_run      so a run raises it by its answers
-use Rattle.jc_world.proofs.Common.{◌≡◌, ℕ, ◌+◌, Bool, true, false, cond, ◌&&◌, List, [], ◌∷◌, ◌++◌, map, length, drop, ◌==◌, Some, None, count_by, Option, option_map, zip, sym, refl, ap, ◌∙◌, inl, inr, arith, drop-append_seam, not-true, and_parts, and_right, nat_list_cmp_total, sum_by-cons, sum_by-append, pointwise, texts_ties, get, insert, remove, get-insert, get-remove, eq_by_cmp, Caller, WriterFailed, Bytes, entry_at, key_cmp, Group, nothing_said, victim_events, evicted_events, step_event, shared_event, step_place, events_of, is_load_given, Cause, Change, Event, LoadAnswer, Op, Out, WriteAnswer, callers_of, ProcessResult, Claim, change_due, new_group, Steps, after_commit, State, StepDone, Outcome, Part, PartProgress, Loading, Processed, Processing, WritingEffect, Shown, WorldEvent, open_keys, step_of, with_met_by, new_part, with_change, with_report, reported_keys, keys_reported, run_result, progress_after, after_process, Happens, Step, Run, fits, IsOpeningWorld, is_answer, is_load, is_loaded, read_answer, load_from, report_for, IsSoundWorld, Parts, WorldState, part_of, has_progress, waits_for_load, waits_for_process, is_untouched, out_in, out_of}
+use Rattle.jc_world.proofs.Asked.{unanswered_load}
+use Rattle.jc_world.proofs.Common.{asks_loader, asks_processor, is_unanswered, with_loaded, ◌≡◌, ℕ, ◌+◌, Bool, true, false, cond, ◌&&◌, List, [], ◌∷◌, ◌++◌, map, length, drop, ◌==◌, Some, None, count_by, Option, option_map, zip, sym, refl, ap, ◌∙◌, inl, inr, arith, drop-append_seam, and_parts, and_right, nat_list_cmp_total, sum_by-cons, sum_by-append, pointwise, texts_ties, get, insert, remove, get-insert, get-remove, eq_by_cmp, Caller, WriterFailed, Bytes, entry_at, key_cmp, Group, nothing_said, victim_events, evicted_events, step_event, shared_event, step_place, events_of, is_load_given, Cause, Event, LoadAnswer, Op, Out, callers_of, ProcessResult, Claim, change_due, new_group, Steps, after_commit, State, StepDone, Outcome, Part, Shown, WorldEvent, open_keys, step_of, with_met_by, new_part, with_change, with_report, reported_keys, keys_reported, run_result, progress_after, after_process, Happens, Step, Run, fits, is_answer, is_load, is_loaded, read_answer, load_from, report_for, IsSoundWorld, Parts, WorldState, part_of, has_progress, waits_for_load, waits_for_process, is_untouched, out_of, IsOpeningWorld}
 use Rattle.jc_world.proofs.Lemmas.{added, part_key, split, KeyChange, by_nothing, by_refusal, by_step, by_reservation, by_join, by_commit, by_withdrawal, by_answer, by_retry, key_change, each_report}
 use Rattle.jc_world.proofs.Kept.{unheld}
 use Rattle.jc_world.proofs.Opened.{no_part}
@@ -88,45 +89,15 @@ loaded_at w key q part there same = ap is_loaded (ap (get w.parts) same ∙ ther
 
 -- a loader that is waited for has given no answer
 no_answer : (o : Option Part) (part : Part) → o ≡ Some part → has_progress waits_for_load o ≡ true → is_load_given (out_of part).load ≡ false
-no_answer o part is waits = go part.progress (sym (ap (has_progress waits_for_load) is) ∙ waits)
-  where
-    go : (p : PartProgress) → waits_for_load p ≡ true → is_load_given (out_in p).load ≡ false
-    go (Loading answer) h = not-true (is_load_given answer) h
-    go (Processed loaded process) h = cc
-    go (WritingEffect loaded process is_changed report) h = cc
-    go p h = refl
+no_answer o part is waits = unanswered_load part.progress.out (and_parts (asks_loader part.reservation.first) _ (sym (ap (has_progress waits_for_load) is) ∙ waits)).1
 
 -- a processor that is waited for has had none
 no_run : (o : Option Part) (part : Part) → o ≡ Some part → has_progress waits_for_process o ≡ true → is_load_given (out_of part).load ≡ false
-no_run o part is waits = go part.progress (sym (ap (has_progress waits_for_process) is) ∙ waits)
-  where
-    go : (p : PartProgress) → waits_for_process p ≡ true → is_load_given (out_in p).load ≡ false
-    go Processing h = refl
-    go p h = cc
+no_run o part is waits = unanswered_load part.progress.out (and_parts (asks_processor part.reservation.first) _ (sym (ap (has_progress waits_for_process) is) ∙ waits)).1
 
 -- what is untouched has none
 no_touch : (o : Option Part) (part : Part) → o ≡ Some part → has_progress is_untouched o ≡ true → is_load_given (out_of part).load ≡ false
-no_touch o part is untouched = go part.progress (sym (ap (has_progress is_untouched) is) ∙ untouched)
-  where
-    go : (p : PartProgress) → is_untouched p ≡ true → is_load_given (out_in p).load ≡ false
-    go (Loading answer) h = not-true (is_load_given answer) h
-    go (Processed loaded process) h = cc
-    go (WritingEffect loaded process is_changed report) h = cc
-    go p h = refl
-
--- what the writer does is no answer of the loader
-change_loads : (p : PartProgress) → is_load_given (out_in (with_change p)).load ≡ is_load_given (out_in p).load
-change_loads (Loading answer) = refl
-change_loads p = refl
-
-report_loads : (p : PartProgress) (report : WriteAnswer) → is_load_given (out_in (with_report p report)).load ≡ is_load_given (out_in p).load
-report_loads (Loading answer) report = refl
-report_loads p report = refl
-
--- what a processor's loader answered is kept
-run_loads : (change : Option Change) (done : ProcessResult Claim) → is_load_given (out_in (progress_after change done)).load ≡ is_load_given done.load
-run_loads None done = refl
-run_loads (Some change) done = refl
+no_touch o part is untouched = unanswered_load part.progress.out (and_parts (is_unanswered part.progress.out) _ (sym (ap (has_progress is_untouched) is) ∙ untouched)).0
 
 -- a loader that reads the store has answered
 read_given : (stored : Option Bytes) → is_load_given (read_answer stored) ≡ true
@@ -137,12 +108,12 @@ read_given (Some value) = refl
 
 -- an answer is kept
 total_answered : (w : WorldState) (call : ℕ) (key q : Bytes) (part : Part) (answer : LoadAnswer) → part_of w call key ≡ Some part → has_progress waits_for_load (part_of w call key) ≡ true → is_load_given answer ≡ true
-    → count_by (is_load q) w.order + one_if (is_loaded (get (insert w.parts key (record part { progress = Loading answer })) q)) ≡ one_if (pointwise ◌==◌ q key) + total w q
+    → count_by (is_load q) w.order + one_if (is_loaded (get (insert w.parts key (record part { progress = with_loaded part.progress answer })) q)) ≡ one_if (pointwise ◌==◌ q key) + total w q
 total_answered w call key q part answer is waits given =
     let there = is_part (get w.parts key) call part is in
     let n = count_by (is_load q) w.order in
-    let P : Bool → Type 0 = λ b. n + one_if (is_loaded (cond b (Some (record part { progress = Loading answer })) (get w.parts q))) ≡ one_if b + (n + one_if (is_loaded (get w.parts q))) in
-    ap (λ o. n + one_if (is_loaded o)) (get-insert nat_list_cmp_total w.parts key (record part { progress = Loading answer }) q)
+    let P : Bool → Type 0 = λ b. n + one_if (is_loaded (cond b (Some (record part { progress = with_loaded part.progress answer })) (get w.parts q))) ≡ one_if b + (n + one_if (is_loaded (get w.parts q))) in
+    ap (λ o. n + one_if (is_loaded o)) (get-insert nat_list_cmp_total w.parts key (record part { progress = with_loaded part.progress answer }) q)
     ∙ split q key P
     (λ same. let was : one_if (is_loaded (get w.parts q)) ≡ 0 = ap one_if (loaded_at w key q part there same ∙ no_answer (part_of w call key) part is waits) in let now : one_if (is_load_given answer) ≡ 1 = ap one_if given in omega arith)
     (λ apart. omega arith)
@@ -162,7 +133,7 @@ total_processed w call key q part done is waits =
     ∙ split q key P
     (λ same.
     let was : one_if (is_loaded (get w.parts q)) ≡ 0 = ap one_if (loaded_at w key q part there same ∙ no_run (part_of w call key) part is waits) in
-    let now : one_if (is_load_given (out_in progress).load) ≡ one_if given = ap one_if (run_loads (change_due w.config done) done) in omega arith)
+    omega arith)
     (λ apart. omega arith)
     ∙ ap (λ b. one_if (b && given) + total w q) (sym (texts_ties q key))
 
@@ -225,7 +196,7 @@ total_happens w new (WorldEvent.Process call key source calls fail) seen q fit h
 total_happens w new (WorldEvent.Change call key) seen q fit h old =
     let there = is_part (get w.parts key) call h.0 h.2 in
     unanswered false (total new q) (total w q) refl
-    (ap (λ (x : WorldState). total x q) h.5 ∙ ap (λ b. count_by (is_load q) w.order + one_if b) (loaded_inserted w.parts key q (record h.0 { progress = with_change h.0.progress }) (λ same. change_loads h.0.progress ∙ sym (loaded_at w key q h.0 there same))))
+    (ap (λ (x : WorldState). total x q) h.5 ∙ ap (λ b. count_by (is_load q) w.order + one_if b) (loaded_inserted w.parts key q (record h.0 { progress = with_change h.0.progress }) (λ same. sym (loaded_at w key q h.0 there same))))
 total_happens w new (WorldEvent.Report call left fault) seen q fit h old =
     unanswered false (total new q) (total w q) refl
     (ap (λ (x : WorldState). total x q) h.3
@@ -233,7 +204,7 @@ total_happens w new (WorldEvent.Report call left fault) seen q fit h old =
     (λ v key part at waits o.
     let there = is_part (get v.parts key) call part at in
     let report = report_for h.0.kind left fault key in
-    ap (λ b. count_by (is_load q) v.order + one_if b) (loaded_inserted v.parts key q (record part { progress = with_report part.progress report }) (λ same. report_loads part.progress report ∙ sym (loaded_at v key q part there same))) ∙ o)
+    ap (λ b. count_by (is_load q) v.order + one_if b) (loaded_inserted v.parts key q (record part { progress = with_report part.progress report }) (λ same. sym (loaded_at v key q part there same))) ∙ o)
     (with_met_by w call (option_map WriterFailed fault)) (keys_reported (reported_keys w.parts call (open_keys h.0))) refl)
 total_happens w new (WorldEvent.Call call session command) seen q fit h old = unanswered false (total new q) (total w q) refl (ap (λ (x : WorldState). total x q) h.1)
 total_happens w new (WorldEvent.Leave call) seen q fit h old = unanswered false (total new q) (total w q) refl (ap (λ (x : WorldState). total x q) h.1)

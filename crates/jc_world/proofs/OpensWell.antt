@@ -1,6 +1,6 @@
 -- The opening of a stripe that runs of phases reach.
 --     opens_well     it is one of its configuration and number
-use Rattle.std.proofs.Common.{◌≡◌, List, [], refl, sym, subst, arith}
+use Rattle.std.proofs.Common.{List, [], refl, sym, subst, arith}
 use Rattle.std.specs.FinMap.{from_entries}
 use Rattle.jc_model.specs.Cache.{Bytes}
 use Rattle.jc_model.specs.Legal.{IsOpening}

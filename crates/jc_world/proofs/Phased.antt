@@ -1,5 +1,5 @@
 -- What the machine of a world does in a first and a last phase is what the definitions say.
-use Rattle.jc_world.proofs.Common.{◌≡◌, ℕ, zero, suc, true, false, cond, ◌&&◌, List, [], ◌∷◌, ◌++◌, length, drop, is_some, IsSomeAnd, slice_get, slice_set, Some, None, Option, sym, refl, ap, ◌∙◌, subst, subst₂, append-nil, and_parts, get, insert, remove, Config, Refusal, Bytes, Event, Op, Played, MayBegin, Commits, Withdraws, PicksUp, reserves, State, IsOut, IsJoined, TicketClaim, JoinClaim, Begun, Picked, StepDone, First, Loader, Nobody, Processor, Writer, Reservation, Outcome, Over, Part, JoinAnswer, PartProgress, Shown, Stepped, WorldEvent, puts_off, CallState, op_at, is_turn, settle, over_settled, step_of, not_over, fault_in, over_by, asks_as, new_progress, new_part, with_new_part, BeginsAs, ReservesAs, Starts, RefusesAs, Happens, is_free, may_start, fits, is_due, IsHeld, IsSoundWorld, OrderedStripes, IsPhase, IsQuietPhase, Parts, join_key, WorldState, home, stripe_for, open_call, part_of, out_of, join_of}
+use Rattle.jc_world.proofs.Common.{◌≡◌, ℕ, zero, suc, true, false, cond, ◌&&◌, List, [], ◌∷◌, ◌++◌, length, drop, is_some, IsSomeAnd, slice_get, slice_set, Some, None, Option, sym, refl, ap, ◌∙◌, subst, subst₂, append-nil, and_parts, get, insert, remove, Config, Refusal, Bytes, Event, Op, Played, MayBegin, Commits, Withdraws, PicksUp, reserves, State, IsOut, IsJoined, TicketClaim, JoinClaim, Begun, Picked, StepDone, First, Loader, Nobody, Processor, Writer, Reservation, Outcome, Over, Part, JoinAnswer, PartProgress, Shown, Stepped, WorldEvent, puts_off, CallState, op_at, is_turn, settle, over_settled, step_of, not_over, fault_in, over_by, asks_as, new_progress, new_part, with_new_part, BeginsAs, ReservesAs, Starts, RefusesAs, Happens, is_free, may_start, fits, IsDue, IsHeld, IsSoundWorld, OrderedStripes, IsPhase, IsQuietPhase, Parts, join_key, WorldState, home, stripe_for, open_call, part_of, out_of, join_of}
 use Rattle.jc_world.proofs.Lemmas.{missing, join_at, may_start_at, begins_at, was_free, some_of}
 use Rattle.jc_world.proofs.Holding.{is_part}
 use Rattle.jc_world.proofs.Kept.{unheld, stripe_at}
@@ -177,14 +177,14 @@ ended v next call key part number done seen met over stripes order parts is home
 
 -- what a commit needs of the stripe
 pub may_end_at : (v : WorldState) (call : ℕ) (key : Bytes) (part : Part) (number : ℕ) → part_of v call key ≡ Some part → number ≡ home v key → IsSoundWorld v
-    → IsSomeAnd (slice_get v.stripes number) (λ s. IsOut s part.reservation × (s.origin ≡ Played) × (is_due s.config part ≡ true))
+    → IsSomeAnd (slice_get v.stripes number) (λ s. IsOut s part.reservation × (s.origin ≡ Played) × IsDue s.config part)
 may_end_at v call key part number is home_is sound =
     let found = some_of (stripe_for v key) (λ s. IsHeld s key part) (sound.held key part (is_part (get v.parts key) call part is)) in
     let s = found.0 in
     let held = found.2 in
     let shape = sound.shape.each (home v key) s found.1 in
-    let due = ap (λ (c : Config). is_due c part) shape.config_is ∙ sound.due key part (is_part (get v.parts key) call part is) in
-    let P : State → Type 0 = λ s. IsOut s part.reservation × (s.origin ≡ Played) × (is_due s.config part ≡ true) in
+    let due = subst (λ (c : Config). IsDue c part) (sym shape.config_is) (sound.due key part (is_part (get v.parts key) call part is)) in
+    let P : State → Type 0 = λ s. IsOut s part.reservation × (s.origin ≡ Played) × IsDue s.config part in
     rw home_is (rw found.1 (held.out, shape.origin_is, due))
 
 -- 5. A reservation that is given back.
@@ -216,7 +216,7 @@ pub may_withdraw_at : (v : WorldState) (call : ℕ) (key : Bytes) (part : Part) 
 may_withdraw_at v call key part number is home_is sound =
     weaker (slice_get v.stripes number) (may_end_at v call key part number is home_is sound)
   where
-    weaker : (o : Option State) → IsSomeAnd o (λ s. IsOut s part.reservation × (s.origin ≡ Played) × (is_due s.config part ≡ true)) → IsSomeAnd o (λ s. IsOut s part.reservation)
+    weaker : (o : Option State) → IsSomeAnd o (λ s. IsOut s part.reservation × (s.origin ≡ Played) × IsDue s.config part) → IsSomeAnd o (λ s. IsOut s part.reservation)
     weaker None h = h
     weaker (Some s) h = h.0
 

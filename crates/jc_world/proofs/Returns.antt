@@ -8,12 +8,12 @@ use Rattle.jc_world.proofs.Common.{◌≡◌, ℕ, true, false, cond, List, [], 
 -- the report for one key keeps this
 abbrev pub KeepsReport : (WorldState → Type 0) → ℕ → (Bytes → WriteAnswer) → Type 0
 KeepsReport P call answer =
-    (w : WorldState) (key : Bytes) (part : Part) → part_of w call key ≡ Some part → waits_for_report part.progress ≡ true → P w → P (after_report w key part (answer key))
+    (w : WorldState) (key : Bytes) (part : Part) → part_of w call key ≡ Some part → waits_for_report part ≡ true → P w → P (after_report w key part (answer key))
 
 at_one : (P : WorldState → Type 0) (call : ℕ) (answer : Bytes → WriteAnswer) → KeepsReport P call answer → (w : WorldState) (key : Bytes) (o : Option Part) → part_of w call key ≡ o → P w → P (reported_at w key (answer key) o)
 at_one P call answer one w key None at h = h
 at_one P call answer one w key (Some part) at h =
-    elim (waits_for_report part.progress) as (λ b. waits_for_report part.progress ≡ b → P (cond b (after_report w key part (answer key)) w)) [
+    elim (waits_for_report part) as (λ b. waits_for_report part ≡ b → P (cond b (after_report w key part (answer key)) w)) [
       | true ↦ λ waits. one w key part at waits h
       | false ↦ λ waits. h
     ] refl

@@ -7,7 +7,7 @@ use Rattle.jc_world.proofs.Sweeps.{sweeps_met, sweeps_happens}
 use Rattle.jc_world.proofs.Kept.{parts_half, parts_processed, parts_called, parts_answered, parts_changed, parts_reported, parts_disturbed, parts_stored, parts_left, parts_over, parts_key}
 
 -- the writer has returned for a key
-sound_reported : (w : WorldState) (call : ℕ) (key : Bytes) (part : Part) (report : WriteAnswer) → part_of w call key ≡ Some part → waits_for_report part.progress ≡ true → IsSoundWorld w → IsSoundWorld (after_report w key part report)
+sound_reported : (w : WorldState) (call : ℕ) (key : Bytes) (part : Part) (report : WriteAnswer) → part_of w call key ≡ Some part → waits_for_report part ≡ true → IsSoundWorld w → IsSoundWorld (after_report w key part report)
 sound_reported w call key part report at waits h =
     sound (after_report w key part report) (order_part w call key part _ _ w.store at refl h) (parts_reported w call key part report at (ap (has_progress waits_for_report) at ∙ waits) h) (dues_reported w call key part report at h.due)
     (joins_parted w call key part _ _ w.store at refl h) h.sweeps
@@ -47,7 +47,7 @@ pub record Laws : Type 0 where
 pub sound_step : Laws → (old : WorldState) (e : WorldEvent) (seen : Shown) (new : WorldState) → Step old e seen new → IsSoundWorld old → IsSoundWorld new
 sound_step laws old e seen new (inl (fit, happens)) h =
     let back = sound_returned old new e seen happens h in
-    sound new (order_happens laws.stays old new e seen fit happens back h) (parts_happens old new e seen fit happens back h) (dues_happens old new e seen happens h.due) (joins_happens old new e seen fit happens back h) (sweeps_happens old new e seen fit happens back h)
+    sound new (order_happens laws.stays old new e seen fit happens back h) (parts_happens old new e seen fit happens back h) (dues_happens old new e seen fit happens h.due) (joins_happens old new e seen fit happens back h) (sweeps_happens old new e seen fit happens back h)
 sound_step laws old e seen new (inr (unfit, shows, is)) h = subst IsSoundWorld (sym is) h
 
 pub sound_run : Laws → (old new : WorldState) (es : List WorldEvent) (ss : List Shown) → Run old es ss new → IsSoundWorld old → IsSoundWorld new

@@ -26,7 +26,8 @@
 --     Ends                        a last phase
 --     Picks                       a pick-up, by what is shown of it
 --     with_progress               the world with another progress of a reserved key
---     with_change, with_report    the progress once the writer has changed the store, and once it has returned
+--     with_loaded, with_change, with_report
+--                                 the progress once the loader has answered, once the writer has changed the store, and once it has returned
 --     after_answer                the world once the loader has answered
 --     after_change                the world once the writer has changed the store
 --     after_report                the world once the writer has returned for a key
@@ -61,9 +62,9 @@ use Rattle.jc_model.specs.declared.event.Reply.TheVariants as reply
 use Rattle.jc_model.specs.declared.processor.EntryCall.{EntryCall}
 use Rattle.jc_model.specs.declared.processor.EntryAnswer.{EntryAnswer}
 use Rattle.jc_model.specs.declared.event.LoadAnswer.{LoadAnswer}
-use Rattle.jc_model.specs.declared.event.LoadAnswer.TheVariants as load
 use Rattle.jc_model.specs.declared.event.WriteAnswer.{WriteAnswer}
 use Rattle.jc_model.specs.declared.event.WriteAnswer.TheVariants as write
+use Rattle.jc_model.specs.Group.{nothing_said}
 use Rattle.jc_model.specs.Cache.{Bytes, entry_at, with_entry}
 use Rattle.jc_types.specs.declared.config.Config.{Config}
 use Rattle.jc_outside.specs.declared.done.Origin.TheVariants.{Played}
@@ -77,7 +78,7 @@ use Rattle.jc_stripe.specs.declared.ticket.First.{First}
 use Rattle.jc_stripe.specs.declared.ticket.First.TheVariants.{Nobody, Loader, Writer, Processor}
 use Rattle.jc_stripe.specs.declared.ticket.Reservation.{Reservation}
 use Rattle.jc_stripe.specs.declared.begun.Picked.TheVariants as picked
-use Rattle.jc_stripe.specs.Tickets.{TicketClaim, Claim, claim_of, JoinClaim, entry_seen, is_loadable}
+use Rattle.jc_stripe.specs.Tickets.{TicketClaim, Claim, claim_of, change_asked, JoinClaim, entry_seen, is_loadable}
 use Rattle.jc_stripe.specs.State.{State}
 use Rattle.jc_stripe.specs.Keys.{AreKeys}
 use Rattle.jc_stripe.specs.Phases.{Begins, Commits, Withdraws, PicksUp}
@@ -93,7 +94,6 @@ use Rattle.jc_world.specs.declared.reports.ReportedKey.{ReportedKey}
 use Rattle.jc_world.specs.Calls.{CallState, SweepState, open_keys, puts_off, op_at, new_call, has_too_many_keys, opened, over_of, settle, over_settled, meet, drop_call, with_found, look}
 use Rattle.jc_world.specs.declared.event.Part.{Part}
 use Rattle.jc_world.specs.declared.event.PartProgress.{PartProgress}
-use Rattle.jc_world.specs.declared.event.PartProgress.TheVariants.{Loading, Writing, Processing, Processed, WritingEffect}
 use Rattle.jc_world.specs.World.{WorldState, home, stripe_for, open_call, of_call, part_of, Parts, waits_for_report, has_changed, join_of, join_key, out_of, writer_change}
 use Rattle.jc_world.specs.Premises.{read_answer, changed_to, report_for, is_true_load, is_true_report, with_loader, with_writer, with_foreign_write, load_from}
 use Rattle.jc_world.specs.declared.process.Processed.{Processed as ProcessShown}
@@ -161,10 +161,7 @@ with_look w call stripe keys sweep =
 
 -- what is kept of a key that was reserved
 abbrev pub new_progress : First → PartProgress
-new_progress Nobody = Processing  -- no reservation asks nobody
-new_progress Loader = Loading load.NotAsked
-new_progress (Writer change) = Writing false write.NotAsked
-new_progress (Processor entry may_load) = Processing
+new_progress first = record { change = change_asked first; out = nothing_said; is_changed = false }
 
 abbrev pub asks_as : First → Outcome
 asks_as Nobody = outcome.Unfit  -- no reservation asks nobody
@@ -256,18 +253,17 @@ Picks old call key join from to o new = ⊥
 abbrev pub with_progress : WorldState → Bytes → Part → PartProgress → WorldState
 with_progress w key part progress = with_part w key (record part { progress = progress })
 
+abbrev pub with_loaded : PartProgress → LoadAnswer → PartProgress
+with_loaded p answer = record p { out = record p.out { load = answer } }
+
 -- the loader's answer is kept
 abbrev pub after_answer : WorldState → Bytes → Part → LoadAnswer → WorldState
 after_answer w key part answer =
     let honest = is_true_load answer (entry_at w.store key) in
-    record (with_progress w key part (Loading answer)) { premises = with_loader w.premises honest }
+    record (with_progress w key part (with_loaded part.progress answer)) { premises = with_loader w.premises honest }
 
 abbrev pub with_change : PartProgress → PartProgress
-with_change (Loading answer) = Loading answer
-with_change (Writing is_changed report) = Writing true report
-with_change Processing = Processing
-with_change (Processed loaded process) = Processed loaded process
-with_change (WritingEffect loaded process is_changed report) = WritingEffect loaded process true report
+with_change p = record p { is_changed = true }
 
 -- the store is as the writer was asked
 abbrev pub after_change : WorldState → Bytes → Part → Change → WorldState
@@ -276,24 +272,20 @@ after_change w key part change =
     record (with_progress w key part progress) { store = with_entry w.store key (changed_to change) }
 
 abbrev pub with_report : PartProgress → WriteAnswer → PartProgress
-with_report (Loading answer) report = Loading answer
-with_report (Writing is_changed was) report = Writing is_changed report
-with_report Processing report = Processing
-with_report (Processed loaded process) report = Processed loaded process
-with_report (WritingEffect loaded process is_changed was) report = WritingEffect loaded process is_changed report
+with_report p report = record p { out = record p.out { write = report } }
 
 -- the writer's report for a key is kept
 abbrev pub after_report : WorldState → Bytes → Part → WriteAnswer → WorldState
 after_report w key part report =
     let progress = with_report part.progress report in
-    let honest = is_true_report report (has_changed part.progress) in
+    let honest = is_true_report report (has_changed part) in
     record (with_progress w key part progress) { premises = with_writer w.premises honest }
 
 -- what a writer's return shows of a key
 abbrev pub reported_part : Bytes → Part → Option ReportedKey
 reported_part key part =
-    if waits_for_report part.progress
-    then option_map (λ change. record { key = key; change = change; is_changed = has_changed part.progress })
+    if waits_for_report part
+    then option_map (λ change. record { key = key; change = change; is_changed = has_changed part })
     (writer_change part)
     else None
 
@@ -314,7 +306,7 @@ keys_reported reported = map (λ one. one.key) reported
 abbrev pub reported_at : WorldState → Bytes → WriteAnswer → Option Part → WorldState
 reported_at w key report None = w
 reported_at w key report (Some part) =
-    if waits_for_report part.progress then after_report w key part report else w
+    if waits_for_report part then after_report w key part report else w
 
 -- the writer returns for each of these keys, with this answer for each
 abbrev pub after_reports : WorldState → ℕ → (Bytes → WriteAnswer) → List Bytes → WorldState
@@ -337,8 +329,12 @@ run_result r answer calls fail =
     }
 
 abbrev pub progress_after : Option Change → ProcessResult Claim → PartProgress
-progress_after None done = Processed done.load done.process
-progress_after (Some change) done = WritingEffect done.load done.process false write.NotAsked
+progress_after change done =
+    record {
+      change = change;
+      out = record { load = done.load; write = write.NotAsked; process = done.process };
+      is_changed = false;
+    }
 
 -- what the processor did is kept, and the writer is asked for its net effect if that is due
 abbrev pub after_process : WorldState → Bytes → Part → ProcessResult Claim → WorldState

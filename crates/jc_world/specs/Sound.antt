@@ -10,9 +10,9 @@
 --                                   that it may still find
 --     CallsFit                      that is so of all calls under way, and no two are of one session or have one number
 --     Each                          a fact is true of each of a list
---     is_of_asked                      the progress of a key is that of one who was asked: a load's of the loader, a write's of the
---                                   writer, a run's of the processor
---     is_due_in, is_due             after a processor the writer is asked exactly if it has to be
+--     FitsAsked                     what is told of a key is of whom its reservation asks first
+--     change_in                     what the writer is to be asked for after a processor
+--     IsDueIn, IsDue                after a processor the writer is asked for just that
 --     AllDue                        that is so of all parts
 --     IsHeld                        a part has its reservation, whose call is then under way
 --     IsCallOf                      a call is of a session, and an operation is open in it at a key, at which it may work
@@ -21,16 +21,15 @@
 --                                   which it is found
 --     IsCalled, AllCalled           a joiner has its join and its call, and is in the stripe of its key; each is so
 --     Agrees                        an entry that is there is the store's value
---     IsWrittenFor                  the store holds what the writer was asked for
 --     LoadAgrees, WriteAgrees       as long as the premises hold: what is known of a key that is loaded, also for a processor, and of one
 --                                   that is written
---     ProgressAgrees                and so of a reserved key, by its part
+--     ChangeAgrees, ProgressAgrees  and so of a reserved key, by whether the writer is asked
 --     KeyAgrees                     as long as the premises hold: what is known of any key, by its part, the store's value and the
 --                                   cached one
 --     Sweeps                        a call that is still to look at a stripe: the keys that it has taken are of those at which it has
 --                                   looked
 --     IsSoundWorld                  all of it; and in a fresh world nothing is cached, reserved, joined or under way
-use Rattle.std.specs.Prelude.{◌≡◌, ◌==◌, ℕ, List, [], ◌∷◌, length, Ok, Bool, true, false, not, ◌&&◌, Option, None, Some, IfSome, IsSomeAnd, is_none, is_some, find, slice_get, nat_le}
+use Rattle.std.specs.Prelude.{◌≡◌, ◌==◌, if◌then◌else◌, ℕ, List, [], ◌∷◌, length, Ok, Bool, true, false, not, ◌&&◌, Option, None, Some, IfSome, IsSomeAnd, is_some, find, slice_get, nat_le}
 use Rattle.std.specs.List.{list_all}
 use Rattle.std.specs.Map.{lookup}
 use Rattle.std.specs.Cmp.Lexicographic.{pointwise}
@@ -47,27 +46,29 @@ use Rattle.jc_model.specs.declared.event.LoadAnswer.{LoadAnswer}
 use Rattle.jc_model.specs.declared.event.WriteAnswer.{WriteAnswer}
 use Rattle.jc_model.specs.Cache.{Bytes, entry_at}
 use Rattle.jc_model.specs.declared.event.Change.{Change}
-use Rattle.jc_model.specs.Table.{is_write_given}
+use Rattle.jc_model.specs.declared.event.Out.{Out}
+use Rattle.jc_model.specs.declared.event.WriteAnswer.TheVariants as write
+use Rattle.jc_model.specs.Group.{load_only, write_only}
+use Rattle.jc_model.specs.Table.{is_write_given, is_process_given}
 use Rattle.jc_model.specs.Legal.{in_order, of_stripe}
 use Rattle.jc_model.specs.Processor.{found_in}
 use Rattle.jc_stripe.specs.declared.ticket.First.{First}
 use Rattle.jc_outside.specs.declared.done.Origin.TheVariants.{Played}
 use Rattle.jc_mutentry.specs.Done.{effect_change}
-use Rattle.jc_stripe.specs.Effects.{change_due}
+use Rattle.jc_stripe.specs.declared.ticket.First.TheVariants.{Nobody, Loader, Writer, Processor}
 use Rattle.jc_inflight.specs.declared.joiner.Joiner.{Joiner}
 use Rattle.jc_inflight.specs.declared.joiner.JoinState.{JoinState}
 use Rattle.jc_inflight.specs.declared.joiner.JoinState.TheVariants.{Waiting, Answered, Again}
 use Rattle.jc_inflight.specs.Joining.{belongs_to}
 use Rattle.jc_stripe.specs.declared.ticket.Reservation.{Reservation}
-use Rattle.jc_stripe.specs.Tickets.{JoinClaim, claim_of, asks_loader, asks_writer, asks_processor, change_asked}
+use Rattle.jc_stripe.specs.Tickets.{JoinClaim}
 use Rattle.jc_stripe.specs.State.{State, IsOut, IsJoined}
 use Rattle.jc_stripe.specs.Reached.{IsReached}
 use Rattle.jc_stripe.specs.OwnSteps.{may_come_all}
 use Rattle.jc_world.specs.Calls.{CallState, SweepState, has_looked, op_at, op_for, is_turn}
 use Rattle.jc_world.specs.declared.event.Part.{Part}
 use Rattle.jc_world.specs.declared.event.PartProgress.{PartProgress}
-use Rattle.jc_world.specs.declared.event.PartProgress.TheVariants.{Loading, Writing, Processing, Processed, WritingEffect}
-use Rattle.jc_world.specs.World.{WorldState, home, stripe_for, cached_entry, open_call, part_of, JoinKey, Joins, join_key, is_joined, Parts}
+use Rattle.jc_world.specs.World.{WorldState, home, stripe_for, cached_entry, open_call, part_of, JoinKey, Joins, join_key, is_joined, is_unanswered, Parts}
 use Rattle.jc_world.specs.Premises.{changed_to, is_done}
 use Rattle.jc_world.specs.Coherent.{all_hold}
 
@@ -138,34 +139,37 @@ abbrev pub Each : {A : Type 0} → (A → Type 0) → List A → Type 0
 Each P [] = Unit {0}
 Each P (x ∷ xs) = P x × Each P xs
 
-abbrev pub is_of_asked : PartProgress → First → Bool
-is_of_asked (Loading answer) first = asks_loader first
-is_of_asked (Writing is_changed report) first = asks_writer first
-is_of_asked Processing first = asks_processor first
-is_of_asked (Processed loaded process) first = asks_processor first
-is_of_asked (WritingEffect loaded process is_changed report) first = asks_processor first
+-- what is told is of whom the reservation asks first; before a processor has run nothing is told, and no writer is asked
+abbrev pub FitsAsked : First → PartProgress → Type 0
+FitsAsked Nobody p = ⊥
+FitsAsked Loader p = (p.change ≡ None) × (p.out ≡ load_only p.out.load)
+FitsAsked (Writer change) p = (p.change ≡ Some change) × (p.out ≡ write_only p.out.write)
+FitsAsked (Processor entry may_load) p =
+    (p.change ≡ None → p.out.write ≡ write.NotAsked)
+    × (is_process_given p.out.process ≡ false → (p.change ≡ None) × (is_unanswered p.out ≡ true))
 
--- after a processor the writer is asked exactly if it has to be
-abbrev pub is_due_in : Config → Reservation → PartProgress → Bool
-is_due_in config r (Loading answer) = true
-is_due_in config r (Writing is_changed report) = true
-is_due_in config r Processing = true
-is_due_in config r (Processed loaded process) =
-    is_none (change_due config (record { ask = claim_of r; origin = Played; load = loaded; process = process }))
-is_due_in config r (WritingEffect loaded process is_changed report) =
-    is_some (change_due config (record { ask = claim_of r; origin = Played; load = loaded; process = process }))
+-- what the writer is to be asked for after a processor
+abbrev pub change_in : Config → Out → Option Change
+change_in config out = if config.write_through then effect_change out.load out.process else None
 
-abbrev pub is_due : Config → Part → Bool
-is_due config part = is_due_in config part.reservation part.progress
+-- after a processor the writer is asked for what it is to be asked for
+abbrev pub IsDueIn : Config → First → PartProgress → Type 0
+IsDueIn config Nobody p = Unit {0}
+IsDueIn config Loader p = Unit {0}
+IsDueIn config (Writer change) p = Unit {0}
+IsDueIn config (Processor entry may_load) p = p.change ≡ change_in config p.out
+
+abbrev pub IsDue : Config → Part → Type 0
+IsDue config part = IsDueIn config part.reservation.first part.progress
 
 abbrev pub AllDue : Config → Parts → Type 0
-AllDue config parts = (key : Bytes) (part : Part) → get parts key ≡ Some part → is_due config part ≡ true
+AllDue config parts = (key : Bytes) (part : Part) → get parts key ≡ Some part → IsDue config part
 
 -- the part of a key whose stripe is `s`
 pub record IsHeld (s : State) (key : Bytes) (part : Part) : Type 0 where
   pub key_is : part.reservation.key ≡ key
   pub out : IsOut s part.reservation
-  pub asked : is_of_asked part.progress part.reservation.first ≡ true
+  pub asked : FitsAsked part.reservation.first part.progress
 
 -- a call is of this session, and this operation is open in it at this key, at which it may work
 abbrev pub IsCallOf : ℕ → Bytes → Op → CallState → Type 0
@@ -205,34 +209,26 @@ AllCalled w number js = Each (IsCalled w number) js
 abbrev pub Agrees : Option Bytes → Option Bytes → Type 0
 Agrees entry stored = IfSome entry (λ value. stored ≡ Some value)
 
--- what the store holds once the writer did as it was asked
-abbrev pub IsWrittenFor : Option Change → Option Bytes → Type 0
-IsWrittenFor None stored = ⊥
-IsWrittenFor (Some change) stored = stored ≡ changed_to change
-
 pub record LoadAgrees (answer : LoadAnswer) (stored entry : Option Bytes) : Type 0 where
   pub loaded : Agrees (found_in answer) stored
   pub unwritten : Agrees entry stored
 
-pub record WriteAgrees (change : Option Change) (is_changed : Bool) (report : WriteAnswer)
+pub record WriteAgrees (change : Change) (is_changed : Bool) (report : WriteAnswer)
     (stored entry : Option Bytes) : Type 0 where
-  pub written : is_changed ≡ true → IsWrittenFor change stored
+  pub written : is_changed ≡ true → stored ≡ changed_to change
   pub unwritten : is_changed ≡ false → Agrees entry stored
   pub honest : is_write_given report ≡ true → is_done report ≡ is_changed
 
-abbrev pub ProgressAgrees : PartProgress → First → Option Bytes → Option Bytes → Type 0
-ProgressAgrees (Loading answer) first stored entry = LoadAgrees answer stored entry
-ProgressAgrees (Writing is_changed report) first stored entry =
-    WriteAgrees (change_asked first) is_changed report stored entry
-ProgressAgrees Processing first stored entry = Agrees entry stored
-ProgressAgrees (Processed loaded process) first stored entry = LoadAgrees loaded stored entry
-ProgressAgrees (WritingEffect loaded process is_changed report) first stored entry =
-    WriteAgrees (effect_change loaded process) is_changed report stored entry
+abbrev pub ChangeAgrees : Option Change → PartProgress → Option Bytes → Option Bytes → Type 0
+ChangeAgrees None p stored entry = LoadAgrees p.out.load stored entry
+ChangeAgrees (Some change) p stored entry = WriteAgrees change p.is_changed p.out.write stored entry
+
+abbrev pub ProgressAgrees : PartProgress → Option Bytes → Option Bytes → Type 0
+ProgressAgrees p stored entry = ChangeAgrees p.change p stored entry
 
 abbrev pub KeyAgrees : Option Part → Option Bytes → Option Bytes → Type 0
 KeyAgrees None stored entry = Agrees entry stored
-KeyAgrees (Some part) stored entry =
-    ProgressAgrees part.progress part.reservation.first stored entry
+KeyAgrees (Some part) stored entry = ProgressAgrees part.progress stored entry
 
 -- 6. The calls that look at the stripes.
 

@@ -15,16 +15,16 @@
 --     open_call                       the call with this number, if it is under way
 --     of_call                         a part, if it is this call's
 --     part_of                         what a call has asked and heard for a key that it has reserved
---     has_progress                    a key is reserved, and its progress passes a test
+--     has_progress                    a key is reserved, and its part passes a test
+--     is_unanswered                   nobody who was asked has answered
 --     waits_for_load                  the loader was asked, and hasn't answered
 --     waits_for_process               the processor was asked, and hasn't run
 --     waits_for_report                the writer was asked, and hasn't returned
 --     is_answered                     all that was asked is answered
---     is_unasked                      nobody was asked yet by the reservation's ticket
 --     is_untouched                    nothing was answered outside for the key, and nothing done
 --     has_changed                     the writer has changed the store
---     writer_change_in, writer_change     what the writer is asked for, if it is
---     out_in, out_of                  the outside answers
+--     writer_change                   what the writer is asked for, if it is
+--     out_of                          the outside answers
 --     join_of                         a call's join of a key, if it has one
 --     has_joined, is_joined           among these joins, and in a world, a call has joined a load of a key, and hasn't its answer
 --     is_free_of                      a call has neither reserved a key nor joined a load of it
@@ -41,18 +41,12 @@ use Rattle.jc_model.specs.declared.event.Change.{Change}
 use Rattle.jc_model.specs.declared.event.Event.{Event}
 use Rattle.jc_model.specs.declared.event.Out.{Out}
 use Rattle.jc_model.specs.Cache.{Bytes, Cache, key_cmp, entry_at, with_entry}
-use Rattle.jc_model.specs.Table.{is_load_given, is_write_given}
-use Rattle.jc_model.specs.declared.event.WriteAnswer.TheVariants as write
-use Rattle.jc_model.specs.Group.{nothing_said, load_only, write_only}
-use Rattle.jc_mutentry.specs.Done.{effect_change}
+use Rattle.jc_model.specs.Table.{is_load_given, is_write_given, is_process_given}
 use Rattle.jc_outside.specs.declared.done.Origin.TheVariants.{Played}
-use Rattle.jc_stripe.specs.declared.ticket.First.{First}
-use Rattle.jc_stripe.specs.Tickets.{JoinClaim, change_asked}
+use Rattle.jc_stripe.specs.Tickets.{JoinClaim, asks_loader, asks_processor}
 use Rattle.jc_stripe.specs.State.{State}
 use Rattle.jc_world.specs.Calls.{CallState, has_number, is_of_session}
 use Rattle.jc_world.specs.declared.event.Part.{Part}
-use Rattle.jc_world.specs.declared.event.PartProgress.{PartProgress}
-use Rattle.jc_world.specs.declared.event.PartProgress.TheVariants.{Loading, Writing, Processing, Processed, WritingEffect}
 use Rattle.jc_world.specs.declared.event.Premises.{Premises}
 
 -- by key, what the call that has reserved it asked and heard so far
@@ -156,88 +150,47 @@ of_call call (Some part) = if part.reservation.caller.call == call then Some par
 abbrev pub part_of : WorldState → ℕ → Bytes → Option Part
 part_of w call key = of_call call (map.get w.parts key)
 
--- a key is reserved, and its progress passes this test
-abbrev pub has_progress : (PartProgress → Bool) → Option Part → Bool
+-- a key is reserved, and this is so of its part
+abbrev pub has_progress : (Part → Bool) → Option Part → Bool
 has_progress test None = false
-has_progress test (Some part) = test part.progress
+has_progress test (Some part) = test part
+
+-- nobody who was asked has answered
+abbrev pub is_unanswered : Out → Bool
+is_unanswered out =
+    not (is_load_given out.load) && not (is_write_given out.write) && not (is_process_given out.process)
 
 -- the loader was asked, and hasn't answered
-abbrev pub waits_for_load : PartProgress → Bool
-waits_for_load (Loading answer) = not (is_load_given answer)
-waits_for_load (Writing is_changed report) = false
-waits_for_load Processing = false
-waits_for_load (Processed loaded process) = false
-waits_for_load (WritingEffect loaded process is_changed report) = false
+abbrev pub waits_for_load : Part → Bool
+waits_for_load part = asks_loader part.reservation.first && is_unanswered part.progress.out
 
 -- the processor was asked, and hasn't run
-abbrev pub waits_for_process : PartProgress → Bool
-waits_for_process (Loading answer) = false
-waits_for_process (Writing is_changed report) = false
-waits_for_process Processing = true
-waits_for_process (Processed loaded process) = false
-waits_for_process (WritingEffect loaded process is_changed report) = false
+abbrev pub waits_for_process : Part → Bool
+waits_for_process part = asks_processor part.reservation.first && is_unanswered part.progress.out
 
 -- the writer was asked, and hasn't returned
-abbrev pub waits_for_report : PartProgress → Bool
-waits_for_report (Loading answer) = false
-waits_for_report (Writing is_changed report) = not (is_write_given report)
-waits_for_report Processing = false
-waits_for_report (Processed loaded process) = false
-waits_for_report (WritingEffect loaded process is_changed report) = not (is_write_given report)
+abbrev pub waits_for_report : Part → Bool
+waits_for_report part = is_some part.progress.change && not (is_write_given part.progress.out.write)
 
 -- all that was asked is answered
-abbrev pub is_answered : PartProgress → Bool
-is_answered (Loading answer) = is_load_given answer
-is_answered (Writing is_changed report) = is_write_given report
-is_answered Processing = false
-is_answered (Processed loaded process) = true
-is_answered (WritingEffect loaded process is_changed report) = is_write_given report
-
--- the ticket has not asked anybody yet: the loader and the writer have answered as soon as they are asked
-abbrev pub is_unasked : PartProgress → Bool
-is_unasked (Loading answer) = not (is_load_given answer)
-is_unasked (Writing is_changed report) = not (is_write_given report)
-is_unasked Processing = true
-is_unasked (Processed loaded process) = false
-is_unasked (WritingEffect loaded process is_changed report) = false
+abbrev pub is_answered : Part → Bool
+is_answered part = not (waits_for_load part) && not (waits_for_process part) && not (waits_for_report part)
 
 -- nothing was answered outside, and nothing done
-abbrev pub is_untouched : PartProgress → Bool
-is_untouched (Loading answer) = not (is_load_given answer)
-is_untouched (Writing is_changed report) = not is_changed && not (is_write_given report)
-is_untouched Processing = true
-is_untouched (Processed loaded process) = false
-is_untouched (WritingEffect loaded process is_changed report) = false
+abbrev pub is_untouched : Part → Bool
+is_untouched part = is_unanswered part.progress.out && not part.progress.is_changed
 
 -- the writer has changed the store
-abbrev pub has_changed : PartProgress → Bool
-has_changed (Loading answer) = false
-has_changed (Writing is_changed report) = is_changed
-has_changed Processing = false
-has_changed (Processed loaded process) = false
-has_changed (WritingEffect loaded process is_changed report) = is_changed
+abbrev pub has_changed : Part → Bool
+has_changed part = part.progress.is_changed
 
 -- what the writer is asked for: the change that it was asked for first, or the processor's net effect
-abbrev pub writer_change_in : First → PartProgress → Option Change
-writer_change_in first (Loading answer) = None
-writer_change_in first (Writing is_changed report) = change_asked first
-writer_change_in first Processing = None
-writer_change_in first (Processed loaded process) = None
-writer_change_in first (WritingEffect loaded process is_changed report) = effect_change loaded process
-
 abbrev pub writer_change : Part → Option Change
-writer_change part = writer_change_in part.reservation.first part.progress
+writer_change part = part.progress.change
 
 -- the outside answers
-abbrev pub out_in : PartProgress → Out
-out_in (Loading answer) = load_only answer
-out_in (Writing is_changed report) = write_only report
-out_in Processing = nothing_said
-out_in (Processed loaded process) = record { load = loaded; write = write.NotAsked; process = process }
-out_in (WritingEffect loaded process is_changed report) = record { load = loaded; write = report; process = process }
-
 abbrev pub out_of : Part → Out
-out_of part = out_in part.progress
+out_of part = part.progress.out
 
 -- 4. The calls that have joined a load.
 

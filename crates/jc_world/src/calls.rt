@@ -14,7 +14,7 @@ use crate::command::{CallKind, Command};
 use crate::event::{Outcome, Over, Shown, show, show_end};
 use crate::open_call::OpenCall;
 use jc_model::{Op, Reply};
-use jc_types::{Caller, Key, Refusal, Value};
+use jc_types::{Caller, Key, Refusal};
 use std::alloc::{AllocError, Global};
 
 /// Whether an operation is a call by itself.

@@ -1,16 +1,14 @@
 //! What may happen in a world, what is shown of it, and what a world keeps of its calls.
-ghost use Rattle.std.specs.Prelude.{◌≡◌, true};
-ghost use Rattle.jc_world.specs.World.{waits_for_load, waits_for_process, waits_for_report, is_answered, is_unasked};
-ghost use Rattle.jc_world.specs.World.{is_untouched, has_changed};
+ghost use Rattle.std.specs.Prelude.{◌≡◌};
 ghost use Rattle.jc_world.specs.declared.event.Outcome.TheVariants as outcome;
-ghost use Rattle.jc_world.specs.Events.{not_over, with_change, with_report};
+ghost use Rattle.jc_world.specs.Events.{not_over};
 
 use crate::command::Command;
 use crate::process::{EntryCalls, LoadSource, Processed};
 use crate::reports::{LeftKeys, Reported};
-use jc_model::{Change, LoadAnswer, ProcessAnswer, Reply, WriteAnswer};
+use jc_model::{Change, LoadAnswer, Out, Reply};
 use jc_stripe::{Eviction, Reservation};
-use jc_types::{Caller, Key, Refusal, Value};
+use jc_types::{Key, Refusal, Value};
 
 /// What may happen next. An event that names a call is about a call under way, but for `Call`. What doesn't fit is shown as
 /// `Outcome::Unfit`, and changes nothing.
@@ -280,160 +278,13 @@ pub struct Part {
 
 /// What was done and answered so far for a reserved key.
 #[derive(Clone, Copy, Debug, PartialEq, Eq)]
-pub enum PartProgress {
-    /// The loader was asked.
-    Loading {
-        /// Its answer: `NotAsked` until it has come.
-        answer: LoadAnswer,
-    },
-    /// The writer was asked.
-    Writing {
-        /// Whether it has changed the store.
-        is_changed: bool,
-        /// Its report: `NotAsked` until it has returned.
-        report: WriteAnswer,
-    },
-    /// The entry processor was asked, and hasn't run.
-    Processing,
-    /// The entry processor has run, and no writer is asked after it.
-    Processed {
-        /// What the loader answered: `NotAsked` if the processor's calls didn't ask it.
-        load: LoadAnswer,
-        /// What the processor did.
-        process: ProcessAnswer,
-    },
-    /// The entry processor has run, and the writer was asked for its net effect.
-    WritingEffect {
-        /// What the loader answered: `NotAsked` if the processor's calls didn't ask it.
-        load: LoadAnswer,
-        /// What the processor did.
-        process: ProcessAnswer,
-        /// Whether the writer has changed the store.
-        is_changed: bool,
-        /// The writer's report: `NotAsked` until it has returned.
-        report: WriteAnswer,
-    },
-}
-
-impl PartProgress {
-    /// Whether the loader was asked, and hasn't answered.
-    pub(crate) fn waits_for_load(&self) -> bool
-        ensures { result ≡ waits_for_load self.now }
-    {
-        match self {
-            PartProgress::Loading { answer } => !answer.is_given(),
-            PartProgress::Writing { .. }
-            | PartProgress::Processing
-            | PartProgress::Processed { .. }
-            | PartProgress::WritingEffect { .. } => false,
-        }
-    }
-
-    /// Whether the entry processor was asked, and hasn't run.
-    pub(crate) fn waits_for_process(&self) -> bool
-        ensures { result ≡ waits_for_process self.now }
-    {
-        match self {
-            PartProgress::Processing => true,
-            PartProgress::Loading { .. }
-            | PartProgress::Writing { .. }
-            | PartProgress::Processed { .. }
-            | PartProgress::WritingEffect { .. } => false,
-        }
-    }
-
-    /// Whether the writer was asked, and hasn't returned.
-    pub(crate) fn waits_for_report(&self) -> bool
-        ensures { result ≡ waits_for_report self.now }
-    {
-        match self {
-            PartProgress::Writing { report, .. } | PartProgress::WritingEffect { report, .. } => {
-                !report.is_given()
-            }
-            PartProgress::Loading { .. }
-            | PartProgress::Processing
-            | PartProgress::Processed { .. } => false,
-        }
-    }
-
-    /// Whether all that was asked is answered.
-    pub(crate) fn is_answered(&self) -> bool
-        ensures { result ≡ is_answered self.now }
-    {
-        match self {
-            PartProgress::Loading { answer } => answer.is_given(),
-            PartProgress::Writing { report, .. } | PartProgress::WritingEffect { report, .. } => {
-                report.is_given()
-            }
-            PartProgress::Processing => false,
-            PartProgress::Processed { .. } => true,
-        }
-    }
-
-    /// Whether nobody was asked yet by the reservation's ticket.
-    pub(crate) fn is_unasked(&self) -> bool
-        ensures { result ≡ is_unasked self.now }
-    {
-        match self {
-            PartProgress::Loading { answer } => !answer.is_given(),
-            PartProgress::Writing { report, .. } => !report.is_given(),
-            PartProgress::Processing => true,
-            PartProgress::Processed { .. } | PartProgress::WritingEffect { .. } => false,
-        }
-    }
-
-    /// The writer has changed the store.
-    pub(crate) fn change(&mut self)
-        requires { waits_for_report self.old ≡ true }
-        ensures { self.new ≡ with_change self.old }
-    {
-        match self {
-            PartProgress::Writing { is_changed, .. } => *is_changed = true,
-            PartProgress::WritingEffect { is_changed, .. } => *is_changed = true,
-            PartProgress::Loading { .. }
-            | PartProgress::Processing
-            | PartProgress::Processed { .. } => {}
-        }
-    }
-
-    /// The writer has returned with this.
-    pub(crate) fn report(&mut self, answer: WriteAnswer)
-        requires { waits_for_report self.old ≡ true }
-        ensures { self.new ≡ with_report self.old answer }
-    {
-        match self {
-            PartProgress::Writing { report, .. } => *report = answer,
-            PartProgress::WritingEffect { report, .. } => *report = answer,
-            PartProgress::Loading { .. }
-            | PartProgress::Processing
-            | PartProgress::Processed { .. } => {}
-        }
-    }
-
-    /// Whether nothing was answered outside for the key, and nothing done.
-    pub(crate) fn is_untouched(&self) -> bool
-        ensures { result ≡ is_untouched self.now }
-    {
-        match self {
-            PartProgress::Loading { answer } => !answer.is_given(),
-            PartProgress::Writing { is_changed, report } => !*is_changed && !report.is_given(),
-            PartProgress::Processing => true,
-            PartProgress::Processed { .. } | PartProgress::WritingEffect { .. } => false,
-        }
-    }
-
+pub struct PartProgress {
+    /// What the writer is asked for, if it is: first, or after the entry processor.
+    pub change: Option<Change>,
+    /// What was answered outside. Who has not answered yet is `NotAsked`, as is who isn't asked.
+    pub out: Out,
     /// Whether the writer has changed the store.
-    pub(crate) fn has_changed(&self) -> bool
-        ensures { result ≡ has_changed self.now }
-    {
-        match self {
-            PartProgress::Writing { is_changed, .. }
-            | PartProgress::WritingEffect { is_changed, .. } => { *is_changed }
-            PartProgress::Loading { .. }
-            | PartProgress::Processing
-            | PartProgress::Processed { .. } => false,
-        }
-    }
+    pub is_changed: bool,
 }
 
 /// What has held so far of loaders, writers and other programs.

@@ -10,20 +10,21 @@ ghost use Rattle.jc_stripe.specs.Phases.{Commits, Withdraws};
 ghost use Rattle.jc_stripe.specs.Effects.{change_due};
 ghost use Rattle.jc_stripe.specs.Refusals.{reserves};
 ghost use Rattle.jc_outside.specs.declared.done.Origin.TheVariants.{Played};
-ghost use Rattle.jc_world.specs.declared.event.PartProgress.TheVariants.{Loading};
 ghost use Rattle.jc_world.specs.Premises.{changed_to};
-ghost use Rattle.jc_world.specs.World.{has_changed, out_of, is_answered, is_unasked, waits_for_load, waits_for_process};
+ghost use Rattle.jc_world.specs.World.{has_changed, out_of, is_answered, is_unanswered, is_untouched, waits_for_load, waits_for_process};
 ghost use Rattle.jc_world.specs.World.{waits_for_report, writer_change};
-ghost use Rattle.jc_world.specs.Events.{new_part, new_progress, with_change, with_report, run_answers, run_result, progress_after, reported_part};
-ghost use Rattle.jc_world.specs.Sound.{is_due};
+ghost use Rattle.jc_world.specs.Events.{new_part, new_progress, with_loaded, with_change, with_report, run_answers, run_result, progress_after, reported_part};
+ghost use Rattle.jc_world.specs.Sound.{IsDue};
 
 use crate::event::{Part, PartProgress};
 use crate::outside::entry_after;
 use crate::reports::ReportedKey;
-use crate::run::{RunShown, change_asked, change_due, commit_run, new_progress, progress_after};
+use crate::run::{RunShown, change_due, commit_run, new_progress, progress_after};
 use jc_model::{Change, Contents, EntryAnswer, EntryCall, LoadAnswer, WriteAnswer};
 use jc_mutentry::played_process;
-use jc_stripe::{Ask, ProcDone, Reservation, StepDone, Stripe, Ticket, played_load, played_write};
+use jc_stripe::{
+    Ask, First, ProcDone, Reservation, StepDone, Stripe, Ticket, played_load, played_write,
+};
 use jc_types::{Config, Key};
 use std::alloc::AllocError;
 use std::marker::Model;
@@ -88,13 +89,6 @@ impl HeldKey {
         self.reservation().caller.call
     }
 
-    /// What the one who was asked has done and answered so far.
-    pub(crate) fn progress(&self) -> &PartProgress
-        ensures { result.now ≡ self.now.progress }
-    {
-        &self.progress
-    }
-
     /// What was asked and answered, as data.
     pub(crate) fn part(&self) -> Part
         ensures { result ≡ self.now }
@@ -105,13 +99,69 @@ impl HeldKey {
         }
     }
 
+    /// Whether nobody who was asked has answered.
+    fn is_unanswered(&self) -> bool
+        ensures { result ≡ is_unanswered self.now.progress.out }
+    {
+        let out = &self.progress.out;
+        !out.load.is_given() && !out.write.is_given() && !out.process.is_given()
+    }
+
+    /// Whether the loader was asked, and hasn't answered.
+    pub(crate) fn waits_for_load(&self) -> bool
+        ensures { result ≡ waits_for_load self.now }
+    {
+        match self.reservation().first {
+            First::Loader => self.is_unanswered(),
+            First::Nobody | First::Writer(_) | First::Processor { .. } => false,
+        }
+    }
+
+    /// Whether the entry processor was asked, and hasn't run.
+    pub(crate) fn waits_for_process(&self) -> bool
+        ensures { result ≡ waits_for_process self.now }
+    {
+        match self.reservation().first {
+            First::Processor { .. } => self.is_unanswered(),
+            First::Nobody | First::Loader | First::Writer(_) => false,
+        }
+    }
+
+    /// Whether the writer was asked, and hasn't returned.
+    pub(crate) fn waits_for_report(&self) -> bool
+        ensures { result ≡ waits_for_report self.now }
+    {
+        self.progress.change.is_some() && !self.progress.out.write.is_given()
+    }
+
+    /// Whether all that was asked is answered.
+    pub(crate) fn is_answered(&self) -> bool
+        ensures { result ≡ is_answered self.now }
+    {
+        !self.waits_for_load() && !self.waits_for_process() && !self.waits_for_report()
+    }
+
+    /// Whether nothing was answered outside for the key, and nothing done.
+    pub(crate) fn is_untouched(&self) -> bool
+        ensures { result ≡ is_untouched self.now }
+    {
+        self.is_unanswered() && !self.progress.is_changed
+    }
+
+    /// Whether the writer has changed the store.
+    pub(crate) fn has_changed(&self) -> bool
+        ensures { result ≡ has_changed self.now }
+    {
+        self.progress.is_changed
+    }
+
     /// The loader answers.
     pub(crate) fn loader_answers(&mut self, answer: LoadAnswer)
-        requires waits { waits_for_load self.old.progress ≡ true }
+        requires waits { waits_for_load self.old ≡ true }
         requires given { is_load_given answer ≡ true }
-        ensures { self.new ≡ record self.old { progress = Loading answer } }
+        ensures { self.new ≡ record self.old { progress = with_loaded self.old.progress answer } }
     {
-        self.progress = PartProgress::Loading { answer };
+        self.progress.out.load = answer;
     }
 
     /// The entry processor runs: it makes these calls, and its loader answers so if it is asked. What each call was answered is
@@ -124,7 +174,7 @@ impl HeldKey {
         fail: Option<u32>,
         answers: &mut Vec<EntryAnswer>,
     ) -> RunShown
-        requires waits { waits_for_process self.old.progress ≡ true }
+        requires waits { waits_for_process self.old ≡ true }
         requires given { is_load_given load ≡ true }
         requires room { vec_len answers.old + length calls.now ≤ vec_capacity answers.old }
         ensures answers { answers.new.items ≡ answers.old.items ++ run_answers self.old.reservation load calls.now }
@@ -147,34 +197,18 @@ impl HeldKey {
         RunShown { load, change }
     }
 
-    /// What the writer is asked for, if it is.
-    fn writer_change(&self) -> Option<Change>
-        ensures { result ≡ writer_change self.now }
-    {
-        match &self.progress {
-            PartProgress::Writing { .. } => change_asked(&self.reservation().first),
-            PartProgress::WritingEffect { .. } => match &self.run {
-                Some(done) => done.change(),
-                None => unreachable!(),
-            },
-            PartProgress::Loading { .. }
-            | PartProgress::Processing
-            | PartProgress::Processed { .. } => None,
-        }
-    }
-
     /// The writer changes the store as it was asked.
     pub(crate) fn change(&mut self, store: &mut Contents, key: &Key) -> Result<(), AllocError>
-        requires { waits_for_report self.old.progress ≡ true }
+        requires { waits_for_report self.old ≡ true }
         ensures ok { OnOk result ((change : Change) × (writer_change self.old ≡ Some change)
             × (self.new ≡ record self.old { progress = with_change self.old.progress })
             × (store.new ≡ with_entry store.old key.now (changed_to change))) }
         ensures err { OnErr result ((self.new ≡ self.old) × (store.new ≡ store.old)) }
     {
-        match self.writer_change() {
+        match self.progress.change {
             Some(change) => {
                 store.set(key, entry_after(&change))?;
-                self.progress.change();
+                self.progress.is_changed = true;
                 Ok(())
             }
             None => unreachable!(),
@@ -185,14 +219,14 @@ impl HeldKey {
     pub(crate) fn reported(&self, key: &Key) -> Option<ReportedKey>
         ensures { result ≡ reported_part key.now self.now }
     {
-        if !self.progress.waits_for_report() {
+        if !self.waits_for_report() {
             return None;
         }
-        match self.writer_change() {
+        match self.progress.change {
             Some(change) => Some(ReportedKey {
                 key: *key,
                 change,
-                is_changed: self.progress.has_changed(),
+                is_changed: self.progress.is_changed,
             }),
             None => None,
         }
@@ -200,22 +234,22 @@ impl HeldKey {
 
     /// The writer returns with this for the key. Says whether it had changed the store.
     pub(crate) fn report(&mut self, report: WriteAnswer) -> bool
-        requires waits { waits_for_report self.old.progress ≡ true }
+        requires waits { waits_for_report self.old ≡ true }
         requires given { is_write_given report ≡ true }
-        ensures changed { result ≡ has_changed self.old.progress }
+        ensures changed { result ≡ has_changed self.old }
         ensures report { self.new ≡
             record self.old { progress = with_report self.old.progress report } }
     {
-        self.progress.report(report);
-        self.progress.has_changed()
+        self.progress.out.write = report;
+        self.progress.is_changed
     }
 
     /// The last phase.
     pub(crate) fn commit(self, stripe: &mut Stripe) -> StepDone
         requires out { IsOut stripe.old self.reservation }
-        requires answered { is_answered self.progress ≡ true }
+        requires answered { is_answered self ≡ true }
         requires origin { stripe.old.origin ≡ Played }
-        requires due { is_due stripe.old.config self ≡ true }
+        requires due { IsDue stripe.old.config self }
         ensures { Commits stripe.old self.reservation (out_of self) result stripe.new }
     {
         let HeldKey {
@@ -226,21 +260,16 @@ impl HeldKey {
         let mut ticket = ticket;
         match run {
             Some(done) => commit_run(ticket, done, &progress, stripe),
-            None => match progress {
-                PartProgress::Loading { answer } => {
-                    let done = played_load(ticket.ask(), answer);
+            None => match ticket.reservation().first {
+                First::Loader => {
+                    let done = played_load(ticket.ask(), progress.out.load);
                     stripe.commit_load(ticket, done)
                 }
-                PartProgress::Writing {
-                    is_changed: _,
-                    report,
-                } => {
-                    let done = played_write(ticket.ask(), report);
+                First::Writer(_) => {
+                    let done = played_write(ticket.ask(), progress.out.write);
                     stripe.commit_write(ticket, done)
                 }
-                PartProgress::Processing
-                | PartProgress::Processed { .. }
-                | PartProgress::WritingEffect { .. } => unreachable!(),
+                First::Nobody | First::Processor { .. } => unreachable!(),
             },
         }
     }
@@ -248,7 +277,7 @@ impl HeldKey {
     /// The reservation is given back.
     pub(crate) fn withdraw(self, stripe: &mut Stripe)
         requires out { IsOut stripe.old self.reservation }
-        requires open { is_unasked self.progress ≡ true }
+        requires open { is_unanswered self.progress.out ≡ true }
         ensures { Withdraws stripe.old self.reservation stripe.new }
     {
         let HeldKey {
@@ -265,9 +294,9 @@ impl HeldKey {
     /// The last phase, of a writer that hasn't returned: it fails first, with the code 0.
     fn commit_failed(self, stripe: &mut Stripe)
         requires out { IsOut stripe.old self.reservation }
-        requires waits { waits_for_report self.progress ≡ true }
+        requires waits { waits_for_report self ≡ true }
         requires origin { stripe.old.origin ≡ Played }
-        requires due { is_due stripe.old.config self ≡ true }
+        requires due { IsDue stripe.old.config self }
         ensures { (out : Out) × (done : StepDone)
             × Commits stripe.old self.reservation out done stripe.new }
     {
@@ -281,14 +310,14 @@ impl HeldKey {
     pub(crate) fn close(self, stripe: &mut Stripe)
         requires out { IsOut stripe.old self.reservation }
         requires origin { stripe.old.origin ≡ Played }
-        requires due { is_due stripe.old.config self ≡ true }
+        requires due { IsDue stripe.old.config self }
         ensures { ((out : Out) × (done : StepDone)
             × Commits stripe.old self.reservation out done stripe.new)
             ⊎ Withdraws stripe.old self.reservation stripe.new }
     {
-        if self.progress().is_unasked() {
+        if self.is_unanswered() {
             self.withdraw(stripe);
-        } else if self.progress().is_answered() {
+        } else if self.is_answered() {
             let _step = self.commit(stripe);
         } else {
             self.commit_failed(stripe);

@@ -9,12 +9,11 @@ ghost use Rattle.jc_model.specs.Table.{is_load_given, is_write_given};
 ghost use Rattle.jc_stripe.specs.Refusals.{reserves};
 ghost use Rattle.jc_stripe.specs.Effects.{change_due};
 ghost use Rattle.jc_world.specs.declared.event.Part.{Part};
-ghost use Rattle.jc_world.specs.declared.event.PartProgress.TheVariants.{Loading};
 ghost use Rattle.jc_world.specs.Premises.{changed_to};
 ghost use Rattle.jc_world.specs.World.{has_changed, has_progress, of_call, waits_for_load, waits_for_process, waits_for_report};
 ghost use Rattle.jc_world.specs.World.{writer_change};
 ghost use Rattle.jc_world.specs.Fits.{waits_in};
-ghost use Rattle.jc_world.specs.Events.{asks_as, new_part, new_progress, not_over, with_change, with_report, reported_key};
+ghost use Rattle.jc_world.specs.Events.{asks_as, new_part, new_progress, not_over, with_loaded, with_change, with_report, reported_key};
 ghost use Rattle.jc_world.specs.Events.{run_answers, run_result, progress_after};
 ghost use Rattle.jc_world.specs.Held.{parts_of};
 
@@ -94,7 +93,7 @@ pub(crate) fn loader_answers(held: &mut HeldKeys, key: &Key, answer: LoadAnswer)
     requires given { is_load_given answer ≡ true }
     ensures { (part : Part) × (map.get (parts_of held.old) key.now ≡ Some part)
         × (parts_of held.new ≡ map.insert (parts_of held.old) key.now
-        (record part { progress = Loading answer })) }
+        (record part { progress = with_loaded part.progress answer })) }
 {
     match held.get_mut(key) {
         Some(one) => one.loader_answers(answer),
@@ -123,7 +122,7 @@ pub(crate) fn change(held: &mut HeldKeys, store: &mut Contents, key: &Key) -> Re
 pub(crate) fn waits_for_report(held: &HeldKeys, call: u64, key: &Key) -> bool
     ensures { result ≡ waits_in (parts_of held.now) call key.now }
 {
-    held_by(held, call, key).is_some_and(|one| one.progress().waits_for_report())
+    held_by(held, call, key).is_some_and(|one| one.waits_for_report())
 }
 
 /// What a return of the writer shows of a key, if the writer was asked for it by a call and hasn't returned.
@@ -141,7 +140,7 @@ pub(crate) fn report(held: &mut HeldKeys, key: &Key, report: WriteAnswer) -> boo
     requires waits { has_progress waits_for_report (map.get (parts_of held.old) key.now) ≡ true }
     requires given { is_write_given report ≡ true }
     ensures { (part : Part) × (map.get (parts_of held.old) key.now ≡ Some part)
-        × (result ≡ has_changed part.progress)
+        × (result ≡ has_changed part)
         × (parts_of held.new ≡ map.insert (parts_of held.old) key.now
         (record part { progress = with_report part.progress report })) }
 {

@@ -24,7 +24,7 @@ use crate::held_keys::{HeldKeys, held_at, held_by, hold, make_room, take};
 use crate::joined::{Joins, has_joined, make_join_room, put_join, take_join};
 use crate::open_call::OpenCall;
 use crate::stripes::{Stripes, shown_of};
-use jc_model::{Change, Contents, Event};
+use jc_model::{Contents, Event};
 use jc_stripe::{Begun, Picked};
 use jc_types::{Caller, Config, Key, Value, stripe_of};
 use std::alloc::{AllocError, Global};

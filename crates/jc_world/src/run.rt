@@ -1,17 +1,17 @@
 //! How far a reserved key is as it is reserved and once its entry processor has run, and the last phase behind a processor.
-ghost use Rattle.std.specs.Prelude.{◌≡◌, true, false};
+ghost use Rattle.std.specs.Prelude.{◌≡◌, true, false, None, is_some, not, ◌&&◌};
 ghost use Rattle.jc_stripe.specs.State.{IsOut};
 ghost use Rattle.jc_stripe.specs.Phases.{Commits};
 ghost use Rattle.jc_stripe.specs.Effects.{change_due};
 ghost use Rattle.jc_stripe.specs.Tickets.{asks_processor, claim_of, change_asked};
 ghost use Rattle.jc_outside.specs.declared.done.Origin.TheVariants.{Played};
-ghost use Rattle.jc_world.specs.World.{is_answered, out_in};
+ghost use Rattle.jc_model.specs.Table.{is_write_given};
+ghost use Rattle.jc_model.specs.declared.event.WriteAnswer.TheVariants.{NotAsked};
 ghost use Rattle.jc_world.specs.Events.{asks_as, new_progress, progress_after};
-ghost use Rattle.jc_world.specs.Sound.{is_due_in};
-ghost use Rattle.jc_world.specs.Held.{IsRunAs};
+ghost use Rattle.jc_world.specs.Sound.{change_in};
 
 use crate::event::{Outcome, PartProgress};
-use jc_model::{Change, LoadAnswer, ProcessAnswer, WriteAnswer};
+use jc_model::{Change, LoadAnswer, Out, WriteAnswer};
 use jc_stripe::{Ask, First, ProcDone, StepDone, Stripe, Ticket, played_write};
 use jc_types::Config;
 
@@ -40,20 +40,15 @@ pub(crate) fn asks_as(first: &First) -> Outcome
 pub(crate) fn new_progress(first: &First) -> PartProgress
     ensures { result ≡ new_progress first.now }
 {
-    match first {
-        First::Loader => PartProgress::Loading {
-            answer: LoadAnswer::NotAsked,
-        },
-        First::Writer(_) => PartProgress::Writing {
-            is_changed: false,
-            report: WriteAnswer::NotAsked,
-        },
-        First::Nobody | First::Processor { .. } => PartProgress::Processing,
+    PartProgress {
+        change: change_asked(first),
+        out: Out::nothing_said(),
+        is_changed: false,
     }
 }
 
 /// What the writer is asked for first, if it is.
-pub(crate) fn change_asked(first: &First) -> Option<Change>
+fn change_asked(first: &First) -> Option<Change>
     ensures { result ≡ change_asked first.now }
 {
     match first {
@@ -77,16 +72,14 @@ pub(crate) fn change_due(config: &Config, done: &ProcDone<Ask>) -> Option<Change
 pub(crate) fn progress_after(change: &Option<Change>, done: &ProcDone<Ask>) -> PartProgress
     ensures { result ≡ progress_after change.now done.now }
 {
-    let load = *done.load();
-    let process = *done.process();
-    match change {
-        None => PartProgress::Processed { load, process },
-        Some(_) => PartProgress::WritingEffect {
-            load,
-            process,
-            is_changed: false,
-            report: WriteAnswer::NotAsked,
+    PartProgress {
+        change: *change,
+        out: Out {
+            load: *done.load(),
+            write: WriteAnswer::NotAsked,
+            process: *done.process(),
         },
+        is_changed: false,
     }
 }
 
@@ -102,22 +95,21 @@ pub(crate) fn commit_run(
     requires writer { ticket.writer_asked ≡ false }
     requires claim { done.ask ≡ claim_of ticket.reservation }
     requires played { done.origin ≡ Played }
-    requires run { IsRunAs done progress.now }
+    requires load { done.load ≡ progress.now.out.load }
+    requires process { done.process ≡ progress.now.out.process }
+    requires unwritten { progress.now.change ≡ None → progress.now.out.write ≡ NotAsked }
     requires out { IsOut stripe.old ticket.reservation }
-    requires answered { is_answered progress.now ≡ true }
+    requires reported { (is_some progress.now.change && not (is_write_given progress.now.out.write)) ≡ false }
     requires origin { stripe.old.origin ≡ Played }
-    requires due { is_due_in stripe.old.config ticket.reservation progress.now ≡ true }
-    ensures { Commits stripe.old ticket.reservation (out_in progress.now) result stripe.new }
+    requires due { progress.now.change ≡ change_in stripe.old.config progress.now.out }
+    ensures { Commits stripe.old ticket.reservation progress.now.out result stripe.new }
 {
     let mut ticket = ticket;
-    match progress {
-        PartProgress::WritingEffect { report, .. } => {
-            let written = played_write(ticket.ask_writer(&done), *report);
+    match progress.change {
+        Some(_) => {
+            let written = played_write(ticket.ask_writer(&done), progress.out.write);
             stripe.commit_process(ticket, done, Some(written))
         }
-        PartProgress::Loading { .. }
-        | PartProgress::Writing { .. }
-        | PartProgress::Processing
-        | PartProgress::Processed { .. } => stripe.commit_process(ticket, done, None),
+        None => stripe.commit_process(ticket, done, None),
     }
 }

@@ -6,8 +6,8 @@ ghost use Rattle.jc_types.specs.Limits.{check};
 ghost use Rattle.jc_stripe.specs.State.{IsOut, IsJoined};
 ghost use Rattle.jc_stripe.specs.Phases.{MayBegin, Commits, Withdraws, PicksUp};
 ghost use Rattle.jc_outside.specs.declared.done.Origin.TheVariants.{Played};
-ghost use Rattle.jc_world.specs.World.{out_of, is_answered, is_unasked, empty_stripes};
-ghost use Rattle.jc_world.specs.Sound.{is_due};
+ghost use Rattle.jc_world.specs.World.{out_of, is_answered, is_unanswered, empty_stripes};
+ghost use Rattle.jc_world.specs.Sound.{IsDue};
 ghost use Rattle.jc_stripe.specs.Reached.{IsReached};
 ghost use Rattle.jc_world.specs.Events.{BeginsAs, step_of};
 ghost use Rattle.jc_world.specs.Turns.{IsPhase, IsQuietPhase, history_at, merge, AreTurns};
@@ -86,8 +86,8 @@ impl Stripes {
     /// The last phase of a key on its stripe. What it appends is at the end of the order, too.
     pub(crate) fn commit(&mut self, number: usize, held: HeldKey) -> StepDone
         requires out { IsSomeAnd (slice_get self.old.stripes number) (λ s. IsOut s held.reservation
-            × (s.origin ≡ Played) × (is_due s.config held ≡ true)) }
-        requires answered { is_answered held.progress ≡ true }
+            × (s.origin ≡ Played) × IsDue s.config held) }
+        requires answered { is_answered held ≡ true }
         requires room { STEP_PLACES + JOINERS_MAX ≤ self.old.room }
         ensures { IsPhase self.old number
             (λ from to. Commits from held.reservation (out_of held) result to) self.new }
@@ -103,7 +103,7 @@ impl Stripes {
     /// Gives a key's reservation back.
     pub(crate) fn withdraw(&mut self, number: usize, held: HeldKey)
         requires out { IsSomeAnd (slice_get self.old.stripes number) (λ s. IsOut s held.reservation) }
-        requires open { is_unasked held.progress ≡ true }
+        requires open { is_unanswered held.progress.out ≡ true }
         ensures { IsQuietPhase self.old number (λ from to. Withdraws from held.reservation to) self.new }
     {
         let stripe = &mut self.items[number];

@@ -11,12 +11,10 @@ ghost use Rattle.jc_world.specs.Coherent.{all_hold, Coherent};
 ghost use Rattle.jc_world.specs.Audit.{IsOrder, HasShares, IsAudit};
 
 use crate::audit::Audit;
-use crate::event::{JoinAnswer, Part, Shown, Stepped, WorldEvent, nothing_shown};
+use crate::event::{Part, Shown, WorldEvent, nothing_shown};
 use crate::machine::Machine;
 use crate::open_call::OpenCall;
-use crate::reports::ReportedKey;
-use jc_model::{Change, Event, LoadAnswer, Reply};
-use jc_stripe::Eviction;
+use jc_model::Event;
 use jc_stripe::phase_laws::{keeps_reserved, stays_reached};
 use jc_types::{Config, Key, Refusal, Value};
 use std::alloc::{AllocError, Global};

@@ -3,10 +3,10 @@
 //!
 //! Each test ends with `close`, since a world can't be dropped.
 use courses::{event_of, plays};
-use jc_model::{Change, Event, Op, Reply, WriteAnswer, legal};
+use jc_model::{Change, Event, Op, Reply, legal};
 use jc_stripe::{First, Reservation};
 use jc_types::{Caller, Config, Field, Key, Refusal, Value};
-use jc_world::event::{Outcome, PartProgress, Shown};
+use jc_world::event::{Outcome, Shown};
 use jc_world::world::World;
 use std::alloc::Global;
 use std::process::Abort;
@@ -213,12 +213,8 @@ fn is_reserved(rt: &impl Abort, world: &World) {
     let a = key_of(rt, "a");
     let part = world.part(101, &a).expect(rt, "a is reserved");
     assert!(rt; is_of_the_put(rt, &part.reservation), "it is the put");
-    let changed = PartProgress::Writing {
-        is_changed: true,
-        report: WriteAnswer::NotAsked,
-    };
     assert!(rt;
-        part.progress == changed,
+        part.progress.is_changed && !part.progress.out.write.is_given(),
         "the writer has changed the store"
     );
     assert!(rt; world.part(102, &a).is_none(), "call 102 is over");

@@ -60,8 +60,7 @@ impl Machine {
     fn is_changing(&self, key: &Key) -> bool
         ensures { result ≡ has_progress has_changed (map.get self.now.parts key.now) }
     {
-        self.reserved(key)
-            .is_some_and(|held| held.progress().has_changed())
+        self.reserved(key).is_some_and(|held| held.has_changed())
     }
 }
 

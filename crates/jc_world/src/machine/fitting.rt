@@ -39,11 +39,11 @@ impl Machine {
             WorldEvent::Process { call, key, .. } => self.waits_for_process(*call, key),
             WorldEvent::Commit { call, key } => {
                 self.held_by(*call, key)
-                    .is_some_and(|held| held.progress().is_answered())
+                    .is_some_and(|held| held.is_answered())
             }
             WorldEvent::Withdraw { call, key } => {
                 self.held_by(*call, key)
-                    .is_some_and(|held| held.progress().is_untouched())
+                    .is_some_and(|held| held.is_untouched())
             }
             WorldEvent::Leave { call } => self.may_leave(*call),
             WorldEvent::PickUp { call, key } => self.is_joined(*call, key),
@@ -56,7 +56,7 @@ impl Machine {
         ensures { result ≡ has_progress waits_for_load (part_of self.now call key.now) }
     {
         self.held_by(call, key)
-            .is_some_and(|held| held.progress().waits_for_load())
+            .is_some_and(|held| held.waits_for_load())
     }
 
     /// Whether the entry processor was asked for a key of the call, and hasn't run.
@@ -64,7 +64,7 @@ impl Machine {
         ensures { result ≡ has_progress waits_for_process (part_of self.now call key.now) }
     {
         self.held_by(call, key)
-            .is_some_and(|held| held.progress().waits_for_process())
+            .is_some_and(|held| held.waits_for_process())
     }
 
     /// Whether the writer was asked for a key of the call, and hasn't returned.

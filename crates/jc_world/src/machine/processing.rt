@@ -14,8 +14,8 @@ use crate::machine::Machine;
 use crate::outside::{and_now, is_honest_load};
 use crate::process::{EntryCalls, LoadSource, Processed};
 use crate::read_only::ReadOnlyList;
-use jc_model::{Change, EntryAnswer, LoadAnswer};
-use jc_types::{Key, Value};
+use jc_model::LoadAnswer;
+use jc_types::Key;
 use std::alloc::AllocError;
 
 impl Machine {

@@ -1,4 +1,4 @@
-use Rattle.jc_world.proofs.Common.{◌≡◌, ℕ, ◌<◌, List, get_or, slice_get, slice_set, Some, vec_len, sym, ap, ◌∙◌, subst, arith, get, stripe_of, Config, Bytes, State, IsOut, Part, AreLeft, HasHeld, HasJoins, parts_of, joins_of, is_due, Parts, empty_stripe}
+use Rattle.jc_world.proofs.Common.{◌≡◌, ℕ, ◌<◌, List, get_or, slice_get, slice_set, Some, vec_len, sym, ap, ◌∙◌, subst, arith, get, stripe_of, Config, Bytes, State, IsOut, Part, AreLeft, HasHeld, HasJoins, parts_of, joins_of, IsDue, Parts, empty_stripe}
 use Rattle.jc_world.proofs.Closing.{IsOver, over, left_set, ended, joins_kept, none_reserved, home_of_key, key_of}
 use Rattle.jc_world.proofs.ending.end_all.Goals.{After-stripe_of-number, After-index_mut-stripe}
 use Rattle.jc_world.proofs.ending.end_all.Goals as goal
@@ -49,7 +49,7 @@ close-requires-clause-due c =
     let i = c.ending.invariant in
     let some = c.in-Some.ensures.some in
     let home = home_read (goal.at.close-requires-clause-due c).After-index_mut-stripe in
-    ap (λ (x : Config). is_due x c.in-Some.one) (i.left.each _ c.index_mut-stripe.result.now home.0).config_is ∙ i.held.due some.0 c.in-Some.one some.1
+    subst (λ (x : Config). IsDue x c.in-Some.one) (sym (i.left.each _ c.index_mut-stripe.result.now home.0).config_is) (i.held.due some.0 c.in-Some.one some.1)
 
 pub ending-preserved : goal.ending-preserved
 ending-preserved c =

@@ -1,4 +1,4 @@
-use Rattle.jc_world.proofs.Common.{◌≡◌, true, is_some, IsSomeAnd, slice_get, sym, ap, subst, Played, IsOut, Outcome, WorldEvent, Happens, parts_of, world_of, is_due, IsSoundWorld, OrderedStripes, WorldState}
+use Rattle.jc_world.proofs.Common.{◌≡◌, is_some, IsSomeAnd, slice_get, sym, ap, subst, Played, IsOut, Outcome, WorldEvent, Happens, parts_of, world_of, IsDue, IsSoundWorld, OrderedStripes, WorldState}
 use Rattle.jc_world.proofs.Holding.{fits_commit, may_commit}
 use Rattle.jc_world.proofs.Phased.{phased_from, CommitsAs, ended, may_end_at}
 use Rattle.jc_world.proofs.machine.Machine.commit.Goals as goal
@@ -11,7 +11,7 @@ commit-done-requires-clause-out c =
     let v : WorldState = world_of c.self.inside in
     let part = c.take-held.result in
     let own = may_commit v c.args.self.now c.args.call c.args.key.now part c.self.view_is c.requires.fits c.take-held.ensures.one in
-    let R : OrderedStripes → Type 0 = λ v. IsSomeAnd (slice_get v.stripes c.stripe_of-number.result) (λ s. IsOut s part.reservation × (s.origin ≡ Played) × (is_due s.config part ≡ true)) in
+    let R : OrderedStripes → Type 0 = λ v. IsSomeAnd (slice_get v.stripes c.stripe_of-number.result) (λ s. IsOut s part.reservation × (s.origin ≡ Played) × IsDue s.config part) in
     subst R (sym c.in_ok-reserve.ensures.same) (may_end_at v c.args.call c.args.key.now part c.stripe_of-number.result own.0 c.stripe_of-number.ensures (subst IsSoundWorld (sym c.self.view_is) c.requires.sound))
 
 pub commit-done-requires-clause-answered : goal.commit-done-requires-clause-answered

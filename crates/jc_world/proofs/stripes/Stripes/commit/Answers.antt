@@ -1,4 +1,4 @@
-use Rattle.jc_world.proofs.Common.{◌≡◌, true, slice_set, sym, refl, ap, subst, arith, Played, Commits, IsOut, is_due, OrderedStripes, AreTurns, out_of}
+use Rattle.jc_world.proofs.Common.{◌≡◌, slice_set, sym, refl, ap, subst, arith, Played, Commits, IsOut, IsDue, OrderedStripes, AreTurns, out_of}
 use Rattle.jc_world.proofs.Lengths.{ended_length, has_room}
 use Rattle.jc_world.proofs.Merging.{is_at, phase_made, grows_turns}
 use Rattle.jc_world.proofs.Shares.{length-slice_set}
@@ -17,7 +17,7 @@ invariant_of-self c =
     let items = c.self.inside.items.items in
     let from = c.index_mut-stripe.result.now in
     let to = c.commit-done.new.stripe in
-    let at = is_at c.self.inside c.args.self.now c.args.number from (λ s. IsOut s c.args.held.reservation × (s.origin ≡ Played) × (is_due s.config c.args.held ≡ true)) c.self.view_is c.requires.out c.index_mut-stripe.ensures.value in
+    let at = is_at c.self.inside c.args.self.now c.args.number from (λ s. IsOut s c.args.held.reservation × (s.origin ≡ Played) × IsDue s.config c.args.held) c.self.view_is c.requires.out c.index_mut-stripe.ensures.value in
     let longer = c.grows.ensures.commits from to c.args.held.reservation (out_of c.args.held) c.commit-done.result c.commit-done.ensures in
     record {
       turns = subst (AreTurns (slice_set items c.args.number to)) (sym c.give_turns.ensures)
@@ -29,6 +29,6 @@ pub returns : goal.returns
 returns c =
     let from = c.index_mut-stripe.result.now in
     let to = c.commit-done.new.stripe in
-    let at = is_at c.self.inside c.args.self.now c.args.number from (λ s. IsOut s c.args.held.reservation × (s.origin ≡ Played) × (is_due s.config c.args.held ≡ true)) c.self.view_is c.requires.out c.index_mut-stripe.ensures.value in
+    let at = is_at c.self.inside c.args.self.now c.args.number from (λ s. IsOut s c.args.held.reservation × (s.origin ≡ Played) × IsDue s.config c.args.held) c.self.view_is c.requires.out c.index_mut-stripe.ensures.value in
     let longer = c.grows.ensures.commits from to c.args.held.reservation (out_of c.args.held) c.commit-done.result c.commit-done.ensures in
     phase_made c.self.inside c.args.self.now c.args.number c.history_len-before.result from to (λ old new. Commits old c.args.held.reservation (out_of c.args.held) c.commit-done.result new) c.give_turns.new.turns.items _ c.self.view_is c.self.invariant at longer c.history_len-before.ensures.len c.commit-done.ensures c.give_turns.ensures refl refl
