@@ -9,6 +9,7 @@ ghost use Rattle.jc_cache.specs.Sessions.{MayCall};
 mod answers;
 mod asking;
 mod asking_all;
+mod before_store;
 mod bulk;
 mod bytes;
 mod calls;
@@ -26,7 +27,7 @@ mod stores;
 mod tour;
 mod writing_all;
 
-use answers::{answer_of, called, first_word, key, value};
+use answers::{Answer, answer_of, called, first_word, key, value};
 use jc_cache::Cache;
 use jc_outside::{CacheLoader, CacheWriter};
 use jc_session::Session;
@@ -45,6 +46,11 @@ type Writer = Option<Box<dyn CacheWriter + Send + Drop>>;
 
 fn is<T: Copy + Debug + PartialEq>(rt: &impl Abort, found: T, want: T) {
     assert_eq!(rt; found, want);
+}
+
+/// Asserts what the call of a line answers.
+fn is_at(rt: &impl Abort, line: &str, found: Answer, want: Answer) {
+    assert_eq!(rt; found, want, "{line}");
 }
 
 fn config(history: usize, read_through: bool, write_through: bool) -> Config
@@ -110,24 +116,6 @@ impl Desk {
         self.counts.counting(rt, writer).expect(&rt, "memory")
     }
 
-    /// A session's loader from the store, which counts its calls.
-    fn boxed_loader<R: Abort + Wait + Drop + Copy + Send + 'static>(
-        &self,
-        rt: R,
-        alloc: Global,
-    ) -> Loader {
-        Some(Box::new(alloc, self.loader(rt)).ok().expect(&rt, "memory"))
-    }
-
-    /// A session's writer to the store, which counts its calls.
-    fn boxed_writer<R: Abort + Wait + Drop + Copy + Send + 'static>(
-        &self,
-        rt: R,
-        alloc: Global,
-    ) -> Writer {
-        Some(Box::new(alloc, self.writer(rt)).ok().expect(&rt, "memory"))
-    }
-
     /// Makes the call that a line says. It is to answer what the line says, and the counts are to be these afterwards.
     fn call<R: Abort + Wait>(&self, rt: &R, cache: &mut Cache, session: &mut Session, line: &str)
         requires { MayCall cache.old session.old }
@@ -136,7 +124,12 @@ impl Desk {
     {
         let (call, counts) = line.split_once(" | ").expect(rt, "a call and counts");
         let (call, answer) = call.split_once(" = ").expect(rt, "a call and its answer");
-        is(rt, called(rt, cache, session, call), answer_of(rt, answer));
+        is_at(
+            rt,
+            line,
+            called(rt, cache, session, call),
+            answer_of(rt, answer),
+        );
         self.counted(rt, counts);
     }
 

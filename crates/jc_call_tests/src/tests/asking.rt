@@ -222,8 +222,8 @@ fn counts_what_is_held(rt: HostRuntime) {
 #[test]
 fn plays_what_it_is_given(rt: HostRuntime) {
     let ask = about(&rt, b'a', Change::Delete);
-    let failed = LoadAnswer::Failed(u32::MAX);
-    is(&rt, played_load(ask, failed).into_answer(), failed);
+    let done = played_load(ask, LoadAnswer::Failed(u32::MAX));
+    is(&rt, done.into_answer(), LoadAnswer::Failed(u32::MAX));
     let ask = about(&rt, b'b', Change::Delete);
     let done = played_write(ask, WriteAnswer::Done);
     is(&rt, done.into_answer(), WriteAnswer::Done);

@@ -6,7 +6,8 @@ use super::*;
 use jc_bulk::get_all;
 
 /// Each of the five calls, twice, and calls for one key between them.
-const ALL_CALLS: &str = "\
+pub const ALL_CALLS: &str = "\
+open 2 4 100 read write
 getall a b c = ok: a=1 | 1 0 0
 cached a=1
 own 3
@@ -48,19 +49,6 @@ put b 2 = ok | 1 1 0
 getall b c a = ok: b=2 a=5 | 4 2 2
 own 26
 ";
-
-#[test]
-fn calls_one_after_the_other(rt: HostRuntime) {
-    let alloc = rt.alloc();
-    let desk = Desk::new(&rt, alloc);
-    let loader = desk.boxed_loader(rt, alloc);
-    let writer = desk.boxed_writer(rt, alloc);
-    let config = Config {
-        stripes: 2,
-        ..config(100, true, true)
-    };
-    plays_on(&rt, alloc, &config, &desk, loader, writer, ALL_CALLS);
-}
 
 /// The loader counts the keys that it is asked for. It fails at `!`, with that count as its code, and finds it at each other key.
 const FAILED_LOADS: &str = "\

@@ -1,9 +1,10 @@
 //! Each of the eleven calls, on a key that is cached and on one that isn't, with either option on and off.
-use super::lines::{plays_before_store, plays_on};
+use super::lines::plays_on;
 use super::*;
 
 /// A day of one session: each call asks the loader and the writer exactly where the operation table says so.
-const DAY: &str = "\
+pub const DAY: &str = "\
+open 1 4 100 read write
 get a = 1 | 1 0 0
 get a = 1 | 1 0 0
 put b 2 = ok | 1 1 0
@@ -17,13 +18,9 @@ own 9
 stored a=1
 ";
 
-#[test]
-fn asks_as_the_table_says(rt: HostRuntime) {
-    plays_before_store(rt, rt.alloc(), &config(100, true, true), DAY);
-}
-
 /// On keys that aren't cached. Only `get` loads, and a `remove` asks for a delete all the same.
-const MISSING: &str = "\
+pub const MISSING: &str = "\
+open 1 4 100 read write
 contains a = false | 0 0 0
 replace a 5 = false | 0 0 0
 replaceif a 1 5 = false | 0 0 0
@@ -40,13 +37,9 @@ own 12
 stored a=1 c=3 d=4 e=5
 ";
 
-#[test]
-fn finds_nothing_cached(rt: HostRuntime) {
-    plays_before_store(rt, rt.alloc(), &config(100, true, true), MISSING);
-}
-
 /// On keys that are cached: nobody is asked to load.
-const CACHED: &str = "\
+pub const CACHED: &str = "\
+open 1 4 100 read write
 put b 1 = ok | 0 1 0
 get b = 1 | 0 1 0
 contains b = true | 0 1 0
@@ -65,11 +58,6 @@ remove b = true | 0 7 3
 own 15
 stored a=1
 ";
-
-#[test]
-fn finds_an_entry(rt: HostRuntime) {
-    plays_before_store(rt, rt.alloc(), &config(100, true, true), CACHED);
-}
 
 /// With both options off nobody is asked, and the store stays as it was.
 const ALONE: &str = "\
@@ -104,7 +92,8 @@ fn asks_nobody(rt: HostRuntime) {
 }
 
 /// With read-through alone a get loads, and no mutation is written.
-const READS: &str = "\
+pub const READS: &str = "\
+open 1 4 100 read
 get a = 1 | 1 0 0
 put a 2 = ok | 1 0 0
 remove a = true | 1 0 0
@@ -112,21 +101,12 @@ get a = 1 | 2 0 0
 stored a=1
 ";
 
-#[test]
-fn reads_through_alone(rt: HostRuntime) {
-    plays_before_store(rt, rt.alloc(), &config(100, true, false), READS);
-}
-
 /// With write-through alone each mutation is written, and a get of a missing key finds none.
-const WRITES: &str = "\
+pub const WRITES: &str = "\
+open 1 4 100 write
 get a = - | 0 0 0
 putif a 2 = true | 0 1 0
 get a = 2 | 0 1 0
 remove a = true | 0 1 1
 stored
 ";
-
-#[test]
-fn writes_through_alone(rt: HostRuntime) {
-    plays_before_store(rt, rt.alloc(), &config(100, false, true), WRITES);
-}

@@ -4,9 +4,9 @@
 //!     invoke a get set=2 get = 2 | 1 1 0
 ghost use Rattle.jc_cache.specs.Sessions.{MayCall};
 
-use super::answers::{Answer, answer_of, entry, first_word, key};
+use super::answers::{entry, first_word, key};
 use super::asking::Counting as Failing;
-use super::lines::{plays_before_store, plays_on};
+use super::lines::plays_on;
 use super::scripted::processor_of;
 use super::*;
 use jc_invoke::invoke;
@@ -42,17 +42,15 @@ impl Desk {
     {
         let (call, counts) = line.split_once(" | ").expect(rt, "a call and counts");
         let (call, answer) = call.split_once(" = ").expect(rt, "a call and its answer");
-        is(
-            rt,
-            invoked(rt, alloc, cache, session, call),
-            answer_of(rt, answer),
-        );
+        let found = invoked(rt, alloc, cache, session, call);
+        is_at(rt, line, found, answer_of(rt, answer));
         self.counted(rt, counts);
     }
 }
 
 /// The sequences of JSR 107's integration section, on keys that are missing and then on the same keys: one load, one write.
-const NET_EFFECTS: &str = "\
+pub const NET_EFFECTS: &str = "\
+open 1 4 100 read write
 invoke a get set=2 get set=3 = 2 | 1 1 0
 invoke a get set=4 get set=5 = 4 | 1 2 0
 invoke b get remove get set=5 = - | 2 3 0
@@ -66,13 +64,9 @@ own 8
 stored a=5
 ";
 
-#[test]
-fn writes_the_net_effect(rt: HostRuntime) {
-    plays_before_store(rt, rt.alloc(), &config(100, true, true), NET_EFFECTS);
-}
-
 /// A processor that sets and fails leaves nothing, also of a value that was loaded for it.
-const FAILED: &str = "\
+pub const FAILED: &str = "\
+open 1 4 100 read write
 invoke a get set=6 fail=3 = ProcessorFailed 3 | 1 0 0
 contains a = false | 1 0 0
 put b 1 = ok | 1 1 0
@@ -80,11 +74,6 @@ invoke b remove fail=4 = ProcessorFailed 4 | 1 1 0
 get b = 1 | 1 1 0
 stored a=1 b=1
 ";
-
-#[test]
-fn leaves_nothing_of_a_failed_processor(rt: HostRuntime) {
-    plays_before_store(rt, rt.alloc(), &config(100, true, true), FAILED);
-}
 
 /// With both options off a processor works on the cache alone.
 const ALONE: &str = "\
@@ -124,7 +113,7 @@ fn goes_on_after_a_failed_load(rt: HostRuntime) {
     let desk = Desk::new(&rt, alloc);
     let failing = Box::new(alloc, Failing { calls: 0 });
     let loader: Loader = Some(failing.ok().expect(&rt, "memory"));
-    let writer = desk.boxed_writer(rt, alloc);
+    let writer: Writer = Some(Box::new(alloc, desk.writer(rt)).ok().expect(&rt, "memory"));
     plays_on(
         &rt,
         alloc,
@@ -137,7 +126,8 @@ fn goes_on_after_a_failed_load(rt: HostRuntime) {
 }
 
 /// A processor that calls nothing asks nobody, leaves the entry as it is, and returns none. It is a step all the same.
-const SILENT: &str = "\
+pub const SILENT: &str = "\
+open 1 4 100 read write
 invoke a nothing = - | 0 0 0
 contains a = false | 0 0 0
 put a 2 = ok | 0 1 0
@@ -148,11 +138,6 @@ own 7
 cached a=2
 stored a=2
 ";
-
-#[test]
-fn asks_nobody_for_a_processor_without_calls(rt: HostRuntime) {
-    plays_before_store(rt, rt.alloc(), &config(100, true, true), SILENT);
-}
 
 /// On a store without entries the first increment gives 1, and the second one 2, which loads nothing.
 const FIRST_INCREMENTS: &str = "\
@@ -166,7 +151,8 @@ stored a=2
 fn increments_on_an_empty_store(rt: HostRuntime) {
     let alloc = rt.alloc();
     let desk = Desk::of(&rt, alloc, &[]);
-    let (loader, writer) = (desk.boxed_loader(rt, alloc), desk.boxed_writer(rt, alloc));
+    let loader: Loader = Some(Box::new(alloc, desk.loader(rt)).ok().expect(&rt, "memory"));
+    let writer: Writer = Some(Box::new(alloc, desk.writer(rt)).ok().expect(&rt, "memory"));
     plays_on(
         &rt,
         alloc,

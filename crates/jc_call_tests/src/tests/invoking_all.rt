@@ -8,7 +8,7 @@
 ghost use Rattle.jc_cache.specs.Sessions.{MayCall};
 
 use super::answers::{answer_of, entry, first_word};
-use super::lines::{plays_before_store, plays_on};
+use super::lines::plays_on;
 use super::many::keys_of;
 use super::scripted::processor_of;
 use super::*;
@@ -71,7 +71,8 @@ impl Desk {
 }
 
 /// An increment at two keys, of which one is cached: each key has its own result, in their order.
-const INCREMENTS: &str = "\
+pub const INCREMENTS: &str = "\
+open 1 4 100 read write
 invokeall b: get next get; b 1 | 1 1 0
 invokeall b: get next get; b 2 | 1 2 0
 invokeall b a: get next get; b 3; a 2 | 2 4 0
@@ -79,24 +80,15 @@ own 4
 stored a=2 b=3
 ";
 
-#[test]
-fn increments_at_each_key(rt: HostRuntime) {
-    plays_before_store(rt, rt.alloc(), &config(100, true, true), INCREMENTS);
-}
-
 /// A processor without a result gives none, and asks no loader. A failure is each key's, and leaves nothing.
-const RESULTS: &str = "\
+pub const RESULTS: &str = "\
+open 1 4 100 read write
 invokeall a b: exists | 0 0 0
 invokeall a b: get set=2 fail=3; a ProcessorFailed 3; b ProcessorFailed 3 | 2 0 0
 invokeall a b: get; a 1 | 4 0 0
 own 6
 stored a=1
 ";
-
-#[test]
-fn says_what_became_of_each_key(rt: HostRuntime) {
-    plays_before_store(rt, rt.alloc(), &config(100, true, true), RESULTS);
-}
 
 /// Two stripes, of 16 events each. 13 events are in one of them, so it has room for one call more: of two keys that it has, the
 /// first is carried out, and the second refused. The keys of the other stripe are carried out, also after that.
@@ -117,14 +109,10 @@ fn goes_on_after_a_full_history(rt: HostRuntime) {
 }
 
 /// The most keys are carried out. One more, and the call is refused whole: nobody is asked, and nothing changes.
-const MOST: &str = "\
+pub const MOST: &str = "\
+open 1 4 3000 read write
 invokeall #0..1025: get set=1; TooManyKeys | 0 0 0
 own 0
 invokeall #0..1024: get set=1 | 1024 1024 0
 own 1024
 ";
-
-#[test]
-fn takes_so_many_keys(rt: HostRuntime) {
-    plays_before_store(rt, rt.alloc(), &config(3_000, true, true), MOST);
-}

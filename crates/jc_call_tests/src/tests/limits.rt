@@ -1,5 +1,4 @@
 //! What a cache and a session are refused for, and a history that is full.
-use super::lines::plays_before_store;
 use super::*;
 use jc_types::{Field, SESSIONS_MAX};
 
@@ -81,7 +80,7 @@ fn wants_a_loader_and_a_writer(rt: HostRuntime) {
         None,
         (Refusal::NoLoader, false, false),
     );
-    let writer = desk.boxed_writer(rt, alloc);
+    let writer: Writer = Some(Box::new(alloc, desk.writer(rt)).ok().expect(&rt, "memory"));
     is_refused(
         &rt,
         &mut cache,
@@ -89,7 +88,7 @@ fn wants_a_loader_and_a_writer(rt: HostRuntime) {
         writer,
         (Refusal::NoLoader, false, true),
     );
-    let loader = desk.boxed_loader(rt, alloc);
+    let loader: Loader = Some(Box::new(alloc, desk.loader(rt)).ok().expect(&rt, "memory"));
     is_refused(
         &rt,
         &mut cache,
@@ -114,13 +113,13 @@ fn gives_out_so_many_sessions(rt: HostRuntime) {
     let desk = Desk::new(&rt, alloc);
     let mut cache = opened(&rt, alloc, &config(100, true, true));
     for _ in 0..SESSIONS_MAX {
-        let loader = desk.boxed_loader(rt, alloc);
-        let writer = desk.boxed_writer(rt, alloc);
+        let loader: Loader = Some(Box::new(alloc, desk.loader(rt)).ok().expect(&rt, "memory"));
+        let writer: Writer = Some(Box::new(alloc, desk.writer(rt)).ok().expect(&rt, "memory"));
         let given = cache.session(loader, writer);
         assert!(rt; given.is_ok());
     }
-    let loader = desk.boxed_loader(rt, alloc);
-    let writer = desk.boxed_writer(rt, alloc);
+    let loader: Loader = Some(Box::new(alloc, desk.loader(rt)).ok().expect(&rt, "memory"));
+    let writer: Writer = Some(Box::new(alloc, desk.writer(rt)).ok().expect(&rt, "memory"));
     is_refused(
         &rt,
         &mut cache,
@@ -138,7 +137,8 @@ fn gives_out_so_many_sessions(rt: HostRuntime) {
 }
 
 /// A history of 16 events: a put needs three free places, a hit one. A refused call asks nobody and changes nothing.
-const FULL: &str = "\
+pub const FULL: &str = "\
+open 1 4 16 read write
 get a = 1 | 1 0 0
 put b 2 = ok | 1 1 0
 put b 2 = ok | 1 2 0
@@ -162,8 +162,3 @@ get a = HistoryFull | 1 13 0
 own 16
 stored a=1 b=2
 ";
-
-#[test]
-fn refuses_when_the_history_is_full(rt: HostRuntime) {
-    plays_before_store(rt, rt.alloc(), &config(16, true, true), FULL);
-}

@@ -272,15 +272,3 @@ pub fn plays_on<R: Abort + Wait>(
     let mut session = started(rt, &mut cache, loader, writer);
     desk.plays(rt, alloc, &mut cache, &mut session, text);
 }
-
-/// Plays a text on a cache of this shape, before a store with a=1, and a loader and a writer of it whose calls are counted.
-pub fn plays_before_store<R: Abort + Wait + Drop + Copy + Send + 'static>(
-    rt: R,
-    alloc: Global,
-    config: &Config,
-    text: &str,
-) {
-    let desk = Desk::new(&rt, alloc);
-    let (loader, writer) = (desk.boxed_loader(rt, alloc), desk.boxed_writer(rt, alloc));
-    plays_on(&rt, alloc, config, &desk, loader, writer, text);
-}

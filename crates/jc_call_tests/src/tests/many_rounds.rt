@@ -1,14 +1,6 @@
 //! Bulk calls of more keys than one round has, and of the most keys.
-use super::lines::{plays_before_store, plays_on};
+use super::lines::plays_on;
 use super::*;
-
-/// A stripe that evicts none of so many keys.
-fn wide_config(read_through: bool) -> Config {
-    Config {
-        capacity: 2_000,
-        ..config(6_000, read_through, true)
-    }
-}
 
 const ROUNDS: &str = "\
 # 64 keys are one round, 65 are two, and 130 are three. Each is one call of the writer.
@@ -38,10 +30,15 @@ fn fails_in_one_of_its_rounds(rt: HostRuntime) {
     let desk = Desk::new(&rt, alloc);
     let scripted = desk.scripted_writer(rt, alloc, ROUNDS);
     let writer: Writer = Some(Box::new(alloc, scripted).ok().expect(&rt, "memory"));
-    plays_on(&rt, alloc, &wide_config(false), &desk, None, writer, ROUNDS);
+    let config = Config {
+        capacity: 2_000,
+        ..config(6_000, false, true)
+    };
+    plays_on(&rt, alloc, &config, &desk, None, writer, ROUNDS);
 }
 
-const MOST: &str = "\
+pub const MOST: &str = "\
+open 1 2000 6000 read write
 # One key too many: the call is refused whole. Nobody is asked, and nothing changes.
 getall #0..1025 = TooManyKeys | 0 0 0
 putall #0..1025=1 = TooManyKeys | 0 0 0
@@ -66,16 +63,8 @@ count 0 0
 own 5186
 ";
 
-#[test]
-fn takes_the_most_keys(rt: HostRuntime) {
-    let alloc = rt.alloc();
-    let desk = Desk::new(&rt, alloc);
-    let loader = desk.boxed_loader(rt, alloc);
-    let writer = desk.boxed_writer(rt, alloc);
-    plays_on(&rt, alloc, &wide_config(true), &desk, loader, writer, MOST);
-}
-
-const SMALL: &str = "\
+pub const SMALL: &str = "\
+open 1 16 4096 read write
 # One key too many: the call is refused whole.
 getall #0..1025 = TooManyKeys | 0 0 0
 own 0
@@ -86,16 +75,8 @@ getall a #0..1023 = ok: a=1 | 32 0 0
 count 1 1
 ";
 
-#[test]
-fn gets_more_keys_than_are_kept(rt: HostRuntime) {
-    let config = Config {
-        capacity: 16,
-        ..config(4_096, true, true)
-    };
-    plays_before_store(rt, rt.alloc(), &config, SMALL);
-}
-
-const SPREAD: &str = "\
+pub const SPREAD: &str = "\
+open 64 2000 6000 read write
 # No stripe of 64 has more than 64 of the keys, so each call has one round.
 getall #0..1024 = ok | 1 0 0
 putall #0..1024=1 = ok | 1 1 0
@@ -104,16 +85,3 @@ removeall #0..1024 = ok | 1 1 1
 count 0 1
 own 3072
 ";
-
-#[test]
-fn has_one_round_over_many_stripes(rt: HostRuntime) {
-    let alloc = rt.alloc();
-    let desk = Desk::new(&rt, alloc);
-    let loader = desk.boxed_loader(rt, alloc);
-    let writer = desk.boxed_writer(rt, alloc);
-    let config = Config {
-        stripes: 64,
-        ..wide_config(true)
-    };
-    plays_on(&rt, alloc, &config, &desk, loader, writer, SPREAD);
-}

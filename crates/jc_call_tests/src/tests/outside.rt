@@ -98,7 +98,7 @@ fn a_failed_load_leaves_the_entry(rt: HostRuntime) {
     let desk = Desk::new(&rt, alloc);
     let failing = Box::new(alloc, Failing { code: 7 });
     let loader: Loader = Some(failing.ok().expect(&rt, "memory"));
-    let writer = desk.boxed_writer(rt, alloc);
+    let writer: Writer = Some(Box::new(alloc, desk.writer(rt)).ok().expect(&rt, "memory"));
     plays_on(
         &rt,
         alloc,
@@ -135,7 +135,7 @@ fn a_failed_write_leaves_the_entry(rt: HostRuntime) {
     let desk = Desk::new(&rt, alloc);
     let failing = Box::new(alloc, Failing { code: 9 });
     let writer: Writer = Some(failing.ok().expect(&rt, "memory"));
-    let loader = desk.boxed_loader(rt, alloc);
+    let loader: Loader = Some(Box::new(alloc, desk.loader(rt)).ok().expect(&rt, "memory"));
     plays_on(
         &rt,
         alloc,

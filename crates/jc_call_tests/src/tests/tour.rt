@@ -27,7 +27,8 @@ own 10
 fn tours_the_library(rt: HostRuntime) {
     let alloc = rt.alloc();
     let desk = Desk::new(&rt, alloc);
-    let (loader, writer) = (desk.boxed_loader(rt, alloc), desk.boxed_writer(rt, alloc));
+    let loader: Loader = Some(Box::new(alloc, desk.loader(rt)).ok().expect(&rt, "memory"));
+    let writer: Writer = Some(Box::new(alloc, desk.writer(rt)).ok().expect(&rt, "memory"));
     let config = Config {
         stripes: 2,
         ..config(100, true, true)

@@ -1,0 +1,58 @@
+//! Texts that are played before a store with a=1, with a loader and a writer of it whose calls are counted. The first line of each
+//! is the shape of its cache.
+use super::lines::plays_on;
+use super::{bulk, calls, invoking, invoking_all, limits, many_rounds, *};
+
+const TEXTS: &[&str] = &[
+    calls::DAY,
+    calls::MISSING,
+    calls::CACHED,
+    calls::READS,
+    calls::WRITES,
+    limits::FULL,
+    invoking::NET_EFFECTS,
+    invoking::FAILED,
+    invoking::SILENT,
+    invoking_all::INCREMENTS,
+    invoking_all::RESULTS,
+    invoking_all::MOST,
+    many_rounds::MOST,
+    many_rounds::SMALL,
+    many_rounds::SPREAD,
+    bulk::ALL_CALLS,
+];
+
+/// The shape that a line says, as `open 1 4 100 read write`: stripes, capacity, history, and the options that are on.
+fn shape_of(rt: &impl Abort, line: &str) -> Config {
+    let (_open, line) = first_word(line);
+    let (stripes, line) = first_word(line);
+    let (capacity, line) = first_word(line);
+    let (history, options) = first_word(line);
+    Config {
+        stripes: stripes.parse().ok().expect(rt, line),
+        capacity: capacity.parse().ok().expect(rt, line),
+        history: history.parse().ok().expect(rt, line),
+        read_through: options.contains("read"),
+        write_through: options.contains("write"),
+    }
+}
+
+#[test]
+fn plays_before_a_store(rt: HostRuntime) {
+    let alloc = rt.alloc();
+    for text in TEXTS {
+        let (shape, lines) = text.split_once('\n').expect(&rt, "a shape");
+        let desk = Desk::new(&rt, alloc);
+        let loader: Loader = Some(Box::new(alloc, desk.loader(rt)).ok().expect(&rt, "memory"));
+        let writer: Writer = Some(Box::new(alloc, desk.writer(rt)).ok().expect(&rt, "memory"));
+        plays_on(
+            &rt,
+            alloc,
+            &shape_of(&rt, shape),
+            &desk,
+            loader,
+            writer,
+            lines,
+        );
+    }
+}
