@@ -10,7 +10,7 @@
 --     no_event, some_events     a line that makes no event leads on, and so does one that makes some
 --     piece_stays     each line without a fault leads on, by its bytes
 --     script_stays    and so do the lines of a script, one after another
-use Rattle.std.proofs.Common.{arith, ◌+◌, ◌≡◌, ◌∙◌, option_map, ◌++◌, ◌&&◌, ℕ, Bool, true, false, cond, List, [], ◌∷◌, Option, None, Some, Result, Ok, Err, is_none, is_some, find, refl, sym, ap, subst, subst₂, inl, inr, append_assoc, append-nil, true≢false}
+use Rattle.std.proofs.Common.{arith, ◌+◌, ◌≡◌, ◌∙◌, option_map, ◌++◌, ◌&&◌, ℕ, Bool, true, false, cond, List, [], ◌∷◌, Option, None, Some, Result, Ok, Err, is_some, find, refl, sym, ap, subst, subst₂, inl, inr, append_assoc, append-nil, true≢false}
 use Rattle.std.proofs.Math.Bool.{and-false}
 use Rattle.std.proofs.lemmas.Bool.{and_from}
 use Rattle.std.proofs.lemmas.List.Folds.{list_all-append}

@@ -1,6 +1,6 @@
 -- Lines that are read are spelled as what they ask for.
 use Rattle.std.proofs.Common.{◌≡◌, ◌++◌, ◌∙◌, ◌==◌, ℕ, ◌≤◌, Bool, true, false, not, cond, List, [], ◌∷◌, length, Option, None, Some, Result, Ok, Err, refl, sym, ap, subst, IfOk, IfSome}
-use Rattle.std.specs.Prelude.{decimal, codes, nat_lt, nat_le, ◌&&◌}
+use Rattle.std.specs.Prelude.{decimal, codes, nat_lt, nat_le, ◌&&◌, ◌||◌}
 use Rattle.std.specs.List.{list_all, join_with_byte}
 use Rattle.std.specs.Str.{bytes_eq}
 use Rattle.std.proofs.lemmas.Bool.{ltb-true, leb-true, ltb-false, and_parts}
@@ -30,8 +30,8 @@ use Rattle.jc_script.specs.declared.grammar.LineKind.TheVariants as kind
 use Rattle.jc_script.specs.declared.line.Line.TheVariants.{OfCall}
 use Rattle.jc_script.specs.Printing.{value_text}
 use Rattle.jc_script.specs.Words.{◌>>=◌, words_of, number_of, caller_of, key_of, value_of, value_or_none_of, pairs_of, distinct_pairs_of, distinct_keys_of}
-use Rattle.jc_script.specs.Lines.{form_named, line_named, flags_of, takes_words, bare_op, valued_op, bare_of, valued_of, value_alone_of, replace_if_of, begin_with, bulk_named, bulk_takes, bulk_of, bulk_with, has_but_shape, left_of, apply_of, apply_fail_of, command_of, open_of, set_of, begin_of, number_alone, lone_act, coded_act, coded_of, process_of, say_of, foreign_of, line_of, are_words, parsed, is_plain, is_comment, some_line, read_line}
-use Rattle.jc_script.specs.Spelled.{IsNumber, IsSession, session_text, IsValue, IsKey, AreKeyWords, AreLeftKeys, HasKeys, IsOperation, SaysWords, IsSpellable, LinesAreSpelled, spelling, line_words, operation_words, bulk_words, left_words, pair_text, flag_words}
+use Rattle.jc_script.specs.Lines.{form_named, line_named, flags_of, takes_words, bare_op, valued_op, bare_of, valued_of, value_alone_of, replace_if_of, begin_with, bulk_named, is_load_mode, has_load_shape, bulk_takes, load_all_of, bulk_of, bulk_with, has_but_shape, left_of, apply_of, apply_fail_of, command_of, open_of, set_of, begin_of, number_alone, lone_act, coded_act, coded_of, process_of, say_of, foreign_of, line_of, are_words, parsed, is_plain, is_comment, some_line, read_line}
+use Rattle.jc_script.specs.Spelled.{IsNumber, IsSession, session_text, IsValue, IsKey, AreKeyWords, AreLeftKeys, HasKeys, IsOperation, SaysWords, IsSpellable, LinesAreSpelled, spelling, line_words, operation_words, load_word, bulk_words, left_words, pair_text, flag_words}
 use Rattle.jc_script.specs.ProcessWords.{without_load, has_process_shape, source_of, calls_of, source_words}
 use Rattle.jc_script.proofs.ReadProcess.{SaysSource, source_read, SaysCalls, calls_read}
 use Rattle.jc_script.proofs.Given.{ok_bind, ok_then, ok_if, ok_unless, ok_since, ok_named, ok_weaker}
@@ -59,6 +59,7 @@ form_word (form.Bulk name.PutAll) = codes "putall"
 form_word (form.Bulk name.RemoveAll) = codes "removeall"
 form_word (form.Bulk name.RemoveEvery) = codes "removeevery"
 form_word (form.Bulk name.Clear) = codes "clear"
+form_word (form.Bulk name.LoadAll) = codes "loadall"
 form_word (form.Bulk name.InvokeAll) = codes "invokeall"
 
 kind_word : LineKind → List ℕ
@@ -85,7 +86,7 @@ bulk_form_read w =
     let P : Form → Type 0 = λ form. w ≡ form_word form in
     ok_named w (codes "getall") _ _ P (λ e. e) (ok_named w (codes "putall") _ _ P (λ e. e) (ok_named w (codes "removeall") _ _ P (λ e. e)
     (ok_named w (codes "removeevery") _ _ P (λ e. e) (ok_named w (codes "clear") _ _ P (λ e. e)
-    (ok_named w (codes "invokeall") _ (Err BadLine) P (λ e. e) tt)))))
+    (ok_named w (codes "loadall") _ _ P (λ e. e) (ok_named w (codes "invokeall") _ (Err BadLine) P (λ e. e) tt))))))
 
 form_read : (w : List ℕ) → IfOk (form_named w) (λ form. w ≡ form_word form)
 unfolding form_word
@@ -181,7 +182,23 @@ some_keys words keys shaped h =
     let some : 1 ≤ length words = ltb-true 0 (length words) shaped in
     (rw h.1 at some, h.0, h.2)
 
-bulk_said : (n : BulkName) (words : List (List ℕ)) → bulk_takes n (length words) ≡ true → IfOk (bulk_of n words) (SaysBulk n words)
+load_mode_said : (mode : List ℕ) → is_load_mode mode ≡ true → mode ≡ load_word (bytes_eq mode (codes "replace"))
+load_mode_said mode = by (bytes_eq mode (codes "keep")) (bytes_eq mode (codes "replace")) (bytes_eq-Decides mode (codes "keep")).0 (bytes_eq-Decides mode (codes "replace")).0
+  where
+    by : (keep replace : Bool) → (keep ≡ true → mode ≡ codes "keep") → (replace ≡ true → mode ≡ codes "replace") → (keep || replace) ≡ true → mode ≡ load_word replace
+    by keep true kept replaced h = replaced refl
+    by true false kept replaced h = kept refl
+    by false false kept replaced h = absurd cc
+
+load_said : (words : List (List ℕ)) → has_load_shape words ≡ true → IfOk (load_all_of words) (SaysBulk name.LoadAll words)
+unfolding form_word
+load_said [] shaped = tt
+load_said (mode ∷ words) shaped =
+    let both = and_parts (is_load_mode mode) (nat_lt 0 (length words)) shaped in
+    ok_then (distinct_keys_of words) _ (SaysKeys words) (SaysBulk name.LoadAll (mode ∷ words)) (keys_read words) (λ keys h.
+    (some_keys words keys both.1 h, (λ i. codes "loadall" ∷ load_mode_said mode both.0 i ∷ h.1 i)))
+
+bulk_said : (n : BulkName) (words : List (List ℕ)) → bulk_takes n words ≡ true → IfOk (bulk_of n words) (SaysBulk n words)
 unfolding form_word
 bulk_said name.GetAll words shaped =
     ok_then (distinct_keys_of words) _ (SaysKeys words) (SaysBulk name.GetAll words) (keys_read words) (λ keys h.
@@ -197,17 +214,18 @@ bulk_said name.RemoveEvery [] shaped = (tt, refl)
 bulk_said name.RemoveEvery (x ∷ more) shaped = tt
 bulk_said name.Clear [] shaped = (tt, refl)
 bulk_said name.Clear (x ∷ more) shaped = tt
+bulk_said name.LoadAll words shaped = load_said words shaped
 bulk_said name.InvokeAll words shaped =
     ok_then (distinct_keys_of words) _ (SaysKeys words) (SaysBulk name.InvokeAll words) (keys_read words) (λ keys h.
     (some_keys words keys shaped h, ap (λ behind. codes "invokeall" ∷ behind) h.1))
 
-bulk_read : (call session : ℕ) (n : BulkName) (words : List (List ℕ)) → IsNumber call → IsSession session → takes_words (form.Bulk n) (length words) ≡ true
+bulk_read : (call session : ℕ) (n : BulkName) (words : List (List ℕ)) → IsNumber call → IsSession session → takes_words (form.Bulk n) words ≡ true
     → IfOk (bulk_with call session (bulk_of n words)) (SaysBegin call session (form.Bulk n) words)
 bulk_read call session n words a s shaped =
     ok_then (bulk_of n words) _ (SaysBulk n words) (SaysBegin call session (form.Bulk n) words) (bulk_said n words shaped) (λ bulk h.
     ((a, s, h.0), ap (λ behind. codes "begin" ∷ decimal call ∷ session_text session ∷ behind) h.1))
 
-command_read : (call session : ℕ) (form : Form) (words : List (List ℕ)) → IsNumber call → IsSession session → takes_words form (length words) ≡ true
+command_read : (call session : ℕ) (form : Form) (words : List (List ℕ)) → IsNumber call → IsSession session → takes_words form words ≡ true
     → IfOk (command_of call session form words) (SaysBegin call session form words)
 command_read call session (form.Bare b) words n s shaped = operation_read call session (form.Bare b) words (bare_of b words) n s (bare_read b words)
 command_read call session (form.Valued o) words n s shaped = operation_read call session (form.Valued o) words (valued_of o words) n s (valued_read o words)
@@ -260,7 +278,7 @@ begin_read (n ∷ who ∷ []) = tt
 begin_read (n ∷ who ∷ name ∷ words) =
     let P : Line → Type 0 = SaysLine kind.Begin (n ∷ who ∷ name ∷ words) in
     ok_then (form_named name) _ (λ form. name ≡ form_word form) P (form_read name) (λ form f.
-    let shape = takes_words form (length words) in
+    let shape = takes_words form words in
     ok_then (cond shape (Ok true) (Err BadLine)) _ (λ b. shape ≡ true) P (ok_if shape (Ok true) BadLine (λ b. shape ≡ true) (λ e. e)) (λ b shaped.
     ok_then (number_of n) _ (SaysNumber n) P (number_read n) (λ call a.
     ok_then (caller_of who) _ (SaysSession who) P (session_read who) (λ session c.

@@ -27,9 +27,9 @@ use Rattle.jc_script.specs.declared.line.Act.{Act}
 use Rattle.jc_script.specs.declared.line.Act.TheVariants.{Read, ReadFail, Say, Apply, ApplyFail, ApplyLie, End, Drop, More, Take, Process}
 use Rattle.jc_script.specs.ProcessWords.{source_words, call_text, fail_words}
 use Rattle.jc_script.specs.Words.{◌>>=◌, Pairs}
-use Rattle.jc_script.specs.Lines.{form_named, flags_of, takes_words, bare_op, valued_op, bare_of, valued_of, replace_if_of, begin_with, bulk_with, has_but_shape, left_of, apply_of, apply_fail_of, command_of, open_of, set_of, begin_of, lone_act, lone_of, coded_act, coded_of, say_of, foreign_of, read_line}
+use Rattle.jc_script.specs.Lines.{form_named, flags_of, takes_words, bare_op, valued_op, bare_of, valued_of, replace_if_of, begin_with, has_load_shape, load_all_of, bulk_with, has_but_shape, left_of, apply_of, apply_fail_of, command_of, open_of, set_of, begin_of, lone_act, lone_of, coded_act, coded_of, say_of, foreign_of, read_line}
 use Rattle.jc_script.specs.Printing.{value_text, value_or_none_text}
-use Rattle.jc_script.specs.Spelled.{IsNumber, IsSession, IsKey, IsValue, IsValueOrNone, IsPair, AreLeftKeys, HasKeys, IsOperation, IsAct, LinesReadBack, spelling, session_text, pair_text, flag_words, operation_words, bulk_words, left_words}
+use Rattle.jc_script.specs.Spelled.{IsNumber, IsSession, IsKey, IsValue, IsValueOrNone, IsPair, AreKeyWords, AreLeftKeys, HasKeys, IsOperation, IsAct, LinesReadBack, spelling, session_text, pair_text, flag_words, operation_words, load_word, bulk_words, left_words}
 use Rattle.jc_script.proofs.AreKeyWords.{key_back, keys_back, keys_are_words}
 use Rattle.jc_script.proofs.AreDistinctPairs.{distinct_pairs_back}
 use Rattle.jc_script.proofs.SpelledPairs.{pairs_back, pairs_are_words}
@@ -97,7 +97,7 @@ operation_word op.Invoke key o k = and_from _ _ (text_word _ key k) refl
 
 -- the begin of a call, from what the words after the session ask for
 begin_asks : (call session : ℕ) (name : List ℕ) (words : List (List ℕ)) (form : Form) (line : Line) → IsNumber call → IsSession session → form_named name ≡ Ok form
-    → takes_words form (length words) ≡ true → command_of call session form words ≡ Ok line → begin_of (decimal call ∷ session_text session ∷ name ∷ words) ≡ Ok line
+    → takes_words form words ≡ true → command_of call session form words ≡ Ok line → begin_of (decimal call ∷ session_text session ∷ name ∷ words) ≡ Ok line
 unfolding begin_of
 begin_asks call session name words form line n s named shaped asks =
     rw named (rw shaped (rw (number_back call n, caller_back session s) asks))
@@ -126,7 +126,17 @@ bulk_are_words (bulk.PutAll pairs) known = pairs_are_words pairs known.1
 bulk_are_words (bulk.RemoveAll keys) known = keys_are_words keys known.1
 bulk_are_words bulk.RemoveEvery known = refl
 bulk_are_words bulk.Clear known = refl
+bulk_are_words (bulk.LoadAll false keys) known = keys_are_words keys known.1
+bulk_are_words (bulk.LoadAll true keys) known = keys_are_words keys known.1
 bulk_are_words (bulk.InvokeAll keys) known = keys_are_words keys known.1
+
+load_shape : (replace : Bool) (keys : List Bytes) → 1 ≤ length keys → has_load_shape (load_word replace ∷ keys) ≡ true
+load_shape false keys some = lt-ltb 0 (length keys) some
+load_shape true keys some = lt-ltb 0 (length keys) some
+
+load_back : (replace : Bool) (keys : List Bytes) → AreKeyWords 1 keys → load_all_of (load_word replace ∷ keys) ≡ Ok (bulk.LoadAll replace keys)
+load_back false keys known = ap (λ r. r >>= λ keys. Ok (bulk.LoadAll false keys)) (keys_back 1 keys known)
+load_back true keys known = ap (λ r. r >>= λ keys. Ok (bulk.LoadAll true keys)) (keys_back 1 keys known)
 
 bulk_back : (call session : ℕ) (b : BulkCall) → IsNumber call → IsSession session → HasKeys b
     → begin_of (decimal call ∷ session_text session ∷ bulk_words b) ≡ Ok (BeginBulk call session b)
@@ -141,6 +151,9 @@ bulk_back call session (bulk.RemoveAll keys) n s known =
     (ap (bulk_with call session) (ap (λ r. r >>= λ keys. Ok (bulk.RemoveAll keys)) (keys_back 1 keys known)))
 bulk_back call session bulk.RemoveEvery n s known = begin_asks call session (codes "removeevery") [] (form.Bulk name.RemoveEvery) _ n s refl refl refl
 bulk_back call session bulk.Clear n s known = begin_asks call session (codes "clear") [] (form.Bulk name.Clear) _ n s refl refl refl
+bulk_back call session (bulk.LoadAll replace keys) n s known =
+    begin_asks call session (codes "loadall") (load_word replace ∷ keys) (form.Bulk name.LoadAll) _ n s refl (load_shape replace keys known.0)
+    (ap (bulk_with call session) (load_back replace keys known))
 bulk_back call session (bulk.InvokeAll keys) n s known =
     begin_asks call session (codes "invokeall") keys (form.Bulk name.InvokeAll) _ n s refl (lt-ltb 0 (length keys) known.0)
     (ap (bulk_with call session) (ap (λ r. r >>= λ keys. Ok (bulk.InvokeAll keys)) (keys_back 1 keys known)))

@@ -1,6 +1,6 @@
 -- The events that lines stand for.
 --     single          the command of a call that makes one operation
---     bulk_call       what a line says of a command on many keys: no line says `loadAll`
+--     bulk_call       what a line says of a command on many keys; it says a command on one in another way
 --     is_drop         an act gives its call up
 --     keys_of_act     the keys of a call that an act may be about: those at which the call works; of an act that gives the call up all
 --                     open ones
@@ -56,7 +56,7 @@ bulk_call (command.PutAll map) = Some (bulk.PutAll map.entries)
 bulk_call (command.RemoveAll set) = Some (bulk.RemoveAll set.keys)
 bulk_call command.RemoveEvery = Some bulk.RemoveEvery
 bulk_call command.Clear = Some bulk.Clear
-bulk_call (command.LoadAll replace set) = None
+bulk_call (command.LoadAll replace set) = Some (bulk.LoadAll replace set.keys)
 bulk_call (command.InvokeAll set) = Some (bulk.InvokeAll set.keys)
 
 -- 1. What an act does at the keys of its call.

@@ -7,13 +7,16 @@
 --     act_named                     the kind of line of a call, that a first word names
 --     line_named                    the kind of line that a first word names
 --     flags_of                      what of read-through and write-through is on
---     bulk_takes, takes_words       so many words follow the name of a call of many keys, and an operation's name
+--     is_load_mode                  a word says which keys a `loadall` loads: those that are missing, or all
+--     has_load_shape                such a word, and at least one more
+--     bulk_takes, takes_words       these words may follow the name of a call of many keys, and an operation's name, by their number
 --     bare_op, valued_op            the operation of a name with no value, and of a name with one
 --     bare_of, valued_of, replace_if_of      an operation with its key and no value, with one value, with an old and a new one
 --     value_alone_of                one value, and no word after it
 --     open_of, set_of, begin_of     what the words after `open`, `set` and `begin` ask for
 --     begin_with                    the begin of a call with an operation
---     bulk_alone, bulk_of           a call of many keys that names none, and one with its keys or its pairs
+--     bulk_alone, load_all_of       a call of many keys that names none, and a `loadall` with its keys
+--     bulk_of                       a call of many keys, with its keys or its pairs if it names any
 --     bulk_with                     the begin of a call of many keys
 --     command_of                    the begin of a call, by what follows the session
 --     number_alone                  one number, and no word after it
@@ -33,7 +36,7 @@
 --     read_line                     what the bytes of a line ask for: nothing, for a comment
 --     is_callable                   what a line begins is a call of one of the 32 sessions, and its operation is a call by itself, if
 --                                   it has but one
-use Rattle.std.specs.Prelude.{◌≡◌, ◌==◌, ℕ, List, [], ◌∷◌, length, Bool, true, false, ◌&&◌, not, nat_lt, nat_le, Option, Some, None, Result, Ok, Err, if◌then◌else◌, codes}
+use Rattle.std.specs.Prelude.{◌≡◌, ◌==◌, ℕ, List, [], ◌∷◌, length, Bool, true, false, ◌&&◌, ◌||◌, not, nat_lt, nat_le, Option, Some, None, Result, Ok, Err, if◌then◌else◌, codes}
 use Rattle.std.specs.Str.{bytes_eq}
 use Rattle.std.specs.List.{list_all}
 use Rattle.jc_model.specs.Cache.{Bytes}
@@ -96,6 +99,7 @@ bulk_named word =
     if bytes_eq word (codes "removeall") then Ok (form.Bulk name.RemoveAll) else
     if bytes_eq word (codes "removeevery") then Ok (form.Bulk name.RemoveEvery) else
     if bytes_eq word (codes "clear") then Ok (form.Bulk name.Clear) else
+    if bytes_eq word (codes "loadall") then Ok (form.Bulk name.LoadAll) else
     if bytes_eq word (codes "invokeall") then Ok (form.Bulk name.InvokeAll) else
     Err BadLine
 
@@ -151,21 +155,29 @@ flags_of (a ∷ b ∷ c ∷ more) = Err BadLine
 
 -- 2. Operations.
 
--- how many words follow the name of a call of many keys: a key or more, or none
-abbrev pub bulk_takes : BulkName → ℕ → Bool
-bulk_takes name.GetAll count = nat_lt 0 count
-bulk_takes name.PutAll count = nat_lt 0 count
-bulk_takes name.RemoveAll count = nat_lt 0 count
-bulk_takes name.RemoveEvery count = count == 0
-bulk_takes name.Clear count = count == 0
-bulk_takes name.InvokeAll count = nat_lt 0 count
+-- those that are missing, or all
+abbrev pub is_load_mode : List ℕ → Bool
+is_load_mode word = bytes_eq word (codes "keep") || bytes_eq word (codes "replace")
 
--- how many words follow an operation's name
-abbrev pub takes_words : Form → ℕ → Bool
-takes_words (form.Bare b) count = count == 1
-takes_words (form.Valued v) count = count == 2
-takes_words form.ReplaceIf count = count == 3
-takes_words (form.Bulk n) count = bulk_takes n count
+abbrev pub has_load_shape : List (List ℕ) → Bool
+has_load_shape [] = false
+has_load_shape (mode ∷ words) = is_load_mode mode && nat_lt 0 (length words)
+
+-- a key or a pair, or more; or none
+abbrev pub bulk_takes : BulkName → List (List ℕ) → Bool
+bulk_takes name.GetAll words = nat_lt 0 (length words)
+bulk_takes name.PutAll words = nat_lt 0 (length words)
+bulk_takes name.RemoveAll words = nat_lt 0 (length words)
+bulk_takes name.RemoveEvery words = length words == 0
+bulk_takes name.Clear words = length words == 0
+bulk_takes name.LoadAll words = has_load_shape words
+bulk_takes name.InvokeAll words = nat_lt 0 (length words)
+
+abbrev pub takes_words : Form → List (List ℕ) → Bool
+takes_words (form.Bare b) words = length words == 1
+takes_words (form.Valued v) words = length words == 2
+takes_words form.ReplaceIf words = length words == 3
+takes_words (form.Bulk n) words = bulk_takes n words
 
 abbrev pub bare_op : Bare → Op
 bare_op bare.Get = op.Get
@@ -217,12 +229,19 @@ abbrev pub bulk_alone : BulkCall → List (List ℕ) → Result BulkCall Fault
 bulk_alone call [] = Ok call
 bulk_alone call (x ∷ more) = Err BadLine
 
+-- the words' shape is known
+abbrev pub load_all_of : List (List ℕ) → Result BulkCall Fault
+load_all_of [] = Err BadLine
+load_all_of (mode ∷ words) =
+    distinct_keys_of words >>= λ keys. Ok (bulk.LoadAll (bytes_eq mode (codes "replace")) keys)
+
 abbrev pub bulk_of : BulkName → List (List ℕ) → Result BulkCall Fault
 bulk_of name.GetAll words = distinct_keys_of words >>= λ keys. Ok (bulk.GetAll keys)
 bulk_of name.PutAll words = distinct_pairs_of words >>= λ pairs. Ok (bulk.PutAll pairs)
 bulk_of name.RemoveAll words = distinct_keys_of words >>= λ keys. Ok (bulk.RemoveAll keys)
 bulk_of name.RemoveEvery words = bulk_alone bulk.RemoveEvery words
 bulk_of name.Clear words = bulk_alone bulk.Clear words
+bulk_of name.LoadAll words = load_all_of words
 bulk_of name.InvokeAll words = distinct_keys_of words >>= λ keys. Ok (bulk.InvokeAll keys)
 
 -- 3. Lines, from the words after the first.
@@ -264,7 +283,7 @@ command_of number session (form.Bulk n) words = bulk_with number session (bulk_o
 unfoldable pub begin_of : List (List ℕ) → Result Line Fault
 begin_of (n ∷ who ∷ name ∷ words) = do
   form ← form_named name
-  shaped ← (if takes_words form (length words) then Ok true else Err BadLine)
+  shaped ← (if takes_words form words then Ok true else Err BadLine)
   number ← number_of n
   session ← caller_of who
   command_of number session form words

@@ -8,6 +8,7 @@
 --     session_text, pair_text    a session; a key, an equals sign and its value
 --     flag_words                 the words for read-through and write-through, of what is on
 --     operation_words            an operation's name, its key and its values; nothing, if it has no name
+--     load_word                  whether a `loadall` replaces
 --     bulk_words                 the name of a call of many keys, and its keys or its pairs
 --     left_words                 the keys that the writer leaves, after `but`; nothing, if that isn't there
 --     act_words                  what happens next to a call
@@ -112,12 +113,17 @@ operation_words op.Clear key = []
 operation_words (op.LoadAll replace) key = []
 operation_words op.Invoke key = codes "invoke" ∷ key ∷ []
 
+abbrev pub load_word : Bool → Bytes
+load_word false = codes "keep"
+load_word true = codes "replace"
+
 abbrev pub bulk_words : BulkCall → List Bytes
 bulk_words (bulk.GetAll keys) = codes "getall" ∷ keys
 bulk_words (bulk.PutAll pairs) = codes "putall" ∷ map pair_text pairs
 bulk_words (bulk.RemoveAll keys) = codes "removeall" ∷ keys
 bulk_words bulk.RemoveEvery = codes "removeevery" ∷ []
 bulk_words bulk.Clear = codes "clear" ∷ []
+bulk_words (bulk.LoadAll replace keys) = codes "loadall" ∷ load_word replace ∷ keys
 bulk_words (bulk.InvokeAll keys) = codes "invokeall" ∷ keys
 
 abbrev pub left_words : Option (List Bytes) → List Bytes
@@ -216,6 +222,7 @@ HasKeys (bulk.PutAll pairs) = AreDistinctPairs pairs
 HasKeys (bulk.RemoveAll keys) = AreKeyWords 1 keys
 HasKeys bulk.RemoveEvery = Unit {0}
 HasKeys bulk.Clear = Unit {0}
+HasKeys (bulk.LoadAll replace keys) = AreKeyWords 1 keys
 HasKeys (bulk.InvokeAll keys) = AreKeyWords 1 keys
 
 abbrev pub SaysWords : Line → Type 0

@@ -1,7 +1,8 @@
 //! Operations as words: their names, and what follows a name.
 ghost use Rattle.std.specs.Prelude.{◌≡◌, map, length};
 ghost use Rattle.jc_script.specs.Lines.{Gives, ok_with, form_named, bulk_named, takes_words, bare_op, valued_op, bare_of, valued_of};
-ghost use Rattle.jc_script.specs.Lines.{value_alone_of, replace_if_of, command_of, begin_with, bulk_takes, bulk_alone, bulk_of, bulk_with};
+ghost use Rattle.jc_script.specs.Lines.{value_alone_of, replace_if_of, command_of, begin_with, bulk_alone, bulk_of, bulk_with};
+ghost use Rattle.jc_script.specs.Lines.{is_load_mode, has_load_shape, bulk_takes, load_all_of};
 
 use crate::fault::{Fault, ReadError};
 use crate::line::{BulkCall, Line, Operation, put_line};
@@ -39,17 +40,18 @@ pub enum BulkName {
     RemoveAll,
     RemoveEvery,
     Clear,
+    LoadAll,
     InvokeAll,
 }
 
-/// What follows an operation's name: its key, and as many values; or keys.
+/// What follows an operation's name: its key, and as many values; or what a call of many keys takes.
 #[derive(Clone, Copy)]
 pub enum Form {
     Bare(Bare),
     Valued(Valued),
     /// The old value and the new one.
     ReplaceIf,
-    /// What a call of many keys takes: keys or pairs, or nothing.
+    /// What a call of many keys takes: keys or pairs, `keep` or `replace` and keys, or nothing.
     Bulk(BulkName),
 }
 
@@ -115,32 +117,55 @@ fn read_bulk_form(word: &[u8]) -> Result<Form, Fault>
     if is(word, "clear") {
         return Ok(Form::Bulk(BulkName::Clear));
     }
+    if is(word, "loadall") {
+        return Ok(Form::Bulk(BulkName::LoadAll));
+    }
     if is(word, "invokeall") {
         return Ok(Form::Bulk(BulkName::InvokeAll));
     }
     Err(Fault::BadLine)
 }
 
-fn bulk_takes(name: BulkName, count: usize) -> bool
-    ensures { result ≡ bulk_takes name count }
+/// Whether a word says which keys a `loadall` loads: `keep`, those that are missing; or `replace`, all.
+fn is_load_mode(word: &[u8]) -> bool
+    ensures { result ≡ is_load_mode word.now }
 {
-    match name {
-        BulkName::GetAll | BulkName::PutAll | BulkName::RemoveAll | BulkName::InvokeAll => {
-            0 < count
-        }
-        BulkName::RemoveEvery | BulkName::Clear => count == 0,
+    is(word, "keep") || is(word, "replace")
+}
+
+/// Whether these words say which keys a `loadall` loads, and then name a key or more.
+fn has_load_shape(words: &[&[u8]]) -> bool
+    ensures { result ≡ has_load_shape (map (λ w. w.now) words.now) }
+{
+    match words {
+        [] => false,
+        [mode, rest @ ..] => is_load_mode(mode) && 0 < rest.len(),
     }
 }
 
-/// Whether so many words follow an operation's name: its key, and the values that it takes; or keys.
-pub fn has_shape(form: Form, count: usize) -> bool
-    ensures { result ≡ takes_words form count }
+/// Whether these words may follow the name of a call of many keys: a key or a pair, or more; or none.
+fn bulk_takes(name: BulkName, words: &[&[u8]]) -> bool
+    ensures { result ≡ bulk_takes name (map (λ w. w.now) words.now) }
+{
+    match name {
+        BulkName::GetAll | BulkName::PutAll | BulkName::RemoveAll | BulkName::InvokeAll => {
+            0 < words.len()
+        }
+        BulkName::RemoveEvery | BulkName::Clear => words.len() == 0,
+        BulkName::LoadAll => has_load_shape(words),
+    }
+}
+
+/// Whether these words may follow an operation's name, by their number: its key, and the values that it takes; or what a call of many
+/// keys takes.
+pub fn has_shape(form: Form, words: &[&[u8]]) -> bool
+    ensures { result ≡ takes_words form (map (λ w. w.now) words.now) }
 {
     match form {
-        Form::Bare(_) => count == 1,
-        Form::Valued(_) => count == 2,
-        Form::ReplaceIf => count == 3,
-        Form::Bulk(name) => bulk_takes(name, count),
+        Form::Bare(_) => words.len() == 1,
+        Form::Valued(_) => words.len() == 2,
+        Form::ReplaceIf => words.len() == 3,
+        Form::Bulk(name) => bulk_takes(name, words),
     }
 }
 
@@ -247,6 +272,20 @@ fn bulk_alone(bulk: BulkCall, words: &[&[u8]]) -> Result<BulkCall, ReadError>
     }
 }
 
+/// A `loadall` of the keys after the first word, which says whether it replaces.
+fn load_all(alloc: Global, words: &[&[u8]]) -> Result<BulkCall, ReadError>
+    ensures { Gives result (load_all_of (map (λ w. w.now) words.now)) }
+{
+    match words {
+        [] => Err(ReadError::Fault(Fault::BadLine)),
+        [mode, rest @ ..] => {
+            let keys = keys(alloc, rest)?;
+            let replace = is(mode, "replace");
+            Ok(BulkCall::LoadAll { replace, keys })
+        }
+    }
+}
+
 fn read_bulk(alloc: Global, name: BulkName, words: &[&[u8]]) -> Result<BulkCall, ReadError>
     ensures { Gives result (bulk_of name (map (λ w. w.now) words.now)) }
 {
@@ -256,6 +295,7 @@ fn read_bulk(alloc: Global, name: BulkName, words: &[&[u8]]) -> Result<BulkCall,
         BulkName::RemoveAll => Ok(BulkCall::RemoveAll(keys(alloc, words)?)),
         BulkName::RemoveEvery => bulk_alone(BulkCall::RemoveEvery, words),
         BulkName::Clear => bulk_alone(BulkCall::Clear, words),
+        BulkName::LoadAll => load_all(alloc, words),
         BulkName::InvokeAll => Ok(BulkCall::InvokeAll(keys(alloc, words)?)),
     }
 }

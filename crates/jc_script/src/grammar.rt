@@ -181,7 +181,7 @@ fn begin(alloc: Global, words: &[&[u8]], line: &mut Line) -> Result<(), ReadErro
     match words {
         [n, who, name, rest @ ..] => {
             let form = read_form(name)?;
-            if !has_shape(form, rest.len()) {
+            if !has_shape(form, rest) {
                 return Err(ReadError::Fault(Fault::BadLine));
             }
             let call = number(n)?;

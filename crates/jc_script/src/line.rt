@@ -64,6 +64,13 @@ pub enum BulkCall {
     RemoveEvery,
     /// `clear`.
     Clear,
+    /// `loadAll` of these keys.
+    LoadAll {
+        /// Whether keys whose entry is present are loaded anew, too.
+        replace: bool,
+        /// The keys.
+        keys: Keys,
+    },
     /// `invokeAll` on these keys.
     InvokeAll(Keys),
 }

@@ -1,6 +1,6 @@
 -- When an event fits.
 --     is_single      an operation is a call by itself: each but `Clear` and `LoadAll`
---     is_playable    a command that a world plays: one operation that is a call by itself, or one on many keys, but for `loadAll`
+--     is_playable    a command that a world plays: one operation that is a call by itself, or one on many keys
 --     is_new         a call's number is above all before it
 --     is_free        a call has neither a reservation nor a join of a key
 --     may_start      a key is open in a call, which may work at it and has neither a reservation nor a join of it
@@ -43,7 +43,7 @@ is_single Clear = false
 is_single (LoadAll replace) = false
 is_single Invoke = true
 
--- the calls of many keys are played, but for `loadAll`
+-- each call of many keys is played
 abbrev pub is_playable : Command → Bool
 is_playable (command.Single op key) = is_single op
 is_playable (command.GetAll keys) = true
@@ -51,7 +51,7 @@ is_playable (command.PutAll entries) = true
 is_playable (command.RemoveAll keys) = true
 is_playable command.RemoveEvery = true
 is_playable command.Clear = true
-is_playable (command.LoadAll replace keys) = false
+is_playable (command.LoadAll replace keys) = true
 is_playable (command.InvokeAll keys) = true
 
 -- the number is above all before it

@@ -38,7 +38,7 @@ fn is_single(op: &Op) -> bool
     }
 }
 
-/// Whether a command is played: one operation that is a call by itself, or one on many keys, but for `loadAll`.
+/// Whether a command is played: one operation that is a call by itself, or one on many keys.
 pub(crate) fn is_playable(command: &Command) -> bool
     ensures { result ≡ is_playable command.now }
 {
@@ -49,11 +49,11 @@ pub(crate) fn is_playable(command: &Command) -> bool
         | Command::RemoveAll { keys: _ }
         | Command::RemoveEvery
         | Command::Clear
-        | Command::InvokeAll { keys: _ } => true,
-        Command::LoadAll {
+        | Command::LoadAll {
             replace: _,
             keys: _,
-        } => false,
+        }
+        | Command::InvokeAll { keys: _ } => true,
     }
 }
 

@@ -37,9 +37,9 @@ pub enum Command {
     RemoveEvery,
     /// A `Clear` of each key that is cached (`clear`).
     Clear,
-    /// A `LoadAll` of each key (`loadAll`).
+    /// A `LoadAll` of each key (`loadAll`). The loader is asked whether or not read-through is on.
     LoadAll {
-        /// Whether entries that are there are loaded anew.
+        /// Whether keys whose entry is present are loaded anew, too (`replaceExistingValues`).
         replace: bool,
         /// The keys.
         keys: IndexSet<Key>,

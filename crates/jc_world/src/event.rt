@@ -17,8 +17,7 @@ pub enum WorldEvent {
     /// A session begins a call. It has no phase yet.
     ///
     /// It fits if the number is above all before it, the session is one and has no call under way, and the command is one operation
-    /// on one key that is a call by itself, or one on many keys. `Op::Clear` and `Op::LoadAll` are no calls by themselves, and
-    /// `loadAll` isn't played.
+    /// on one key that is a call by itself, or one on many keys. `Op::Clear` and `Op::LoadAll` are no calls by themselves.
     ///
     /// A call of more than [`BULK_KEYS_MAX`](jc_types::BULK_KEYS_MAX) keys is refused whole: it is over at once, and its number is
     /// used. So is a call of no keys over at once.
@@ -44,9 +43,9 @@ pub enum WorldEvent {
     },
     /// The first phase of a key of the call. It fits if the key has neither a reply nor a last refusal in this call, and the
     /// call has neither reserved it nor joined its load: before its first phase, and once the key was put off, or the call was told
-    /// to retry or has given its reservation back. A `getAll`, a `putAll` and a `removeAll` take their keys in any order, whatever
-    /// becomes of the others. An `invokeAll` takes its keys one after the other: of its keys it fits at the first one that has
-    /// neither a reply nor a last refusal.
+    /// to retry or has given its reservation back. A `getAll`, a `putAll`, a `removeAll`, a `clear` and a `loadAll` take their keys
+    /// in any order, whatever becomes of the others. An `invokeAll` takes its keys one after the other: of its keys it fits at the
+    /// first one that has neither a reply nor a last refusal.
     Start {
         /// The call's number.
         call: u64,

@@ -100,6 +100,10 @@ fn command_of(call: &BulkCall) -> Result<Command, AllocError>
         BulkCall::RemoveAll(keys) => Ok(Command::RemoveAll { keys: keys.copy()? }),
         BulkCall::RemoveEvery => Ok(Command::RemoveEvery),
         BulkCall::Clear => Ok(Command::Clear),
+        BulkCall::LoadAll { replace, keys } => {
+            let (replace, keys) = (*replace, keys.copy()?);
+            Ok(Command::LoadAll { replace, keys })
+        }
         BulkCall::InvokeAll(keys) => Ok(Command::InvokeAll { keys: keys.copy()? }),
     }
 }

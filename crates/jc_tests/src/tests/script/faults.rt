@@ -21,7 +21,10 @@ begin 1 s1 removeall a  b
 begin 1 s1 removeevery a
 begin x y clear !
 begin 1 s1 clearall
-begin 1 s1 loadall keep a
+begin 1 s1 loadall
+begin 1 s1 loadall a
+begin x y loadall keep
+begin x y loadall both !
 reopen 1 2 100
 readfail x
 readfail x 1 2
@@ -67,6 +70,7 @@ readfail x y
 open 1 2 100x
 begin x y get !
 begin 01 s0 getall !
+begin 01 s0 loadall keep !
 drop x
 more 01
 take 1000000000
@@ -98,6 +102,7 @@ apply 1 but !
 applyfail 1 2 but a ! a
 begin 1 s1 getall a ! a
 begin 1 s1 getall a=1
+begin 1 s1 loadall keep a ! a
 begin 1 s1 removeall ~
 begin 1 s1 putall !
 begin 1 s1 putall =1
@@ -105,6 +110,7 @@ begin 1 s1 putall a=1 !=1 a=2
 ==
 repeated key
 begin 1 s1 invokeall a a !
+begin 1 s1 loadall replace a a !
 begin 1 s1 getall a a !
 begin 1 s1 removeall a b a
 begin 1 s1 putall a=1 a=!

@@ -1,7 +1,7 @@
 //! Long runs of random events with a fixed seed, compared with a plain reading of their order.
 use super::{config, key_at, key_of, value_of};
 use indexmap::{IndexMap, IndexSet};
-use jc_model::{Event, LoadAnswer, Op, Reply, legal};
+use jc_model::{Event, LoadAnswer, Op, Out, Reply, legal};
 use jc_types::{Config, Key, Value, stripe_of};
 use jc_world::command::Command;
 use jc_world::event::{Outcome, Shown, WorldEvent};
@@ -75,7 +75,7 @@ impl Rng {
 
     /// A call of one key, or of many.
     fn command(&mut self, rt: &impl Abort, alloc: Global) -> Command {
-        match self.next(12) {
+        match self.next(13) {
             0 => Command::GetAll {
                 keys: self.keys(rt, alloc),
             },
@@ -87,6 +87,10 @@ impl Rng {
             },
             3 => Command::RemoveEvery,
             4 => Command::Clear,
+            5 => Command::LoadAll {
+                replace: self.next(2) == 0,
+                keys: self.keys(rt, alloc),
+            },
             _ => Command::Single {
                 op: self.op(rt),
                 key: self.key(rt),
@@ -172,8 +176,8 @@ enum Use {
     Nothing,
 }
 
-/// What a step with this reply does to an entry with this value.
-fn use_of(op: &Op, reply: &Reply, was: Option<Value>) -> Use {
+/// What a step with these answers and this reply does to an entry with this value.
+fn use_of(op: &Op, out: &Out, reply: &Reply, was: Option<Value>) -> Use {
     let stays = match was {
         Some(value) => Use::Front(value),
         None => Use::Nothing,
@@ -187,6 +191,10 @@ fn use_of(op: &Op, reply: &Reply, was: Option<Value>) -> Use {
         (Op::PutIfAbsent(value) | Op::Replace(value), Reply::Flag(true)) => Use::Front(*value),
         (Op::ReplaceIf { old: _, new: value }, Reply::Flag(true)) => Use::Front(*value),
         (Op::GetAndReplace(value), Reply::Value(Some(_))) => Use::Front(*value),
+        (Op::LoadAll { .. }, _) => match &out.load {
+            LoadAnswer::Found(value) => Use::Front(*value),
+            _ => Use::Nothing,
+        },
         _ => stays,
     }
 }
@@ -266,10 +274,11 @@ impl Shelf {
             Event::Step {
                 op,
                 key,
+                out,
                 shared_with: None,
                 reply,
                 ..
-            } => match use_of(op, reply, self.value(key)) {
+            } => match use_of(op, out, reply, self.value(key)) {
                 Use::Front(value) => {
                     self.take_out(key);
                     self.entries.insert(0, (*key, value)).expect(rt, "memory");
