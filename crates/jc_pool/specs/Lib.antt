@@ -1,0 +1,4 @@
+pub mod Shares
+pub mod Views
+pub mod Teams
+pub mod Rule

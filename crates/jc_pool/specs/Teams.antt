@@ -1,0 +1,33 @@
+-- Workers, each with its tool, who claim with one claimer.
+--     CanBegin     a claimer is of this counter and for these workers, of whom there is one at least, and has claimed nothing; there are
+--                  as many tools, and each worker can do every piece
+--     HasEnded     one worker has ended, after just the pieces that its claimer claimed
+--     HaveEnded    the workers have ended, after just the pieces that their claimer claimed, each of them after its share
+use Rattle.std.specs.Prelude.{◌≡◌, ℕ, ◌<◌, List, All, length}
+use Rattle.std.specs.List.{concat, zip}
+use Rattle.atomic_table.specs.Seated.{TableId}
+use Rattle.jc_pool.specs.declared.view.Plan.{Plan}
+use Rattle.jc_pool.specs.declared.view.Claims.{Claims}
+use Rattle.jc_pool.specs.Shares.{CanDoAll, DoesShare, DoShares}
+use Rattle.jc_pool.specs.Views.{fresh_claims, ended_claims}
+
+pub record CanBegin {W T : Type 0} (can_do : W × T → ℕ → Type 0) (counter : TableId × Plan) (claimer : TableId × Claims) (workers : List W) (tools : List T) : Type 0 where
+  pub counter_is : claimer.0 ≡ counter.0
+  pub claims : claimer.1 ≡ fresh_claims counter.1 (length workers)
+  pub some : 0 < length workers
+  pub tool_each : length tools ≡ length workers
+  pub able : All (CanDoAll can_do counter.1.pieces) (zip workers tools)
+
+module _ {W T J : Type 0} (did : W × T → List ℕ) (job : W × T → J) (can_do : W × T → ℕ → Type 0) (counter : TableId × Plan) (claimer : TableId × Claims) where
+  pub record HasEnded (old new : W × T) : Type 0 where
+    pub counter_is : claimer.0 ≡ counter.0
+    pub claims : claimer.1 ≡ ended_claims counter.1 1 claimer.1.claimed
+    pub share : DoesShare did job can_do counter.1.pieces old new claimer.1.claimed
+
+  pub record HaveEnded (old : List W) (old_tools : List T) (new : List W) (new_tools : List T) : Type 0 where
+    pub counter_is : claimer.0 ≡ counter.0
+    pub shares : List (List ℕ)
+    pub claims : claimer.1 ≡ ended_claims counter.1 (length old) (concat shares)
+    pub workers : length new ≡ length old
+    pub tools : length new_tools ≡ length old_tools
+    pub each : DoShares did job can_do counter.1.pieces (zip old old_tools) (zip new new_tools) shares

@@ -1,0 +1,50 @@
+-- What a claimer knows, and what each call leaves of it.
+--     workers_of      how many workers a claimer is for
+--     next_after      the least number above all of a list
+--     fresh_claims    for so many workers, of whom none has claimed a piece
+--     ended_claims    for so many workers, who all have ended after these claims
+--     spent_claims    a claimer that is gone
+--     after_claim     a piece was claimed
+--     after_end       one worker more has ended
+--     after_split     the claimer that was split: it is for the larger half of the workers
+--     split_off       the claimer that is made by that, which has claimed nothing
+--     after_join      a claimer into which another one was joined
+--     IsOf            a claimer is of this counter
+use Rattle.std.specs.Prelude.{◌≡◌, ℕ, ◌+◌, ◌-◌, ◌/◌, List, [], ◌∷◌, ◌++◌, max}
+use Rattle.atomic_table.specs.Seated.{TableId}
+use Rattle.jc_pool.specs.declared.view.Plan.{Plan}
+use Rattle.jc_pool.specs.declared.view.Claims.{Claims}
+
+abbrev pub workers_of : Claims → ℕ
+workers_of v = v.working + v.ended
+
+abbrev pub next_after : List ℕ → ℕ
+next_after [] = 0
+next_after (x ∷ xs) = max (x + 1) (next_after xs)
+
+abbrev pub fresh_claims : Plan → ℕ → Claims
+fresh_claims plan workers = record { plan = plan; claimed = []; working = workers; ended = 0 }
+
+abbrev pub ended_claims : Plan → ℕ → List ℕ → Claims
+ended_claims plan workers claimed = record { plan = plan; claimed = claimed; working = 0; ended = workers }
+
+abbrev pub spent_claims : Claims
+spent_claims = fresh_claims record { pieces = 0; workers = 0 } 0
+
+abbrev pub after_claim : Claims → ℕ → Claims
+after_claim v piece = record v { claimed = v.claimed ++ piece ∷ [] }
+
+abbrev pub after_end : Claims → Claims
+after_end v = record v { working = v.working - 1; ended = v.ended + 1 }
+
+abbrev pub after_split : Claims → Claims
+after_split v = record v { working = v.working - v.working / 2 }
+
+abbrev pub split_off : Claims → Claims
+split_off v = fresh_claims v.plan (v.working / 2)
+
+abbrev pub after_join : Claims → Claims → Claims
+after_join v w = record v { claimed = v.claimed ++ w.claimed; working = v.working + w.working; ended = v.ended + w.ended }
+
+abbrev pub IsOf : TableId × Plan → TableId × Claims → Type 0
+IsOf counter claimer = (claimer.0 ≡ counter.0) × (claimer.1.plan ≡ counter.1)

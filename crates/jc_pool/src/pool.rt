@@ -1,0 +1,148 @@
+//! Workers side by side.
+ghost use Rattle.std.specs.Prelude.{◌≡◌, ℕ, ◌+◌, ◌^◌, ◌<◌, All, length, OnOk, OnErr};
+ghost use Rattle.std.specs.List.{zip};
+ghost use denote.Param.Send.{IsSync, IsSend};
+ghost use Rattle.jc_pool.specs.Shares.{CanDoAll, DoesEachOnce};
+ghost use Rattle.jc_pool.specs.Views.{fresh_claims};
+ghost use Rattle.jc_pool.specs.Teams.{CanBegin, HasEnded, HaveEnded};
+
+use crate::counter::{Claimer, Counter};
+use crate::view::Plan;
+use crate::work::{Work, WorkWith};
+use std::alloc::{AllocError, Global};
+use std::thread::{Threads, join_mut};
+
+/// Does the pieces whose numbers are below `pieces`, each once, by all workers side by side.
+///
+/// A worker claims one piece after another, the next one each time, until none is left. So each has a share of the pieces, which it
+/// does in rising order. The first worker works on the calling thread, each of the others on a thread of its own; a worker for
+/// whom no thread can be started leaves its share to the others. It returns once all have ended, so it waits for as long as
+/// their pieces do. Nothing says which worker has which share.
+///
+/// An `Err` says that memory ran out. No piece was done, and the workers are as they were.
+///
+/// Conditions: there is at least one worker; pieces and workers together are at most `usize::MAX`; each worker can do every piece.
+pub fn run_pieces<W: Work + Send, R: Threads + Sync>(
+    alloc: Global,
+    rt: &R,
+    workers: &mut [W],
+    pieces: usize,
+) -> Result<(), AllocError>
+    requires some { 0 < length workers.old }
+    requires fits { pieces + length workers.old < 2 ^ 64 }
+    requires able { All (CanDoAll W.can_do pieces) workers.old }
+    ensures done { OnOk result (DoesEachOnce W.did W.job W.can_do pieces workers.old workers.new) }
+    ensures err { OnErr result (workers.new ≡ workers.old) }
+{
+    let mut tools = vec![in alloc; (); workers.len()]?;
+    run_pieces_with(alloc, rt, workers, tools.as_mut_slice(), pieces)
+}
+
+/// As [`run_pieces`] does, by workers each of whom is lent the tool at its own place.
+///
+/// An `Err` says that memory ran out. No piece was done, and workers and tools are as they were.
+///
+/// Conditions: there is at least one worker, and there are as many tools; pieces and workers together are at most `usize::MAX`; each
+/// worker can do every piece.
+pub fn run_pieces_with<T: Send, W: WorkWith<T> + Send, R: Threads + Sync>(
+    alloc: Global,
+    rt: &R,
+    workers: &mut [W],
+    tools: &mut [T],
+    pieces: usize,
+) -> Result<(), AllocError>
+    requires some { 0 < length workers.old }
+    requires tools { length tools.old ≡ length workers.old }
+    requires fits { pieces + length workers.old < 2 ^ 64 }
+    requires able { All (CanDoAll W.can_do pieces) (zip workers.old tools.old) }
+    ensures done { OnOk result (DoesEachOnce W.did W.job W.can_do pieces (zip workers.old tools.old) (zip workers.new tools.new)) }
+    ensures len { (length workers.new ≡ length workers.old) × (length tools.new ≡ length tools.old) }
+    ensures err { OnErr result ((workers.new ≡ workers.old) × (tools.new ≡ tools.old)) }
+{
+    let plan = Plan {
+        pieces,
+        workers: workers.len(),
+    };
+    let (counter, mut claimer) = Counter::new(alloc, &plan)?;
+    work_side_by_side(rt, &counter, &mut claimer, workers, tools);
+    counter.close(claimer);
+    Ok(())
+}
+
+/// All these workers claim and do pieces until none is left. The list is halved at each step, so that the stack grows as the logarithm
+/// of its length.
+///
+/// Conditions: the claimer is for just these workers, of whom there is one at least, and nothing was claimed with it; there are as many
+/// tools; each worker can do every piece.
+#[cycle(halves)]
+fn work_side_by_side<T: Send, W: WorkWith<T> + Send, R: Threads + Sync>(
+    rt: &R,
+    counter: &Counter,
+    claimer: &mut Claimer,
+    workers: &mut [W],
+    tools: &mut [T],
+)
+    requires { CanBegin W.can_do counter.now claimer.old workers.old tools.old }
+    ensures { HaveEnded W.did W.job W.can_do counter.now claimer.new workers.old tools.old workers.new tools.new }
+{
+    if workers.len() == 1 {
+        work(counter, claimer, &mut workers[0], &mut tools[0]);
+        return;
+    }
+    let half = workers.len() / 2;
+    let mut other = counter.split(claimer);
+    let (first, rest) = workers.split_at_mut(workers.len() - half);
+    let (first_tools, rest_tools) = tools.split_at_mut(tools.len() - half);
+    work_in_halves(
+        rt,
+        counter,
+        claimer,
+        first,
+        first_tools,
+        &mut other,
+        rest,
+        rest_tools,
+    );
+    counter.join(claimer, other);
+}
+
+/// The first half of the workers on this thread, and the others on a new one, or afterwards if none can be started.
+#[cycle(halves)]
+fn work_in_halves<T: Send, W: WorkWith<T> + Send, R: Threads + Sync>(
+    rt: &R,
+    counter: &Counter,
+    claimer: &mut Claimer,
+    first: &mut [W],
+    first_tools: &mut [T],
+    other: &mut Claimer,
+    rest: &mut [W],
+    rest_tools: &mut [T],
+)
+    requires first { CanBegin W.can_do counter.now claimer.old first.old first_tools.old }
+    requires rest { CanBegin W.can_do counter.now other.old rest.old rest_tools.old }
+    ensures first { HaveEnded W.did W.job W.can_do counter.now claimer.new first.old first_tools.old first.new first_tools.new }
+    ensures rest { HaveEnded W.did W.job W.can_do counter.now other.new rest.old rest_tools.old rest.new rest_tools.new }
+{
+    let mut here = ||
+        requires { IsSync R.row × IsSend W.row × IsSend T.row × CanBegin W.can_do counter.now claimer.now first.now first_tools.now }
+        ensures { HaveEnded W.did W.job W.can_do counter.entry.now claimer.exit.now first.entry.now first_tools.entry.now first.exit.now first_tools.exit.now }
+    { work_side_by_side(rt, counter, claimer, first, first_tools) };
+    let mut there = ||
+        requires { IsSync R.row × IsSend W.row × IsSend T.row × CanBegin W.can_do counter.now other.now rest.now rest_tools.now }
+        ensures { HaveEnded W.did W.job W.can_do counter.entry.now other.exit.now rest.entry.now rest_tools.entry.now rest.exit.now rest_tools.exit.now }
+    { work_side_by_side(rt, counter, other, rest, rest_tools) };
+    join_mut(rt, &mut there, &mut here);
+}
+
+/// One worker claims and does pieces until none is left.
+///
+/// Conditions: the claimer is for one worker, and nothing was claimed with it; the worker can do every piece.
+fn work<T, W: WorkWith<T>>(counter: &Counter, claimer: &mut Claimer, worker: &mut W, tool: &mut T)
+    requires claimer { (claimer.old.0 ≡ counter.now.0) × (claimer.old.1 ≡ fresh_claims counter.now.1 1) }
+    requires able { CanDoAll W.can_do counter.now.1.pieces (worker.old, tool.old) }
+    ensures { HasEnded W.did W.job W.can_do counter.now claimer.new (worker.old, tool.old) (worker.new, tool.new) }
+{
+    while let Some(piece) = counter.claim(claimer) {
+        worker.piece_with(tool, piece);
+    }
+}

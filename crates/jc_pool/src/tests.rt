@@ -1,0 +1,121 @@
+//! Workers on threads.
+ghost use Rattle.std.specs.Prelude.{◌≡◌, ℕ, ◌+◌, ◌^◌, ◌<◌, ◌≤◌, All, vec_len, vec_capacity};
+ghost use Rattle.jc_pool.specs.Shares.{CanDoAll};
+
+use crate::{Work, WorkWith, run_pieces, run_pieces_with};
+use std::alloc::Global;
+use std::process::Abort;
+use std::test::Fail;
+use std::thread::Threads;
+
+/// Does nothing but note which pieces it is given.
+#[derive(Drop)]
+struct Tally {
+    done: Vec<usize>,
+}
+
+impl Work for Tally {
+    type Job = ();
+
+    ghost did = { λ t. t.done.items };
+
+    ghost job = { λ _. tt };
+
+    ghost can_do = { λ t piece. (vec_len t.done ≤ piece) × (piece < vec_capacity t.done) };
+
+    fn piece(&mut self, piece: usize) {
+        self.done.push_reserved(piece);
+    }
+}
+
+/// The tool is a number, which goes up with each piece.
+impl WorkWith<u64> for Tally {
+    type Job = ();
+
+    ghost did = { λ both. both.0.done.items };
+
+    ghost job = { λ _. tt };
+
+    ghost can_do = { λ both piece. (vec_len both.0.done ≤ piece) × (piece < vec_capacity both.0.done) };
+
+    fn piece_with(&mut self, turns: &mut u64, piece: usize) {
+        *turns = turns.saturating_add(1);
+        self.done.push_reserved(piece);
+    }
+}
+
+fn idle(rt: &impl Abort, alloc: Global, pieces: usize) -> Tally
+    ensures { CanDoAll (λ t piece. (vec_len t.done ≤ piece) × (piece < vec_capacity t.done)) pieces result }
+{
+    Tally {
+        done: Vec::with_capacity(alloc, pieces).expect(rt, "memory"),
+    }
+}
+
+/// So many workers, each with room for all pieces.
+fn team(rt: &impl Abort, alloc: Global, workers: usize, pieces: usize) -> Vec<Tally>
+    ensures len { vec_len result ≡ workers }
+    ensures able { All (CanDoAll (λ t piece. (vec_len t.done ≤ piece) × (piece < vec_capacity t.done)) pieces) result.items }
+{
+    let mut team = Vec::new(alloc);
+    'making: while team.len() < workers {
+        team.push(idle(rt, alloc, pieces)).expect(rt, "memory");
+    }
+    team
+}
+
+/// Runs the pieces, and looks whether each of them was done by one worker, once.
+fn share<R: Abort + Threads + Sync>(rt: &R, alloc: Global, workers: usize, pieces: usize)
+    requires some { 0 < workers }
+    requires fits { pieces + workers < 2 ^ 64 }
+{
+    let mut team = team(rt, alloc, workers, pieces);
+    run_pieces(alloc, rt, team.as_mut_slice(), pieces).expect(rt, "memory");
+    for piece in 0..pieces {
+        let doers = team.iter().filter(|w| w.done.contains(&piece)).count();
+        assert_eq!(rt; doers, 1, "piece {piece}");
+    }
+    let done = team
+        .iter()
+        .fold(0usize, |n, w| n.saturating_add(w.done.len()));
+    assert_eq!(rt; done, pieces);
+}
+
+/// The same with a tool for each worker.
+fn share_with_tools<R: Abort + Threads + Sync>(rt: &R, alloc: Global, workers: usize, pieces: usize)
+    requires some { 0 < workers }
+    requires fits { pieces + workers < 2 ^ 64 }
+{
+    let mut team = team(rt, alloc, workers, pieces);
+    let mut turns = vec![in alloc; 0u64; workers].expect(rt, "memory");
+    run_pieces_with(alloc, rt, team.as_mut_slice(), turns.as_mut_slice(), pieces).expect(
+        rt, "memory",
+    );
+    let all = turns.iter().fold(0u64, |n, t| n.saturating_add(*t));
+    assert_eq!(rt; all, pieces as u64);
+}
+
+#[test]
+fn three_workers_share_twenty_pieces(rt: HostRuntime) {
+    share(&rt, rt.alloc(), 3, 20);
+}
+
+#[test]
+fn one_worker_does_all_pieces(rt: HostRuntime) {
+    share(&rt, rt.alloc(), 1, 500);
+}
+
+#[test]
+fn there_may_be_no_pieces(rt: HostRuntime) {
+    share(&rt, rt.alloc(), 4, 0);
+}
+
+#[test]
+fn there_may_be_more_workers_than_pieces(rt: HostRuntime) {
+    share(&rt, rt.alloc(), 9, 2);
+}
+
+#[test]
+fn each_worker_is_lent_a_tool(rt: HostRuntime) {
+    share_with_tools(&rt, rt.alloc(), 3, 20);
+}
