@@ -1,95 +1,180 @@
--- What the phases of a call leave of its stripe, as one call.
---     writes_through    the writer is asked only with write-through on
---     wanted_is_asked   and then for the change that the writer table asks for
---     done_step         a call that is done at once is one step
---     reserved_step     a first phase that reserves its key, and its commit, are one step
-use Rattle.std.proofs.Common.{◌≡◌, ◌+◌, ℕ, [], Bool, true, false, cond, Option, None, Some, refl, sym, ap, ◌∙◌, subst}
-use Rattle.jc_types.specs.declared.caller.Caller.{Caller}
+-- Whole calls of a session, from those of its agent over the lock of one seat.
+--     at_key, seat_at    the number of a key's stripe, and the session's seat there
+--     may_begin          the seat's own steps let the next call come
+--     writer_there       if the stripe writes through, the session has a writer
+--     writes_as          the stripe writes through if the cache does
+--     called, invoked, tried
+--                        a whole call, one that runs a processor, and one that waits for nobody: what is said of the session, and that
+--                        it may call again
+use Rattle.std.specs.declared.dyn_box.DynBox.{DynBox}
+use Rattle.std.proofs.Common.{◌≡◌, ◌<◌, ℕ, List, length, sum, get_or, Bool, true, false, cond, nat_le, Some, IsSome, Result, Ok, Err, arith, slice_get, slice_set, option_map, refl, sym, ap, subst, ◌∙◌}
+use Rattle.std.proofs.Math.Nat.{mod-lt}
+use Rattle.std.proofs.lemmas.Bool.{and_parts, leb-true}
+use Rattle.std.proofs.lemmas.List.{length-map}
+use Rattle.std.proofs.lemmas.Option.{slice_get_read}
+use Rattle.atomic_table.specs.Seated.{TableId}
+use Rattle.jc_types.specs.Limits.{check, is_between}
+use Rattle.jc_types.specs.Stripes.{stripe_of}
 use Rattle.jc_types.specs.declared.config.Config.{Config}
-use Rattle.jc_model.specs.declared.event.Change.{Change}
+use Rattle.jc_types.specs.declared.limits.TheConstants.{STRIPES_MAX}
+use Rattle.jc_types.specs.declared.caller.Caller.{Caller}
+use Rattle.jc_types.specs.declared.refusal.Refusal.{Refusal}
+use Rattle.jc_model.specs.Cache.{Bytes}
+use Rattle.jc_model.specs.declared.event.Event.{Event}
 use Rattle.jc_model.specs.declared.event.Op.{Op}
-use Rattle.jc_model.specs.declared.event.Out.{Out}
-use Rattle.jc_model.specs.declared.event.ProcessAnswer.{ProcessAnswer}
-use Rattle.jc_model.specs.declared.event.ProcessAnswer.TheVariants.{NotAsked}
-use Rattle.jc_model.specs.declared.table.LoaderAsk.{LoaderAsk}
-use Rattle.jc_model.specs.declared.table.LoaderAsk.TheVariants.{Never, Always, IfWanted}
-use Rattle.jc_model.specs.Cache.{Bytes, entry_at}
-use Rattle.jc_model.specs.Table.{loader_ask, write_ask, is_invoke}
-use Rattle.jc_model.specs.Group.{nothing_said}
-use Rattle.jc_stripe.specs.declared.begun.StepDone.{StepDone}
-use Rattle.jc_stripe.specs.declared.begun.Begun.TheVariants.{Done, Asks}
-use Rattle.jc_stripe.specs.declared.ticket.First.{First}
-use Rattle.jc_stripe.specs.declared.ticket.First.TheVariants.{Nobody, Processor}
+use Rattle.jc_model.specs.declared.event.Op.TheVariants.{Invoke}
+use Rattle.jc_model.specs.declared.event.Reply.{Reply}
+use Rattle.jc_outside.specs.Calling.{LoadRelation, WriteRelation}
+use Rattle.jc_mutentry.specs.Running.{ProcessRelation}
 use Rattle.jc_stripe.specs.State.{State}
-use Rattle.jc_stripe.specs.Tickets.{TicketClaim, asks_writer, change_asked}
-use Rattle.jc_stripe.specs.Refusals.{first_asked, first_by, is_wanted, reserves}
-use Rattle.jc_stripe.specs.Phases.{Steps, Begins, Commits}
-use Rattle.jc_stripe.specs.Reached.{IsReached}
-use Rattle.jc_stripe.specs.OwnSteps.{WholeCall}
-use Rattle.jc_cache.specs.Whole.{OneStep, next_after}
+use Rattle.jc_stripe.specs.Laws.{ReachedIsLegal}
+use Rattle.jc_stripe.specs.OnePhase.{OnePhase}
+use Rattle.jc_stripe.specs.OwnSteps.{OwnSteps, OwnNumbers, StepsBehind, may_come_all}
+use Rattle.jc_lock.specs.declared.view.View.{View}
+use Rattle.jc_lock.specs.Views.{Finds}
+use Rattle.jc_session.specs.declared.agent.Agent.{Agent}
+use Rattle.jc_engine.specs.Asking.{own_after}
+use Rattle.jc_engine.specs.Needs.{BeginsIfClear}
+use Rattle.jc_engine.specs.Calls.{IsCall, IsInvocation, IsTried}
+use Rattle.jc_cache.specs.Caches.{CacheState}
+use Rattle.jc_cache.specs.Calls.{next_call, CallsAt, Tried, Invoked}
+use Rattle.jc_cache.specs.Sessions.{IsOf, MayCall}
+use Rattle.jc_cache.specs.declared.session.Session.{Session}
+use Rattle.jc_cache.proofs.Lendings.{lock_takes, lock_gives, lock_finds}
+use Rattle.jc_cache.proofs.CallEnds.{CallLeft, call_left, tried_left}
+use Rattle.jc_cache.proofs.Seats.{after_call, after_try, may_after}
 
-asks_through : (invokes : Bool) (seen : Option Bytes) (wanted : Bool) (ask : LoaderAsk) (through : Bool) (change : Option Change) (first : First) → cond invokes (Processor seen wanted) (first_by ask (cond through change None)) ≡ first
-    → asks_writer first ≡ true → through ≡ true
-asks_through true seen wanted ask through change first h asks = absurd (differs (ap asks_writer h ∙ asks))
-  where
-    differs : false ≡ true → ⊥
-    differs h = cc
-asks_through false seen wanted Always through change first h asks = absurd (differs (ap asks_writer h ∙ asks))
-  where
-    differs : false ≡ true → ⊥
-    differs h = cc
-asks_through false seen wanted IfWanted through change first h asks = absurd (differs (ap asks_writer h ∙ asks))
-  where
-    differs : false ≡ true → ⊥
-    differs h = cc
-asks_through false seen wanted Never true change first h asks = refl
-asks_through false seen wanted Never false change first h asks = absurd (differs (ap asks_writer h ∙ asks))
-  where
-    differs : false ≡ true → ⊥
-    differs h = cc
+-- 1. The seat of a key.
 
-pub writes_through : (config : Config) (op : Op) (entry : Option Bytes) (first : First) → first_asked config op entry ≡ first → asks_writer first ≡ true → config.write_through ≡ true
-writes_through config op entry first h asks = asks_through (is_invoke op) entry (is_wanted (loader_ask config.read_through op entry)) (loader_ask config.read_through op entry) config.write_through (write_ask op entry NotAsked) first h asks
+in_limits : (b : Bool) (more : Result (Unit {0}) Refusal) (refusal : Refusal) → cond b more (Err refusal) ≡ Ok tt → b ≡ true
+in_limits true more refusal h = refl
+in_limits false more refusal h = cc
 
-wanted_by : (invokes : Bool) (seen : Option Bytes) (wanted : Bool) (ask : LoaderAsk) (change : Option Change) (first : First) → cond invokes (Processor seen wanted) (first_by ask change) ≡ first
-    → asks_writer first ≡ true → change ≡ change_asked first
-wanted_by true seen wanted ask change first h asks = absurd (unasked (ap asks_writer h ∙ asks))
-  where
-    unasked : false ≡ true → ⊥
-    unasked h = cc
-wanted_by false seen wanted Always change first h asks = absurd (unasked (ap asks_writer h ∙ asks))
-  where
-    unasked : false ≡ true → ⊥
-    unasked h = cc
-wanted_by false seen wanted IfWanted change first h asks = absurd (unasked (ap asks_writer h ∙ asks))
-  where
-    unasked : false ≡ true → ⊥
-    unasked h = cc
-wanted_by false seen wanted Never (Some change) first h asks = ap change_asked h
-wanted_by false seen wanted Never None first h asks = absurd (unasked (ap asks_writer h ∙ asks))
-  where
-    unasked : false ≡ true → ⊥
-    unasked h = cc
+some_stripe : (config : Config) → check config ≡ Ok tt → 0 < config.stripes
+some_stripe config h = leb-true 1 config.stripes ((and_parts (nat_le 1 config.stripes) (nat_le config.stripes STRIPES_MAX) (in_limits (is_between 1 STRIPES_MAX config.stripes) _ _ h)).0)
 
-wanted_is : (config : Config) (op : Op) (entry : Option Bytes) (first : First) → first_asked config op entry ≡ first → asks_writer first ≡ true
-    → cond config.write_through (write_ask op entry NotAsked) None ≡ change_asked first
-wanted_is config op entry first h asks = wanted_by (is_invoke op) entry (is_wanted (loader_ask config.read_through op entry)) (loader_ask config.read_through op entry) (cond config.write_through (write_ask op entry NotAsked) None) first h asks
+seat_is : (t u : TableId × View) → u.0 ≡ t.0 → u ≡ (t.0, u.1)
+seat_is t u same i = (same i, u.1)
 
-pub wanted_is_asked : (config : Config) (op : Op) (entry : Option Bytes) (first : First) (answer : ProcessAnswer) → answer ≡ NotAsked → first_asked config op entry ≡ first → asks_writer first ≡ true
-    → cond config.write_through (write_ask op entry answer) None ≡ change_asked first
-wanted_is_asked config op entry first answer unasked h asks = ap (λ (w : ProcessAnswer). cond config.write_through (write_ask op entry w) None) unasked ∙ wanted_is config op entry first h asks
+pub at_key : (cache : CacheState) (config : Config) (key : Bytes) (at : ℕ) → config ≡ cache.config → at ≡ stripe_of key config.stripes → at ≡ stripe_of key cache.config.stripes
+at_key cache config key at is at_is = at_is ∙ ap (λ (c : Config). stripe_of key c.stripes) is
 
--- the number after the call, by whom it asked first
-next_is : (a : State) (key : Bytes) (op : Op) (first : First) (b : Bool) → first_asked a.config op (entry_at a.cache key) ≡ first → reserves first ≡ b → next_after a key op ≡ cond b (a.next + 1) a.next
-next_is a key op first b asks is = ap (λ f. cond (reserves f) (a.next + 1) a.next) asks ∙ ap (λ x. cond x (a.next + 1) a.next) is
+module _ {I J : Type 0} {D : I → Type 0} {E : J → Type 0} where
+  pub seat_at : (cache : CacheState) (session : Session I J D E) (config : Config) (key : Bytes) (at : ℕ) (t : TableId × View) → IsOf cache session → check config ≡ Ok tt → config ≡ cache.config → at ≡ stripe_of key config.stripes
+      → t ≡ get_or session.seats.items at t → slice_get session.seats.items at ≡ Some t
+  seat_at cache session config key at t own fits is at_is read =
+      let below : stripe_of key config.stripes < config.stripes = mod-lt (sum key) (some_stripe config fits) in
+      let stripes : config.stripes ≡ cache.config.stripes = ap (λ (c : Config). c.stripes) is in
+      let long : length session.seats.items ≡ cache.config.stripes = sym (length-map session.seats.items (λ (s : TableId × View). s.0)) ∙ ap length own.locks ∙ own.count in
+      let near : at < length session.seats.items = omega arith in
+      slice_get_read session.seats.items _ at t refl near read
 
-one_step : (a c : State) (caller : Caller) (key : Bytes) (op : Op) (out : Out) (done : StepDone) (next : ℕ) → next_after a key op ≡ next → Steps (record a { next = next }) caller key op out [] done c → OneStep a caller key op out done.reply c
-one_step a c caller key op out done next is steps = record { done = done; reply_is = refl; steps = subst (λ n. Steps (record a { next = n }) caller key op out [] done c) (sym is) steps }
+  -- 2. What a call needs.
 
-pub done_step : (a c : State) (caller : Caller) (key : Bytes) (op : Op) (done : StepDone) → Begins a caller key op (Done done) c → OneStep a caller key op nothing_said done.reply c
-done_step a c caller key op done begins = one_step a c caller key op nothing_said done a.next (next_is a key op Nobody false begins.1 refl) begins.2
+  pub may_begin : OwnNumbers → (cache : CacheState) (old : Session I J D E) (a : Agent I J D E) (at : ℕ) (t : TableId × View) (key : Bytes) (state : State) → MayCall cache old → a ≡ (next_call old).agent → slice_get old.seats.items at ≡ Some t → Finds t.1 state
+      → BeginsIfClear a.caller key state
+  may_begin law cache old a at t key state may is there finds =
+      let seat = may.own.seats at t there in
+      let caller : Caller = (next_call old).agent.caller in
+      subst (λ (z : Agent I J D E). BeginsIfClear z.caller key state) (sym is) record {
+        live = finds.same.origin ∙ seat.origin_is;
+        may = ap (λ (es : List Event). may_come_all es caller key) (finds.own old.agent.caller.session seat.of_session) ∙ law.may_come t.1.own caller key (may.numbers at t there);
+      }
 
-pub reserved_step : WholeCall → (a m c : State) (caller : Caller) (key : Bytes) (op : Op) (ticket : TicketClaim) (out : Out) (done : StepDone) → IsReached a
-    → Begins a caller key op (Asks ticket) m → Commits m ticket.reservation out done c → OneStep a caller key op out done.reply c
-reserved_step law a m c caller key op ticket out done reached begins commits =
-    one_step a c caller key op out done (a.next + 1) (next_is a key op ticket.reservation.first true begins.2 begins.3) (law a m c caller key op ticket out done reached begins commits)
+  pub writes_as : (cache : CacheState) (old : Session I J D E) (at : ℕ) (t : TableId × View) (state : State) → MayCall cache old → slice_get old.seats.items at ≡ Some t → Finds t.1 state → state.config.write_through ≡ cache.config.write_through
+  writes_as cache old at t state may there finds = ap (λ c. c.write_through) (finds.same.config ∙ (may.own.seats at t there).config_is)
+
+  pub writer_there : (cache : CacheState) (old : Session I J D E) (a : Agent I J D E) (at : ℕ) (t : TableId × View) (state : State) → MayCall cache old → a ≡ (next_call old).agent → slice_get old.seats.items at ≡ Some t → Finds t.1 state → state.config.write_through ≡ true
+      → IsSome a.hands.outside.writer
+  writer_there cache old a at t state may is there finds on =
+      subst (λ (z : Agent I J D E). IsSome z.hands.outside.writer) (sym is) (may.own.writes (sym (writes_as cache old at t state may there finds) ∙ on))
+
+  -- 3. What it leaves.
+
+  pub tried : {G : Type 0} → OnePhase → OwnSteps → ReachedIsLegal → OwnNumbers → (cache : CacheState) (old new : Session I J D E) (a : Agent I J D E) (key : Bytes) (op : Op) (at : ℕ) (ended : Result Reply Refusal) (g : G) (t : TableId × View) (h : G) (u : TableId × View)
+      → MayCall cache old → a ≡ (next_call old).agent → at ≡ stripe_of key cache.config.stripes → slice_get old.seats.items at ≡ Some t → new.seats.items ≡ slice_set old.seats.items at u
+      → new.agent ≡ record a { counts = record a.counts { own = own_after a.counts.own ended } } → IsTried lock_takes lock_gives lock_finds a.caller key op g t ended h u
+      → Tried cache old key op ended new × MayCall cache new
+  tried law own legal numbers cache old new a key op at ended g t h u may is at_is there now agent x =
+      let b : Agent I J D E = (next_call old).agent in
+      let seat = may.own.seats at t there in
+      let left = tried_left law own legal b.caller key op ended g t h u seat.of_session seat.free (subst (λ (z : Agent I J D E). IsTried lock_takes lock_gives lock_finds z.caller key op g t ended h u) is x) in
+      let new_is : new.agent ≡ record b { counts = record b.counts { own = own_after b.counts.own ended } } = agent ∙ ap (λ (z : Agent I J D E). record z { counts = record z.counts { own = own_after z.counts.own ended } }) is in
+      let hands : new.agent.hands ≡ b.hands = ap (λ (z : Agent I J D E). z.hands) new_is in
+      let now' : new.seats.items ≡ slice_set old.seats.items at (t.0, u.1) = now ∙ ap (slice_set old.seats.items at) (seat_is t u left.0) in
+      let after = after_try t.1 b.caller key op ended u.1 left.1 left.2 in (
+        record {
+          before = t.1;
+          after = u.1;
+          at = record {
+            lock = t.0;
+            was = subst (λ (i : ℕ). slice_get old.seats.items i ≡ Some t) at_is there;
+            now = subst (λ (i : ℕ). new.seats.items ≡ slice_set old.seats.items i (t.0, u.1)) at_is now';
+          };
+          seat = left.1;
+          left = new_is;
+        },
+        may_after numbers cache old new at t.0 t.1 u.1 ended may there now' after.0 after.1 record {
+          left = new_is ∙ ap (λ z. record b { counts = record b.counts { own = own_after b.counts.own ended }; hands = z }) (sym hands);
+          held = ap (λ z. z.held) hands ∙ may.own.held;
+          types = (ap (λ z. option_map (λ k. k.vtable) z.outside.loader) hands, ap (λ z. option_map (λ k. k.vtable) z.outside.writer) hands);
+        },
+      )
+
+  module _ {G : Type 0} (loads : LoadRelation ((i : I) × D i)) (load_state : (i : I) × D i → List ℕ) (writes : WriteRelation ((j : J) × E j)) (write_state : (j : J) × E j → List ℕ) where
+    abbrev Whole : Agent I J D E → Bytes → Op → G → TableId × View → Result Reply Refusal → Agent I J D E → G → TableId × View → Type 0
+    Whole a key op g t ended new h u = IsCall loads load_state writes write_state lock_takes lock_gives lock_finds a key op g t ended new h u
+
+    left_of : OnePhase → OwnSteps → ReachedIsLegal → StepsBehind → (cache : CacheState) (old new : Session I J D E) (key : Bytes) (op : Op) (at : ℕ) (ended : Result Reply Refusal) (g : G) (t : TableId × View) (h : G) (u : TableId × View)
+        → MayCall cache old → slice_get old.seats.items at ≡ Some t → (x : Whole (next_call old).agent key op g t ended new.agent h u) → CallLeft t (next_call old).agent.caller key op x.asked ended x.enters.first.before u
+    left_of law own legal behind cache old new key op at ended g t h u may there x =
+        let seat = may.own.seats at t there in
+        call_left law own legal behind (next_call old).agent.caller key op x.met x.asked ended g t x.gate x.token h u seat.of_session seat.free x.enters x.ends
+
+    abbrev calls_at : (cache : CacheState) (old new : Session I J D E) (key : Bytes) (op : Op) (at : ℕ) (ended : Result Reply Refusal) (g : G) (t : TableId × View) (h : G) (u : TableId × View) → at ≡ stripe_of key cache.config.stripes
+        → slice_get old.seats.items at ≡ Some t → new.seats.items ≡ slice_set old.seats.items at u → (x : Whole (next_call old).agent key op g t ended new.agent h u) → CallLeft t (next_call old).agent.caller key op x.asked ended x.enters.first.before u
+        → CallsAt loads load_state writes write_state cache (next_call old) key op ended new
+    calls_at cache old new key op at ended g t h u at_is there now x left = record {
+      before = t.1;
+      after = u.1;
+      at = record {
+        lock = t.0;
+        was = subst (λ (i : ℕ). slice_get old.seats.items i ≡ Some t) at_is there;
+        now = subst (λ (i : ℕ). new.seats.items ≡ slice_set old.seats.items i (t.0, u.1)) at_is (now ∙ ap (slice_set old.seats.items at) (seat_is t u left.lock));
+      };
+      asked = x.asked;
+      decided = x.enters.first.before;
+      between = left.between;
+      seat = left.seat;
+      loader = x.loader;
+      writer = x.writer;
+      types = x.types;
+      left = x.agent;
+    }
+
+    may_again : OwnNumbers → (cache : CacheState) (old new : Session I J D E) (key : Bytes) (op : Op) (at : ℕ) (ended : Result Reply Refusal) (g : G) (t : TableId × View) (h : G) (u : TableId × View)
+        → MayCall cache old → slice_get old.seats.items at ≡ Some t → new.seats.items ≡ slice_set old.seats.items at u → (x : Whole (next_call old).agent key op g t ended new.agent h u)
+        → CallLeft t (next_call old).agent.caller key op x.asked ended x.enters.first.before u → MayCall cache new
+    may_again numbers cache old new key op at ended g t h u may there now x left =
+        let after = after_call t.1 (next_call old).agent.caller key op x.asked ended u.1 left.seat left.below in
+        may_after numbers cache old new at t.0 t.1 u.1 ended may there (now ∙ ap (slice_set old.seats.items at) (seat_is t u left.lock)) after.0 after.1 record { left = x.agent; held = x.held; types = x.types }
+
+    pub called : OnePhase → OwnSteps → ReachedIsLegal → StepsBehind → OwnNumbers
+        → (cache : CacheState) (old new : Session I J D E) (a : Agent I J D E) (key : Bytes) (op : Op) (at : ℕ) (ended : Result Reply Refusal) (g : G) (t : TableId × View) (h : G) (u : TableId × View)
+        → MayCall cache old → a ≡ (next_call old).agent → at ≡ stripe_of key cache.config.stripes → slice_get old.seats.items at ≡ Some t → new.seats.items ≡ slice_set old.seats.items at u
+        → Whole a key op g t ended new.agent h u → CallsAt loads load_state writes write_state cache (next_call old) key op ended new × MayCall cache new
+    called law own legal behind numbers cache old new a key op at ended g t h u may is at_is there now y =
+        let x = subst (λ (z : Agent I J D E). Whole z key op g t ended new.agent h u) is y in
+        let left = left_of law own legal behind cache old new key op at ended g t h u may there x in
+        (calls_at cache old new key op at ended g t h u at_is there now x left, may_again numbers cache old new key op at ended g t h u may there now x left)
+
+    pub invoked : {P Z : Type 0} {F : P → Type 0} → OnePhase → OwnSteps → ReachedIsLegal → StepsBehind → OwnNumbers
+        → (processes : ProcessRelation (DynBox P Z F)) (process_state : DynBox P Z F → List ℕ)
+        → (cache : CacheState) (old new : Session I J D E) (a : Agent I J D E) (key : Bytes) (args : List Bytes) (before after : DynBox P Z F) (at : ℕ) (ended : Result Reply Refusal) (g : G) (t : TableId × View) (h : G) (u : TableId × View)
+        → MayCall cache old → a ≡ (next_call old).agent → at ≡ stripe_of key cache.config.stripes → slice_get old.seats.items at ≡ Some t → new.seats.items ≡ slice_set old.seats.items at u
+        → IsInvocation loads load_state writes write_state processes process_state lock_takes lock_gives lock_finds a key args before g t ended new.agent after h u
+        → Invoked loads load_state writes write_state processes process_state cache old key args before ended new after × MayCall cache new
+    invoked law own legal behind numbers processes process_state cache old new a key args before after at ended g t h u may is at_is there now y =
+        let x = subst (λ (z : Agent I J D E). IsInvocation loads load_state writes write_state processes process_state lock_takes lock_gives lock_finds z key args before g t ended new.agent after h u) is y in
+        let left = left_of law own legal behind cache old new key Invoke at ended g t h u may there x.call in
+        (record { call = calls_at cache old new key Invoke at ended g t h u at_is there now x.call left; run = x.run; type = x.type }, may_again numbers cache old new key Invoke at ended g t h u may there now x.call left)

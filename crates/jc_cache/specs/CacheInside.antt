@@ -1,24 +1,37 @@
--- What is true of a cache's fields.
---     IsPlaced     a stripe is that of its place in a running cache
---     IsWhole      there are as many stripes as the shape says, each in its place, at most so many sessions were given out, and no
---                  other session has a step, a reservation or a join
-use Rattle.std.specs.Prelude.{◌≡◌, ◌≤◌, ◌<◌, ℕ, List, Option, length, Ok}
+-- What a cache and its owner keep of themselves.
+--     IsShaped     a cache has as many locks as its shape says
+--     IsOwnSeat    the view of the owner's seat at the stripe with this number, which gives session numbers out from `given` on
+--     GiveNumbers  each of these seats gives session numbers out
+--     IsWhole      there are as many locks as the shape says, each with a seat of the owner's, and no more sessions were given out than
+--                  there may be
+use Rattle.std.specs.Prelude.{◌≡◌, ◌≤◌, ℕ, List, [], length, map, false, None, Some, Ok, slice_get}
+use Rattle.atomic_table.specs.Seated.{TableId}
 use Rattle.jc_types.specs.declared.config.Config.{Config}
 use Rattle.jc_types.specs.declared.limits.TheConstants.{SESSIONS_MAX}
 use Rattle.jc_types.specs.Limits.{check}
 use Rattle.jc_outside.specs.declared.done.Origin.TheVariants.{Live}
-use Rattle.jc_stripe.specs.State.{State}
-use Rattle.jc_stripe.specs.OwnSteps.{HasNoCallFrom}
-use Rattle.jc_cache.specs.Caches.{EachStripe}
+use Rattle.jc_lock.specs.declared.view.View.{View}
 
-pub record IsPlaced (config : Config) (i : ℕ) (state : State) : Type 0 where
-  pub config_is : state.config ≡ config
-  pub stripe_is : state.stripe ≡ i
-  pub origin_is : state.origin ≡ Live
-
-pub record IsWhole (config : Config) (given : ℕ) (stripes : List (Option State)) : Type 0 where
+pub record IsShaped (config : Config) (locks : List TableId) : Type 0 where
   pub fits : check config ≡ Ok tt
-  pub count : length stripes ≡ config.stripes
+  pub count : length locks ≡ config.stripes
+
+pub record IsOwnSeat (config : Config) (stripe given : ℕ) (view : View) : Type 0 where
+  pub of_none : view.session ≡ None
+  pub gives : view.next_session ≡ Some given
+  pub free : view.holds ≡ false
+  pub unspent : view.spent ≡ false
+  pub config_is : view.noted.config ≡ config
+  pub stripe_is : view.noted.stripe ≡ stripe
+  pub origin_is : view.noted.origin ≡ Live
+  pub opening_is : view.noted.opening ≡ []
+
+abbrev pub GiveNumbers : List (TableId × View) → Type 0
+GiveNumbers seats = (i : ℕ) (seat : TableId × View) → slice_get seats i ≡ Some seat → (session : ℕ) × (seat.1.next_session ≡ Some session)
+
+pub record IsWhole (config : Config) (given : ℕ) (locks : List TableId) (seats : List (TableId × View)) : Type 0 where
+  pub fits : check config ≡ Ok tt
   pub few : given ≤ SESSIONS_MAX
-  pub placed : EachStripe (IsPlaced config) stripes
-  pub unused : (session : ℕ) → given < session → EachStripe (λ i s. HasNoCallFrom s session 0) stripes
+  pub count : length locks ≡ config.stripes
+  pub own : map (λ (seat : TableId × View). seat.0) seats ≡ locks
+  pub each : (i : ℕ) (seat : TableId × View) → slice_get seats i ≡ Some seat → IsOwnSeat config i given seat.1

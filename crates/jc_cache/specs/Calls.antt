@@ -1,88 +1,99 @@
 -- Whole calls on a cache.
 --     next_call   a session that has begun its next call
---     CallsAt     a session's current call, whole, at a key, which ended so: the key's stripe appends one step, or the key is refused; what
---                 the step says of the loader and the writer, they answered, and stay of their types; every other stripe, and what other sessions need, stays
---     Called      the same of a session's next call, which has this key alone
+--     AtStripe    a session's seat at the stripe of a key goes from one view to another, and its other seats stay
+--     CallsAt     a session's current call, whole, at a key, which ended so: what its seat has seen; what was asked outside, was asked of
+--                 its loader and its writer, who stay of their types; all else of the session stays, but for the count of its steps
+--     Called      the same of the session's next call
 --     Returns     a session's next call, whole, and what it returns by how it ended
---     ClearsAt    a session's current call, whole, at a key that it clears: neither the loader nor the writer is asked, and nothing of the
---                 session changes but how many steps it has made
---     InvokesAt   a session's current call, whole, at one of its keys: it runs a processor there
---     Invoked     the same of a session's next call, which has this key alone
+--     Tried       a session's next call that waits for nobody and asks nobody
+--     Tries       the same, and what it returns by how it ended
+--     Invoked     a session's next call, whole, which runs a processor
 --     value_in, flag_in, unit_in    what a call returns that replies with a value, with yes or no, or with nothing: a fault is an error
 use Rattle.std.specs.declared.dyn_box.DynBox.{DynBox}
-use Rattle.std.specs.Prelude.{◌≡◌, ℕ, List, Bool, false, Option, None, Result, Ok, Err}
+use Rattle.std.specs.Prelude.{◌≡◌, ℕ, List, Bool, false, Option, None, Some, Result, Ok, Err, slice_get, slice_set}
+use Rattle.atomic_table.specs.Seated.{TableId}
+use Rattle.jc_types.specs.Stripes.{stripe_of}
 use Rattle.jc_types.specs.declared.refusal.Refusal.{Refusal}
+use Rattle.jc_model.specs.Cache.{Bytes}
 use Rattle.jc_model.specs.declared.event.Op.{Op}
-use Rattle.jc_model.specs.declared.event.Op.TheVariants.{Clear, Invoke}
+use Rattle.jc_model.specs.declared.event.Op.TheVariants.{Invoke}
 use Rattle.jc_model.specs.declared.event.Out.{Out}
 use Rattle.jc_model.specs.declared.event.Reply.{Reply}
 use Rattle.jc_model.specs.declared.event.Reply.TheVariants as reply
-use Rattle.jc_model.specs.Cache.{Bytes}
-use Rattle.jc_model.specs.Group.{nothing_said}
 use Rattle.jc_outside.specs.Calling.{LoadRelation, WriteRelation}
 use Rattle.jc_mutentry.specs.Running.{ProcessRelation}
 use Rattle.jc_stripe.specs.State.{State}
+use Rattle.jc_lock.specs.declared.view.View.{View}
 use Rattle.jc_session.specs.Boxed.{boxed}
 use Rattle.jc_session.specs.Counting.{one_more}
-use Rattle.jc_session.specs.declared.session.Session.{Session}
-use Rattle.jc_cache.specs.Whole.{EndsCall, AsksLoader, AsksWriter, KeepsTypes, RunsProcessor, change_wanted, own_after}
-use Rattle.jc_cache.specs.Caches.{CacheState, IsAt}
-use Rattle.jc_cache.specs.Sessions.{LeavesSessions}
+use Rattle.jc_engine.specs.Asking.{AsksLoader, AsksWriter, KeepsTypes, RunsProcessor, change_wanted, own_after}
+use Rattle.jc_cache.specs.declared.session.Session.{Session}
+use Rattle.jc_cache.specs.Caches.{CacheState}
+use Rattle.jc_cache.specs.Fronts.{SeatAfter, SeatTried, IsBetween}
 
 abbrev pub next_call : {I J : Type 0} {D : I → Type 0} {E : J → Type 0} → Session I J D E → Session I J D E
-next_call session = record session { caller = record session.caller { call = one_more session.caller.call } }
+next_call session = record session { agent = record session.agent { caller = record session.agent.caller { call = one_more session.agent.caller.call } } }
+
+-- 1. One seat of a session.
+
+pub record AtStripe {I J : Type 0} {D : I → Type 0} {E : J → Type 0} (cache : CacheState) (key : Bytes) (old : Session I J D E) (before after : View) (new : Session I J D E) : Type 0 where
+  pub lock : TableId
+  pub was : slice_get old.seats.items (stripe_of key cache.config.stripes) ≡ Some (lock, before)
+  pub now : new.seats.items ≡ slice_set old.seats.items (stripe_of key cache.config.stripes) (lock, after)
+
+-- 2. Whole calls.
 
 pub record CallsAt
     {I J : Type 0} {D : I → Type 0} {E : J → Type 0}
     (loads : LoadRelation ((i : I) × D i)) (load_state : (i : I) × D i → List ℕ)
     (writes : WriteRelation ((j : J) × E j)) (write_state : (j : J) × E j → List ℕ)
-    (cache : CacheState) (session : Session I J D E) (key : Bytes) (op : Op) (ended : Result Reply Refusal) (cache' : CacheState) (session' : Session I J D E) : Type 0 where
-  pub before : State
-  pub after : State
-  pub out : Out
-  pub at : IsAt key cache cache' before after
-  pub ends : EndsCall before session.caller key op out ended after
-  pub loader : AsksLoader (boxed loads) (boxed load_state) session.hands.outside.loader key out.load session'.hands.outside.loader
-  pub writer : AsksWriter (boxed writes) (boxed write_state) session.hands.outside.writer key (change_wanted before key op out.process) out.write session'.hands.outside.writer
-  pub types : KeepsTypes session session'
-  pub left : session' ≡ record session { counts = record session.counts { own = own_after session.counts.own ended }; hands = session'.hands }
-  pub sessions : LeavesSessions session cache cache'
+    (cache : CacheState) (old : Session I J D E) (key : Bytes) (op : Op) (ended : Result Reply Refusal) (new : Session I J D E) : Type 0 where
+  pub before : View
+  pub after : View
+  pub at : AtStripe cache key old before after new
+  pub asked : Out
+  pub decided : State
+  pub between : IsBetween before decided after
+  pub seat : SeatAfter before old.agent.caller key op asked ended after
+  pub loader : AsksLoader (boxed loads) (boxed load_state) old.agent.hands.outside.loader key asked.load new.agent.hands.outside.loader
+  pub writer : AsksWriter (boxed writes) (boxed write_state) old.agent.hands.outside.writer key (change_wanted decided key op asked.process) asked.write new.agent.hands.outside.writer
+  pub types : KeepsTypes old.agent new.agent
+  pub left : new.agent ≡ record old.agent { counts = record old.agent.counts { own = own_after old.agent.counts.own ended }; hands = new.agent.hands }
 
 abbrev pub Called : {I J : Type 0} {D : I → Type 0} {E : J → Type 0} → LoadRelation ((i : I) × D i) → ((i : I) × D i → List ℕ) → WriteRelation ((j : J) × E j) → ((j : J) × E j → List ℕ)
-    → CacheState → Session I J D E → Bytes → Op → Result Reply Refusal → CacheState → Session I J D E → Type 0
-Called loads load_state writes write_state cache session key op ended cache' session' =
-    CallsAt loads load_state writes write_state cache (next_call session) key op ended cache' session'
+    → CacheState → Session I J D E → Bytes → Op → Result Reply Refusal → Session I J D E → Type 0
+Called loads load_state writes write_state cache old key op ended new = CallsAt loads load_state writes write_state cache (next_call old) key op ended new
 
 abbrev pub Returns : {I J T : Type 0} {D : I → Type 0} {E : J → Type 0} → LoadRelation ((i : I) × D i) → ((i : I) × D i → List ℕ) → WriteRelation ((j : J) × E j) → ((j : J) × E j → List ℕ)
-    → CacheState → Session I J D E → Bytes → Op → (Result Reply Refusal → T) → T → CacheState → Session I J D E → Type 0
-Returns loads load_state writes write_state old session key op answer_in result new session' =
-    (ended : Result Reply Refusal) × Called loads load_state writes write_state old session key op ended new session' × (result ≡ answer_in ended)
+    → CacheState → Session I J D E → Bytes → Op → (Result Reply Refusal → T) → T → Session I J D E → Type 0
+Returns loads load_state writes write_state cache old key op answer_in result new =
+    (ended : Result Reply Refusal) × Called loads load_state writes write_state cache old key op ended new × (result ≡ answer_in ended)
 
-pub record ClearsAt
-    {I J : Type 0} {D : I → Type 0} {E : J → Type 0}
-    (cache : CacheState) (session : Session I J D E) (key : Bytes) (ended : Result Reply Refusal) (cache' : CacheState) (session' : Session I J D E) : Type 0 where
-  pub before : State
-  pub after : State
-  pub at : IsAt key cache cache' before after
-  pub ends : EndsCall before session.caller key Clear nothing_said ended after
-  pub left : session' ≡ record session { counts = record session.counts { own = own_after session.counts.own ended } }
-  pub sessions : LeavesSessions session cache cache'
+-- 3. Calls that wait for nobody.
 
-pub record InvokesAt
+pub record Tried {I J : Type 0} {D : I → Type 0} {E : J → Type 0} (cache : CacheState) (old : Session I J D E) (key : Bytes) (op : Op) (ended : Result Reply Refusal) (new : Session I J D E) : Type 0 where
+  pub before : View
+  pub after : View
+  pub at : AtStripe cache key (next_call old) before after new
+  pub seat : SeatTried before (next_call old).agent.caller key op ended after
+  pub left : new.agent ≡ record (next_call old).agent { counts = record old.agent.counts { own = own_after old.agent.counts.own ended } }
+
+abbrev pub Tries : {I J T : Type 0} {D : I → Type 0} {E : J → Type 0} → CacheState → Session I J D E → Bytes → Op → (Result Reply Refusal → T) → T → Session I J D E → Type 0
+Tries cache old key op answer_in result new = (ended : Result Reply Refusal) × Tried cache old key op ended new × (result ≡ answer_in ended)
+
+-- 4. A call that runs a processor.
+
+pub record Invoked
     {I J P Z : Type 0} {D : I → Type 0} {E : J → Type 0} {F : P → Type 0}
     (loads : LoadRelation ((i : I) × D i)) (load_state : (i : I) × D i → List ℕ)
     (writes : WriteRelation ((j : J) × E j)) (write_state : (j : J) × E j → List ℕ)
     (processes : ProcessRelation (DynBox P Z F)) (process_state : DynBox P Z F → List ℕ)
-    (cache : CacheState) (session : Session I J D E) (key : Bytes) (args : List Bytes) (processor : DynBox P Z F) (ended : Result Reply Refusal)
-    (cache' : CacheState) (session' : Session I J D E) (processor' : DynBox P Z F) : Type 0 where
-  pub call : CallsAt loads load_state writes write_state cache session key Invoke ended cache' session'
-  pub run : RunsProcessor processes process_state processor call.before key args call.out processor'
+    (cache : CacheState) (old : Session I J D E) (key : Bytes) (args : List Bytes) (processor : DynBox P Z F) (ended : Result Reply Refusal) (new : Session I J D E) (processor' : DynBox P Z F) : Type 0 where
+  pub call : Called loads load_state writes write_state cache old key Invoke ended new
+  pub run : RunsProcessor processes process_state processor call.decided key args call.asked processor'
   pub type : processor'.vtable ≡ processor.vtable
 
-abbrev pub Invoked : {I J P Z : Type 0} {D : I → Type 0} {E : J → Type 0} {F : P → Type 0} → LoadRelation ((i : I) × D i) → ((i : I) × D i → List ℕ) → WriteRelation ((j : J) × E j) → ((j : J) × E j → List ℕ)
-    → ProcessRelation (DynBox P Z F) → (DynBox P Z F → List ℕ) → CacheState → Session I J D E → Bytes → List Bytes → DynBox P Z F → Result Reply Refusal → CacheState → Session I J D E → DynBox P Z F → Type 0
-Invoked loads load_state writes write_state processes process_state cache session key args processor ended cache' session' processor' =
-    InvokesAt loads load_state writes write_state processes process_state cache (next_call session) key args processor ended cache' session' processor'
+-- 5. What a call returns.
 
 abbrev pub value_in : Result Reply Refusal → Result (Option Bytes) Refusal
 value_in (Err refusal) = Err refusal

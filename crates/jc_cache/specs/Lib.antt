@@ -1,12 +1,8 @@
-pub mod OnePhase
-pub mod Whole
 pub mod Caches
+pub mod Fronts
 pub mod Sessions
 pub mod Calls
+pub mod PhaseCalls
+pub mod Closing
+pub mod ClosingInside
 pub mod CacheInside
-pub mod Outstanding
-pub mod OutstandingAll
-pub mod Rounds
-pub mod Answered
-pub mod OutstandingInside
-pub mod Begun

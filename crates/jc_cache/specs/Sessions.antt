@@ -1,35 +1,50 @@
 -- Who may call a cache.
---     IsOf              a session is one of this cache's: of its mark, with a number that it has given out, with hands that hold nothing,
---                       and with the loader and the writer that the cache's shape asks for
---     MayCall           a session of this cache may begin its next call, whole: no session has a reservation or a join out, and neither is
---                       that call's number nor a later one taken
---     MayCallAt         a call may begin at a key of this cache
---     LeavesSessions    each other session that might begin its next call still may
-use Rattle.std.specs.Prelude.{◌≡◌, ◌==◌, ◌≤◌, true, false, IsSome}
-use Rattle.jc_types.specs.declared.caller.Caller.{Caller}
-use Rattle.jc_model.specs.Cache.{Bytes}
-use Rattle.jc_stripe.specs.State.{State}
-use Rattle.jc_stripe.specs.Phases.{MayBegin}
-use Rattle.jc_session.specs.declared.session.Session.{Session}
+--     IsSeatAt      a view of a session's seat at the stripe with this number of a cache of this shape, which has not taken the stripe
+--     own_total     how many own steps there are in the views of these seats, together
+--     capped        a number, or the last one if it is beyond that
+--     IsOf          a session is one of this cache's: its seats are at this cache's locks and its session's alone, its hands hold
+--                   nothing, it has the loader and the writer that the cache's shape asks for, and it counts its own steps
+--     MayCall       such a session may begin its next call: it has no reservation and no join out, and its own steps are all of calls
+--                   before that one
+use Rattle.std.specs.Prelude.{◌≡◌, ◌+◌, ℕ, List, [], ◌∷◌, length, map, true, false, Some, IsSome, slice_get, nat_lt, cond}
+use Rattle.std.specs.List.{list_all}
+use Rattle.atomic_table.specs.Seated.{TableId}
+use Rattle.jc_types.specs.declared.config.Config.{Config}
+use Rattle.jc_outside.specs.declared.done.Origin.TheVariants.{Live}
+use Rattle.jc_stripe.specs.Refusals.{last_number}
+use Rattle.jc_stripe.specs.OwnSteps.{is_before_call}
+use Rattle.jc_lock.specs.declared.view.View.{View}
 use Rattle.jc_session.specs.Counting.{one_more}
-use Rattle.jc_cache.specs.Caches.{CacheState, IsIdleCache, IsStripeOf, HasNoCallsFrom}
+use Rattle.jc_cache.specs.declared.session.Session.{Session}
+use Rattle.jc_cache.specs.Caches.{CacheState}
+
+pub record IsSeatAt (config : Config) (stripe session : ℕ) (view : View) : Type 0 where
+  pub of_session : view.session ≡ Some session
+  pub free : view.holds ≡ false
+  pub unspent : view.spent ≡ false
+  pub config_is : view.noted.config ≡ config
+  pub stripe_is : view.noted.stripe ≡ stripe
+  pub origin_is : view.noted.origin ≡ Live
+
+abbrev pub own_total : List (TableId × View) → ℕ
+own_total [] = 0
+own_total (seat ∷ seats) = length seat.1.own + own_total seats
+
+abbrev pub capped : ℕ → ℕ
+capped number = cond (nat_lt number last_number) number last_number
 
 pub record IsOf {I J : Type 0} {D : I → Type 0} {E : J → Type 0} (cache : CacheState) (session : Session I J D E) : Type 0 where
-  pub mark : session.cache ≡ cache.mark
-  pub given : session.caller.session ≤ cache.given
-  pub held : session.hands.held ≡ 0
-  pub loads : cache.config.read_through ≡ true → IsSome session.hands.outside.loader
-  pub writes : cache.config.write_through ≡ true → IsSome session.hands.outside.writer
+  pub locks : map (λ (seat : TableId × View). seat.0) session.seats.items ≡ cache.locks
+  pub count : length cache.locks ≡ cache.config.stripes
+  pub seats : (i : ℕ) (seat : TableId × View) → slice_get session.seats.items i ≡ Some seat → IsSeatAt cache.config i session.agent.caller.session seat.1
+  pub held : session.agent.hands.held ≡ 0
+  pub loads : cache.config.read_through ≡ true → IsSome session.agent.hands.outside.loader
+  pub writes : cache.config.write_through ≡ true → IsSome session.agent.hands.outside.writer
+  pub own : session.agent.counts.own ≡ capped (own_total session.seats.items)
 
 pub record MayCall {I J : Type 0} {D : I → Type 0} {E : J → Type 0} (cache : CacheState) (session : Session I J D E) : Type 0 where
   pub own : IsOf cache session
-  pub reservations : session.counts.reservations ≡ 0
-  pub joins : session.counts.joins ≡ 0
-  pub numbers : HasNoCallsFrom cache session.caller.session (one_more session.caller.call)
-  pub idle : IsIdleCache cache
-
-abbrev pub MayCallAt : CacheState → Caller → Bytes → Type 0
-MayCallAt cache caller key = (state : State) → IsStripeOf cache key state → MayBegin state caller key
-
-abbrev pub LeavesSessions : {I J : Type 0} {D : I → Type 0} {E : J → Type 0} → Session I J D E → CacheState → CacheState → Type 0
-LeavesSessions {I} {J} {D} {E} session old new = (other : Session I J D E) → (other.caller.session == session.caller.session) ≡ false → MayCall old other → MayCall new other
+  pub reservations : session.agent.counts.reservations ≡ 0
+  pub joins : session.agent.counts.joins ≡ 0
+  pub numbers : (i : ℕ) (seat : TableId × View) → slice_get session.seats.items i ≡ Some seat
+      → list_all (is_before_call session.agent.caller.session (one_more session.agent.caller.call)) seat.1.own ≡ true

@@ -1,208 +1,154 @@
-//! A cache of plainly owned stripes, its sessions, and a whole call.
-ghost use Rattle.std.specs.Prelude.{◌≡◌, ◌⊎◌, ◌+◌, ◌<◌, ◌≤◌, false, Ok, Err, Some, None, IfOk, IfErr, is_some, length, slice_get};
-ghost use Rattle.std.specs.Prelude.{vec_len, vec_capacity};
+//! A cache of stripes, each under its lock, that threads share.
+ghost use Rattle.std.specs.Prelude.{◌≡◌, false, Result, Ok, length};
 ghost use Rattle.jc_types.specs.Limits.{check};
-ghost use Rattle.jc_types.specs.declared.refusal.Refusal.TheVariants.{OutOfMemory};
-ghost use Rattle.jc_types.specs.declared.limits.TheConstants.{SESSIONS_MAX};
+ghost use Rattle.jc_types.specs.declared.refusal.Refusal.{Refusal};
 ghost use Rattle.jc_model.specs.Table.{is_invoke};
-ghost use Rattle.jc_stripe.specs.State.{State};
-ghost use Rattle.jc_stripe.specs.Keys.{Looks};
-ghost use Rattle.jc_cache.specs.Caches.{AreNewUpTo, EachStripe, IsIdleCache, session_refusal};
-ghost use Rattle.jc_cache.specs.CacheInside.{IsPlaced};
-ghost use Rattle.jc_cache.specs.Sessions.{IsOf, MayCall, LeavesSessions};
-ghost use Rattle.jc_cache.specs.Calls.{Called};
+ghost use Rattle.jc_model.specs.declared.event.Reply.{Reply};
+ghost use Rattle.jc_cache.specs.Sessions.{MayCall};
+ghost use Rattle.jc_cache.specs.Calls.{Called, Tried, Invoked, value_in};
 
-mod clearing;
-mod invoking;
-mod phase_calls;
-
-use crate::engine::call;
-use jc_gate::Owner;
+use crate::calls::value_of;
+use crate::session::Session;
+use jc_engine::{call, invoke, try_call};
+use jc_lock::HistLock;
 use jc_model::{Op, Reply};
-use jc_outside::{CacheLoader, CacheWriter};
-use jc_session::{Mark, Session, SessionFault};
-use jc_stripe::phase_laws::caller_numbers;
-use jc_stripe::{Origin, Stripe};
-use jc_types::{Config, Key, Refusal, SESSIONS_MAX, stripe_of};
-use std::alloc::{AllocError, Global};
+use jc_mutentry::EntryProcessor;
+use jc_stripe::phase_laws::{is_legal, is_uniform, own_numbers, own_steps, steps_behind};
+use jc_types::{Config, Key, Refusal, Value, stripe_of};
 use std::marker::Model;
 use std::sync::Wait;
 
-/// A cache. Contracts see its shape, how many sessions it has given out, and its stripes.
+/// A cache, which threads share by `&Cache`. Its [owner](crate::CacheOwner) makes and closes it, and gives its sessions out.
+///
+/// Contracts see its shape, and which locks its stripes are under. What is in the stripes they don't say, since others may change
+/// it at any time: that is known of a session.
 #[derive(Drop)]
 pub struct Cache {
-    mark: Mark,
-    config: Config,
-    given: u32,
-    owners: Vec<Owner>,
+    pub(crate) config: Config,
+    pub(crate) locks: Vec<HistLock>,
 }
 
 impl Model for Cache {
-    ghost use Rattle.std.specs.Coded.{codes};
-    ghost use Rattle.jc_model.specs.Cache.{cache_code};
+    ghost use Rattle.std.specs.Coded.{codes, coded_list};
+    ghost use Rattle.atomic_table.specs.Seated.{table_id_coded};
     ghost use Rattle.jc_cache.specs.Caches.{CacheState};
-    ghost use Rattle.jc_cache.specs.CacheInside.{IsWhole};
+    ghost use Rattle.jc_cache.specs.CacheInside.{IsShaped};
 
     ghost Value = { CacheState };
 
-    ghost coded = { Prim.hlevel (codes, cache_code) };
+    ghost coded = { Prim.hlevel (codes, coded_list table_id_coded) };
 
-    ghost view = { λ c. record { mark = c.mark; config = c.config; given = c.given; stripes = c.owners.items } };
+    ghost view = { λ c. record { config = c.config; locks = c.locks.items } };
 
-    ghost invariant = { λ c. IsWhole c.config c.given c.owners.items };
-}
-
-/// Owners of as many empty stripes as the shape says. An `Err` says that an allocation failed.
-fn owners(alloc: Global, config: &Config) -> Result<Vec<Owner>, AllocError>
-    requires { check config.now ≡ Ok tt }
-    ensures { IfOk result (λ os. AreNewUpTo config.now config.now.stripes os.items) }
-{
-    let mut owners = Vec::with_capacity(alloc, config.stripes)?;
-    for i in 0..config.stripes {
-        let stripe = Stripe::new(alloc, config, i, Origin::Live)?;
-        owners.push_reserved(Owner::new(Box::new(alloc, stripe)?));
-    }
-    Ok(owners)
+    ghost invariant = { λ c. IsShaped c.config c.locks.items };
 }
 
 impl Cache {
-    /// An empty cache of this shape. All memory that it may need is taken here, but for entries.
-    ///
-    /// It is refused if the shape is out of its limits (`BadConfig`), and if an allocation failed (`OutOfMemory`).
-    pub fn new(alloc: Global, config: &Config) -> Result<Cache, Refusal>
-        ensures idle { IfOk result (λ c. IsIdleCache c) }
-        ensures ok { IfOk result (λ c. (c.config ≡ config.now) × (c.given ≡ 0) × AreNewUpTo config.now config.now.stripes c.stripes) }
-        ensures err { IfErr result (λ r. (check config.now ≡ Err r) ⊎ ((check config.now ≡ Ok tt) × (r ≡ OutOfMemory))) }
-    {
-        match config.check() {
-            Err(refusal) => Err(refusal),
-            Ok(()) => match owners(alloc, config) {
-                Ok(owners) => Ok(Cache {
-                    mark: Mark::new(),
-                    config: *config,
-                    given: 0,
-                    owners,
-                }),
-                Err(_) => Err(Refusal::OutOfMemory),
-            },
-        }
-    }
-
-    /// A session with a loader and a writer of its own.
-    ///
-    /// It is refused, and the boxes come back, if `SESSIONS_MAX` were given out (`TooManySessions`), if the cache reads through and
-    /// there is no loader (`NoLoader`), and if it writes through and there is no writer (`NoWriter`), tested in this order.
-    pub fn session(
-        &mut self,
-        loader: Option<Box<dyn CacheLoader + Send + Drop>>,
-        writer: Option<Box<dyn CacheWriter + Send + Drop>>,
-    ) -> Result<Session, SessionFault>
-        ensures cache { IfOk result (λ s. self.new ≡ record self.old { given = self.old.given + 1 }) }
-        ensures caller { IfOk result (λ s. s.caller ≡ record { session = self.new.given; call = 0 }) }
-        ensures boxes { IfOk result (λ s. (s.hands.outside.loader ≡ loader) × (s.hands.outside.writer ≡ writer)) }
-        ensures own { IfOk result (λ s. IsOf self.new s) }
-        ensures may { IfOk result (λ s. IsIdleCache self.old → MayCall self.new s) }
-        ensures sessions { IfOk result (λ s. LeavesSessions s self.old self.new) }
-        ensures why { IfErr result (λ f. session_refusal self.old (is_some loader) (is_some writer) ≡ Some f.refusal) }
-        ensures same { IfErr result (λ f. self.new ≡ self.old) }
-        ensures back { IfErr result (λ f. (f.loader ≡ loader) × (f.writer ≡ writer)) }
-    {
-        match self.session_refusal(loader.is_some(), writer.is_some()) {
-            Some(refusal) => Err(SessionFault {
-                refusal,
-                loader,
-                writer,
-            }),
-            None => Ok(self.give_out(loader, writer)),
-        }
-    }
-
-    /// The shape of the cache. It has as many stripes as that says; each is of this shape, and its number is its place.
+    /// The shape of the cache.
     pub fn config(&self) -> &Config
         ensures config { result.now ≡ self.now.config }
-        ensures count { length self.now.stripes ≡ self.now.config.stripes }
-        ensures placed { EachStripe (IsPlaced self.now.config) self.now.stripes }
+        ensures fits { check self.now.config ≡ Ok tt }
+        ensures count { length self.now.locks ≡ self.now.config.stripes }
     {
         &self.config
     }
 
-    /// One of the stripes, to look at: its history, and what it caches. They are numbered from 0.
-    ///
-    /// Condition: there is a stripe of this number.
-    pub fn stripe(&self, number: usize) -> &Stripe
-        requires { number < self.now.config.stripes }
-        ensures { slice_get self.now.stripes number ≡ Some (Some result.now) }
+    /// The locks of the stripes, by their numbers.
+    pub(crate) fn locks(&self) -> &[HistLock]
+        ensures locks { result.now ≡ self.now.locks }
+        ensures count { length self.now.locks ≡ self.now.config.stripes }
     {
-        self.owners[number].stripe()
-    }
-
-    /// Appends the keys of one stripe that have an entry, each once, in byte order. It changes no stripe, and takes no memory.
-    ///
-    /// Conditions: there is a stripe of this number, and the vector has room for as many keys as a stripe may cache.
-    pub fn look(&self, number: usize, out: &mut Vec<Key>)
-        requires stripe { number < self.now.config.stripes }
-        requires room { vec_len out.old + self.now.config.capacity ≤ vec_capacity out.old }
-        ensures keys { (state : State) × (slice_get self.now.stripes number ≡ Some (Some state))
-            × Looks state out.old.items out.new.items }
-        ensures few { vec_len out.new ≤ vec_len out.old + self.now.config.capacity }
-        ensures capacity { vec_capacity out.new ≡ vec_capacity out.old }
-    {
-        let owner = &self.owners[number];
-        owner.stripe().keys(out);
-    }
-
-    /// Why a session with or without a loader and a writer is refused, if it is.
-    fn session_refusal(&self, has_loader: bool, has_writer: bool) -> Option<Refusal>
-        ensures { result ≡ session_refusal self.now has_loader has_writer }
-    {
-        if self.given >= SESSIONS_MAX {
-            return Some(Refusal::TooManySessions);
-        }
-        if self.config.read_through && !has_loader {
-            return Some(Refusal::NoLoader);
-        }
-        if self.config.write_through && !has_writer {
-            return Some(Refusal::NoWriter);
-        }
-        None
-    }
-
-    /// The next session.
-    fn give_out(
-        &mut self,
-        loader: Option<Box<dyn CacheLoader + Send + Drop>>,
-        writer: Option<Box<dyn CacheWriter + Send + Drop>>,
-    ) -> Session
-        requires { session_refusal self.old (is_some loader) (is_some writer) ≡ None }
-        ensures cache { self.new ≡ record self.old { given = self.old.given + 1 } }
-        ensures caller { result.caller ≡ record { session = self.new.given; call = 0 } }
-        ensures boxes { (result.hands.outside.loader ≡ loader) × (result.hands.outside.writer ≡ writer) }
-        ensures own { IsOf self.new result }
-        ensures may { IsIdleCache self.old → MayCall self.new result }
-        ensures sessions { LeavesSessions result self.old self.new }
-    {
-        self.given += 1;
-        Session::new(self.mark, self.given, loader, writer)
+        &self.locks
     }
 
     /// The session's next call, whole, on one key.
     pub(crate) fn call<R: Wait>(
-        &mut self,
+        &self,
         rt: &R,
         session: &mut Session,
         key: &Key,
         op: &Op,
     ) -> Result<Reply, Refusal>
         requires op { is_invoke op.now ≡ false }
-        requires may { MayCall self.old session.old }
-        ensures may { MayCall self.new session.new }
+        requires may { MayCall self.now session.old }
+        ensures may { MayCall self.now session.new }
         ensures call { Called loads load_state writes write_state
-            self.old session.old key.now op.now result self.new session.new }
+            self.now session.old key.now op.now result session.new }
     {
-        caller_numbers();
+        is_uniform();
+        is_legal();
+        own_steps();
+        own_numbers();
+        steps_behind();
         let at = stripe_of(key, self.config.stripes);
-        session.next_call();
-        let owner = &mut self.owners[at];
-        call(rt, owner, &mut (), session, key, op)
+        session.agent.next_call();
+        let mut lock = &self.locks[at];
+        let seat = &mut session.seats[at];
+        call(rt, &mut lock, seat, &mut session.agent, key, op)
+    }
+
+    /// The session's next call on one key, if it can be done at once.
+    pub(crate) fn try_call(
+        &self,
+        session: &mut Session,
+        key: &Key,
+        op: &Op,
+    ) -> Result<Reply, Refusal>
+        requires may { MayCall self.now session.old }
+        ensures may { MayCall self.now session.new }
+        ensures call { Tried self.now session.old key.now op.now result session.new }
+    {
+        is_uniform();
+        is_legal();
+        own_steps();
+        own_numbers();
+        let at = stripe_of(key, self.config.stripes);
+        session.agent.next_call();
+        let mut lock = &self.locks[at];
+        let seat = &mut session.seats[at];
+        try_call(&mut lock, seat, &mut session.agent, key, op)
+    }
+
+    /// The session's next call, whole, which runs a processor on one key (JSR 107, "Entry Processors"). It gives the processor's
+    /// result, or none. An `Err` is the first fault of the loader, the processor and the writer, which leaves the entry as it
+    /// was; or it is `HistoryFull`, and then nobody was asked and nothing changes.
+    ///
+    /// It may wait, as long as the processor, the loader and the writer do, and as any call does; it holds no stripe meanwhile.
+    /// No other call changes the entry between the moment at which the processor is shown it and the processor's net effect.
+    ///
+    /// Condition: the session may call the cache.
+    pub fn invoke<R: Wait>(
+        &self,
+        rt: &R,
+        session: &mut Session,
+        key: &Key,
+        processor: &mut Box<dyn EntryProcessor + Send + Drop>,
+        args: &[Value],
+    ) -> Result<Option<Value>, Refusal>
+        requires may { MayCall self.now session.old }
+        ensures may { MayCall self.now session.new }
+        ensures call { (ended : Result Reply Refusal) × Invoked loads load_state writes write_state processes process_state
+            self.now session.old key.now args.now processor.old ended session.new processor.new
+            × (result ≡ value_in ended) }
+    {
+        is_uniform();
+        is_legal();
+        own_steps();
+        own_numbers();
+        steps_behind();
+        let at = stripe_of(key, self.config.stripes);
+        session.agent.next_call();
+        let mut lock = &self.locks[at];
+        let seat = &mut session.seats[at];
+        value_of(invoke(
+            rt,
+            &mut lock,
+            seat,
+            &mut session.agent,
+            key,
+            self.config.write_through,
+            processor,
+            args,
+        ))
     }
 }

@@ -5,71 +5,79 @@
 //! it is `HistoryFull`: the stripe's history has too few free places, or a number is at its end. Then nobody was asked, and nothing
 //! changes.
 //!
-//! Condition of each call: the session may call the cache. It is one that this cache has given out, which holds no stripe; no
-//! session has a reservation or a join out; and no step has the call's number.
+//! Others may call the cache meanwhile. So a call may wait: while another phase is made on the key's stripe, until a key that
+//! another call has reserved is free (`Busy`), until less than `RESERVATIONS_MAX` keys of the stripe are reserved
+//! (`TooManyInFlight`), or less than `JOINERS_MAX` calls have joined a load there (`TooManyJoiners`), and for the answer of a
+//! load that it has joined. Nothing says that a call that waits returns, nor in which order those who wait are served.
+//!
+//! After a call its session has seen the key's stripe up to there: a legal history, which begins with what it had seen before and
+//! has the call's own step behind that. Its own steps there are the former ones and this one.
+//!
+//! Condition of each call: the session may call the cache. It is one that this cache has given out, and has no reservation and no
+//! join out.
 ghost use Rattle.std.specs.Prelude.{◌≡◌};
 ghost use Rattle.jc_model.specs.declared.event.Op.TheVariants as op;
 ghost use Rattle.jc_cache.specs.Sessions.{MayCall};
 ghost use Rattle.jc_cache.specs.Calls.{Returns, value_in, flag_in, unit_in};
 
 use crate::cache::Cache;
+use crate::session::Session;
 use jc_model::{Op, Reply};
-use jc_session::Session;
 use jc_types::{Key, Refusal, Value};
 use std::sync::Wait;
 
 impl Cache {
     /// The key's value, or none (`get`). With read-through on, a missing key is loaded, and kept if the loader finds a value.
     ///
-    /// An `Err` is `LoaderFailed` or `HistoryFull`. It may wait, as long as the loader does.
+    /// An `Err` is `LoaderFailed` or `HistoryFull`. It may wait, also as long as the loader does.
     /// Condition: the session may call the cache.
     pub fn get<R: Wait>(
-        &mut self,
+        &self,
         rt: &R,
         session: &mut Session,
         key: &Key,
     ) -> Result<Option<Value>, Refusal>
-        requires may { MayCall self.old session.old }
-        ensures may { MayCall self.new session.new }
+        requires may { MayCall self.now session.old }
+        ensures may { MayCall self.now session.new }
         ensures call { Returns loads load_state writes write_state
-            self.old session.old key.now op.Get value_in result self.new session.new }
+            self.now session.old key.now op.Get value_in result session.new }
     {
         value_of(self.call(rt, session, key, &Op::Get))
     }
 
     /// Whether the key has an entry (`containsKey`). It never loads.
     ///
-    /// An `Err` is `HistoryFull`. It waits for nobody.
+    /// An `Err` is `HistoryFull`. It may wait, but for no loader, writer or load.
     /// Condition: the session may call the cache.
     pub fn contains_key<R: Wait>(
-        &mut self,
+        &self,
         rt: &R,
         session: &mut Session,
         key: &Key,
     ) -> Result<bool, Refusal>
-        requires may { MayCall self.old session.old }
-        ensures may { MayCall self.new session.new }
+        requires may { MayCall self.now session.old }
+        ensures may { MayCall self.now session.new }
         ensures call { Returns loads load_state writes write_state
-            self.old session.old key.now op.ContainsKey flag_in result self.new session.new }
+            self.now session.old key.now op.ContainsKey flag_in result session.new }
     {
         flag_of(self.call(rt, session, key, &Op::ContainsKey))
     }
 
     /// Gives the key a value (`put`). With write-through on, the value is written first.
     ///
-    /// An `Err` is `WriterFailed` or `HistoryFull`. It may wait, as long as the writer does.
+    /// An `Err` is `WriterFailed` or `HistoryFull`. It may wait, also as long as the writer does.
     /// Condition: the session may call the cache.
     pub fn put<R: Wait>(
-        &mut self,
+        &self,
         rt: &R,
         session: &mut Session,
         key: &Key,
         value: &Value,
     ) -> Result<(), Refusal>
-        requires may { MayCall self.old session.old }
-        ensures may { MayCall self.new session.new }
+        requires may { MayCall self.now session.old }
+        ensures may { MayCall self.now session.new }
         ensures call { Returns loads load_state writes write_state
-            self.old session.old key.now (op.Put value.now) unit_in result self.new session.new }
+            self.now session.old key.now (op.Put value.now) unit_in result session.new }
     {
         unit_of(self.call(rt, session, key, &Op::Put(*value)))
     }
@@ -77,19 +85,19 @@ impl Cache {
     /// Gives the key a value, and returns the one before, or none (`getAndPut`). With write-through on, the value is written
     /// first. It never loads.
     ///
-    /// An `Err` is `WriterFailed` or `HistoryFull`. It may wait, as long as the writer does.
+    /// An `Err` is `WriterFailed` or `HistoryFull`. It may wait, also as long as the writer does.
     /// Condition: the session may call the cache.
     pub fn get_and_put<R: Wait>(
-        &mut self,
+        &self,
         rt: &R,
         session: &mut Session,
         key: &Key,
         value: &Value,
     ) -> Result<Option<Value>, Refusal>
-        requires may { MayCall self.old session.old }
-        ensures may { MayCall self.new session.new }
+        requires may { MayCall self.now session.old }
+        ensures may { MayCall self.now session.new }
         ensures call { Returns loads load_state writes write_state
-            self.old session.old key.now (op.GetAndPut value.now) value_in result self.new session.new }
+            self.now session.old key.now (op.GetAndPut value.now) value_in result session.new }
     {
         value_of(self.call(rt, session, key, &Op::GetAndPut(*value)))
     }
@@ -97,19 +105,19 @@ impl Cache {
     /// Gives the key a value if it has no entry, and says whether it did (`putIfAbsent`). With write-through on, the value is
     /// written first, if it is to be given.
     ///
-    /// An `Err` is `WriterFailed` or `HistoryFull`. It may wait, as long as the writer does.
+    /// An `Err` is `WriterFailed` or `HistoryFull`. It may wait, also as long as the writer does.
     /// Condition: the session may call the cache.
     pub fn put_if_absent<R: Wait>(
-        &mut self,
+        &self,
         rt: &R,
         session: &mut Session,
         key: &Key,
         value: &Value,
     ) -> Result<bool, Refusal>
-        requires may { MayCall self.old session.old }
-        ensures may { MayCall self.new session.new }
+        requires may { MayCall self.now session.old }
+        ensures may { MayCall self.now session.new }
         ensures call { Returns loads load_state writes write_state
-            self.old session.old key.now (op.PutIfAbsent value.now) flag_in result self.new session.new }
+            self.now session.old key.now (op.PutIfAbsent value.now) flag_in result session.new }
     {
         flag_of(self.call(rt, session, key, &Op::PutIfAbsent(*value)))
     }
@@ -117,18 +125,13 @@ impl Cache {
     /// Removes the key's entry, and says whether there was one (`remove`). With write-through on, the key is deleted in the
     /// store first, whether it has an entry or not.
     ///
-    /// An `Err` is `WriterFailed` or `HistoryFull`. It may wait, as long as the writer does.
+    /// An `Err` is `WriterFailed` or `HistoryFull`. It may wait, also as long as the writer does.
     /// Condition: the session may call the cache.
-    pub fn remove<R: Wait>(
-        &mut self,
-        rt: &R,
-        session: &mut Session,
-        key: &Key,
-    ) -> Result<bool, Refusal>
-        requires may { MayCall self.old session.old }
-        ensures may { MayCall self.new session.new }
+    pub fn remove<R: Wait>(&self, rt: &R, session: &mut Session, key: &Key) -> Result<bool, Refusal>
+        requires may { MayCall self.now session.old }
+        ensures may { MayCall self.now session.new }
         ensures call { Returns loads load_state writes write_state
-            self.old session.old key.now op.Remove flag_in result self.new session.new }
+            self.now session.old key.now op.Remove flag_in result session.new }
     {
         flag_of(self.call(rt, session, key, &Op::Remove))
     }
@@ -136,19 +139,19 @@ impl Cache {
     /// Removes the key's entry if it has this value, and says whether it did (`remove(key, oldValue)`). With write-through on,
     /// the key is deleted in the store first, if the entry is to be removed.
     ///
-    /// An `Err` is `WriterFailed` or `HistoryFull`. It may wait, as long as the writer does.
+    /// An `Err` is `WriterFailed` or `HistoryFull`. It may wait, also as long as the writer does.
     /// Condition: the session may call the cache.
     pub fn remove_if<R: Wait>(
-        &mut self,
+        &self,
         rt: &R,
         session: &mut Session,
         key: &Key,
         old: &Value,
     ) -> Result<bool, Refusal>
-        requires may { MayCall self.old session.old }
-        ensures may { MayCall self.new session.new }
+        requires may { MayCall self.now session.old }
+        ensures may { MayCall self.now session.new }
         ensures call { Returns loads load_state writes write_state
-            self.old session.old key.now (op.RemoveIf old.now) flag_in result self.new session.new }
+            self.now session.old key.now (op.RemoveIf old.now) flag_in result session.new }
     {
         flag_of(self.call(rt, session, key, &Op::RemoveIf(*old)))
     }
@@ -156,18 +159,18 @@ impl Cache {
     /// Removes the key's entry, and returns its value, or none (`getAndRemove`). With write-through on, the key is deleted in
     /// the store first, whether it has an entry or not.
     ///
-    /// An `Err` is `WriterFailed` or `HistoryFull`. It may wait, as long as the writer does.
+    /// An `Err` is `WriterFailed` or `HistoryFull`. It may wait, also as long as the writer does.
     /// Condition: the session may call the cache.
     pub fn get_and_remove<R: Wait>(
-        &mut self,
+        &self,
         rt: &R,
         session: &mut Session,
         key: &Key,
     ) -> Result<Option<Value>, Refusal>
-        requires may { MayCall self.old session.old }
-        ensures may { MayCall self.new session.new }
+        requires may { MayCall self.now session.old }
+        ensures may { MayCall self.now session.new }
         ensures call { Returns loads load_state writes write_state
-            self.old session.old key.now op.GetAndRemove value_in result self.new session.new }
+            self.now session.old key.now op.GetAndRemove value_in result session.new }
     {
         value_of(self.call(rt, session, key, &Op::GetAndRemove))
     }
@@ -175,19 +178,19 @@ impl Cache {
     /// Gives the key a value if it has an entry, and says whether it did (`replace(key, value)`). With write-through on, the
     /// value is written first, if it is to be given.
     ///
-    /// An `Err` is `WriterFailed` or `HistoryFull`. It may wait, as long as the writer does.
+    /// An `Err` is `WriterFailed` or `HistoryFull`. It may wait, also as long as the writer does.
     /// Condition: the session may call the cache.
     pub fn replace<R: Wait>(
-        &mut self,
+        &self,
         rt: &R,
         session: &mut Session,
         key: &Key,
         value: &Value,
     ) -> Result<bool, Refusal>
-        requires may { MayCall self.old session.old }
-        ensures may { MayCall self.new session.new }
+        requires may { MayCall self.now session.old }
+        ensures may { MayCall self.now session.new }
         ensures call { Returns loads load_state writes write_state
-            self.old session.old key.now (op.Replace value.now) flag_in result self.new session.new }
+            self.now session.old key.now (op.Replace value.now) flag_in result session.new }
     {
         flag_of(self.call(rt, session, key, &Op::Replace(*value)))
     }
@@ -195,20 +198,20 @@ impl Cache {
     /// Gives the key the value `new` if it has the value `old`, and says whether it did (`replace(key, oldValue, newValue)`). With
     /// write-through on, the value is written first, if it is to be given.
     ///
-    /// An `Err` is `WriterFailed` or `HistoryFull`. It may wait, as long as the writer does.
+    /// An `Err` is `WriterFailed` or `HistoryFull`. It may wait, also as long as the writer does.
     /// Condition: the session may call the cache.
     pub fn replace_if<R: Wait>(
-        &mut self,
+        &self,
         rt: &R,
         session: &mut Session,
         key: &Key,
         old: &Value,
         new: &Value,
     ) -> Result<bool, Refusal>
-        requires may { MayCall self.old session.old }
-        ensures may { MayCall self.new session.new }
+        requires may { MayCall self.now session.old }
+        ensures may { MayCall self.now session.new }
         ensures call { Returns loads load_state writes write_state
-            self.old session.old key.now (op.ReplaceIf old.now new.now) flag_in result self.new session.new }
+            self.now session.old key.now (op.ReplaceIf old.now new.now) flag_in result session.new }
     {
         flag_of(self.call(
             rt,
@@ -224,19 +227,19 @@ impl Cache {
     /// Gives the key a value if it has an entry, and returns the one before, or none (`getAndReplace`). With write-through on,
     /// the value is written first, if it is to be given.
     ///
-    /// An `Err` is `WriterFailed` or `HistoryFull`. It may wait, as long as the writer does.
+    /// An `Err` is `WriterFailed` or `HistoryFull`. It may wait, also as long as the writer does.
     /// Condition: the session may call the cache.
     pub fn get_and_replace<R: Wait>(
-        &mut self,
+        &self,
         rt: &R,
         session: &mut Session,
         key: &Key,
         value: &Value,
     ) -> Result<Option<Value>, Refusal>
-        requires may { MayCall self.old session.old }
-        ensures may { MayCall self.new session.new }
+        requires may { MayCall self.now session.old }
+        ensures may { MayCall self.now session.new }
         ensures call { Returns loads load_state writes write_state
-            self.old session.old key.now (op.GetAndReplace value.now) value_in result self.new session.new }
+            self.now session.old key.now (op.GetAndReplace value.now) value_in result session.new }
     {
         value_of(self.call(rt, session, key, &Op::GetAndReplace(*value)))
     }
@@ -256,7 +259,7 @@ pub fn value_of(ended: Result<Reply, Refusal>) -> Result<Option<Value>, Refusal>
 }
 
 /// What a call returns that replies with yes or no.
-fn flag_of(ended: Result<Reply, Refusal>) -> Result<bool, Refusal>
+pub(crate) fn flag_of(ended: Result<Reply, Refusal>) -> Result<bool, Refusal>
     ensures { result ≡ flag_in ended }
 {
     match ended {
@@ -267,7 +270,7 @@ fn flag_of(ended: Result<Reply, Refusal>) -> Result<bool, Refusal>
 }
 
 /// What a call returns that replies with nothing.
-fn unit_of(ended: Result<Reply, Refusal>) -> Result<(), Refusal>
+pub(crate) fn unit_of(ended: Result<Reply, Refusal>) -> Result<(), Refusal>
     ensures { result ≡ unit_in ended }
 {
     match ended {

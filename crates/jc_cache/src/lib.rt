@@ -1,30 +1,29 @@
-//! A cache of stripes, and whole calls on it (JSR 107, `javax.cache.Cache`).
+//! A cache of stripes, each under a lock of its own, that threads share; its sessions, and whole calls (JSR 107,
+//! `javax.cache.Cache`).
 //!
-//! With it comes what a service needs of the crates below: keys and values, the shape of a cache, refusals, and the traits of its
-//! loader, writer and entry processors.
+//! Threads share a cache by `&Cache`. Each has a session of its own, which it doesn't share: what a session has seen of the
+//! cache, contracts know. With it comes what a service needs of the crates below: keys and values, the shape of a cache,
+//! refusals, and the traits of its loader, writer and entry processors.
 #![tactic(auto)]
 
-mod answered;
 mod cache;
 mod calls;
-mod engine;
-mod joined;
-mod phase;
-mod phases;
-mod reserved;
-mod round;
-mod started;
+mod closing;
+mod owner;
+mod phase_calls;
+mod session;
+mod trying;
 
-pub use answered::AnsweredCall;
 pub use cache::Cache;
 pub use calls::value_of;
-pub use jc_model::{Op, Reply};
+pub use closing::{CloseFault, Closed, ClosedStripe};
+pub use jc_model::{Event, Op, Reply};
 pub use jc_mutentry::{EntryProcessor, MutableEntry};
 pub use jc_outside::{Answers, CacheLoader, CacheWriter};
-pub use jc_session::{Session, SessionFault};
-pub use jc_stripe::{Eviction, First, Reservation, StepDone};
+pub use jc_session::SessionFault;
+pub use jc_stripe::{
+    Ask, Begun, First, Join, LoadDone, Picked, ProcDone, StepDone, Ticket, WriteDone,
+};
 pub use jc_types::{Config, Key, Refusal, Value};
-pub use joined::JoinedCall;
-pub use reserved::ReservedCall;
-pub use round::{AnsweredCalls, Calls};
-pub use started::{PickedUp, Started};
+pub use owner::CacheOwner;
+pub use session::Session;

@@ -3,37 +3,59 @@
 //!
 //!     get a = 1 | 1 0 0
 ghost use Rattle.std.specs.Prelude.{◌≡◌};
-ghost use Rattle.jc_cache.specs.Caches.{IsIdleCache};
 ghost use Rattle.jc_cache.specs.Sessions.{MayCall};
+
+/// A loader or a writer, in a box. Only a test itself can make it.
+macro_rules! boxed {
+    ($rt:expr, $kind:ty, $inner:expr) => {{
+        let inner: $kind = Some(Box::new($rt.alloc(), $inner).ok().expect(&$rt, "memory"));
+        inner
+    }};
+}
+
+/// Plays a text by a session of an owner's cache.
+macro_rules! plays_on {
+    ($rt:expr, $alloc:expr, $desk:expr, $owner:ident, $session:ident, $text:expr) => {
+        let mut session = $session;
+        $desk.plays($rt, $alloc, $owner.cache(), &mut session, $text);
+    };
+}
+
+/// A session with a loader and a writer of its own; without others those of a desk, which count their calls.
+macro_rules! started {
+    ($rt:expr, $owner:expr, $desk:expr) => {
+        started!($rt, $owner, $desk.loader($rt), $desk.writer($rt))
+    };
+    ($rt:expr, $owner:expr, $loader:expr, $writer:expr) => {{
+        let loader = boxed!($rt, Loader, $loader);
+        let writer = boxed!($rt, Writer, $writer);
+        started(&$rt, $rt.alloc(), &mut $owner, loader, writer)
+    }};
+}
 
 mod answers;
 mod asking;
 mod asking_all;
 mod before_store;
-mod bulk;
 mod bytes;
 mod calls;
+mod closing;
 mod histories;
 mod invoking;
-mod invoking_all;
 mod limits;
 mod lines;
-mod many;
-mod many_rounds;
 mod outside;
+mod random;
 mod scripted;
-mod scripted_writer;
 mod stores;
-mod tour;
-mod writing_all;
+mod trying;
 
 use answers::{Answer, answer_of, called, first_word, key, value};
-use jc_cache::Cache;
+use jc_cache::{Cache, CacheOwner, Session};
 use jc_outside::{CacheLoader, CacheWriter};
-use jc_session::Session;
 use jc_store::{Counting, SharedCounts, SharedStore, Store, StoreLoader, StoreWriter};
 use jc_types::{Config, Key, Refusal, Value};
-use std::alloc::{AllocError, Global};
+use std::alloc::Global;
 use std::fmt::Debug;
 use std::process::Abort;
 use std::sync::Wait;
@@ -66,20 +88,25 @@ fn config(history: usize, read_through: bool, write_through: bool) -> Config
 }
 
 /// A cache of this shape.
-fn opened(rt: &impl Abort, alloc: Global, config: &Config) -> Cache
-    ensures idle { IsIdleCache result }
-    ensures config { result.config ≡ config.now }
-{
-    Cache::new(alloc, config).ok().expect(rt, "a cache")
+fn opened(rt: &impl Abort, alloc: Global, config: &Config) -> CacheOwner {
+    CacheOwner::new(alloc, config).ok().expect(rt, "a cache")
 }
 
 /// A session with this loader and this writer.
-fn started(rt: &impl Abort, cache: &mut Cache, loader: Loader, writer: Writer) -> Session
-    requires { IsIdleCache cache.old }
-    ensures may { MayCall cache.new result }
-    ensures config { cache.new.config ≡ cache.old.config }
+fn started(
+    rt: &impl Abort,
+    alloc: Global,
+    owner: &mut CacheOwner,
+    loader: Loader,
+    writer: Writer,
+) -> Session
+    ensures may { MayCall owner.new.cache result }
+    ensures cache { owner.new.cache ≡ owner.old.cache }
 {
-    cache.session(loader, writer).ok().expect(rt, "a session")
+    owner
+        .session(alloc, loader, writer)
+        .ok()
+        .expect(rt, "a session")
 }
 
 /// A store with a=1, and the counts of its loaders' and writers' calls.
@@ -117,10 +144,9 @@ impl Desk {
     }
 
     /// Makes the call that a line says. It is to answer what the line says, and the counts are to be these afterwards.
-    fn call<R: Abort + Wait>(&self, rt: &R, cache: &mut Cache, session: &mut Session, line: &str)
-        requires { MayCall cache.old session.old }
-        ensures may { MayCall cache.new session.new }
-        ensures config { cache.new.config ≡ cache.old.config }
+    fn call<R: Abort + Wait>(&self, rt: &R, cache: &Cache, session: &mut Session, line: &str)
+        requires { MayCall cache.now session.old }
+        ensures { MayCall cache.now session.new }
     {
         let (call, counts) = line.split_once(" | ").expect(rt, "a call and counts");
         let (call, answer) = call.split_once(" = ").expect(rt, "a call and its answer");

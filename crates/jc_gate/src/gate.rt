@@ -1,18 +1,24 @@
 //! Gates.
-ghost use Rattle.std.specs.Prelude.{◌≡◌, ℕ, IfSome, IfNone};
+ghost use Rattle.std.specs.Prelude.{◌≡◌, ◌⊎◌, ℕ, IfSome, IfNone};
+ghost use Rattle.jc_gate.specs.Lending.{ComesAfter};
 ghost use Rattle.jc_stripe.specs.State.{State};
 ghost use Rattle.jc_stripe.specs.Reached.{IsReached};
 ghost use Rattle.jc_stripe.specs.OnePhase.{IsPhaseOf};
 
+use crossbeam_utils::Backoff;
 use jc_stripe::Stripe;
+use std::sync::Wait;
 
 /// Lends a stripe to the holders of tokens, one at a time.
 pub trait Gate {
     /// What shows who takes and gives back: a seat, or nothing.
     type Token;
 
-    /// The token speaks for the session with this number.
+    /// The token speaks for the session with this number: nobody else makes phases of that session meanwhile.
     ghost speaks_for: { Self.Token → ℕ → Type 0 };
+
+    /// The token may give back after a phase of any session, though it speaks for none: the gate knows nothing of sessions.
+    ghost is_anonymous: { Self.Token → Type 0 };
 
     /// The token is of this gate, and has not taken its stripe.
     ghost is_free: { Self → Self.Token → Type 0 };
@@ -23,8 +29,11 @@ pub trait Gate {
     /// What is known of the state in which a take finds the stripe.
     ghost finds: { Self → Self.Token → State → Type 0 };
 
-    /// What is known once the stripe was given back in this state.
-    ghost leaves: { Self → Self.Token → State → Type 0 };
+    /// What a take that finds the stripe in this state leaves of gate and token.
+    ghost takes: { Self → Self.Token → State → Self → Self.Token → Type 0 };
+
+    /// What a give of the stripe in this state leaves of gate and token.
+    ghost gives: { Self → Self.Token → State → Self → Self.Token → Type 0 };
 
     /// A take may fail, since somebody else may have the stripe.
     ghost may_fail: { Self → Self.Token → Type 0 };
@@ -38,17 +47,53 @@ pub trait Gate {
         requires { is_free self.old token.old }
         ensures speaks { (n : ℕ) → speaks_for token.old n → speaks_for token.new n }
         ensures taken { IfSome result (λ s. has self.new token.new s.value) }
+        ensures takes { IfSome result (λ s. takes self.old token.old s.value self.new token.new) }
         ensures found { IfSome result (λ s. finds self.old token.old s.value × IsReached s.value) }
         ensures failed { IfNone result (may_fail self.old token.old) }
         ensures same { IfNone result ((self.new ≡ self.old) × (token.new ≡ token.old)) };
 
+    /// Takes the stripe as [`Gate::try_take`] does, and waits as long as somebody else has it. Nothing says that it returns.
+    ///
+    /// Condition: the token has not taken the stripe.
+    fn take<R: Wait>(&mut self, rt: &R, token: &mut Self::Token) -> Box<Stripe>
+        requires { is_free self.old token.old }
+        ensures speaks { (n : ℕ) → speaks_for token.old n → speaks_for token.new n }
+        ensures taken { has self.new token.new result.value }
+        ensures takes { takes self.old token.old result.value self.new token.new }
+        ensures found { finds self.old token.old result.value × IsReached result.value };
+
     /// Gives the stripe back. It takes no memory.
     ///
-    /// Condition: it is the stripe that the token has taken, after at most one phase of a session that the token speaks for.
+    /// What a later take finds comes after it, for each session that the token speaks for.
+    ///
+    /// Condition: it is the stripe that the token has taken, after at most one phase of a session that the token speaks for, or of
+    /// any session if the token is anonymous.
     fn give(&mut self, token: &mut Self::Token, stripe: Box<Stripe>)
         requires { (n : ℕ) × (a : State)
-            × speaks_for token.old n × has self.old token.old a × IsPhaseOf n a stripe.value }
+            × (speaks_for token.old n ⊎ is_anonymous token.old)
+            × has self.old token.old a × IsPhaseOf n a stripe.value }
         ensures speaks { (n : ℕ) → speaks_for token.old n → speaks_for token.new n }
         ensures free { is_free self.new token.new }
-        ensures left { leaves self.new token.new stripe.value };
+        ensures gives { gives self.old token.old stripe.value self.new token.new }
+        ensures next { (n : ℕ) (a : State) → speaks_for token.old n → finds self.new token.new a
+            → ComesAfter n stripe.value a };
+
+    /// Pauses once between two takes. It may return though nothing has changed: after it, no more is known than the token has seen.
+    ///
+    /// Condition: the token has not taken the stripe.
+    fn wait_for_change<R: Wait>(&mut self, rt: &R, token: &mut Self::Token)
+        requires { is_free self.old token.old }
+        ensures same { (self.new ≡ self.old) × (token.new ≡ token.old) };
+}
+
+/// The steps of a pause: as many as a `Backoff` has until it would rather block. The first are short spins, the last give the
+/// processor to another thread.
+const PAUSE_STEPS: u32 = 11;
+
+/// One pause between two tries.
+pub(crate) fn pause() {
+    let backoff = Backoff::new();
+    for _ in 0..PAUSE_STEPS {
+        backoff.snooze();
+    }
 }

@@ -5,7 +5,10 @@
 #![tactic(auto)]
 
 mod gate;
+mod locked;
+mod mutexed;
 mod owner;
 
 pub use gate::Gate;
+pub use mutexed::{MutexGate, MutexSeat};
 pub use owner::Owner;

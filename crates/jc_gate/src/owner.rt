@@ -1,9 +1,10 @@
 //! The plain owner of a stripe.
 ghost use Rattle.std.specs.Prelude.{◌≡◌, ◌≢◌, Some, None};
 
-use crate::gate::Gate;
+use crate::gate::{Gate, pause};
 use jc_stripe::Stripe;
 use std::marker::Model;
+use std::sync::Wait;
 
 /// Owns a stripe, and lends it to whoever the owner itself is lent to. So a take never fails, and a token is nothing.
 ///
@@ -58,13 +59,17 @@ impl Gate for Owner {
 
     ghost speaks_for = { λ t n. Unit {0} };
 
+    ghost is_anonymous = { λ t. ⊥ };
+
     ghost is_free = { λ g t. g ≢ None };
 
     ghost has = { λ g t a. g ≡ None };
 
     ghost finds = { λ g t a. g ≡ Some a };
 
-    ghost leaves = { λ g t a. g ≡ Some a };
+    ghost takes = { λ g t a h u. (g ≡ Some a) × (h ≡ None) };
+
+    ghost gives = { λ g t b h u. h ≡ Some b };
 
     ghost may_fail = { λ g t. ⊥ };
 
@@ -79,7 +84,22 @@ impl Gate for Owner {
         }
     }
 
+    fn take<R: Wait>(&mut self, _rt: &R, _token: &mut ()) -> Box<Stripe> {
+        match self.stripe.take() {
+            Some(stripe) => {
+                // For its contract: every stripe is reached.
+                let _ = stripe.events_len();
+                stripe
+            }
+            None => unreachable!(),
+        }
+    }
+
     fn give(&mut self, _token: &mut (), stripe: Box<Stripe>) {
         self.stripe = Some(stripe);
+    }
+
+    fn wait_for_change<R: Wait>(&mut self, _rt: &R, _token: &mut ()) {
+        pause();
     }
 }

@@ -1,11 +1,13 @@
 //! A store of record that many sessions read through and write through, for tests and programs.
 //!
 //! [`Store`] is the store itself. [`SharedStore`] is one behind a lock, and makes a loader and a writer for each session
-//! (JSR 107, "Integration"). [`Counting`] is a loader or a writer that counts its calls.
+//! (JSR 107, "Integration"). [`Counting`] is a loader or a writer that counts its calls, [`Increment`] an entry processor that
+//! counts in the store.
 #![tactic(auto)]
 
 mod counting;
 mod counts;
+mod increment;
 mod loader;
 mod shared;
 mod store;
@@ -13,6 +15,7 @@ mod writer;
 
 pub use counting::{Counting, SharedCounts};
 pub use counts::{Call, Counts};
+pub use increment::Increment;
 pub use loader::StoreLoader;
 pub use shared::SharedStore;
 pub use store::{NO_MEMORY, Store};

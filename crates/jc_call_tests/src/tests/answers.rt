@@ -1,10 +1,8 @@
 //! Calls and their answers, as words.
-ghost use Rattle.std.specs.Prelude.{◌≡◌};
 ghost use Rattle.jc_cache.specs.Sessions.{MayCall};
 
-use jc_cache::Cache;
+use jc_cache::{Cache, Session};
 use jc_model::Reply;
-use jc_session::Session;
 use jc_types::{Key, Refusal, Value};
 use std::process::Abort;
 use std::sync::Wait;
@@ -41,8 +39,7 @@ pub fn answer_of(rt: &impl Abort, text: &str) -> Answer {
         "WriterFailed" => Err(Refusal::WriterFailed(code(rt, rest))),
         "ProcessorFailed" => Err(Refusal::ProcessorFailed(code(rt, rest))),
         "HistoryFull" => Err(Refusal::HistoryFull),
-        "OutOfMemory" => Err(Refusal::OutOfMemory),
-        "TooManyKeys" => Err(Refusal::TooManyKeys),
+        "Busy" => Err(Refusal::Busy),
         _ => Ok(Reply::Value(Some(value(rt, word)))),
     }
 }
@@ -61,38 +58,38 @@ fn unit(answer: Result<(), Refusal>) -> Answer {
 }
 
 /// The operations that take a key alone.
-fn called_bare<R: Wait>(
+pub fn called_bare<R: Wait>(
     rt: &R,
-    cache: &mut Cache,
+    cache: &Cache,
     session: &mut Session,
     op: &str,
     key: &Key,
 ) -> Option<Answer>
-    requires { MayCall cache.old session.old }
-    ensures may { MayCall cache.new session.new }
-    ensures config { cache.new.config ≡ cache.old.config }
+    requires { MayCall cache.now session.old }
+    ensures { MayCall cache.now session.new }
 {
     match op {
         "get" => Some(entry(cache.get(rt, session, key))),
         "contains" => Some(flag(cache.contains_key(rt, session, key))),
         "remove" => Some(flag(cache.remove(rt, session, key))),
         "getremove" => Some(entry(cache.get_and_remove(rt, session, key))),
+        "tryget" => Some(entry(cache.try_get(session, key))),
+        "trycontains" => Some(flag(cache.try_contains_key(session, key))),
         _ => None,
     }
 }
 
 /// The operations that take a key and a value.
-fn called_valued<R: Wait>(
+pub fn called_valued<R: Wait>(
     rt: &R,
-    cache: &mut Cache,
+    cache: &Cache,
     session: &mut Session,
     op: &str,
     key: &Key,
     value: &Value,
 ) -> Option<Answer>
-    requires { MayCall cache.old session.old }
-    ensures may { MayCall cache.new session.new }
-    ensures config { cache.new.config ≡ cache.old.config }
+    requires { MayCall cache.now session.old }
+    ensures { MayCall cache.now session.new }
 {
     match op {
         "put" => Some(unit(cache.put(rt, session, key, value))),
@@ -101,20 +98,15 @@ fn called_valued<R: Wait>(
         "removeif" => Some(flag(cache.remove_if(rt, session, key, value))),
         "replace" => Some(flag(cache.replace(rt, session, key, value))),
         "getreplace" => Some(entry(cache.get_and_replace(rt, session, key, value))),
+        "tryput" => Some(unit(cache.try_put(session, key, value))),
         _ => None,
     }
 }
 
 /// Makes the call that a text says: an operation, a key, and none, one or two values.
-pub fn called<R: Abort + Wait>(
-    rt: &R,
-    cache: &mut Cache,
-    session: &mut Session,
-    text: &str,
-) -> Answer
-    requires { MayCall cache.old session.old }
-    ensures may { MayCall cache.new session.new }
-    ensures config { cache.new.config ≡ cache.old.config }
+pub fn called<R: Abort + Wait>(rt: &R, cache: &Cache, session: &mut Session, text: &str) -> Answer
+    requires { MayCall cache.now session.old }
+    ensures { MayCall cache.now session.new }
 {
     let (op, rest) = first_word(text);
     let (at, values) = first_word(rest);

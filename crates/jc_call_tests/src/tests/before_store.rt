@@ -1,25 +1,22 @@
 //! Texts that are played before a store with a=1, with a loader and a writer of it whose calls are counted. The first line of each
 //! is the shape of its cache.
-use super::lines::plays_on;
-use super::{bulk, calls, invoking, invoking_all, limits, many_rounds, *};
+use super::{calls, invoking, limits, trying, *};
 
 const TEXTS: &[&str] = &[
     calls::DAY,
     calls::MISSING,
     calls::CACHED,
+    calls::ALONE,
     calls::READS,
     calls::WRITES,
     limits::FULL,
     invoking::NET_EFFECTS,
     invoking::FAILED,
+    invoking::ALONE,
     invoking::SILENT,
-    invoking_all::INCREMENTS,
-    invoking_all::RESULTS,
-    invoking_all::MOST,
-    many_rounds::MOST,
-    many_rounds::SMALL,
-    many_rounds::SPREAD,
-    bulk::ALL_CALLS,
+    trying::ALONE,
+    trying::READS,
+    trying::WRITES,
 ];
 
 /// The shape that a line says, as `open 1 4 100 read write`: stripes, capacity, history, and the options that are on.
@@ -43,16 +40,8 @@ fn plays_before_a_store(rt: HostRuntime) {
     for text in TEXTS {
         let (shape, lines) = text.split_once('\n').expect(&rt, "a shape");
         let desk = Desk::new(&rt, alloc);
-        let loader: Loader = Some(Box::new(alloc, desk.loader(rt)).ok().expect(&rt, "memory"));
-        let writer: Writer = Some(Box::new(alloc, desk.writer(rt)).ok().expect(&rt, "memory"));
-        plays_on(
-            &rt,
-            alloc,
-            &shape_of(&rt, shape),
-            &desk,
-            loader,
-            writer,
-            lines,
-        );
+        let mut owner = opened(&rt, alloc, &shape_of(&rt, shape));
+        let session = started!(rt, owner, desk);
+        plays_on!(&rt, alloc, &desk, owner, session, lines);
     }
 }

@@ -1,7 +1,4 @@
 //! Each of the eleven calls, on a key that is cached and on one that isn't, with either option on and off.
-use super::lines::plays_on;
-use super::*;
-
 /// A day of one session: each call asks the loader and the writer exactly where the operation table says so.
 pub const DAY: &str = "\
 open 1 4 100 read write
@@ -60,7 +57,8 @@ stored a=1
 ";
 
 /// With both options off nobody is asked, and the store stays as it was.
-const ALONE: &str = "\
+pub const ALONE: &str = "\
+open 1 4 100
 get a = - | 0 0 0
 put a 2 = ok | 0 0 0
 get a = 2 | 0 0 0
@@ -76,20 +74,6 @@ contains a = false | 0 0 0
 own 12
 stored a=1
 ";
-
-#[test]
-fn asks_nobody(rt: HostRuntime) {
-    let desk = Desk::new(&rt, rt.alloc());
-    plays_on(
-        &rt,
-        rt.alloc(),
-        &config(100, false, false),
-        &desk,
-        None,
-        None,
-        ALONE,
-    );
-}
 
 /// With read-through alone a get loads, and no mutation is written.
 pub const READS: &str = "\

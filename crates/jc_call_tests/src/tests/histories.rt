@@ -1,29 +1,44 @@
 //! What calls leave in a stripe's history.
-ghost use Rattle.std.specs.Prelude.{◌<◌};
-
+use super::closing::closed;
 use super::outside::Rising;
 use super::*;
-use jc_model::{Event, LoadAnswer, legal};
+use jc_cache::ClosedStripe;
+use jc_model::{Event, LoadAnswer};
 use jc_types::Caller;
+use std::alloc::AllocError;
 
 /// The events of one stripe.
-fn events(alloc: Global, cache: &Cache, number: usize) -> Result<Vec<Event>, AllocError>
-    requires { number < cache.now.config.stripes }
-{
-    let stripe = cache.stripe(number);
-    let mut events = Vec::new(alloc);
-    stripe.append_events(0, stripe.events_len(), &mut events)?;
+pub fn events(alloc: Global, stripe: &ClosedStripe) -> Result<Vec<Event>, AllocError> {
+    let mut events = Vec::with_capacity(alloc, stripe.events_len())?;
+    stripe.append_events(&mut events)?;
     Ok(events)
 }
 
-/// Each stripe has so many events, and they are a legal history of a stripe that began empty.
-pub fn are_legal(rt: &impl Abort, alloc: Global, cache: &Cache, counts: &[usize]) {
-    let config = *cache.config();
-    is(rt, counts.len(), config.stripes);
-    for number in 0..config.stripes {
-        let events = events(alloc, cache, number).expect(rt, "memory");
-        is(rt, Some(events.len()), counts.get(number).copied());
-        assert!(rt; legal(alloc, &config, &[], &events).expect(rt, "memory"));
+/// The events of a stripe are these steps, each as its session, its key and its reply, as in `0 a 1`.
+pub fn are_steps(rt: &impl Abort, alloc: Global, stripe: &ClosedStripe, steps: &[&str]) {
+    let events = events(alloc, stripe).expect(rt, "memory");
+    is(rt, events.len(), steps.len());
+    for (event, step) in events.iter().zip(steps) {
+        is_step(rt, event, step);
+    }
+}
+
+/// An event is the step that a text says.
+fn is_step(rt: &impl Abort, event: &Event, text: &str) {
+    let (session, text) = first_word(text);
+    let (at, reply) = first_word(text);
+    match event {
+        Event::Step {
+            caller,
+            key: found,
+            reply: replied,
+            ..
+        } => {
+            is(rt, Some(caller.session), session.parse().ok());
+            is(rt, *found, key(rt, at));
+            is_at(rt, text, Ok(*replied), answer_of(rt, reply));
+        }
+        Event::Evict { .. } => panic!(rt; "{text} is an eviction"),
     }
 }
 
@@ -42,23 +57,17 @@ get a = 2 | 0 0 0
 get a = 2 | 0 0 0
 ";
 
-/// A session that loads another value each time. The history is legal, and says whose call each step is of, by its number, and what
-/// was loaded.
+/// A session that loads another value each time. The history says whose call each step is of, by its number, and what was loaded.
 #[test]
 fn says_who_called_and_what_was_loaded(rt: HostRuntime) {
     let alloc = rt.alloc();
     let desk = Desk::new(&rt, alloc);
-    let config = config(100, true, false);
-    let mut cache = opened(&rt, alloc, &config);
-    let loader: Loader = Some(
-        Box::new(alloc, Rising { calls: 0 })
-            .ok()
-            .expect(&rt, "memory"),
-    );
-    let mut session = started(&rt, &mut cache, loader, None);
-    desk.plays(&rt, alloc, &mut cache, &mut session, CALLS);
-    let events = events(alloc, &cache, 0).expect(&rt, "memory");
-    assert!(rt; legal(alloc, &config, &[], &events).expect(&rt, "memory"));
+    let mut owner = opened(&rt, alloc, &config(100, true, false));
+    let mut session = started!(rt, owner, Rising { calls: 0 }, desk.writer(rt));
+    desk.plays(&rt, alloc, owner.cache(), &mut session, CALLS);
+    let sessions = vec![in alloc; session].ok().expect(&rt, "memory");
+    let mut stripes = closed(&rt, alloc, owner, sessions);
+    let events = events(alloc, &stripes.pop().expect(&rt, "a stripe")).expect(&rt, "memory");
     let steps = [
         (1, LoadAnswer::Found(value(&rt, "1"))),
         (2, LoadAnswer::NotAsked),
@@ -70,7 +79,7 @@ fn says_who_called_and_what_was_loaded(rt: HostRuntime) {
         is(
             &rt,
             step(event),
-            Some((Caller { session: 1, call }, answer)),
+            Some((Caller { session: 0, call }, answer)),
         );
     }
 }

@@ -6,25 +6,23 @@ ghost use Rattle.jc_cache.specs.Sessions.{MayCall};
 
 use super::answers::{entry, first_word, key};
 use super::asking::Counting as Failing;
-use super::lines::plays_on;
 use super::scripted::processor_of;
 use super::*;
-use jc_invoke::invoke;
 
 /// Runs a scripted processor, as the text says.
 fn invoked<R: Abort + Wait>(
     rt: &R,
     alloc: Global,
-    cache: &mut Cache,
+    cache: &Cache,
     session: &mut Session,
     text: &str,
 ) -> Answer
-    requires { MayCall cache.old session.old }
-    ensures may { MayCall cache.new session.new }
+    requires { MayCall cache.now session.old }
+    ensures { MayCall cache.now session.new }
 {
     let (at, words) = first_word(text);
     let mut processor = processor_of(rt, alloc, words);
-    entry(invoke(rt, cache, session, &key(rt, at), &mut processor, &[]))
+    entry(cache.invoke(rt, session, &key(rt, at), &mut processor, &[]))
 }
 
 impl Desk {
@@ -33,12 +31,12 @@ impl Desk {
         &self,
         rt: &R,
         alloc: Global,
-        cache: &mut Cache,
+        cache: &Cache,
         session: &mut Session,
         line: &str,
     )
-        requires { MayCall cache.old session.old }
-        ensures may { MayCall cache.new session.new }
+        requires { MayCall cache.now session.old }
+        ensures { MayCall cache.now session.new }
     {
         let (call, counts) = line.split_once(" | ").expect(rt, "a call and counts");
         let (call, answer) = call.split_once(" = ").expect(rt, "a call and its answer");
@@ -76,27 +74,14 @@ stored a=1 b=1
 ";
 
 /// With both options off a processor works on the cache alone.
-const ALONE: &str = "\
+pub const ALONE: &str = "\
+open 1 4 100
 invoke a get set=2 get set=3 = 2 | 0 0 0
 invoke a get remove get set=5 = - | 0 0 0
 invoke a get remove = 5 | 0 0 0
 contains a = false | 0 0 0
 stored a=1
 ";
-
-#[test]
-fn asks_nobody_for_a_processor(rt: HostRuntime) {
-    let desk = Desk::new(&rt, rt.alloc());
-    plays_on(
-        &rt,
-        rt.alloc(),
-        &config(100, false, false),
-        &desk,
-        None,
-        None,
-        ALONE,
-    );
-}
 
 /// A processor that continues after a failed load: the loader isn't called again, nothing is written, and its failure is the
 /// answer.
@@ -111,18 +96,9 @@ stored a=1
 fn goes_on_after_a_failed_load(rt: HostRuntime) {
     let alloc = rt.alloc();
     let desk = Desk::new(&rt, alloc);
-    let failing = Box::new(alloc, Failing { calls: 0 });
-    let loader: Loader = Some(failing.ok().expect(&rt, "memory"));
-    let writer: Writer = Some(Box::new(alloc, desk.writer(rt)).ok().expect(&rt, "memory"));
-    plays_on(
-        &rt,
-        alloc,
-        &config(100, true, true),
-        &desk,
-        loader,
-        writer,
-        FAILED_LOADS,
-    );
+    let mut owner = opened(&rt, alloc, &config(100, true, true));
+    let session = started!(rt, owner, Failing { calls: 0 }, desk.writer(rt));
+    plays_on!(&rt, alloc, &desk, owner, session, FAILED_LOADS);
 }
 
 /// A processor that calls nothing asks nobody, leaves the entry as it is, and returns none. It is a step all the same.
@@ -133,9 +109,7 @@ contains a = false | 0 0 0
 put a 2 = ok | 0 1 0
 invoke a nothing = - | 0 1 0
 get a = 2 | 0 1 0
-invokeall a b: nothing | 0 1 0
-own 7
-cached a=2
+own 5
 stored a=2
 ";
 
@@ -151,15 +125,7 @@ stored a=2
 fn increments_on_an_empty_store(rt: HostRuntime) {
     let alloc = rt.alloc();
     let desk = Desk::of(&rt, alloc, &[]);
-    let loader: Loader = Some(Box::new(alloc, desk.loader(rt)).ok().expect(&rt, "memory"));
-    let writer: Writer = Some(Box::new(alloc, desk.writer(rt)).ok().expect(&rt, "memory"));
-    plays_on(
-        &rt,
-        alloc,
-        &config(100, true, true),
-        &desk,
-        loader,
-        writer,
-        FIRST_INCREMENTS,
-    );
+    let mut owner = opened(&rt, alloc, &config(100, true, true));
+    let session = started!(rt, owner, desk);
+    plays_on!(&rt, alloc, &desk, owner, session, FIRST_INCREMENTS);
 }

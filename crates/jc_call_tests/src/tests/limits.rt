@@ -1,11 +1,11 @@
 //! What a cache and a session are refused for, and a history that is full.
 use super::*;
-use jc_types::{Field, SESSIONS_MAX};
+use jc_types::{Caller, Field, SESSIONS_MAX};
 
 fn refuses(rt: &impl Abort, alloc: Global, config: &Config, field: Field) {
     is(
         rt,
-        Cache::new(alloc, config).err(),
+        CacheOwner::new(alloc, config).err(),
         Some(Refusal::BadConfig(field)),
     );
 }
@@ -46,94 +46,52 @@ fn refuses_a_bad_config(rt: HostRuntime) {
     );
 }
 
-/// A session that a cache does not give out: why, and whether the loader and the writer came back.
+/// A session that brings these boxes, or none, is refused, and gets them back.
 fn is_refused(
     rt: &impl Abort,
-    cache: &mut Cache,
+    alloc: Global,
+    owner: &mut CacheOwner,
     loader: Loader,
     writer: Writer,
-    wanted: (Refusal, bool, bool),
+    why: Refusal,
 ) {
-    match cache.session(loader, writer) {
-        Ok(_session) => is(rt, None, Some(wanted)),
-        Err(fault) => is(
-            rt,
-            (
-                fault.refusal,
-                fault.loader.is_some(),
-                fault.writer.is_some(),
-            ),
-            wanted,
-        ),
-    }
+    let brought = (loader.is_some(), writer.is_some());
+    let session = owner.session(alloc, loader, writer);
+    let fault = session.err().expect(rt, "a refusal");
+    is(rt, fault.refusal, why);
+    let came_back = (fault.loader.is_some(), fault.writer.is_some());
+    is(rt, came_back, brought);
 }
 
 #[test]
 fn wants_a_loader_and_a_writer(rt: HostRuntime) {
     let alloc = rt.alloc();
     let desk = Desk::new(&rt, alloc);
-    let mut cache = opened(&rt, alloc, &config(100, true, true));
-    is_refused(
-        &rt,
-        &mut cache,
-        None,
-        None,
-        (Refusal::NoLoader, false, false),
-    );
-    let writer: Writer = Some(Box::new(alloc, desk.writer(rt)).ok().expect(&rt, "memory"));
-    is_refused(
-        &rt,
-        &mut cache,
-        None,
-        writer,
-        (Refusal::NoLoader, false, true),
-    );
-    let loader: Loader = Some(Box::new(alloc, desk.loader(rt)).ok().expect(&rt, "memory"));
-    is_refused(
-        &rt,
-        &mut cache,
-        loader,
-        None,
-        (Refusal::NoWriter, true, false),
-    );
-    let mut cache = opened(&rt, alloc, &config(100, false, true));
-    is_refused(
-        &rt,
-        &mut cache,
-        None,
-        None,
-        (Refusal::NoWriter, false, false),
-    );
+    let mut owner = opened(&rt, alloc, &config(100, true, true));
+    is_refused(&rt, alloc, &mut owner, None, None, Refusal::NoLoader);
+    let writer = boxed!(rt, Writer, desk.writer(rt));
+    is_refused(&rt, alloc, &mut owner, None, writer, Refusal::NoLoader);
+    let loader = boxed!(rt, Loader, desk.loader(rt));
+    is_refused(&rt, alloc, &mut owner, loader, None, Refusal::NoWriter);
+    let mut owner = opened(&rt, alloc, &config(100, false, true));
+    is_refused(&rt, alloc, &mut owner, None, None, Refusal::NoWriter);
 }
 
-/// The session after the last gets both boxes back, also if it lacked one.
+/// The session after the last gets both boxes back, also if it lacks one.
 #[test]
 fn gives_out_so_many_sessions(rt: HostRuntime) {
     let alloc = rt.alloc();
     let desk = Desk::new(&rt, alloc);
-    let mut cache = opened(&rt, alloc, &config(100, true, true));
-    for _ in 0..SESSIONS_MAX {
-        let loader: Loader = Some(Box::new(alloc, desk.loader(rt)).ok().expect(&rt, "memory"));
-        let writer: Writer = Some(Box::new(alloc, desk.writer(rt)).ok().expect(&rt, "memory"));
-        let given = cache.session(loader, writer);
-        assert!(rt; given.is_ok());
+    let mut owner = opened(&rt, alloc, &config(100, true, true));
+    for session in 0..SESSIONS_MAX {
+        let given = started!(rt, owner, desk);
+        is(&rt, given.caller(), Caller { session, call: 0 });
     }
-    let loader: Loader = Some(Box::new(alloc, desk.loader(rt)).ok().expect(&rt, "memory"));
-    let writer: Writer = Some(Box::new(alloc, desk.writer(rt)).ok().expect(&rt, "memory"));
-    is_refused(
-        &rt,
-        &mut cache,
-        loader,
-        writer,
-        (Refusal::TooManySessions, true, true),
-    );
-    is_refused(
-        &rt,
-        &mut cache,
-        None,
-        None,
-        (Refusal::TooManySessions, false, false),
-    );
+    let loader = boxed!(rt, Loader, desk.loader(rt));
+    let writer = boxed!(rt, Writer, desk.writer(rt));
+    let why = Refusal::TooManySessions;
+    is_refused(&rt, alloc, &mut owner, loader, writer, why);
+    is_refused(&rt, alloc, &mut owner, None, None, why);
 }
 
 /// A history of 16 events: a put needs three free places, a hit one. A refused call asks nobody and changes nothing.

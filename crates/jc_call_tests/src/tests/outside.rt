@@ -1,5 +1,4 @@
 //! Loaders and writers that fail, or answer another value each time.
-use super::lines::plays_on;
 use super::*;
 use indexmap::{IndexMap, IndexSet};
 use jc_outside::Answers;
@@ -96,18 +95,9 @@ stored a=2
 fn a_failed_load_leaves_the_entry(rt: HostRuntime) {
     let alloc = rt.alloc();
     let desk = Desk::new(&rt, alloc);
-    let failing = Box::new(alloc, Failing { code: 7 });
-    let loader: Loader = Some(failing.ok().expect(&rt, "memory"));
-    let writer: Writer = Some(Box::new(alloc, desk.writer(rt)).ok().expect(&rt, "memory"));
-    plays_on(
-        &rt,
-        alloc,
-        &config(100, true, true),
-        &desk,
-        loader,
-        writer,
-        FAILED_LOADS,
-    );
+    let mut owner = opened(&rt, alloc, &config(100, true, true));
+    let session = started!(rt, owner, Failing { code: 7 }, desk.writer(rt));
+    plays_on!(&rt, alloc, &desk, owner, session, FAILED_LOADS);
 }
 
 /// A failed write is the call's answer, and the entry stays as it was, whichever the operation.
@@ -133,18 +123,9 @@ stored a=1
 fn a_failed_write_leaves_the_entry(rt: HostRuntime) {
     let alloc = rt.alloc();
     let desk = Desk::new(&rt, alloc);
-    let failing = Box::new(alloc, Failing { code: 9 });
-    let writer: Writer = Some(failing.ok().expect(&rt, "memory"));
-    let loader: Loader = Some(Box::new(alloc, desk.loader(rt)).ok().expect(&rt, "memory"));
-    plays_on(
-        &rt,
-        alloc,
-        &config(100, true, true),
-        &desk,
-        loader,
-        writer,
-        FAILED_WRITES,
-    );
+    let mut owner = opened(&rt, alloc, &config(100, true, true));
+    let session = started!(rt, owner, desk.loader(rt), Failing { code: 9 });
+    plays_on!(&rt, alloc, &desk, owner, session, FAILED_WRITES);
 }
 
 /// A loader that answers another value each time: what it answered last is what is cached, until the entry goes.
@@ -161,15 +142,7 @@ get b = 2 | 0 0 0
 fn keeps_what_was_loaded(rt: HostRuntime) {
     let alloc = rt.alloc();
     let desk = Desk::new(&rt, alloc);
-    let rising = Box::new(alloc, Rising { calls: 0 });
-    let loader: Loader = Some(rising.ok().expect(&rt, "memory"));
-    plays_on(
-        &rt,
-        alloc,
-        &config(100, true, false),
-        &desk,
-        loader,
-        None,
-        RISING,
-    );
+    let mut owner = opened(&rt, alloc, &config(100, true, false));
+    let session = started!(rt, owner, Rising { calls: 0 }, desk.writer(rt));
+    plays_on!(&rt, alloc, &desk, owner, session, RISING);
 }

@@ -1,11 +1,38 @@
-use Rattle.std.proofs.Common.{subst}
-use Rattle.jc_model.specs.declared.event.Out.{Out}
+use Rattle.std.proofs.Common.{◌≡◌, ap, refl, subst, ◌∙◌, ℕ, Some, slice_get}
+use Rattle.jc_types.specs.Stripes.{stripe_of}
 use Rattle.jc_stripe.specs.declared.ticket.Reservation.{Reservation}
 use Rattle.jc_stripe.specs.Phases.{Commits}
-use Rattle.jc_cache.specs.Begun.{MakesPhaseAt}
+use Rattle.jc_stripe.specs.State.{State}
+use Rattle.jc_session.specs.declared.counts.Counted.TheVariants.{Committed}
+use Rattle.jc_engine.specs.Answered.{out_of}
+use Rattle.jc_cache.specs.Caches.{CacheState}
+use Rattle.jc_cache.proofs.WholeCalls.{at_key, seat_at}
+use Rattle.jc_cache.proofs.SessionPhases.{HasLonger, committed_longer, commit_needs, phase_left}
 use Rattle.jc_cache.proofs.cache.Cache.commit.Goals as goal
+
+pub make_phase-requires-clause-needs : goal.make_phase-requires-clause-needs
+make_phase-requires-clause-needs g c a finds =
+    let same = ap (λ (z : CacheState). z.config) c.self.view_is in
+    let there : slice_get c.args.session.now.seats.items c.stripe_of-at.result ≡ Some c.index_mut-seat.result.now =
+    seat_at c.args.self.now c.args.session.now _ c.reservation.result.now.key _ _ c.requires.own c.self.invariant.fits same c.stripe_of-at.ensures c.index_mut-seat.ensures.value in
+    commit_needs c.args.self.now c.args.session.now c.args.ticket c.args.answered c.stripe_of-at.result _ a c.requires.own c.requires.answered c.requires.reported there finds
+
+pub returns-clause-own : goal.returns-clause-own
+returns-clause-own g c =
+    let same = ap (λ (z : CacheState). z.config) c.self.view_is in
+    let there : slice_get c.args.session.now.seats.items c.stripe_of-at.result ≡ Some c.index_mut-seat.result.now =
+    seat_at c.args.self.now c.args.session.now _ c.reservation.result.now.key _ _ c.requires.own c.self.invariant.fits same c.stripe_of-at.ensures c.index_mut-seat.ensures.value in
+    let makes : State → State → Type 0 = λ a b. Commits a c.args.ticket.reservation (out_of c.args.answered) c.make_phase.result b in
+    (phase_left c.is_uniform.ensures c.args.self.now c.args.session.now _ _ c.stripe_of-at.result Committed makes makes _ c.index_mut-seat.result.now c.make_phase.new.gate c.make_phase.new.token c.requires.own
+    refl there refl c.make_phase.ensures.agent (λ a b reached m. m)
+    (λ a b reached m. subst (λ (n : ℕ). HasLonger n Committed a b) c.requires.caller (committed_longer c.own_steps.ensures c.args.ticket.reservation _ c.make_phase.result a b reached m)) c.make_phase.ensures.phase).1
 
 pub returns-clause-phase : goal.returns-clause-phase
 returns-clause-phase g c =
-    subst (λ (x : Reservation × Out). MakesPhaseAt x.0.key c.args.session.now.caller.session c.args.self.now c.make.new.self (λ a b. Commits a x.0 x.1 c.make.result b))
-    (λ i. (c.into_parts-ticket.ensures.ticket i, c.into_parts-ticket.ensures.out i)) c.make.ensures.phase
+    let same = ap (λ (z : CacheState). z.config) c.self.view_is in
+    let there : slice_get c.args.session.now.seats.items c.stripe_of-at.result ≡ Some c.index_mut-seat.result.now =
+    seat_at c.args.self.now c.args.session.now _ c.reservation.result.now.key _ _ c.requires.own c.self.invariant.fits same c.stripe_of-at.ensures c.index_mut-seat.ensures.value in
+    let makes : State → State → Type 0 = λ a b. Commits a c.args.ticket.reservation (out_of c.args.answered) c.make_phase.result b in
+    (phase_left c.is_uniform.ensures c.args.self.now c.args.session.now _ _ c.stripe_of-at.result Committed makes makes _ c.index_mut-seat.result.now c.make_phase.new.gate c.make_phase.new.token c.requires.own
+    (at_key c.args.self.now _ c.reservation.result.now.key _ same c.stripe_of-at.ensures ∙ ap (λ (r : Reservation). stripe_of r.key c.args.self.now.config.stripes) c.reservation.ensures) there refl c.make_phase.ensures.agent (λ a b reached m. m)
+    (λ a b reached m. subst (λ (n : ℕ). HasLonger n Committed a b) c.requires.caller (committed_longer c.own_steps.ensures c.args.ticket.reservation _ c.make_phase.result a b reached m)) c.make_phase.ensures.phase).0

@@ -1,39 +1,42 @@
-use Rattle.std.proofs.Common.{◌≡◌, ◌<◌, ◌≤◌, ◌+◌, ◌∙◌, ℕ, length, refl, ap, sym, subst, rules, Some, slice_get, vec_len, vec_capacity}
-use Rattle.std.proofs.lemmas.Option.{slice_get_read}
+use Rattle.std.proofs.Common.{◌≡◌, ◌+◌, ◌≤◌, ap, inl, refl, subst, ◌∙◌, ℕ, vec_len}
 use Rattle.jc_types.specs.declared.config.Config.{Config}
-use Rattle.jc_cache.specs.Caches.{CacheState}
-use Rattle.jc_cache.specs.CacheInside.{IsPlaced}
-use Rattle.jc_cache.proofs.Stripes.{is_there, all_at}
+use Rattle.jc_stripe.specs.Keys.{Looks}
+use Rattle.jc_stripe.specs.State.{State}
+use Rattle.jc_session.specs.declared.counts.Counted.TheVariants.{Nothing}
+use Rattle.jc_cache.proofs.SessionPhases.{LooksSo, looked_longer, look_lent, number_at, shape_found, agent_same, phase_left}
 use Rattle.jc_cache.proofs.cache.Cache.look.Goals as goal
 
-pub stripe-requires : goal.stripe-requires
-stripe-requires c =
-    let near : c.args.number < length c.self.inside.owners.items = search rules in
-    is_there _ _ _ c.self.invariant.placed (slice_get_read _ _ _ _ refl near c.index-owner.ensures)
-
-pub keys-requires : goal.keys-requires
-keys-requires c =
-    let near : c.args.number < length c.self.inside.owners.items = search rules in
-    let at : slice_get c.self.inside.owners.items c.args.number ≡ Some c.index-owner.result.now = slice_get_read _ _ _ _ refl near c.index-owner.ensures in
-    let placed : IsPlaced c.self.inside.config c.args.number c.stripe.result.now = all_at _ _ _ _ c.self.invariant.placed at c.stripe.ensures in
-    let same : c.stripe.result.now.config.capacity ≡ c.args.self.now.config.capacity =
-    ap (λ (k : Config). k.capacity) placed.config_is ∙ ap (λ (z : CacheState). z.config.capacity) c.self.view_is in
-    subst (λ (n : ℕ). vec_len c.args.out.now + n ≤ vec_capacity c.args.out.now) (sym same) c.requires.room
-
-pub returns-clause-keys : goal.returns-clause-keys
-returns-clause-keys c =
-    let near : c.args.number < length c.self.inside.owners.items = search rules in
-    let at : slice_get c.self.inside.owners.items c.args.number ≡ Some c.index-owner.result.now = slice_get_read _ _ _ _ refl near c.index-owner.ensures in (
-      c.stripe.result.now,
-      subst (λ (z : CacheState). slice_get z.stripes c.args.number ≡ Some (Some c.stripe.result.now)) c.self.view_is (at ∙ ap Some c.stripe.ensures),
-      c.keys.ensures.keys,
-    )
+pub give-requires-clause-phase : goal.give-requires-clause-phase
+give-requires-clause-phase g c = (c.take-stripe.result.value, c.take-stripe.ensures.taken, inl (refl, refl))
 
 pub returns-clause-few : goal.returns-clause-few
-returns-clause-few c =
-    let near : c.args.number < length c.self.inside.owners.items = search rules in
-    let at : slice_get c.self.inside.owners.items c.args.number ≡ Some c.index-owner.result.now = slice_get_read _ _ _ _ refl near c.index-owner.ensures in
-    let placed : IsPlaced c.self.inside.config c.args.number c.stripe.result.now = all_at _ _ _ _ c.self.invariant.placed at c.stripe.ensures in
-    let same : c.stripe.result.now.config.capacity ≡ c.args.self.now.config.capacity =
-    ap (λ (k : Config). k.capacity) placed.config_is ∙ ap (λ (z : CacheState). z.config.capacity) c.self.view_is in
-    subst (λ (n : ℕ). vec_len c.keys.new.out ≤ vec_len c.args.out.now + n) same c.keys.ensures.few
+returns-clause-few g c =
+    let t = c.index_mut-seat.result.now in
+    let there = number_at c.args.self.now c.args.session.now c.args.number t c.requires.own c.requires.stripe c.index_mut-seat.ensures.value in
+    let shape = shape_found c.args.self.now c.args.session.now c.args.number t c.take-stripe.result.value c.requires.own there c.take-stripe.ensures.found.0 in
+    let capacity : c.deref.result.now.config.capacity ≡ c.args.self.now.config.capacity = ap (λ (s : State). s.config.capacity) c.deref.ensures ∙ ap (λ (k : Config). k.capacity) shape in
+    subst (λ (n : ℕ). vec_len c.keys.new.out ≤ vec_len c.args.out.now + n) capacity c.keys.ensures.few
+
+pub returns-clause-own : goal.returns-clause-own
+returns-clause-own g c = let old = c.args.session.now in
+    let t = c.index_mut-seat.result.now in let a : State = c.take-stripe.result.value in
+    let there = number_at c.args.self.now old c.args.number t c.requires.own c.requires.stripe c.index_mut-seat.ensures.value in
+    let makes : State → State → Type 0 = λ x y. LooksSo x c.args.out.now.items c.keys.new.out.items y in
+    let looks : Looks a c.args.out.now.items c.keys.new.out.items = subst (λ (s : State). Looks s c.args.out.now.items c.keys.new.out.items) c.deref.ensures c.keys.ensures.keys in
+    let lent = look_lent old.agent.caller.session makes c.take-stripe.new.gate t a c.take-stripe.new.gate c.take-stripe.new.token c.give.new.gate c.give.new.token (c.requires.own.seats c.args.number t there).of_session
+    c.take-stripe.ensures.takes c.take-stripe.ensures.found.1 c.give.ensures.gives c.give.ensures.next (refl, looks) in
+    (phase_left c.is_uniform.ensures c.args.self.now old _ c.args.number c.args.number Nothing makes makes c.take-stripe.new.gate t c.give.new.gate c.give.new.token c.requires.own refl there refl
+    (agent_same old.agent c.take-stripe.new.self c.give.new.self c.requires.own.held c.take-stripe.ensures.agent c.give.ensures.agent) (λ x y reached m. m)
+    (λ x y reached m. looked_longer old.agent.caller.session _ _ x y m) lent).1
+
+pub returns-clause-phase : goal.returns-clause-phase
+returns-clause-phase g c = let old = c.args.session.now in
+    let t = c.index_mut-seat.result.now in let a : State = c.take-stripe.result.value in
+    let there = number_at c.args.self.now old c.args.number t c.requires.own c.requires.stripe c.index_mut-seat.ensures.value in
+    let makes : State → State → Type 0 = λ x y. LooksSo x c.args.out.now.items c.keys.new.out.items y in
+    let looks : Looks a c.args.out.now.items c.keys.new.out.items = subst (λ (s : State). Looks s c.args.out.now.items c.keys.new.out.items) c.deref.ensures c.keys.ensures.keys in
+    let lent = look_lent old.agent.caller.session makes c.take-stripe.new.gate t a c.take-stripe.new.gate c.take-stripe.new.token c.give.new.gate c.give.new.token (c.requires.own.seats c.args.number t there).of_session
+    c.take-stripe.ensures.takes c.take-stripe.ensures.found.1 c.give.ensures.gives c.give.ensures.next (refl, looks) in
+    (phase_left c.is_uniform.ensures c.args.self.now old _ c.args.number c.args.number Nothing makes makes c.take-stripe.new.gate t c.give.new.gate c.give.new.token c.requires.own refl there refl
+    (agent_same old.agent c.take-stripe.new.self c.give.new.self c.requires.own.held c.take-stripe.ensures.agent c.give.ensures.agent) (λ x y reached m. m)
+    (λ x y reached m. looked_longer old.agent.caller.session _ _ x y m) lent).0

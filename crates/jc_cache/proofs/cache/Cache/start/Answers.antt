@@ -1,10 +1,42 @@
-use Rattle.std.proofs.Common.{sym, subst}
+use Rattle.std.proofs.Common.{◌≡◌, ap, refl, subst, Some, slice_get}
+use Rattle.jc_types.specs.declared.caller.Caller.{Caller}
 use Rattle.jc_stripe.specs.Phases.{Begins}
-use Rattle.jc_cache.specs.Begun.{MakesPhaseAt}
+use Rattle.jc_stripe.specs.State.{State}
+use Rattle.jc_session.specs.Counting.{counted_begun}
+use Rattle.jc_engine.specs.Needs.{StartsAt}
+use Rattle.jc_cache.specs.Caches.{CacheState}
+use Rattle.jc_cache.proofs.WholeCalls.{at_key, seat_at}
+use Rattle.jc_cache.proofs.SessionPhases.{HasLonger, begun_longer, start_needs, phase_left}
 use Rattle.jc_cache.proofs.cache.Cache.start.Goals as goal
+
+pub make_phase-requires-clause-needs : goal.make_phase-requires-clause-needs
+make_phase-requires-clause-needs g c a finds =
+    let same = ap (λ (z : CacheState). z.config) c.self.view_is in
+    let there : slice_get c.args.session.now.seats.items c.stripe_of-at.result ≡ Some c.index_mut-seat.result.now =
+    seat_at c.args.self.now c.args.session.now _ c.args.key.now _ _ c.requires.own c.self.invariant.fits same c.stripe_of-at.ensures c.index_mut-seat.ensures.value in
+    start_needs c.args.self.now c.args.session.now c.caller-caller.result c.args.key.now c.stripe_of-at.result _ a c.requires.own c.requires.may c.caller-caller.ensures
+    (at_key c.args.self.now _ c.args.key.now _ same c.stripe_of-at.ensures) there finds
+
+pub returns-clause-own : goal.returns-clause-own
+returns-clause-own g c =
+    let same = ap (λ (z : CacheState). z.config) c.self.view_is in
+    let there : slice_get c.args.session.now.seats.items c.stripe_of-at.result ≡ Some c.index_mut-seat.result.now =
+    seat_at c.args.self.now c.args.session.now _ c.args.key.now _ _ c.requires.own c.self.invariant.fits same c.stripe_of-at.ensures c.index_mut-seat.ensures.value in
+    let makes : State → State → Type 0 = λ a b. StartsAt c.caller-caller.result c.args.key.now c.args.op.now c.make_phase.result a b in
+    (phase_left c.is_uniform.ensures c.args.self.now c.args.session.now _ _ c.stripe_of-at.result (counted_begun c.make_phase.result) makes makes _ c.index_mut-seat.result.now c.make_phase.new.gate c.make_phase.new.token
+    c.requires.own refl there refl c.make_phase.ensures.agent (λ a b reached m. m)
+    (λ a b reached m. subst (λ (w : Caller). HasLonger w.session (counted_begun c.make_phase.result) a b) c.caller-caller.ensures
+    (begun_longer c.own_steps.ensures c.caller-caller.result c.args.key.now c.args.op.now c.make_phase.result a b m.may m.begins)) c.make_phase.ensures.phase).1
 
 pub returns-clause-phase : goal.returns-clause-phase
 returns-clause-phase g c =
-    let n = c.args.session.now.caller.session in
-    let phase = subst (λ w. MakesPhaseAt c.args.key.now n c.args.self.now c.make-begun.new.self (λ a b. Begins a w c.args.key.now c.args.op.now c.make-begun.result b)) c.caller-caller.ensures c.make-begun.ensures.phase in
-    subst (λ p. MakesPhaseAt c.args.key.now n c.args.self.now c.make-begun.new.self (λ a b. Begins a c.args.session.now.caller c.args.key.now c.args.op.now p b)) (sym c.new.ensures.begun) phase
+    let same = ap (λ (z : CacheState). z.config) c.self.view_is in
+    let there : slice_get c.args.session.now.seats.items c.stripe_of-at.result ≡ Some c.index_mut-seat.result.now =
+    seat_at c.args.self.now c.args.session.now _ c.args.key.now _ _ c.requires.own c.self.invariant.fits same c.stripe_of-at.ensures c.index_mut-seat.ensures.value in
+    let makes : State → State → Type 0 = λ a b. StartsAt c.caller-caller.result c.args.key.now c.args.op.now c.make_phase.result a b in
+    let phase : State → State → Type 0 = λ a b. Begins a c.args.session.now.agent.caller c.args.key.now c.args.op.now c.make_phase.result b in
+    (phase_left c.is_uniform.ensures c.args.self.now c.args.session.now _ _ c.stripe_of-at.result (counted_begun c.make_phase.result) makes phase _ c.index_mut-seat.result.now c.make_phase.new.gate c.make_phase.new.token
+    c.requires.own (at_key c.args.self.now _ c.args.key.now _ same c.stripe_of-at.ensures) there refl c.make_phase.ensures.agent
+    (λ a b reached m. subst (λ (w : Caller). Begins a w c.args.key.now c.args.op.now c.make_phase.result b) c.caller-caller.ensures m.begins)
+    (λ a b reached m. subst (λ (w : Caller). HasLonger w.session (counted_begun c.make_phase.result) a b) c.caller-caller.ensures
+    (begun_longer c.own_steps.ensures c.caller-caller.result c.args.key.now c.args.op.now c.make_phase.result a b m.may m.begins)) c.make_phase.ensures.phase).0

@@ -1,0 +1,79 @@
+-- From the cache's own seats to the cache, before it is closed and afterwards.
+--     all_free       a cache's own seats have taken nothing
+--     whole_again    a cache whose own seats are those that they were, and have taken nothing
+--     closed         a cache all of whose stripes were taken, and whose sessions were joined
+use Rattle.std.proofs.Common.{◌≡◌, ◌∙◌, ◌<◌, ℕ, suc, List, [], ◌∷◌, length, Some, refl, sym, ap, subst}
+use Rattle.std.proofs.lemmas.Option.{slice_get_within, get_or_from_slice_get}
+use Rattle.std.specs.FinMap.{from_entries}
+use Rattle.std.specs.List.{slice_get, All}
+use Rattle.atomic_table.specs.Seated.{TableId}
+use Rattle.jc_types.specs.declared.config.Config.{Config}
+use Rattle.jc_model.specs.Cache.{Bytes}
+use Rattle.jc_model.specs.Legal.{Legal, IsHistory}
+use Rattle.jc_stripe.specs.State.{State}
+use Rattle.jc_stripe.specs.Laws.{ReachedIsLegal}
+use Rattle.jc_cache.specs.declared.session.Session.{Session}
+use Rattle.jc_cache.specs.Caches.{OwnerState}
+use Rattle.jc_cache.specs.CacheInside.{IsOwnSeat, IsWhole}
+use Rattle.jc_cache.specs.Closing.{HasFront, IsClosed, IsClosedAt}
+use Rattle.jc_cache.specs.ClosingInside.{KeepsSeat, KeepSeats, IsFreeSeat, HasTaken, HaveTaken}
+use Rattle.jc_cache.proofs.Rows.{Seated, length_locks, seat_there}
+use Rattle.jc_cache.proofs.ClosingSeats.{keep_locks, keep_at, free_at, taken_at}
+
+row_free : (seats : List Seated) → ((i : ℕ) (seat : Seated) → slice_get seats i ≡ Some seat → IsFreeSeat seat.1) → HaveTaken seats []
+row_free [] each = tt
+row_free (seat ∷ seats) each = (each 0 seat refl, row_free seats (λ i other at. each (suc i) other at))
+
+pub all_free : (config : Config) (given : ℕ) (locks : List TableId) (seats : List Seated) → IsWhole config given locks seats → HaveTaken seats []
+all_free config given locks seats whole = row_free seats (λ i seat at. record { of_none = (whole.each i seat at).of_none; free = (whole.each i seat at).free })
+
+pub whole_again : (config : Config) (given : ℕ) (locks : List TableId) (old new : List Seated) → IsWhole config given locks old → KeepSeats old new → HaveTaken new [] → IsWhole config given locks new
+whole_again config given locks old new whole keeps free = record {
+  fits = whole.fits;
+  few = whole.few;
+  count = whole.count;
+  own = keep_locks old new keeps ∙ whole.own;
+  each = λ i seat at.
+      let was = keep_at old new i seat keeps at in
+      own_again i was.0 seat (whole.each i was.0 was.1) was.2 (free_at new i seat free at);
+}
+  where
+    own_again : (i : ℕ) (x y : Seated) → IsOwnSeat config i given x.1 → KeepsSeat x y → IsFreeSeat y.1 → IsOwnSeat config i given y.1
+    own_again i x y own keeps free = record {
+      of_none = free.of_none;
+      gives = keeps.next_session ∙ own.gives;
+      free = free.free;
+      unspent = keeps.spent ∙ own.unspent;
+      config_is = keeps.same.config ∙ own.config_is;
+      stripe_is = keeps.same.stripe ∙ own.stripe_is;
+      origin_is = keeps.same.origin ∙ own.origin_is;
+      opening_is = keeps.same.opening ∙ own.opening_is;
+    }
+
+closed_at : (config : Config) (i given : ℕ) (x y : Seated) (state : State) → ReachedIsLegal → IsOwnSeat config i given x.1 → KeepsSeat x y → HasTaken y.1 state → IsClosedAt config i state
+closed_at config i given x y state legal own keeps taken =
+    let opening : state.opening ≡ [] = ap (λ (s : State). s.opening) (sym taken.noted) ∙ keeps.same.opening ∙ own.opening_is in
+    record {
+      reached = taken.reached;
+      idle = taken.idle;
+      config_is = ap (λ (s : State). s.config) (sym taken.noted) ∙ keeps.same.config ∙ own.config_is;
+      stripe_is = ap (λ (s : State). s.stripe) (sym taken.noted) ∙ keeps.same.stripe ∙ own.stripe_is;
+      opening_is = opening;
+      origin_is = ap (λ (s : State). s.origin) (sym taken.noted) ∙ keeps.same.origin ∙ own.origin_is;
+      legal = subst (λ (entries : List (Bytes × Bytes)). Legal state.config entries state.history) opening (legal state taken.reached);
+      leaves = subst (λ (entries : List (Bytes × Bytes)). IsHistory state.config (from_entries entries) state.history state.cache) opening taken.reached.legal;
+    }
+
+pub closed : {I J : Type 0} {D : I → Type 0} {E : J → Type 0} (owner : OwnerState) (own seats : List Seated) (stripes : List State) (sessions : List (Session I J D E)) → ReachedIsLegal
+    → IsWhole owner.cache.config owner.given owner.cache.locks own → KeepSeats own seats → HaveTaken seats stripes → length stripes ≡ length seats → length sessions ≡ owner.given
+    → All (λ (s : Session I J D E). HasFront stripes s.seats.items) sessions → IsClosed owner sessions stripes
+closed {I} {J} {D} {E} owner own seats stripes sessions legal whole keeps taken count all fronts = record {
+  count = count ∙ length_locks seats owner.cache.locks (keep_locks own seats keeps ∙ whole.own) ∙ whole.count;
+  each = λ i state at.
+      let y = seat_there seats i (subst (λ (n : ℕ). i < n) count (slice_get_within stripes i state at)) in
+      let x = keep_at own seats i y.0 keeps y.1 in
+      closed_at owner.cache.config i owner.given x.0 y.0 state legal (whole.each i x.0 x.1) x.2 (taken_at seats stripes i y.0 state taken y.1 at);
+  all = all;
+  fronts = λ n session at.
+      subst (λ (s : Session I J D E). HasFront stripes s.seats.items) (get_or_from_slice_get sessions n session session at) (fronts n session (slice_get_within sessions n session at));
+}

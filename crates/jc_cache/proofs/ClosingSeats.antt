@@ -1,0 +1,299 @@
+-- The cache's own seats while it is being closed.
+--     keeps_itself, keeps_on                a seat is the one that it was, also over two steps
+--     keep_all, keep_on, keep_set           so are those of a row, also if one of them is
+--     keep_locks, keep_length, keep_at      they are at the same locks, and as many; which one each was
+--     own_there, near_row                   the own seat and the lock at one place; a place of the locks is one of the row
+--     free_at, free_set                     of a row that has taken nothing
+--     next_free, next_stays, take_next      the first seat that has taken nothing, when it stays so, and when it takes its stripe
+--     last_taken, give_last                 the last one that has taken its stripe, and when it gives it back
+--     taken_at, taken_set, taken_fits       one of those that have taken their stripes, and when it learns something; how many they are
+--     none_phase, given_back, learned       what calls of the lock ask for, and leave of a seat
+--     give_near, give_there, give_step      the last stripe is given back
+--     popped_at, popped_done, popped_long   the last seat of a session that is left
+--     no_front, join_near, join_there, join_step    it is joined
+--     all_left, none_left, one_less, last_session    the sessions that are left, and the last of them
+use Rattle.std.proofs.Common.{◌≡◌, ◌∙◌, ◌<◌, ◌≤◌, ◌+◌, ℕ, zero, suc, true, List, [], ◌∷◌, ◌++◌, length, set, get_or, Option, Some, refl, sym, ap, subst, subst₂, append_assoc, append-nil, length-append, arith}
+use Rattle.std.proofs.lemmas.List.{length-map}
+use Rattle.std.proofs.lemmas.List.Elements.{All-nil, All-cons, All-same, All-pop}
+use Rattle.std.proofs.lemmas.Option.{none-some, same_Some, slice_get_read, slice_get_within}
+use Rattle.std.specs.List.{slice_get, All}
+use mathlib.Core.List.{IsPrefix}
+use mathlib.Core.Logic.{dite}
+use native.Mathlib.Decide.{ℕ_discrete}
+use Rattle.atomic_table.specs.Seated.{TableId}
+use Rattle.jc_stripe.specs.State.{State}
+use Rattle.jc_lock.specs.Views.{IsPhaseBy, after_give, after_join}
+use Rattle.jc_lock.specs.declared.view.View.{View}
+use Rattle.jc_lock.proofs.CallerLemmas.{prefix-trans, same_itself, same_at, same_on}
+use Rattle.jc_cache.specs.declared.session.Session.{Session}
+use Rattle.jc_cache.specs.Closing.{HasFront}
+use Rattle.jc_cache.specs.ClosingInside.{KeepsSeat, KeepSeats, IsFreeSeat, HasTaken, HaveTaken, AreAtLocks}
+use Rattle.jc_cache.proofs.Rows.{Seated, locks_of, length_locks, seat_there, lock_there}
+
+-- 1. The same seats.
+
+pub keeps_itself : (x : Seated) → KeepsSeat x x
+keeps_itself x = record { lock = refl; session = refl; next_session = refl; spent = refl; same = same_itself x.1.noted }
+
+pub keeps_on : (x y z : Seated) → KeepsSeat x y → KeepsSeat y z → KeepsSeat x z
+keeps_on x y z p q = record {
+  lock = q.lock ∙ p.lock;
+  session = q.session ∙ p.session;
+  next_session = q.next_session ∙ p.next_session;
+  spent = q.spent ∙ p.spent;
+  same = same_on x.1.noted y.1.noted z.1.noted p.same q.same;
+}
+
+pub keep_all : (xs : List Seated) → KeepSeats xs xs
+keep_all [] = tt
+keep_all (x ∷ xs) = (keeps_itself x, keep_all xs)
+
+pub keep_on : (xs ys zs : List Seated) → KeepSeats xs ys → KeepSeats ys zs → KeepSeats xs zs
+keep_on [] [] [] p q = tt
+keep_on [] [] (z ∷ zs) p q = q
+keep_on [] (y ∷ ys) zs p q = absurd p
+keep_on (x ∷ xs) [] zs p q = absurd p
+keep_on (x ∷ xs) (y ∷ ys) [] p q = q
+keep_on (x ∷ xs) (y ∷ ys) (z ∷ zs) p q = (keeps_on x y z p.0 q.0, keep_on xs ys zs p.1 q.1)
+
+pub keep_set : (xs ys : List Seated) (i : ℕ) (x y : Seated) → KeepSeats xs ys → slice_get ys i ≡ Some x → KeepsSeat x y → KeepSeats xs (set ys i y)
+keep_set xs [] i x y p at q = absurd (none-some x at)
+keep_set [] (b ∷ ys) i x y p at q = absurd p
+keep_set (a ∷ xs) (b ∷ ys) zero x y p at q = (keeps_on a b y p.0 (subst (λ (s : Seated). KeepsSeat s y) (sym (same_Some b x at)) q), p.1)
+keep_set (a ∷ xs) (b ∷ ys) (suc i) x y p at q = (p.0, keep_set xs ys i x y p.1 at q)
+
+pub keep_locks : (xs ys : List Seated) → KeepSeats xs ys → locks_of ys ≡ locks_of xs
+keep_locks [] [] p = refl
+keep_locks [] (y ∷ ys) p = absurd p
+keep_locks (x ∷ xs) [] p = absurd p
+keep_locks (x ∷ xs) (y ∷ ys) p = let head = p.0.lock in let tail = keep_locks xs ys p.1 in λ j. head j ∷ tail j
+
+pub keep_length : (xs ys : List Seated) → KeepSeats xs ys → length ys ≡ length xs
+keep_length xs ys p = sym (length-map ys (λ (seat : Seated). seat.0)) ∙ ap length (keep_locks xs ys p) ∙ length-map xs (λ (seat : Seated). seat.0)
+
+pub keep_at : (xs ys : List Seated) (i : ℕ) (y : Seated) → KeepSeats xs ys → slice_get ys i ≡ Some y → (x : Seated) × (slice_get xs i ≡ Some x) × KeepsSeat x y
+keep_at xs [] i y p at = absurd (none-some y at)
+keep_at [] (b ∷ ys) i y p at = absurd p
+keep_at (a ∷ xs) (b ∷ ys) zero y p at = (a, refl, subst (KeepsSeat a) (same_Some b y at) p.0)
+keep_at (a ∷ xs) (b ∷ ys) (suc i) y p at = keep_at xs ys i y p.1 at
+
+-- the own seat and the lock at one place
+pub own_there : (xs ys : List Seated) (locks : List TableId) (i : ℕ) (seat : Seated) (lock : TableId) → locks_of xs ≡ locks → KeepSeats xs ys → i < length locks
+    → seat ≡ get_or ys i seat → lock ≡ get_or locks i lock → (slice_get ys i ≡ Some seat) × (seat.0 ≡ lock)
+own_there xs ys locks i seat lock is keeps near at_seat at_lock =
+    let now = keep_locks xs ys keeps ∙ is in
+    let there = slice_get_read ys (length locks) i seat (sym (length_locks ys locks now)) near at_seat in
+    (there, lock_there ys locks i seat lock now there (slice_get_read locks (length locks) i lock refl near at_lock))
+
+pub near_row : (xs ys : List Seated) (locks : List TableId) (i : ℕ) → locks_of xs ≡ locks → KeepSeats xs ys → i < length locks → i < length ys
+near_row xs ys locks i is keeps near = subst (λ (n : ℕ). i < n) (sym (length_locks ys locks (keep_locks xs ys keeps ∙ is))) near
+
+-- 2. Seats that have taken nothing.
+
+pub free_at : (seats : List Seated) (i : ℕ) (x : Seated) → HaveTaken seats [] → slice_get seats i ≡ Some x → IsFreeSeat x.1
+free_at [] i x h at = absurd (none-some x at)
+free_at (a ∷ seats) zero x h at = subst (λ (s : Seated). IsFreeSeat s.1) (same_Some a x at) h.0
+free_at (a ∷ seats) (suc i) x h at = free_at seats i x h.1 at
+
+pub free_set : (seats : List Seated) (i : ℕ) (y : Seated) → HaveTaken seats [] → IsFreeSeat y.1 → HaveTaken (set seats i y) []
+free_set [] i y h free = h
+free_set (a ∷ seats) zero y h free = (free, h.1)
+free_set (a ∷ seats) (suc i) y h free = (h.0, free_set seats i y h.1 free)
+
+-- 3. The next one takes its stripe; the last one gives it back.
+
+pub next_free : (seats : List Seated) (states : List State) (i : ℕ) (x : Seated) → i ≡ length states → HaveTaken seats states → slice_get seats i ≡ Some x → IsFreeSeat x.1
+next_free seats states i x is h at = next seats states x h (subst (λ (n : ℕ). slice_get seats n ≡ Some x) is at)
+  where
+    next : (seats : List Seated) (states : List State) (x : Seated) → HaveTaken seats states → slice_get seats (length states) ≡ Some x → IsFreeSeat x.1
+    next seats [] x h at = free_at seats 0 x h at
+    next [] (s ∷ states) x h at = absurd h
+    next (a ∷ seats) (s ∷ states) x h at = next seats states x h.1 at
+
+pub next_stays : (seats : List Seated) (states : List State) (i : ℕ) (x y : Seated) → i ≡ length states → HaveTaken seats states → slice_get seats i ≡ Some x → IsFreeSeat y.1 → HaveTaken (set seats i y) states
+next_stays seats states i x y is h at free =
+    subst (λ (n : ℕ). HaveTaken (set seats n y) states) (sym is) (stays seats states x y h (subst (λ (n : ℕ). slice_get seats n ≡ Some x) is at) free)
+  where
+    stays : (seats : List Seated) (states : List State) (x y : Seated) → HaveTaken seats states → slice_get seats (length states) ≡ Some x → IsFreeSeat y.1 → HaveTaken (set seats (length states) y) states
+    stays seats [] x y h at free = free_set seats 0 y h free
+    stays [] (s ∷ states) x y h at free = absurd h
+    stays (a ∷ seats) (s ∷ states) x y h at free = (h.0, stays seats states x y h.1 at free)
+
+pub take_next : (seats : List Seated) (states : List State) (i : ℕ) (x y : Seated) (state : State) → i ≡ length states → HaveTaken seats states → slice_get seats i ≡ Some x → HasTaken y.1 state
+    → HaveTaken (set seats i y) (states ++ state ∷ [])
+take_next seats states i x y state is h at taken =
+    subst (λ (n : ℕ). HaveTaken (set seats n y) (states ++ state ∷ [])) (sym is) (next seats states x y state h (subst (λ (n : ℕ). slice_get seats n ≡ Some x) is at) taken)
+  where
+    next : (seats : List Seated) (states : List State) (x y : Seated) (state : State) → HaveTaken seats states → slice_get seats (length states) ≡ Some x → HasTaken y.1 state
+        → HaveTaken (set seats (length states) y) (states ++ state ∷ [])
+    next [] [] x y state h at taken = absurd (none-some x at)
+    next (a ∷ seats) [] x y state h at taken = (taken, h.1)
+    next [] (s ∷ states) x y state h at taken = absurd h
+    next (a ∷ seats) (s ∷ states) x y state h at taken = (h.0, next seats states x y state h.1 at taken)
+
+pub last_taken : (seats : List Seated) (states : List State) (x : Seated) (state : State) → HaveTaken seats (states ++ state ∷ []) → slice_get seats (length states) ≡ Some x → HasTaken x.1 state
+last_taken [] [] x state h at = absurd h
+last_taken (a ∷ seats) [] x state h at = subst (λ (s : Seated). HasTaken s.1 state) (same_Some a x at) h.0
+last_taken [] (s ∷ states) x state h at = absurd h
+last_taken (a ∷ seats) (s ∷ states) x state h at = last_taken seats states x state h.1 at
+
+pub give_last : (seats : List Seated) (states : List State) (y : Seated) (state : State) → HaveTaken seats (states ++ state ∷ []) → IsFreeSeat y.1 → HaveTaken (set seats (length states) y) states
+give_last [] [] y state h free = absurd h
+give_last (a ∷ seats) [] y state h free = (free, h.1)
+give_last [] (s ∷ states) y state h free = absurd h
+give_last (a ∷ seats) (s ∷ states) y state h free = (h.0, give_last seats states y state h.1 free)
+
+-- 4. One of those that have taken their stripes.
+
+pub taken_at : (seats : List Seated) (states : List State) (i : ℕ) (x : Seated) (state : State) → HaveTaken seats states → slice_get seats i ≡ Some x → slice_get states i ≡ Some state → HasTaken x.1 state
+taken_at seats [] i x state h at there = absurd (none-some state there)
+taken_at [] (s ∷ states) i x state h at there = absurd h
+taken_at (a ∷ seats) (s ∷ states) zero x state h at there = subst (λ (s : Seated). HasTaken s.1 state) (same_Some a x at) (subst (HasTaken a.1) (same_Some s state there) h.0)
+taken_at (a ∷ seats) (s ∷ states) (suc i) x state h at there = taken_at seats states i x state h.1 at there
+
+pub taken_set : (seats : List Seated) (states : List State) (i : ℕ) (y : Seated) (state : State) → HaveTaken seats states → slice_get states i ≡ Some state → HasTaken y.1 state → HaveTaken (set seats i y) states
+taken_set seats [] i y state h there taken = absurd (none-some state there)
+taken_set [] (s ∷ states) i y state h there taken = absurd h
+taken_set (a ∷ seats) (s ∷ states) zero y state h there taken = (subst (HasTaken y.1) (sym (same_Some s state there)) taken, h.1)
+taken_set (a ∷ seats) (s ∷ states) (suc i) y state h there taken = (h.0, taken_set seats states i y state h.1 there taken)
+
+-- as many seats as stripes that they have taken, at most
+pub taken_fits : (seats : List Seated) (states : List State) → HaveTaken seats states → length states ≤ length seats
+taken_fits seats [] h = omega arith
+taken_fits [] (s ∷ states) h = absurd h
+taken_fits (a ∷ seats) (s ∷ states) h = let ih = taken_fits seats states h.1 in omega arith
+
+-- 5. Calls of the lock.
+
+-- what a seat that has taken its stripe may give back
+pub none_phase : (view : View) (closed stripe : State) → HasTaken view closed → stripe ≡ closed → IsPhaseBy view.session view.noted stripe
+none_phase view closed stripe h is = subst (λ (o : Option ℕ). IsPhaseBy o view.noted stripe) (sym h.of_none) (is ∙ sym h.noted)
+
+pub given_back : (x y : Seated) (closed stripe : State) → HasTaken x.1 closed → stripe ≡ closed → y.0 ≡ x.0 → y.1 ≡ after_give x.1 stripe → KeepsSeat x y × IsFreeSeat y.1
+given_back x y closed stripe h is lock after = (
+  record {
+    lock = lock;
+    session = ap (λ (v : View). v.session) after;
+    next_session = ap (λ (v : View). v.next_session) after;
+    spent = ap (λ (v : View). v.spent) after;
+    same = same_at x.1.noted y.1.noted (h.noted ∙ sym is ∙ sym (ap (λ (v : View). v.noted) after));
+  },
+  record { of_none = ap (λ (v : View). v.session) after ∙ h.of_none; free = ap (λ (v : View). v.holds) after },
+)
+
+pub learned : (x y : Seated) (w : View) (state : State) → HasTaken x.1 state → y.0 ≡ x.0 → y.1 ≡ after_join x.1 w → KeepsSeat x y × HasTaken y.1 state
+learned x y w state h lock after = (
+  record {
+    lock = lock;
+    session = ap (λ (v : View). v.session) after;
+    next_session = ap (λ (v : View). v.next_session) after;
+    spent = ap (λ (v : View). v.spent) after;
+    same = same_at x.1.noted y.1.noted (sym (ap (λ (v : View). v.noted) after));
+  },
+  record {
+    of_none = ap (λ (v : View). v.session) after ∙ h.of_none;
+    holds = ap (λ (v : View). v.holds) after ∙ h.holds;
+    noted = ap (λ (v : View). v.noted) after ∙ h.noted;
+    reached = h.reached;
+    idle = h.idle;
+  },
+)
+
+-- 6. The last stripe is given back.
+
+pub give_near : (xs ys : List Seated) (locks : List TableId) (old new : List State) (closed : State) (i : ℕ) → locks_of xs ≡ locks → KeepSeats xs ys → HaveTaken ys old
+    → old ≡ new ++ closed ∷ [] → i ≡ length new → i < length locks
+give_near xs ys locks old new closed i is keeps h popped at =
+    let fits = taken_fits ys old h in
+    let rows = length_locks ys locks (keep_locks xs ys keeps ∙ is) in
+    let long = ap length popped ∙ length-append new (closed ∷ []) in
+    omega arith
+
+pub give_there : (xs ys : List Seated) (locks : List TableId) (old new : List State) (closed : State) (i : ℕ) (seat : Seated) (lock : TableId) → locks_of xs ≡ locks → KeepSeats xs ys → HaveTaken ys old
+    → old ≡ new ++ closed ∷ [] → i ≡ length new → seat ≡ get_or ys i seat → lock ≡ get_or locks i lock → (slice_get ys i ≡ Some seat) × (seat.0 ≡ lock) × HasTaken seat.1 closed
+give_there xs ys locks old new closed i seat lock is keeps h popped at at_seat at_lock =
+    let near = give_near xs ys locks old new closed i is keeps h popped at in
+    let there = own_there xs ys locks i seat lock is keeps near at_seat at_lock in
+    (there.0, there.1, last_taken ys new seat closed (subst (HaveTaken ys) popped h) (subst (λ (n : ℕ). slice_get ys n ≡ Some seat) at there.0))
+
+pub give_step : (ys : List Seated) (old new : List State) (closed : State) (i : ℕ) (y : Seated) → HaveTaken ys old → old ≡ new ++ closed ∷ [] → i ≡ length new → IsFreeSeat y.1 → HaveTaken (set ys i y) new
+give_step ys old new closed i y h popped at free = subst (λ (n : ℕ). HaveTaken (set ys n y) new) (sym at) (give_last ys new y closed (subst (HaveTaken ys) popped h) free)
+
+-- 7. Sessions.
+
+-- a session has seen no more of each stripe from the place `from` on than is in its history
+abbrev pub HasFrontFrom : ℕ → List State → List Seated → Type 0
+HasFrontFrom from stripes seats = (i : ℕ) (state : State) (seat : Seated) → from ≤ i → slice_get stripes i ≡ Some state → slice_get seats i ≡ Some seat → IsPrefix seat.1.front state.history
+
+pub no_front : (stripes : List State) (all : List Seated) → HasFrontFrom (length all) stripes all
+no_front stripes all i state seat le there at = absurd (let near = slice_get_within all i seat at in omega arith)
+
+seam : (rest : List Seated) (x : Seated) (done : List Seated) → slice_get (rest ++ x ∷ [] ++ done) (length rest) ≡ Some x
+seam [] x done = refl
+seam (a ∷ rest) x done = seam rest x done
+
+-- the last seat of those that are left is at its place among all
+pub popped_at : (all seats rest done : List Seated) (x : Seated) (i : ℕ) → all ≡ seats ++ done → seats ≡ rest ++ x ∷ [] → i ≡ length rest → slice_get all i ≡ Some x
+popped_at all seats rest done x i is popped at =
+    subst₂ (λ (l : List Seated) (n : ℕ). slice_get l n ≡ Some x) (sym (is ∙ ap (λ (l : List Seated). l ++ done) popped)) (sym at) (seam rest x done)
+
+pub popped_done : (all seats rest done : List Seated) (x : Seated) → all ≡ seats ++ done → seats ≡ rest ++ x ∷ [] → all ≡ rest ++ x ∷ done
+popped_done all seats rest done x is popped = is ∙ ap (λ (l : List Seated). l ++ done) popped ∙ append_assoc rest (x ∷ []) done
+
+pub popped_long : (seats rest : List Seated) (x : Seated) (i : ℕ) → seats ≡ rest ++ x ∷ [] → i ≡ length rest → length seats ≡ i + 1
+popped_long seats rest x i popped at = let long = ap length popped ∙ length-append rest (x ∷ []) in omega arith
+
+pub join_near : (locks : List TableId) (all : List Seated) (i : ℕ) (x : Seated) → AreAtLocks locks all → slice_get all i ≡ Some x → i < length locks
+join_near locks all i x fit at = subst (λ (n : ℕ). i < n) (length_locks all locks fit.at) (slice_get_within all i x at)
+
+-- a session's seat is at the lock of its place
+pub join_there : (xs ys : List Seated) (locks : List TableId) (all : List Seated) (i : ℕ) (x seat : Seated) (lock : TableId) → locks_of xs ≡ locks → KeepSeats xs ys → AreAtLocks locks all
+    → slice_get all i ≡ Some x → seat ≡ get_or ys i seat → lock ≡ get_or locks i lock → (slice_get ys i ≡ Some seat) × (seat.0 ≡ lock) × (x.0 ≡ lock)
+join_there xs ys locks all i x seat lock is keeps fit at at_seat at_lock =
+    let near = join_near locks all i x fit at in
+    let there = own_there xs ys locks i seat lock is keeps near at_seat at_lock in
+    (there.0, there.1, lock_there all locks i x lock fit.at at (slice_get_read locks (length locks) i lock refl near at_lock))
+
+front_step : (n m : ℕ) (stripes : List State) (all : List Seated) (x : Seated) (state : State) → m ≡ n + 1 → slice_get all n ≡ Some x → slice_get stripes n ≡ Some state → IsPrefix x.1.front state.history
+    → HasFrontFrom m stripes all → HasFrontFrom n stripes all
+front_step n m stripes all x state next at there front later i state' x' le there' at' =
+    dite (ℕ_discrete i n)
+    (λ e. let xs = same_Some x x' (sym at ∙ ap (slice_get all) (sym e) ∙ at') in
+    let ss = same_Some state state' (sym there ∙ ap (slice_get stripes) (sym e) ∙ there') in
+    subst₂ (λ (a : Seated) (b : State). IsPrefix a.1.front b.history) xs ss front)
+    (λ ne. later i state' x' (omega arith) there' at')
+
+-- one of a session's seats was joined
+pub join_step : (ys : List Seated) (stripes : List State) (all : List Seated) (n m : ℕ) (x seat after : Seated) → length stripes ≡ length all → HaveTaken ys stripes → slice_get ys n ≡ Some seat → slice_get all n ≡ Some x → m ≡ n + 1
+    → after.0 ≡ seat.0 → after.1 ≡ after_join seat.1 x.1 → IsPrefix x.1.front after.1.front → (seat.1.holds ≡ true → IsPrefix after.1.front seat.1.noted.history) → HasFrontFrom m stripes all
+    → KeepsSeat seat after × HaveTaken (set ys n after) stripes × HasFrontFrom n stripes all
+join_step ys stripes all n m x seat after count h at_own at next lock is joined held later =
+    let s = seat_there stripes n (subst (λ (k : ℕ). n < k) (sym count) (slice_get_within all n x at)) in
+    let taken = taken_at ys stripes n seat s.0 h at_own s.1 in
+    let l = learned seat after x.1 s.0 taken lock is in
+    let front = subst (λ (state : State). IsPrefix after.1.front state.history) taken.noted (held taken.holds) in
+    (l.0, taken_set ys stripes n after s.0 h s.1 l.1, front_step n m stripes all x s.0 next at s.1 (prefix-trans x.1.front after.1.front s.0.history joined front) later)
+
+-- 8. All sessions.
+
+-- of these sessions some are left, and the others have seen no more of each stripe than is in its history
+abbrev pub HaveLeft : {I J : Type 0} {D : I → Type 0} {E : J → Type 0} → List State → List (Session I J D E) → List (Session I J D E) → Type 0
+HaveLeft {I} {J} {D} {E} stripes all left = (done : List (Session I J D E)) × (all ≡ left ++ done) × All (λ (s : Session I J D E). HasFront stripes s.seats.items) done
+
+module _ {I J : Type 0} {D : I → Type 0} {E : J → Type 0} where
+  pub all_left : (stripes : List State) (all : List (Session I J D E)) → HaveLeft stripes all all
+  all_left stripes all = ([], sym (append-nil all), All-nil (λ (s : Session I J D E). HasFront stripes s.seats.items))
+
+  pub none_left : (stripes : List State) (all left : List (Session I J D E)) → left ≡ [] → HaveLeft stripes all left → All (λ (s : Session I J D E). HasFront stripes s.seats.items) all
+  none_left stripes all left none h =
+      let P : Session I J D E → Type 0 = λ s. HasFront stripes s.seats.items in
+      All-same P all h.0 (h.1 ∙ ap (λ (l : List (Session I J D E)). l ++ h.0) none) h.2
+
+  pub one_less : (stripes : List State) (all left rest : List (Session I J D E)) (session : Session I J D E) → left ≡ rest ++ session ∷ [] → HasFront stripes session.seats.items → HaveLeft stripes all left → HaveLeft stripes all rest
+  one_less stripes all left rest session popped front h =
+      let P : Session I J D E → Type 0 = λ s. HasFront stripes s.seats.items in
+      (session ∷ h.0, h.1 ∙ ap (λ (l : List (Session I J D E)). l ++ h.0) popped ∙ append_assoc rest (session ∷ []) h.0, All-cons P session h.0 front h.2)
+
+  pub last_session : (locks : List TableId) (left rest : List (Session I J D E)) (session : Session I J D E) → left ≡ rest ++ session ∷ [] → All (λ (s : Session I J D E). AreAtLocks locks s.seats.items) left
+      → All (λ (s : Session I J D E). AreAtLocks locks s.seats.items) rest × AreAtLocks locks session.seats.items
+  last_session locks left rest session popped h = All-pop (λ (s : Session I J D E). AreAtLocks locks s.seats.items) left rest (Some session) popped h

@@ -1,0 +1,118 @@
+-- A new session of a cache.
+--     map_locks          a mapped row of seats is at the same locks
+--     whole_after        the cache's own seats once each has given a session's seat out
+--     may_give           a session that isn't refused: there may be one more, and it has whom it needs
+--     may_fresh          it may call the cache
+use Rattle.std.proofs.Common.{◌≡◌, ◌&&◌, ◌+◌, ◌<◌, ℕ, Bool, true, false, not, if◌then◌else◌, nat_le, Option, None, Some, IsSome, List, [], ◌∷◌, map, slice_get, refl, sym, ap, subst, ◌∙◌, arith}
+use Rattle.std.proofs.lemmas.Bool.Decides.{nat_tests}
+use Rattle.std.specs.List.{list_all}
+use Rattle.atomic_table.specs.Seated.{TableId}
+use Rattle.jc_types.specs.declared.caller.Caller.{Caller}
+use Rattle.jc_types.specs.declared.config.Config.{Config}
+use Rattle.jc_types.specs.declared.limits.TheConstants.{SESSIONS_MAX}
+use Rattle.jc_types.specs.declared.refusal.Refusal.TheVariants.{TooManySessions, NoLoader, NoWriter}
+use Rattle.jc_stripe.specs.OwnSteps.{is_before_call}
+use Rattle.jc_lock.specs.Views.{after_split, session_view, session_number}
+use Rattle.jc_lock.specs.declared.view.View.{View}
+use Rattle.jc_session.specs.Counting.{one_more}
+use Rattle.jc_session.specs.declared.counts.Counts.{Counts}
+use Rattle.jc_cache.specs.Caches.{CacheState, OwnerState, session_refusal}
+use Rattle.jc_cache.specs.CacheInside.{IsOwnSeat, IsWhole}
+use Rattle.jc_cache.specs.Sessions.{IsSeatAt, MayCall, own_total, capped}
+use Rattle.jc_cache.specs.declared.session.Session.{Session}
+use Rattle.jc_cache.proofs.Rows.{Seated, locks_of, map_get}
+
+-- 1. The cache's own seats.
+
+abbrev left : Seated → Seated
+left seat = (seat.0, after_split seat.1)
+
+abbrev given_out : Seated → Seated
+given_out seat = (seat.0, session_view seat.1)
+
+map_locks : (f : View → View) (seats : List Seated) → locks_of (map (λ (seat : Seated). (seat.0, f seat.1)) seats) ≡ locks_of seats
+map_locks f [] = refl
+map_locks f (seat ∷ seats) = ap (λ (locks : List TableId). seat.0 ∷ locks) (map_locks f seats)
+
+own_after : (config : Config) (stripe given : ℕ) (view : View) → IsOwnSeat config stripe given view → IsOwnSeat config stripe (given + 1) (after_split view)
+own_after config stripe given view own = record {
+  of_none = own.of_none;
+  gives = ap (λ (o : Option ℕ). Some (session_number o + 1)) own.gives;
+  free = own.free;
+  unspent = own.unspent;
+  config_is = own.config_is;
+  stripe_is = own.stripe_is;
+  origin_is = own.origin_is;
+  opening_is = own.opening_is;
+}
+
+pub whole_after : (config : Config) (given : ℕ) (locks : List TableId) (own new : List Seated) → given < SESSIONS_MAX → IsWhole config given locks own → new ≡ map (λ (seat : Seated). (seat.0, after_split seat.1)) own → IsWhole config (given + 1) locks new
+whole_after config given locks own new room whole is = subst (IsWhole config (given + 1) locks) (sym is) record {
+  fits = whole.fits;
+  few = omega (arith, room);
+  count = whole.count;
+  own = map_locks after_split own ∙ whole.own;
+  each = λ i seat there. let t = map_get left own i seat there in
+      subst (λ (s : Seated). IsOwnSeat config i (given + 1) s.1) (sym t.2) (own_after config i given t.0.1 (whole.each i t.0 t.1));
+}
+
+-- 2. Who is refused.
+
+open_if : (full no_loader no_writer : Bool) → (if full then Some TooManySessions else (if no_loader then Some NoLoader else (if no_writer then Some NoWriter else None))) ≡ None
+    → (full ≡ false) × (no_loader ≡ false) × (no_writer ≡ false)
+open_if true no_loader no_writer e = cc
+open_if false true no_writer e = cc
+open_if false false true e = cc
+open_if false false false e = (refl, refl, refl)
+
+has_it : (on has : Bool) → (on && not has) ≡ false → on ≡ true → has ≡ true
+has_it true true e is = refl
+has_it true false e is = cc
+has_it false has e is = cc
+
+pub may_give : (owner : OwnerState) (loader writer : Bool) → session_refusal owner loader writer ≡ None
+    → (owner.given < SESSIONS_MAX) × (owner.cache.config.read_through ≡ true → loader ≡ true) × (owner.cache.config.write_through ≡ true → writer ≡ true)
+may_give owner loader writer none =
+    let parts = open_if (nat_le SESSIONS_MAX owner.given) (owner.cache.config.read_through && not loader) (owner.cache.config.write_through && not writer) none in
+    let full = parts.0 in
+    (grind (arith, nat_tests), has_it owner.cache.config.read_through loader parts.1, has_it owner.cache.config.write_through writer parts.2)
+
+-- 3. The session.
+
+no_own : (own : List Seated) → own_total (map given_out own) ≡ 0
+no_own [] = refl
+no_own (seat ∷ seats) = let rest = no_own seats in omega arith
+
+seat_given : (config : Config) (stripe given : ℕ) (view : View) → IsOwnSeat config stripe given view → IsSeatAt config stripe given (session_view view)
+seat_given config stripe given view own = record {
+  of_session = ap (λ (o : Option ℕ). Some (session_number o)) own.gives;
+  free = refl;
+  unspent = own.unspent;
+  config_is = own.config_is;
+  stripe_is = own.stripe_is;
+  origin_is = own.origin_is;
+}
+
+module _ {I J : Type 0} {D : I → Type 0} {E : J → Type 0} where
+  pub may_fresh : (cache : CacheState) (given : ℕ) (own : List Seated) (session : Session I J D E) → IsWhole cache.config given cache.locks own
+      → session.seats.items ≡ map (λ (seat : Seated). (seat.0, session_view seat.1)) own → session.agent.caller ≡ record { session = given; call = 0 } → session.agent.counts ≡ record { reservations = 0; joins = 0; own = 0 } → session.agent.hands.held ≡ 0
+      → (cache.config.read_through ≡ true → IsSome session.agent.hands.outside.loader) → (cache.config.write_through ≡ true → IsSome session.agent.hands.outside.writer)
+      → MayCall cache session
+  may_fresh cache given own session whole are caller counts held loads writes =
+      let number : session.agent.caller.session ≡ given = ap (λ (c : Caller). c.session) caller in record {
+        own = record {
+          locks = ap locks_of are ∙ map_locks session_view own ∙ whole.own;
+          count = whole.count;
+          seats = λ i seat there. let t = map_get given_out own i seat (ap (λ (seats : List Seated). slice_get seats i) (sym are) ∙ there) in
+              subst (λ (s : Seated). IsSeatAt cache.config i session.agent.caller.session s.1) (sym t.2)
+              (subst (λ (n : ℕ). IsSeatAt cache.config i n (session_view t.0.1)) (sym number) (seat_given cache.config i given t.0.1 (whole.each i t.0 t.1)));
+          held = held;
+          loads = loads;
+          writes = writes;
+          own = ap (λ (c : Counts). c.own) counts ∙ ap capped (sym (ap own_total are ∙ no_own own));
+        };
+        reservations = ap (λ (c : Counts). c.reservations) counts;
+        joins = ap (λ (c : Counts). c.joins) counts;
+        numbers = λ i seat there. let t = map_get given_out own i seat (ap (λ (seats : List Seated). slice_get seats i) (sym are) ∙ there) in
+            ap (λ (s : Seated). list_all (is_before_call session.agent.caller.session (one_more session.agent.caller.call)) s.1.own) t.2;
+      }

@@ -1,0 +1,236 @@
+-- One phase of a session, from that of its agent over the lock of one seat.
+--     steps_in                 how many own steps more there are after a phase that changes this of the counts
+--     HasLonger                a phase leaves so many own steps more
+--     begun_longer, committed_longer, picked_longer
+--                              that is so of a first phase, of a commit and of a pick-up
+--     start_needs, commit_needs    what a first phase and a commit ask of the stripe that they find
+--     phase_left               a phase: what is said of the session, which is of the cache as before
+--     LooksSo, looked_longer, look_lent    a look is a phase in which nothing was done
+--     number_at, shape_found, agent_same   the seat at a stripe with a number, the shape of the stripe, and the agent after a look
+use Rattle.std.proofs.Common.{◌≡◌, ⊎_elim, inl, ◌+◌, ◌<◌, ℕ, false, None, Some, IsSome, List, [], length, get_or, le_refl, slice_get, slice_set, refl, sym, ap, subst, ◌∙◌, arith}
+use Rattle.std.proofs.lemmas.Option.{slice_get_read}
+use Rattle.jc_types.specs.Stripes.{stripe_of}
+use Rattle.jc_types.specs.declared.caller.Caller.{Caller}
+use Rattle.jc_types.specs.declared.config.Config.{Config}
+use Rattle.jc_model.specs.Cache.{Bytes}
+use Rattle.jc_model.specs.Group.{nothing_said}
+use Rattle.jc_model.specs.declared.event.Event.{Event}
+use Rattle.jc_model.specs.declared.event.Event.TheVariants.{Step}
+use Rattle.jc_model.specs.declared.event.Op.{Op}
+use Rattle.jc_model.specs.declared.event.Out.{Out}
+use Rattle.jc_stripe.specs.Keys.{Looks}
+use Rattle.jc_stripe.specs.State.{State}
+use Rattle.jc_stripe.specs.Reached.{IsReached}
+use Rattle.jc_stripe.specs.OnePhase.{OnePhase, IsPhaseOf, own_steps}
+use Rattle.jc_stripe.specs.OwnSteps.{OwnSteps, may_come_all}
+use Rattle.jc_stripe.specs.Phases.{MayBegin, Begins, Commits, PicksUp}
+use Rattle.jc_stripe.specs.Tickets.{TicketClaim, JoinClaim}
+use Rattle.jc_stripe.specs.declared.begun.Begun.{Begun}
+use Rattle.jc_stripe.specs.declared.begun.Begun.TheVariants as begun
+use Rattle.jc_stripe.specs.declared.begun.Picked.{Picked}
+use Rattle.jc_stripe.specs.declared.begun.Picked.TheVariants as picked
+use Rattle.jc_stripe.specs.declared.begun.StepDone.{StepDone}
+use Rattle.jc_stripe.specs.declared.ticket.Reservation.{Reservation}
+use Rattle.jc_stripe.proofs.CallerLemmas.{adds_one, gains_one}
+use Rattle.jc_lock.specs.Views.{Finds}
+use Rattle.jc_lock.proofs.CallerLemmas.{prefix-refl, same_itself}
+use Rattle.jc_session.specs.Counting.{one_more, counts_after, counted_begun, counted_picked}
+use Rattle.jc_session.specs.declared.agent.Agent.{Agent}
+use Rattle.jc_session.specs.declared.counts.Counted.{Counted}
+use Rattle.jc_session.specs.declared.counts.Counted.TheVariants.{Nothing, Step as OneStep, Reserved, Committed, Joined, Answered, Retried}
+use Rattle.jc_session.specs.declared.counts.Counts.{Counts}
+use Rattle.jc_gate.specs.Lending.{ComesAfter}
+use Rattle.jc_engine.specs.Answered.{IsAnswered}
+use Rattle.jc_engine.specs.Chain.{LentPhase}
+use Rattle.jc_engine.specs.Needs.{BeginsIfClear, CommitsHere, IsReported}
+use Rattle.jc_engine.specs.declared.answered.Answered.{Answered as AnsweredBy}
+use Rattle.jc_cache.specs.Caches.{CacheState}
+use Rattle.jc_cache.specs.Fronts.{IsSameSeat}
+use Rattle.jc_cache.specs.PhaseCalls.{SeatPhase, PhaseAt, MayStart}
+use Rattle.jc_cache.specs.Sessions.{IsSeatAt, IsOf, own_total, capped}
+use Rattle.jc_cache.specs.declared.session.Session.{Session}
+use Rattle.jc_cache.proofs.Lendings.{lock_takes, lock_gives, lock_finds, Lending, phase_lent}
+use Rattle.jc_cache.proofs.Rows.{Seated, locks_of, length_locks}
+use Rattle.jc_cache.proofs.Seats.{set_get, set_locks, set_total, one_longer, capped_more, seat_stays}
+
+-- 1. Own steps.
+
+abbrev pub steps_in : Counted → ℕ
+steps_in Nothing = 0
+steps_in OneStep = 1
+steps_in Reserved = 0
+steps_in Committed = 1
+steps_in Joined = 0
+steps_in Answered = 1
+steps_in Retried = 0
+
+abbrev pub HasLonger : ℕ → Counted → State → State → Type 0
+HasLonger session counted old new = length (own_steps session new) ≡ length (own_steps session old) + steps_in counted
+
+as_long : (session : ℕ) (old new : State) → own_steps session new ≡ own_steps session old → length (own_steps session new) ≡ length (own_steps session old) + 0
+as_long session old new same = let long = ap length same in omega arith
+
+pub begun_longer : OwnSteps → (caller : Caller) (key : Bytes) (op : Op) (b : Begun) (old new : State) → MayBegin old caller key → Begins old caller key op b new → HasLonger caller.session (counted_begun b) old new
+begun_longer law caller key op (begun.Done done) old new may begins =
+    one_longer _ _ _ (adds_one caller.session old new (Step caller op key nothing_said None done.reply) done.place (law.done old new caller key op done may begins))
+begun_longer law caller key op (begun.Asks ticket) old new may begins = as_long caller.session old new (law.reserves old new caller key op ticket begins)
+begun_longer law caller key op (begun.Joined join) old new may begins = as_long caller.session old new (law.joins old new caller key op join begins)
+begun_longer law caller key op (begun.Refused refusal) old new may begins = as_long caller.session old new (law.refused old new caller key op refusal begins)
+
+pub committed_longer : OwnSteps → (r : Reservation) (out : Out) (done : StepDone) (old new : State) → IsReached old → Commits old r out done new → HasLonger r.caller.session Committed old new
+committed_longer law r out done old new reached commits =
+    one_longer _ _ _ (adds_one r.caller.session old new (Step r.caller r.op r.key out None done.reply) done.place (law.commits old new r out done reached commits))
+
+pub picked_longer : OwnSteps → (join : JoinClaim) (p : Picked) (old new : State) → IsReached old → PicksUp old join p new → HasLonger join.caller.session (counted_picked p) old new
+picked_longer law join (picked.Answer reply place shared_with) old new reached picks =
+    let gains = law.picks_up old new join reply place shared_with reached picks in
+    one_longer _ _ _ (gains_one join.caller.session old new _ place gains.1)
+picked_longer law join picked.Again old new reached picks = as_long join.caller.session old new (law.again old new join reached picks)
+picked_longer law join (picked.NotYet back) old new reached picks = as_long join.caller.session old new (law.not_yet old new join back picks)
+
+same_count : (counts : Counts) (own : ℕ) → counts.own ≡ capped own → counts.own ≡ capped (own + 0)
+same_count counts own is = let none : own ≡ own + 0 = omega arith in is ∙ ap capped none
+
+more_count : (counts : Counts) (own : ℕ) → counts.own ≡ capped own → one_more counts.own ≡ capped (own + 1)
+more_count counts own is = ap one_more is ∙ sym (capped_more own)
+
+counted_own : (counts : Counts) (counted : Counted) (own : ℕ) → counts.own ≡ capped own → (counts_after counts counted).own ≡ capped (own + steps_in counted)
+counted_own counts Nothing own is = same_count counts own is
+counted_own counts OneStep own is = more_count counts own is
+counted_own counts Reserved own is = same_count counts own is
+counted_own counts Committed own is = more_count counts own is
+counted_own counts Joined own is = same_count counts own is
+counted_own counts Answered own is = more_count counts own is
+counted_own counts Retried own is = same_count counts own is
+
+-- 2. The phase at a seat.
+
+module _ {G : Type 0} where
+  seat_phase : OnePhase → (session : ℕ) (made phase : State → State → Type 0) (g : G) (t : Seated) (h : G) (u : Seated) → t.1.session ≡ Some session → t.1.holds ≡ false
+      → ((a b : State) → IsReached a → made a b → phase a b) → LentPhase lock_takes lock_gives lock_finds session g t made h u → (u.0 ≡ t.0) × SeatPhase session t.1 phase u.1
+  seat_phase law session made phase g t h u mine free makes x =
+      let lent = phase_lent law session g t made h u mine free x in
+      let l : Lending session t.1 x.before x.after u.1 = lent.1 in (
+        lent.0,
+        record {
+          found = x.before;
+          reached = l.reached;
+          same = l.same;
+          front = l.front;
+          own = l.own;
+          made = subst (phase x.before) (sym l.noted) (makes x.before x.after l.reached x.made);
+          one = subst (IsPhaseOf session x.before) (sym l.noted) l.one;
+          seat = l.seat;
+          front_is = l.front_is ∙ ap (λ (s : State). s.history) (sym l.noted);
+          own_is = l.own_is ∙ ap (own_steps session) (sym l.noted);
+        },
+      )
+
+  seat_longer : OnePhase → (session : ℕ) (counted : Counted) (made : State → State → Type 0) (g : G) (t : Seated) (h : G) (u : Seated) → t.1.session ≡ Some session → t.1.holds ≡ false
+      → ((a b : State) → IsReached a → made a b → HasLonger session counted a b) → LentPhase lock_takes lock_gives lock_finds session g t made h u → length u.1.own ≡ length t.1.own + steps_in counted
+  seat_longer law session counted made g t h u mine free longer x =
+      let l = (phase_lent law session g t made h u mine free x).1 in
+      ap length l.own_is ∙ longer x.before x.after l.reached x.made ∙ ap (λ (es : List Event). length es + steps_in counted) l.own
+
+-- 3. The session.
+
+seat_is : (t u : Seated) → u.0 ≡ t.0 → u ≡ (t.0, u.1)
+seat_is t u same i = (same i, u.1)
+
+module _ {I J : Type 0} {D : I → Type 0} {E : J → Type 0} where
+  of_after : (cache : CacheState) (old new : Session I J D E) (at : ℕ) (t u : Seated) (counted : Counted) → IsOf cache old → slice_get old.seats.items at ≡ Some t → new.seats.items ≡ slice_set old.seats.items at u → u.0 ≡ t.0 → IsSameSeat t.1 u.1
+      → new.agent ≡ record old.agent { counts = counts_after old.agent.counts counted } → length u.1.own ≡ length t.1.own + steps_in counted → IsOf cache new
+  of_after cache old new at t u counted of was now same seat left longer =
+      let number : new.agent.caller.session ≡ old.agent.caller.session = ap (λ (a : Agent I J D E). a.caller.session) left in
+      let total : own_total new.seats.items ≡ own_total old.seats.items + steps_in counted = ap own_total now ∙ set_total (steps_in counted) old.seats.items at t u was longer in
+      record {
+        locks = ap locks_of now ∙ set_locks old.seats.items at t u was same ∙ of.locks;
+        count = of.count;
+        seats = λ i s there.
+            subst (λ (n : ℕ). IsSeatAt cache.config i n s.1) (sym number)
+            (⊎_elim
+            (λ e. subst (λ (z : Seated). IsSeatAt cache.config i old.agent.caller.session z.1) (sym e.1)
+            (subst (λ (k : ℕ). IsSeatAt cache.config k old.agent.caller.session u.1) (sym e.0) (seat_stays cache.config at old.agent.caller.session t.1 u.1 (of.seats at t was) seat)))
+            (λ e. of.seats i s e)
+            (set_get old.seats.items at i t u s was (ap (λ (seats : List Seated). slice_get seats i) (sym now) ∙ there)));
+        held = ap (λ (a : Agent I J D E). a.hands.held) left ∙ of.held;
+        loads = λ on. subst (λ (a : Agent I J D E). IsSome a.hands.outside.loader) (sym left) (of.loads on);
+        writes = λ on. subst (λ (a : Agent I J D E). IsSome a.hands.outside.writer) (sym left) (of.writes on);
+        own = ap (λ (a : Agent I J D E). a.counts.own) left ∙ counted_own old.agent.counts counted (own_total old.seats.items) of.own ∙ ap capped (sym total);
+      }
+
+  pub phase_left : {G : Type 0} → OnePhase → (cache : CacheState) (old new : Session I J D E) (stripe at : ℕ) (counted : Counted) (made phase : State → State → Type 0) (g : G) (t : Seated) (h : G) (u : Seated)
+      → IsOf cache old → at ≡ stripe → slice_get old.seats.items at ≡ Some t → new.seats.items ≡ slice_set old.seats.items at u → new.agent ≡ record old.agent { counts = counts_after old.agent.counts counted }
+      → ((a b : State) → IsReached a → made a b → phase a b) → ((a b : State) → IsReached a → made a b → HasLonger old.agent.caller.session counted a b)
+      → LentPhase lock_takes lock_gives lock_finds old.agent.caller.session g t made h u → PhaseAt stripe old phase counted new × IsOf cache new
+  phase_left law cache old new stripe at counted made phase g t h u of at_is was now left makes longer x =
+      let seat = of.seats at t was in
+      let p = seat_phase law old.agent.caller.session made phase g t h u seat.of_session seat.free makes x in (
+        record {
+          lock = t.0;
+          before = t.1;
+          after = u.1;
+          was = subst (λ (i : ℕ). slice_get old.seats.items i ≡ Some t) at_is was;
+          now = subst (λ (i : ℕ). new.seats.items ≡ slice_set old.seats.items i (t.0, u.1)) at_is (now ∙ ap (slice_set old.seats.items at) (seat_is t u p.0));
+          seat = p.1;
+          left = left;
+        },
+        of_after cache old new at t u counted of was now p.0 p.1.seat left (seat_longer law old.agent.caller.session counted made g t h u seat.of_session seat.free longer x),
+      )
+
+  -- 4. What a phase asks of the stripe.
+
+  pub start_needs : (cache : CacheState) (old : Session I J D E) (caller : Caller) (key : Bytes) (at : ℕ) (t : Seated) (state : State) → IsOf cache old → MayStart cache old key → caller ≡ old.agent.caller → at ≡ stripe_of key cache.config.stripes
+      → slice_get old.seats.items at ≡ Some t → Finds t.1 state → BeginsIfClear caller key state
+  start_needs cache old caller key at t state of may is at_is there finds =
+      let seat = of.seats at t there in
+      subst (λ (c : Caller). BeginsIfClear c key state) (sym is) record {
+        live = finds.same.origin ∙ seat.origin_is;
+        may = ap (λ (es : List Event). may_come_all es old.agent.caller key) (finds.own old.agent.caller.session seat.of_session) ∙ may t (subst (λ (i : ℕ). slice_get old.seats.items i ≡ Some t) at_is there);
+      }
+
+  pub commit_needs : (cache : CacheState) (old : Session I J D E) (ticket : TicketClaim) (answered : AnsweredBy) (at : ℕ) (t : Seated) (state : State) → IsOf cache old → IsAnswered ticket answered → IsReported cache.config ticket.reservation answered
+      → slice_get old.seats.items at ≡ Some t → Finds t.1 state → CommitsHere ticket answered state
+  commit_needs cache old ticket answered at t state of is_answered reported there finds =
+      let seat = of.seats at t there in record {
+        live = finds.same.origin ∙ seat.origin_is;
+        is_answered = is_answered;
+        reported = subst (λ (c : Config). IsReported c ticket.reservation answered) (sym (finds.same.config ∙ seat.config_is)) reported;
+      }
+
+-- 5. A look, at the stripe with a number.
+
+abbrev pub LooksSo : State → List Bytes → List Bytes → State → Type 0
+LooksSo a old new b = (b ≡ a) × Looks a old new
+
+pub looked_longer : (session : ℕ) (found seen : List Bytes) (old new : State) → LooksSo old found seen new → HasLonger session Nothing old new
+looked_longer session found seen old new looks = as_long session old new (ap (own_steps session) looks.0)
+
+pub look_lent : {G : Type 0} (session : ℕ) (made : State → State → Type 0) (g : G) (t : Seated) (a : State) (gate : G) (token : Seated) (h : G) (u : Seated) → t.1.session ≡ Some session → lock_takes g t a gate token → IsReached a → lock_gives gate token a h u
+    → ((n : ℕ) (b : State) → token.1.session ≡ Some n → Finds u.1 b → ComesAfter n a b) → made a a → LentPhase lock_takes lock_gives lock_finds session g t made h u
+look_lent session made g t a gate token h u mine took reached gave next is = record {
+  gate = g;
+  token = t;
+  rests = record { idle = []; same = tt; lent = (refl, refl) };
+  before = a;
+  after = a;
+  since = record { first = a; finds_first = took.1; after = record { same = same_itself a; front = prefix-refl a.history; next = le_refl a.next; own = refl } };
+  lent = record { gate = gate; token = token; took = took; reached = reached; gave = gave };
+  made = is;
+  one = inl refl;
+  next = λ b finds. next session b (ap (λ (s : Seated). s.1.session) took.0 ∙ mine) finds;
+}
+
+module _ {I J : Type 0} {D : I → Type 0} {E : J → Type 0} where
+  pub number_at : (cache : CacheState) (session : Session I J D E) (number : ℕ) (t : Seated) → IsOf cache session → number < cache.config.stripes → t ≡ get_or session.seats.items number t → slice_get session.seats.items number ≡ Some t
+  number_at cache session number t of below read =
+      let long : length session.seats.items ≡ cache.config.stripes = length_locks session.seats.items cache.locks of.locks ∙ of.count in
+      let near : number < length session.seats.items = omega arith in
+      slice_get_read session.seats.items (length session.seats.items) number t refl near read
+
+  pub shape_found : (cache : CacheState) (session : Session I J D E) (number : ℕ) (t : Seated) (a : State) → IsOf cache session → slice_get session.seats.items number ≡ Some t → Finds t.1 a → a.config ≡ cache.config
+  shape_found cache session number t a of there finds = finds.same.config ∙ (of.seats number t there).config_is
+
+  pub agent_same : (old mid new : Agent I J D E) → old.hands.held ≡ 0 → mid ≡ record old { hands = record old.hands { held = 1 } } → new ≡ record mid { hands = record mid.hands { held = 0 } } → new ≡ old
+  agent_same old mid new free took gave =
+      gave ∙ ap (λ (a : Agent I J D E). record a { hands = record a.hands { held = 0 } }) took ∙ ap (λ (n : ℕ). record old { hands = record old.hands { held = n } }) (sym free)

@@ -1,0 +1,29 @@
+use Rattle.std.proofs.Common.{◌≡◌, ap, refl, Some, slice_get}
+use Rattle.jc_cache.specs.Caches.{CacheState}
+use Rattle.jc_cache.proofs.WholeCalls.{at_key, seat_at, may_begin, tried}
+use Rattle.jc_cache.proofs.cache.Cache.try_call.Goals as goal
+
+pub try_call-requires-clause-needs : goal.try_call-requires-clause-needs
+try_call-requires-clause-needs g c a finds =
+    let same : c.self.inside.config ≡ c.args.self.now.config = ap (λ (z : CacheState). z.config) c.self.view_is in
+    let there : slice_get c.args.session.now.seats.items c.stripe_of-at.result ≡ Some c.index_mut-seat.result.now =
+    seat_at c.args.self.now c.args.session.now _ c.args.key.now _ _ c.requires.may.own c.self.invariant.fits same c.stripe_of-at.ensures c.index_mut-seat.ensures.value in
+    may_begin c.own_numbers.ensures c.args.self.now c.args.session.now c.next_call.new.self c.stripe_of-at.result _ _ a c.requires.may c.next_call.ensures.call there finds
+
+pub returns-clause-may : goal.returns-clause-may
+returns-clause-may g c =
+    let same : c.self.inside.config ≡ c.args.self.now.config = ap (λ (z : CacheState). z.config) c.self.view_is in
+    let there : slice_get c.args.session.now.seats.items c.stripe_of-at.result ≡ Some c.index_mut-seat.result.now =
+    seat_at c.args.self.now c.args.session.now _ c.args.key.now _ _ c.requires.may.own c.self.invariant.fits same c.stripe_of-at.ensures c.index_mut-seat.ensures.value in
+    (tried c.is_uniform.ensures c.own_steps.ensures c.is_legal.ensures c.own_numbers.ensures c.args.self.now c.args.session.now _ c.next_call.new.self c.args.key.now c.args.op.now c.stripe_of-at.result
+    c.try_call.result _ c.index_mut-seat.result.now c.try_call.new.gate c.try_call.new.token c.requires.may c.next_call.ensures.call (at_key c.args.self.now _ c.args.key.now _ same c.stripe_of-at.ensures) there refl
+    c.try_call.ensures.agent c.try_call.ensures.tried).1
+
+pub returns-clause-call : goal.returns-clause-call
+returns-clause-call g c =
+    let same : c.self.inside.config ≡ c.args.self.now.config = ap (λ (z : CacheState). z.config) c.self.view_is in
+    let there : slice_get c.args.session.now.seats.items c.stripe_of-at.result ≡ Some c.index_mut-seat.result.now =
+    seat_at c.args.self.now c.args.session.now _ c.args.key.now _ _ c.requires.may.own c.self.invariant.fits same c.stripe_of-at.ensures c.index_mut-seat.ensures.value in
+    (tried c.is_uniform.ensures c.own_steps.ensures c.is_legal.ensures c.own_numbers.ensures c.args.self.now c.args.session.now _ c.next_call.new.self c.args.key.now c.args.op.now c.stripe_of-at.result
+    c.try_call.result _ c.index_mut-seat.result.now c.try_call.new.gate c.try_call.new.token c.requires.may c.next_call.ensures.call (at_key c.args.self.now _ c.args.key.now _ same c.stripe_of-at.ensures) there refl
+    c.try_call.ensures.agent c.try_call.ensures.tried).0

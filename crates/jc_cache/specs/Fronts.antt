@@ -1,0 +1,82 @@
+-- What a call leaves of its session's view of the key's stripe. The view's front is what the session has seen of the stripe's history:
+-- a prefix of it, for ever. Its own steps are the session's steps there, without those whose answer it has not picked up.
+--     IsSameSeat     the same session's seat at the same stripe, which has not taken it
+--     HasSeen        the front may be longer; the own steps are the former ones
+--     HasMade        the front is a legal history, which begins with the former one; this step is in it behind that, and it is one own
+--                    step more
+--     IsAskedFor     what a call has asked outside for its step: if it shares another call's load, nothing
+--     MakesStep      the call's step: its caller, operation and key, and this reply
+--     SeatAfter      a whole call: its step was made, or it was refused as the state that the view keeps says; of the refusals that change
+--                    nothing it is the full history alone
+--     SeatTried      a call that waits for nobody: its step was made, it was refused as the state that the view keeps says, or as busy
+--     IsBetween      a state of the stripe in which a call was decided: between the former front and the present one
+use Rattle.std.specs.Prelude.{◌≡◌, ◌≤◌, ◌⊎◌, ℕ, false, length, Option, None, Some, Result, Ok, Err, slice_get}
+use mathlib.Core.List.{IsPrefix}
+use Rattle.jc_types.specs.declared.caller.Caller.{Caller}
+use Rattle.jc_types.specs.declared.refusal.Refusal.{Refusal}
+use Rattle.jc_types.specs.declared.refusal.Refusal.TheVariants.{Busy, HistoryFull}
+use Rattle.jc_model.specs.Cache.{Bytes}
+use Rattle.jc_model.specs.Group.{nothing_said}
+use Rattle.jc_model.specs.Legal.{Legal}
+use Rattle.jc_model.specs.declared.event.Event.{Event}
+use Rattle.jc_model.specs.declared.event.Event.TheVariants.{Step}
+use Rattle.jc_model.specs.declared.event.Op.{Op}
+use Rattle.jc_model.specs.declared.event.Out.{Out}
+use Rattle.jc_model.specs.declared.event.Reply.{Reply}
+use Rattle.jc_stripe.specs.State.{State}
+use Rattle.jc_stripe.specs.Laws.{IsSameStripe}
+use Rattle.jc_stripe.specs.Reached.{IsReached}
+use Rattle.jc_stripe.specs.Refusals.{first_refusal}
+use Rattle.jc_stripe.specs.OwnSteps.{HasOneMore}
+use Rattle.jc_lock.specs.declared.view.View.{View}
+
+-- 1. One seat.
+
+pub record IsSameSeat (before after : View) : Type 0 where
+  pub session : after.session ≡ before.session
+  pub next_session : after.next_session ≡ before.next_session
+  pub spent : after.spent ≡ before.spent
+  pub free : after.holds ≡ false
+  pub same : IsSameStripe before.noted after.noted
+
+pub record HasSeen (before after : View) : Type 0 where
+  pub seat : IsSameSeat before after
+  pub front : IsPrefix before.front after.front
+  pub own : after.own ≡ before.own
+
+pub record HasMade (before after : View) (event : Event) (place : ℕ) : Type 0 where
+  pub seat : IsSameSeat before after
+  pub legal : Legal after.noted.config after.noted.opening after.front
+  pub front : IsPrefix before.front after.front
+  pub behind : length before.front ≤ place
+  pub there : slice_get after.front place ≡ Some event
+  pub own : HasOneMore event before.own after.own
+
+-- 2. A whole call.
+
+abbrev pub IsAskedFor : Option ℕ → Out → Out → Type 0
+IsAskedFor None out asked = asked ≡ out
+IsAskedFor (Some shared_with) out asked = asked ≡ nothing_said
+
+pub record MakesStep (before : View) (caller : Caller) (key : Bytes) (op : Op) (asked : Out) (reply : Reply) (after : View) : Type 0 where
+  pub out : Out
+  pub shared_with : Option ℕ
+  pub place : ℕ
+  pub asked_for : IsAskedFor shared_with out asked
+  pub made : HasMade before after (Step caller op key out shared_with reply) place
+
+abbrev pub SeatAfter : View → Caller → Bytes → Op → Out → Result Reply Refusal → View → Type 0
+SeatAfter before caller key op asked (Ok reply) after = MakesStep before caller key op asked reply after
+SeatAfter before caller key op asked (Err refusal) after =
+    HasSeen before after × (asked ≡ nothing_said) × (refusal ≡ HistoryFull) × (first_refusal after.noted caller key op ≡ Some refusal)
+
+abbrev pub SeatTried : View → Caller → Bytes → Op → Result Reply Refusal → View → Type 0
+SeatTried before caller key op (Ok reply) after = MakesStep before caller key op nothing_said reply after
+SeatTried before caller key op (Err refusal) after =
+    HasSeen before after × ((refusal ≡ Busy) ⊎ (first_refusal after.noted caller key op ≡ Some refusal))
+
+pub record IsBetween (before : View) (state : State) (after : View) : Type 0 where
+  pub reached : IsReached state
+  pub same : IsSameStripe before.noted state
+  pub front : IsPrefix before.front state.history
+  pub later : IsPrefix state.history after.front

@@ -1,0 +1,183 @@
+//! Who owns a cache.
+ghost use Rattle.std.specs.Prelude.{◌≡◌, ◌⊎◌, ◌+◌, ◌++◌, ◌≤◌, [], Ok, Err, Some, None, IfOk, IfErr, is_some, map, length, vec_len, vec_capacity};
+ghost use Rattle.atomic_table.specs.Seated.{TableId};
+ghost use Rattle.jc_types.specs.Limits.{check};
+ghost use Rattle.jc_types.specs.declared.refusal.Refusal.TheVariants.{OutOfMemory};
+ghost use Rattle.jc_lock.specs.Views.{after_split, session_view};
+ghost use Rattle.jc_lock.specs.declared.view.View.{View};
+ghost use Rattle.jc_cache.specs.Caches.{session_refusal};
+ghost use Rattle.jc_cache.specs.CacheInside.{IsWhole, GiveNumbers};
+ghost use Rattle.jc_cache.specs.Sessions.{MayCall};
+
+use crate::cache::Cache;
+use crate::session::Session;
+use jc_lock::{HistLock, Seat};
+use jc_outside::{CacheLoader, CacheWriter};
+use jc_session::{Agent, SessionFault};
+use jc_stripe::{Origin, Stripe};
+use jc_types::{Config, Refusal, SESSIONS_MAX};
+use std::alloc::{AllocError, Global};
+use std::marker::Model;
+
+/// Who owns a cache: makes it, gives its sessions out, lends it to threads, and closes it.
+///
+/// It has a seat of its own at each lock, which gives the numbers of sessions out. A seat isn't shared between threads, so an owner
+/// isn't; its cache is.
+#[derive(Drop)]
+pub struct CacheOwner {
+    pub(crate) cache: Cache,
+    pub(crate) given: u32,
+    pub(crate) seats: Vec<Seat>,
+}
+
+impl Model for CacheOwner {
+    ghost use Rattle.std.specs.Coded.{codes, coded_list};
+    ghost use Rattle.atomic_table.specs.Seated.{table_id_coded};
+    ghost use Rattle.jc_cache.specs.Caches.{OwnerState};
+    ghost use Rattle.jc_cache.specs.CacheInside.{IsWhole};
+
+    ghost Value = { OwnerState };
+
+    ghost coded = { Prim.hlevel (codes, coded_list table_id_coded) };
+
+    ghost view = { λ o. record { cache = o.cache; given = o.given } };
+
+    ghost invariant = { λ o. IsWhole o.cache.config o.given o.cache.locks o.seats.items };
+}
+
+/// Locks round as many empty stripes as the shape says, each with its first seat. An `Err` says that an allocation failed.
+fn locks(alloc: Global, config: &Config) -> Result<(Vec<HistLock>, Vec<Seat>), AllocError>
+    requires { check config.now ≡ Ok tt }
+    ensures { IfOk result (λ r. IsWhole config.now 0 r.0.items r.1.items) }
+{
+    let mut locks = Vec::with_capacity(alloc, config.stripes)?;
+    let mut seats = Vec::with_capacity(alloc, config.stripes)?;
+    for i in 0..config.stripes {
+        let stripe = Stripe::new(alloc, config, i, Origin::Live)?;
+        let (lock, seat) = HistLock::new(alloc, Box::new(alloc, stripe)?)?;
+        locks.push_reserved(lock);
+        seats.push_reserved(seat);
+    }
+    Ok((locks, seats))
+}
+
+/// A seat for the next session at each lock.
+fn split(locks: &[HistLock], own: &mut Vec<Seat>, seats: &mut Vec<Seat>)
+    requires locks { map (λ (seat : TableId × View). seat.0) own.old.items ≡ locks.now }
+    requires gives { GiveNumbers own.old.items }
+    requires room { vec_len seats.old + length locks.now ≤ vec_capacity seats.old }
+    ensures own { own.new.items ≡ map (λ (seat : TableId × View). (seat.0, after_split seat.1)) own.old.items }
+    ensures seats { seats.new.items ≡ seats.old.items ++ map (λ (seat : TableId × View). (seat.0, session_view seat.1)) own.old.items }
+{
+    for i in 0..locks.len() {
+        seats.push_reserved(locks[i].split(&mut own[i]));
+    }
+}
+
+impl CacheOwner {
+    /// An empty cache of this shape. All memory that it may need is taken here, but for entries and sessions.
+    ///
+    /// It is refused if the shape is out of its limits (`BadConfig`), and if an allocation failed (`OutOfMemory`).
+    pub fn new(alloc: Global, config: &Config) -> Result<CacheOwner, Refusal>
+        ensures ok { IfOk result (λ o. (o.cache.config ≡ config.now) × (o.given ≡ 0) × (length o.cache.locks ≡ config.now.stripes)) }
+        ensures err { IfErr result (λ r. (check config.now ≡ Err r) ⊎ ((check config.now ≡ Ok tt) × (r ≡ OutOfMemory))) }
+    {
+        config.check()?;
+        match locks(alloc, config) {
+            Ok((locks, seats)) => Ok(CacheOwner {
+                cache: Cache {
+                    config: *config,
+                    locks,
+                },
+                given: 0,
+                seats,
+            }),
+            Err(_) => Err(Refusal::OutOfMemory),
+        }
+    }
+
+    /// A session with a loader and a writer of its own, and a seat at each stripe.
+    ///
+    /// It is refused, and the boxes come back, if `SESSIONS_MAX` were given out (`TooManySessions`), if the cache reads through and
+    /// there is no loader (`NoLoader`), if it writes through and there is no writer (`NoWriter`), and if an allocation failed
+    /// (`OutOfMemory`), tested in this order. Sessions that were given out before stay as they are.
+    pub fn session(
+        &mut self,
+        alloc: Global,
+        loader: Option<Box<dyn CacheLoader + Send + Drop>>,
+        writer: Option<Box<dyn CacheWriter + Send + Drop>>,
+    ) -> Result<Session, SessionFault>
+        ensures owner { IfOk result (λ s. self.new ≡ record self.old { given = self.old.given + 1 }) }
+        ensures caller { IfOk result (λ s. s.agent.caller ≡ record { session = self.old.given; call = 0 }) }
+        ensures boxes { IfOk result (λ s. (s.agent.hands.outside.loader ≡ loader) × (s.agent.hands.outside.writer ≡ writer)) }
+        ensures may { IfOk result (λ s. MayCall self.new.cache s) }
+        ensures none { IfOk result (λ s. s.agent.counts.own ≡ 0) }
+        ensures ok { IfOk result (λ s. session_refusal self.old (is_some loader) (is_some writer) ≡ None) }
+        ensures why { IfErr result (λ f. (session_refusal self.old (is_some loader) (is_some writer) ≡ Some f.refusal)
+            ⊎ ((session_refusal self.old (is_some loader) (is_some writer) ≡ None) × (f.refusal ≡ OutOfMemory))) }
+        ensures same { IfErr result (λ f. self.new ≡ self.old) }
+        ensures back { IfErr result (λ f. (f.loader ≡ loader) × (f.writer ≡ writer)) }
+    {
+        if let Some(refusal) = self.session_refusal(loader.is_some(), writer.is_some()) {
+            return Err(SessionFault {
+                refusal,
+                loader,
+                writer,
+            });
+        }
+        match Vec::with_capacity(alloc, self.cache.locks().len()) {
+            Ok(seats) => Ok(self.give_out(seats, loader, writer)),
+            Err(_) => Err(SessionFault {
+                refusal: Refusal::OutOfMemory,
+                loader,
+                writer,
+            }),
+        }
+    }
+
+    /// The cache, to be shared with threads.
+    pub fn cache(&self) -> &Cache
+        ensures { result.now ≡ self.now.cache }
+    {
+        &self.cache
+    }
+
+    /// Why a session with or without a loader and a writer is refused, if it is.
+    fn session_refusal(&self, has_loader: bool, has_writer: bool) -> Option<Refusal>
+        ensures { result ≡ session_refusal self.now has_loader has_writer }
+    {
+        if self.given >= SESSIONS_MAX {
+            return Some(Refusal::TooManySessions);
+        }
+        if self.cache.config().read_through && !has_loader {
+            return Some(Refusal::NoLoader);
+        }
+        if self.cache.config().write_through && !has_writer {
+            return Some(Refusal::NoWriter);
+        }
+        None
+    }
+
+    /// The next session, with its seats in a list that has room for them.
+    fn give_out(
+        &mut self,
+        seats: Vec<Seat>,
+        loader: Option<Box<dyn CacheLoader + Send + Drop>>,
+        writer: Option<Box<dyn CacheWriter + Send + Drop>>,
+    ) -> Session
+        requires refused { session_refusal self.old (is_some loader) (is_some writer) ≡ None }
+        requires empty { seats.items ≡ [] }
+        requires room { length self.old.cache.locks ≤ vec_capacity seats }
+        ensures owner { self.new ≡ record self.old { given = self.old.given + 1 } }
+        ensures caller { result.agent.caller ≡ record { session = self.old.given; call = 0 } }
+        ensures boxes { (result.agent.hands.outside.loader ≡ loader) × (result.agent.hands.outside.writer ≡ writer) }
+        ensures may { MayCall self.new.cache result }
+        ensures none { result.agent.counts.own ≡ 0 }
+    {
+        let mut seats = seats;
+        split(self.cache.locks(), &mut self.seats, &mut seats);
+        let agent = Agent::new(self.given, loader, writer);
+        self.given += 1;
+        Session { seats, agent }
+    }
+}

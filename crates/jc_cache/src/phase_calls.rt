@@ -1,0 +1,192 @@
+//! The phases of calls, one at a time, for those who make a call of their own of them. Between two phases of a call, others' phases
+//! may be made on the same stripe, and no stripe is held: there the session's loader, writer or a processor may be called.
+//!
+//! Each takes the key's stripe, makes one phase of the session, and gives the stripe back. It waits while another phase is made there,
+//! and until the stripe is one on which this phase can be made: a first phase until the session has no other call out there, a
+//! commit or a pick-up until the ticket or the join is out there, as it always is on the cache that gave it. The session has then
+//! seen the stripe up to the phase.
+ghost use Rattle.std.specs.Prelude.{◌≡◌, ◌+◌, ◌<◌, ◌≤◌, true, IsSome, vec_len, vec_capacity};
+ghost use Rattle.jc_types.specs.Stripes.{stripe_of};
+ghost use Rattle.jc_model.specs.Group.{load_only, write_only};
+ghost use Rattle.jc_outside.specs.declared.done.Origin.TheVariants.{Live};
+ghost use Rattle.jc_stripe.specs.Effects.{HasReport, change_due, process_out};
+ghost use Rattle.jc_stripe.specs.Keys.{Looks};
+ghost use Rattle.jc_stripe.specs.Phases.{Begins, Commits, PicksUp};
+ghost use Rattle.jc_stripe.specs.Tickets.{asks_loader, asks_processor, asks_writer, claim_of};
+ghost use Rattle.jc_session.specs.Counting.{counted_begun, counted_picked};
+ghost use Rattle.jc_session.specs.declared.counts.Counted.TheVariants.{Committed, Nothing};
+ghost use Rattle.jc_engine.specs.Answered.{IsAnswered, out_of};
+ghost use Rattle.jc_engine.specs.Needs.{IsReported};
+ghost use Rattle.jc_cache.specs.Sessions.{IsOf};
+ghost use Rattle.jc_cache.specs.PhaseCalls.{MayStart, PhaseAt};
+
+use crate::cache::Cache;
+use crate::session::Session;
+use jc_engine::{Answered, Commit, PickUpNow, StartNow, make_phase};
+use jc_model::Op;
+use jc_session::Counted;
+use jc_stripe::phase_laws::{is_uniform, own_steps};
+use jc_stripe::{Ask, Begun, Join, LoadDone, Picked, ProcDone, StepDone, Ticket, WriteDone};
+use jc_types::{Key, stripe_of};
+use std::sync::Wait;
+
+impl Cache {
+    /// The first phase of the session's current call at a key. Each refusal is an answer of it: it waits out none.
+    ///
+    /// Conditions: the session is of this cache, and its own steps let the call begin at the key.
+    pub fn start<R: Wait>(&self, rt: &R, session: &mut Session, key: &Key, op: &Op) -> Begun
+        requires own { IsOf self.now session.old }
+        requires may { MayStart self.now session.old key.now }
+        ensures own { IsOf self.now session.new }
+        ensures phase { PhaseAt (stripe_of key.now self.now.config.stripes) session.old
+            (λ a b. Begins a session.old.agent.caller key.now op.now result b)
+            (counted_begun result) session.new }
+    {
+        is_uniform();
+        own_steps();
+        let at = stripe_of(key, self.config.stripes);
+        let caller = session.agent.caller();
+        let mut lock = &self.locks[at];
+        let seat = &mut session.seats[at];
+        let agent = &mut session.agent;
+        make_phase(rt, &mut lock, seat, agent, StartNow { caller, key, op })
+    }
+
+    /// The last phase of a call whose loader has answered.
+    ///
+    /// Conditions: the session is of this cache, and the ticket is of the session; the done value is the answer to its ask.
+    pub fn commit_load<R: Wait>(
+        &self,
+        rt: &R,
+        session: &mut Session,
+        ticket: Ticket,
+        done: LoadDone<Ask>,
+    ) -> StepDone
+        requires own { IsOf self.now session.old }
+        requires caller { ticket.reservation.caller.session ≡ session.old.agent.caller.session }
+        requires first { asks_loader ticket.reservation.first ≡ true }
+        requires done { (done.ask ≡ claim_of ticket.reservation) × (done.origin ≡ Live) }
+        ensures own { IsOf self.now session.new }
+        ensures phase { PhaseAt (stripe_of ticket.reservation.key self.now.config.stripes) session.old
+            (λ a b. Commits a ticket.reservation (load_only done.answer) result b)
+            Committed session.new }
+    {
+        self.commit(rt, session, ticket, Answered::Loaded(done))
+    }
+
+    /// The last phase of a call whose writer has reported.
+    ///
+    /// Conditions: the session is of this cache, and the ticket is of the session; the done value is the answer to its ask.
+    pub fn commit_write<R: Wait>(
+        &self,
+        rt: &R,
+        session: &mut Session,
+        ticket: Ticket,
+        done: WriteDone<Ask>,
+    ) -> StepDone
+        requires own { IsOf self.now session.old }
+        requires caller { ticket.reservation.caller.session ≡ session.old.agent.caller.session }
+        requires first { asks_writer ticket.reservation.first ≡ true }
+        requires done { (done.ask ≡ claim_of ticket.reservation) × (done.origin ≡ Live) }
+        ensures own { IsOf self.now session.new }
+        ensures phase { PhaseAt (stripe_of ticket.reservation.key self.now.config.stripes) session.old
+            (λ a b. Commits a ticket.reservation (write_only done.answer) result b)
+            Committed session.new }
+    {
+        self.commit(rt, session, ticket, Answered::Written(done))
+    }
+
+    /// The last phase of a call whose processor has run.
+    ///
+    /// Conditions: the session is of this cache, and the ticket is of the session; the done value is the answer to its ask; the
+    /// writer's report is there exactly if the cache writes through and the processor has a net effect to be written, and is the
+    /// answer to that ask.
+    pub fn commit_process<R: Wait>(
+        &self,
+        rt: &R,
+        session: &mut Session,
+        ticket: Ticket,
+        done: ProcDone<Ask>,
+        report: Option<WriteDone<Ask>>,
+    ) -> StepDone
+        requires own { IsOf self.now session.old }
+        requires caller { ticket.reservation.caller.session ≡ session.old.agent.caller.session }
+        requires first { asks_processor ticket.reservation.first ≡ true }
+        requires done { (done.ask ≡ claim_of ticket.reservation) × (done.origin ≡ Live) }
+        requires report { HasReport Live ticket.reservation (change_due self.now.config done) report }
+        ensures own { IsOf self.now session.new }
+        ensures phase { PhaseAt (stripe_of ticket.reservation.key self.now.config.stripes) session.old
+            (λ a b. Commits a ticket.reservation (process_out done report) result b)
+            Committed session.new }
+    {
+        self.commit(rt, session, ticket, Answered::Processed(done, report))
+    }
+
+    /// A call that has joined a load asks for its answer. It does not wait for the answer: `NotYet` gives the join back.
+    ///
+    /// Conditions: the session is of this cache, and the join is of the session.
+    pub fn pick_up<R: Wait>(&self, rt: &R, session: &mut Session, join: Join) -> Picked
+        requires own { IsOf self.now session.old }
+        requires caller { join.caller.session ≡ session.old.agent.caller.session }
+        ensures own { IsOf self.now session.new }
+        ensures phase { PhaseAt (stripe_of join.key self.now.config.stripes) session.old
+            (λ a b. PicksUp a join result b) (counted_picked result) session.new }
+    {
+        is_uniform();
+        own_steps();
+        let at = stripe_of(join.key(), self.config.stripes);
+        let mut lock = &self.locks[at];
+        let seat = &mut session.seats[at];
+        let agent = &mut session.agent;
+        make_phase(rt, &mut lock, seat, agent, PickUpNow { join })
+    }
+
+    /// Appends the keys of one stripe that have an entry, each once, in byte order. It changes no stripe, and takes no memory.
+    ///
+    /// Conditions: the session is of this cache; there is a stripe of this number, and the vector has room for as many keys as a
+    /// stripe may cache.
+    pub fn look<R: Wait>(&self, rt: &R, session: &mut Session, number: usize, out: &mut Vec<Key>)
+        requires own { IsOf self.now session.old }
+        requires stripe { number < self.now.config.stripes }
+        requires room { vec_len out.old + self.now.config.capacity ≤ vec_capacity out.old }
+        ensures own { IsOf self.now session.new }
+        ensures phase { PhaseAt number session.old
+            (λ a b. (b ≡ a) × Looks a out.old.items out.new.items) Nothing session.new }
+        ensures few { vec_len out.new ≤ vec_len out.old + self.now.config.capacity }
+        ensures capacity { vec_capacity out.new ≡ vec_capacity out.old }
+    {
+        is_uniform();
+        let mut lock = &self.locks[number];
+        let seat = &mut session.seats[number];
+        let agent = &mut session.agent;
+        let stripe = agent.take(rt, &mut lock, seat);
+        stripe.keys(out);
+        agent.give(&mut lock, seat, stripe, Counted::Nothing);
+    }
+
+    /// The last phase of a call that was answered outside.
+    fn commit<R: Wait>(
+        &self,
+        rt: &R,
+        session: &mut Session,
+        ticket: Ticket,
+        answered: Answered,
+    ) -> StepDone
+        requires own { IsOf self.now session.old }
+        requires caller { ticket.reservation.caller.session ≡ session.old.agent.caller.session }
+        requires answered { IsAnswered ticket answered }
+        requires reported { IsReported self.now.config ticket.reservation answered }
+        ensures own { IsOf self.now session.new }
+        ensures phase { PhaseAt (stripe_of ticket.reservation.key self.now.config.stripes) session.old
+            (λ a b. Commits a ticket.reservation (out_of answered) result b)
+            Committed session.new }
+    {
+        is_uniform();
+        own_steps();
+        let at = stripe_of(&ticket.reservation().key, self.config.stripes);
+        let mut lock = &self.locks[at];
+        let seat = &mut session.seats[at];
+        let agent = &mut session.agent;
+        make_phase(rt, &mut lock, seat, agent, Commit { ticket, answered })
+    }
+}

@@ -1,0 +1,57 @@
+-- States that come after one another.
+--     comes_itself    a state comes after itself
+--     comes_on        one after the other
+--     comes_by        after a phase that leaves the session's own steps
+--     since_start     of what the first take finds
+--     since_on        of what is found after what was found
+--     since_both      of what is found after what a take could have found in between
+--     since_phase     of what a take finds after a phase that leaves the session's own steps
+use Rattle.std.proofs.Common.{◌≡◌, ℕ, List, [], ◌++◌, refl, sym, ap, ◌∙◌, append_assoc, append-nil, le_refl, arith}
+use mathlib.Core.List.{IsPrefix}
+use Rattle.jc_model.specs.declared.event.Event.{Event}
+use Rattle.jc_stripe.specs.State.{State}
+use Rattle.jc_stripe.specs.Reached.{IsReached}
+use Rattle.jc_stripe.specs.OnePhase.{OnePhase, IsPhaseOf, own_steps}
+use Rattle.jc_gate.specs.Lending.{ComesAfter}
+use Rattle.jc_engine.specs.Chain.{Since, LentPhase}
+
+pub comes_itself : (session : ℕ) (a : State) → ComesAfter session a a
+comes_itself session a = record {
+  same = record { config = refl; stripe = refl; origin = refl; opening = refl };
+  front = ([], append-nil a.history);
+  next = le_refl a.next;
+  own = refl;
+}
+
+prefix_on : (xs ys zs : List Event) → IsPrefix xs ys → IsPrefix ys zs → IsPrefix xs zs
+prefix_on xs ys zs p q = (p.0 ++ q.0, sym (append_assoc xs p.0 q.0) ∙ ap (λ (l : List Event). l ++ q.0) p.1 ∙ q.1)
+
+pub comes_on : (session : ℕ) (a b c : State) → ComesAfter session a b → ComesAfter session b c → ComesAfter session a c
+comes_on session a b c p q = record {
+  same = record { config = q.same.config ∙ p.same.config; stripe = q.same.stripe ∙ p.same.stripe; origin = q.same.origin ∙ p.same.origin; opening = q.same.opening ∙ p.same.opening };
+  front = prefix_on a.history b.history c.history p.front q.front;
+  next = (let one = p.next in let two = q.next in omega arith);
+  own = q.own ∙ p.own;
+}
+
+pub comes_by : OnePhase → (session : ℕ) (a b : State) → IsReached a → IsPhaseOf session a b → own_steps session b ≡ own_steps session a → ComesAfter session a b
+comes_by law session a b reached one own =
+    let u = law session a b reached one in record { same = u.grows.same; front = (u.grows.more, sym u.grows.history); next = u.next; own = own }
+
+module _ {G T : Type 0} (finds : G → T → State → Type 0) (session : ℕ) where
+  pub since_start : (g : G) (t : T) (a : State) → finds g t a → Since finds session g t a
+  since_start g t a found = record { first = a; finds_first = found; after = comes_itself session a }
+
+  pub since_on : (g : G) (t : T) (a b : State) → Since finds session g t a → ComesAfter session a b → Since finds session g t b
+  since_on g t a b p after = record { first = p.first; finds_first = p.finds_first; after = comes_on session p.first a b p.after after }
+
+  pub since_both : (g : G) (t : T) (h : G) (u : T) (b : State) → ((a : State) → finds h u a → Since finds session g t a) → Since finds session h u b → Since finds session g t b
+  since_both g t h u b p q = since_on g t q.first b (p q.first q.finds_first) q.after
+
+pub since_phase : {G T : Type 0} (takes gives : G → T → State → G → T → Type 0) (finds : G → T → State → Type 0) (session : ℕ) → OnePhase
+    → (g : G) (t : T) (h : G) (u : T) (phase : State → State → Type 0) (k : G) (v : T) → ((a : State) → finds h u a → Since finds session g t a)
+    → (x : LentPhase takes gives finds session h u phase k v) → own_steps session x.after ≡ own_steps session x.before → (a : State) → finds k v a → Since finds session g t a
+since_phase takes gives finds session law g t h u phase k v all x own a found =
+    since_on finds session g t x.after a
+    (since_on finds session g t x.before x.after (since_both finds session g t h u x.before all x.since) (comes_by law session x.before x.after x.lent.reached x.one own))
+    (x.next a found)

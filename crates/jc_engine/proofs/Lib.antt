@@ -1,0 +1,12 @@
+pub mod Beginning
+pub mod Chains
+pub mod Coming
+pub mod Rounds
+pub mod AgentAfter
+pub mod Asked
+pub mod Asking
+pub mod FromPhases
+pub mod OwnedCalls
+pub mod Processing
+pub mod Unasked
+pub mod Wanted

@@ -1,0 +1,67 @@
+use Rattle.std.proofs.Common.{refl}
+use Rattle.jc_stripe.specs.declared.begun.Begun.TheVariants as begun
+use Rattle.jc_engine.specs.declared.entering.Entered.TheVariants as entered
+use Rattle.jc_engine.proofs.AgentAfter.{session_is, session_joined, after_answer, after_retry}
+use Rattle.jc_engine.proofs.Rounds.{rounds_start, rounds_on, starts_by, shares, enters}
+use Rattle.jc_engine.proofs.entering.enter.Goals as goal
+
+pub loop-init : goal.loop-init
+loop-init g c = record {
+  agent = refl;
+  so = rounds_start g.G.Gate.takes g.G.Gate.gives g.G.Gate.finds g.G.Gate.is_free g.G.Gate.speaks_for c.args.agent.now.caller c.args.key.now c.args.op.now c.args.gate.now c.args.token.now c.requires.free;
+}
+
+pub returns-in-Done-clause-speaks : goal.returns-in-Done-clause-speaks
+returns-in-Done-clause-speaks g c = λ n s. c.in-Done.ensures.speaks n (c.loop.invariant.so.speaks n s)
+
+pub returns-in-Done-clause-enters : goal.returns-in-Done-clause-enters
+returns-in-Done-clause-enters g c =
+    let x = starts_by g.G.Gate.takes g.G.Gate.gives g.G.Gate.finds c.args.agent.now.caller c.args.key.now c.args.op.now c.loop.agent.caller.session c.caller-caller.result (begun.Done c.in-Done.step) c.loop.gate c.loop.token c.make_phase.new.gate c.make_phase.new.token
+    (session_is c.args.agent.now c.loop.agent c.loop.invariant.agent) c.caller-caller.ensures c.in-Done.ensures.phase in
+    enters g.G.Gate.takes g.G.Gate.gives g.G.Gate.finds g.G.Gate.is_free g.G.Gate.speaks_for c.args.agent.now.caller c.args.key.now c.args.op.now c.args.gate.now c.args.token.now c.loop.gate c.loop.token (begun.Done c.in-Done.step) c.make_phase.new.gate c.make_phase.new.token (entered.Done c.in-Done.step.reply) c.make_phase.new.gate c.make_phase.new.token c.loop.invariant.so x
+    (refl, refl, refl)
+
+pub returns-in-Refused-clause-enters : goal.returns-in-Refused-clause-enters
+returns-in-Refused-clause-enters g c =
+    let x = starts_by g.G.Gate.takes g.G.Gate.gives g.G.Gate.finds c.args.agent.now.caller c.args.key.now c.args.op.now c.loop.agent.caller.session c.caller-caller.result (begun.Refused c.in-Refused.refusal) c.loop.gate c.loop.token c.make_phase.new.gate c.make_phase.new.token
+    (session_is c.args.agent.now c.loop.agent c.loop.invariant.agent) c.caller-caller.ensures c.in-Refused.ensures.phase in
+    enters g.G.Gate.takes g.G.Gate.gives g.G.Gate.finds g.G.Gate.is_free g.G.Gate.speaks_for c.args.agent.now.caller c.args.key.now c.args.op.now c.args.gate.now c.args.token.now c.loop.gate c.loop.token (begun.Refused c.in-Refused.refusal) c.make_phase.new.gate c.make_phase.new.token (entered.Refused c.in-Refused.refusal) c.make_phase.new.gate c.make_phase.new.token c.loop.invariant.so x
+    (refl, refl, refl)
+
+pub returns-in-Asks-clause-speaks : goal.returns-in-Asks-clause-speaks
+returns-in-Asks-clause-speaks g c = λ n s. c.in-Asks.ensures.speaks n (c.loop.invariant.so.speaks n s)
+
+pub returns-in-Asks-clause-enters : goal.returns-in-Asks-clause-enters
+returns-in-Asks-clause-enters g c =
+    let x = starts_by g.G.Gate.takes g.G.Gate.gives g.G.Gate.finds c.args.agent.now.caller c.args.key.now c.args.op.now c.loop.agent.caller.session c.caller-caller.result (begun.Asks c.in-Asks.ticket) c.loop.gate c.loop.token c.make_phase.new.gate c.make_phase.new.token
+    (session_is c.args.agent.now c.loop.agent c.loop.invariant.agent) c.caller-caller.ensures c.in-Asks.ensures.phase in
+    enters g.G.Gate.takes g.G.Gate.gives g.G.Gate.finds g.G.Gate.is_free g.G.Gate.speaks_for c.args.agent.now.caller c.args.key.now c.args.op.now c.args.gate.now c.args.token.now c.loop.gate c.loop.token (begun.Asks c.in-Asks.ticket) c.make_phase.new.gate c.make_phase.new.token (entered.Asks c.in-Asks.ticket) c.make_phase.new.gate c.make_phase.new.token c.loop.invariant.so x
+    (refl, refl, refl)
+
+pub returns-in-Some-pick_up-clause-agent : goal.returns-in-Some-pick_up-clause-agent
+returns-in-Some-pick_up-clause-agent g c =
+    after_answer c.args.agent.now c.loop.agent c.make_phase.new.agent c.pick_up.new.agent c.requires.none.1 c.loop.invariant.agent c.in-Joined.ensures.agent c.in-Some-pick_up.ensures.counts
+
+pub returns-in-Some-pick_up-clause-speaks : goal.returns-in-Some-pick_up-clause-speaks
+returns-in-Some-pick_up-clause-speaks g c = λ n s. c.pick_up.ensures.speaks n (c.in-Joined.ensures.speaks n (c.loop.invariant.so.speaks n s))
+
+pub returns-in-Some-pick_up-clause-enters : goal.returns-in-Some-pick_up-clause-enters
+returns-in-Some-pick_up-clause-enters g c =
+    let x = starts_by g.G.Gate.takes g.G.Gate.gives g.G.Gate.finds c.args.agent.now.caller c.args.key.now c.args.op.now c.loop.agent.caller.session c.caller-caller.result (begun.Joined c.in-Joined.join) c.loop.gate c.loop.token c.make_phase.new.gate c.make_phase.new.token
+    (session_is c.args.agent.now c.loop.agent c.loop.invariant.agent) c.caller-caller.ensures c.in-Joined.ensures.phase in
+    let answer = c.in-Some-pick_up.ensures.answer in
+    enters g.G.Gate.takes g.G.Gate.gives g.G.Gate.finds g.G.Gate.is_free g.G.Gate.speaks_for c.args.agent.now.caller c.args.key.now c.args.op.now c.args.gate.now c.args.token.now c.loop.gate c.loop.token (begun.Joined c.in-Joined.join) c.make_phase.new.gate c.make_phase.new.token (entered.Done c.in-Some-pick_up.reply) c.pick_up.new.gate c.pick_up.new.token c.loop.invariant.so x
+    (shares g.G.Gate.takes g.G.Gate.gives g.G.Gate.finds c.args.agent.now.caller c.args.key.now c.args.op.now c.in-Joined.join c.loop.gate c.loop.token c.make_phase.new.gate c.make_phase.new.token c.make_phase.new.agent.caller.session c.in-Some-pick_up.reply answer.0 answer.1 c.pick_up.new.gate c.pick_up.new.token x
+    (session_joined c.args.agent.now c.loop.agent c.make_phase.new.agent c.loop.invariant.agent c.in-Joined.ensures.agent) answer.2)
+
+pub loop-preserved : goal.loop-preserved
+loop-preserved g c =
+    let x = starts_by g.G.Gate.takes g.G.Gate.gives g.G.Gate.finds c.args.agent.now.caller c.args.key.now c.args.op.now c.loop.agent.caller.session c.caller-caller.result (begun.Joined c.in-Joined.join) c.loop.gate c.loop.token c.make_phase.new.gate c.make_phase.new.token
+    (session_is c.args.agent.now c.loop.agent c.loop.invariant.agent) c.caller-caller.ensures c.in-Joined.ensures.phase in
+    record {
+      agent = after_retry c.args.agent.now c.loop.agent c.make_phase.new.agent c.pick_up.new.agent c.requires.none.1 c.loop.invariant.agent c.in-Joined.ensures.agent c.in_default.ensures.none;
+      so = rounds_on g.G.Gate.takes g.G.Gate.gives g.G.Gate.finds g.G.Gate.is_free g.G.Gate.speaks_for c.args.agent.now.caller c.args.key.now c.args.op.now c.is_uniform.ensures c.own_steps.ensures
+          c.args.gate.now c.args.token.now c.loop.gate c.loop.token c.in-Joined.join c.make_phase.new.gate c.make_phase.new.token c.pick_up.new.gate c.pick_up.new.token c.loop.invariant.so x c.make_phase.new.agent.caller.session
+          (session_joined c.args.agent.now c.loop.agent c.make_phase.new.agent c.loop.invariant.agent c.in-Joined.ensures.agent) c.in_default.ensures.again
+          c.pick_up.ensures.free c.in-Joined.ensures.speaks c.pick_up.ensures.speaks;
+    }

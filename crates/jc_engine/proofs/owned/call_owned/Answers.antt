@@ -1,0 +1,16 @@
+use Rattle.std.proofs.Common.{◌≡◌, Option, None, Some, IsSome, refl}
+use Rattle.jc_stripe.specs.State.{State}
+use Rattle.jc_engine.proofs.OwnedCalls.{owned_call}
+use Rattle.jc_engine.proofs.owned.call_owned.Goals as goal
+
+there_is : (owner : Option State) → IsSome owner → (a : State) × (owner ≡ Some a)
+there_is None there = cc
+there_is (Some a) there = (a, refl)
+
+pub returns : goal.returns
+returns g c =
+    let there = there_is c.args.owner.now c.requires.there in
+    record {
+      call = owned_call _ _ _ _ c.whole_call.ensures c.joins_only_loads.ensures c.args.agent.now c.call.new.agent c.args.key.now c.args.op.now c.args.owner.now _ c.call.result c.call.new.gate _
+          there.0 there.1 (c.requires.idle there.0 there.1) c.call.ensures.call;
+    }

@@ -1,0 +1,43 @@
+use Rattle.std.proofs.Common.{rules, ◌∙◌, ap, refl, inl}
+use Rattle.jc_session.proofs.CallerLemmas.{phase_of}
+use Rattle.jc_engine.proofs.Coming.{since_start}
+use Rattle.jc_engine.proofs.Chains.{rests-start, rests-on}
+use Rattle.jc_engine.proofs.phase.try_phase.Goals as goal
+
+pub give-requires-clause-phase : goal.give-requires-clause-phase
+give-requires-clause-phase g c = (
+  c.in-Some.stripe.value,
+  c.in-Some.ensures.taken,
+  rw (c.counted.ensures, ap (λ a. a.caller.session) c.in-Some.ensures.some, ← c.requires.who, ← c.deref_mut.ensures.value) c.in-Ok.ensures.counted,
+)
+
+pub give-requires-in-Err-clause-phase : goal.give-requires-in-Err-clause-phase
+give-requires-in-Err-clause-phase g c = (
+  c.in-Some.stripe.value,
+  c.in-Some.ensures.taken,
+  inl (c.in-Err.ensures.back.1 ∙ c.deref_mut.ensures.value, refl),
+)
+
+pub returns-in-Ok-clause-made : goal.returns-in-Ok-clause-made
+returns-in-Ok-clause-made g c = record {
+  gate = c.args.gate.now;
+  token = c.args.token.now;
+  rests = rests-start g.G.Gate.takes g.G.Gate.gives g.G.Gate.finds c.args.gate.now c.args.token.now;
+  before = c.in-Some.stripe.value;
+  after = c.make.new.stripe;
+  since = since_start g.G.Gate.finds _ c.args.gate.now c.args.token.now _ c.in-Some.ensures.found.0;
+  lent = record { gate = c.try_take.new.gate; token = c.try_take.new.token; took = c.in-Some.ensures.takes; reached = c.in-Some.ensures.found.1; gave = c.give.ensures.gives };
+  made = rw (← c.deref_mut.ensures.value) c.in-Ok.ensures.made;
+  one = rw (← c.requires.who, ← c.deref_mut.ensures.value) (phase_of _ _ _ _ c.in-Ok.ensures.counted);
+  next = λ a f. c.give.ensures.next _ a (c.in-Some.ensures.speaks _ c.requires.speaks) f;
+}
+
+pub returns-in-Err-clause-back : goal.returns-in-Err-clause-back
+returns-in-Err-clause-back g c = (
+  c.in-Err.ensures.back.0,
+  search rules,
+  rests-on g.G.Gate.takes g.G.Gate.gives g.G.Gate.finds _ _ _ _ c.in-Some.stripe.value c.make.new.stripe _ _
+      (rests-start g.G.Gate.takes g.G.Gate.gives g.G.Gate.finds c.args.gate.now c.args.token.now)
+      record { gate = c.try_take.new.gate; token = c.try_take.new.token; took = c.in-Some.ensures.takes; reached = c.in-Some.ensures.found.1; gave = c.give-in-Err.ensures.gives }
+      (c.in-Err.ensures.back.1 ∙ c.deref_mut.ensures.value),
+)

@@ -1,0 +1,21 @@
+-- What a call keeps that was answered outside.
+--     out_of          what was answered, as the outside answers of its step
+--     IsAnswered      the one whom the ticket's reservation asks first has answered the ticket's ask
+use Rattle.std.specs.Prelude.{◌≡◌, true}
+use Rattle.jc_model.specs.declared.event.Out.{Out}
+use Rattle.jc_model.specs.Group.{load_only, write_only}
+use Rattle.jc_outside.specs.declared.done.Origin.TheVariants.{Live}
+use Rattle.jc_stripe.specs.Effects.{process_out}
+use Rattle.jc_stripe.specs.Tickets.{TicketClaim, claim_of, asks_loader, asks_writer, asks_processor}
+use Rattle.jc_engine.specs.declared.answered.Answered.{Answered}
+use Rattle.jc_engine.specs.declared.answered.Answered.TheVariants.{Loaded, Written, Processed}
+
+abbrev pub out_of : Answered → Out
+out_of (Loaded done) = load_only done.answer
+out_of (Written done) = write_only done.answer
+out_of (Processed done report) = process_out done report
+
+abbrev pub IsAnswered : TicketClaim → Answered → Type 0
+IsAnswered ticket (Loaded done) = (asks_loader ticket.reservation.first ≡ true) × (done.ask ≡ claim_of ticket.reservation) × (done.origin ≡ Live)
+IsAnswered ticket (Written done) = (asks_writer ticket.reservation.first ≡ true) × (done.ask ≡ claim_of ticket.reservation) × (done.origin ≡ Live)
+IsAnswered ticket (Processed done report) = (asks_processor ticket.reservation.first ≡ true) × (done.ask ≡ claim_of ticket.reservation) × (done.origin ≡ Live)

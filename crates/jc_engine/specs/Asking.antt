@@ -1,0 +1,47 @@
+-- What a whole call does outside.
+--     change_wanted    the change of the store that the writer table asks for, by what a processor answered, with write-through on
+--     AsksLoader       what a step's answer says of the loader: it was called once, with this key, and answered this; or it is untouched
+--     AsksWriter       the same of the writer, for the change that was asked for
+--     KeepsTypes       the agent's loader and writer are of the types that they had before
+--     own_after        how many steps the agent has made after a call
+--     RunsProcessor    what a step's answer says of the processor: it was run once, on the entry that the step found, which it may load with
+--                      read-through on if it is missing, and this is what came of it; or it is untouched
+use Rattle.std.specs.Prelude.{◌≡◌, ◌&&◌, ℕ, List, Option, None, Result, Ok, Err, is_none, MatchBool, if◌then◌else◌}
+use Rattle.jc_types.specs.declared.refusal.Refusal.{Refusal}
+use Rattle.jc_model.specs.declared.event.Op.{Op}
+use Rattle.jc_model.specs.declared.event.Out.{Out}
+use Rattle.jc_model.specs.declared.event.Reply.{Reply}
+use Rattle.jc_model.specs.declared.event.Change.{Change}
+use Rattle.jc_model.specs.declared.event.LoadAnswer.{LoadAnswer}
+use Rattle.jc_model.specs.declared.event.ProcessAnswer.{ProcessAnswer}
+use Rattle.jc_model.specs.declared.event.WriteAnswer.{WriteAnswer}
+use Rattle.jc_model.specs.Cache.{Bytes, entry_at}
+use Rattle.jc_model.specs.Table.{write_ask, is_load_given, is_write_given, is_process_given}
+use Rattle.jc_outside.specs.Calling.{KeepsType, LoadRelation, LoadsOnce, WriteRelation, WritesOnce}
+use Rattle.jc_mutentry.specs.Running.{ProcessRelation, RunsOnce}
+use Rattle.jc_stripe.specs.State.{State}
+use Rattle.jc_session.specs.Counting.{one_more}
+use Rattle.jc_session.specs.declared.agent.Agent.{Agent}
+
+abbrev pub change_wanted : State → Bytes → Op → ProcessAnswer → Option Change
+change_wanted state key op answer = if state.config.write_through then write_ask op (entry_at state.cache key) answer else None
+
+abbrev pub AsksLoader : {L : Type 0} → LoadRelation L → (L → List ℕ) → Option L → Bytes → LoadAnswer → Option L → Type 0
+AsksLoader loads state old key answer new = MatchBool (is_load_given answer) (LoadsOnce loads state old key answer new) (new ≡ old)
+
+abbrev pub AsksWriter : {W : Type 0} → WriteRelation W → (W → List ℕ) → Option W → Bytes → Option Change → WriteAnswer → Option W → Type 0
+AsksWriter writes state old key change answer new = MatchBool (is_write_given answer) (WritesOnce writes state old key change answer new) (new ≡ old)
+
+-- so what their traits say of a second call is said of the same types
+abbrev pub KeepsTypes : {I J : Type 0} {D : I → Type 0} {E : J → Type 0} → Agent I J D E → Agent I J D E → Type 0
+KeepsTypes old new = KeepsType old.hands.outside.loader new.hands.outside.loader × KeepsType old.hands.outside.writer new.hands.outside.writer
+
+abbrev pub own_after : ℕ → Result Reply Refusal → ℕ
+own_after own (Ok reply) = one_more own
+own_after own (Err refusal) = own
+
+abbrev pub RunsProcessor : {P : Type 0} → ProcessRelation P → (P → List ℕ) → P → State → Bytes → List Bytes → Out → P → Type 0
+RunsProcessor processes state old before key args out new =
+    MatchBool (is_process_given out.process)
+    (RunsOnce processes state old key args (before.config.read_through && is_none (entry_at before.cache key)) (entry_at before.cache key) out.load out.process new)
+    (new ≡ old)

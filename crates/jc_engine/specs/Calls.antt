@@ -1,0 +1,131 @@
+-- Whole calls of an agent on one key, over any gate.
+--     Rejoins         a round in which the call joined a load and was told to retry
+--     Retries         so many such rounds, one after another
+--     EntersAs        how a first phase goes on until the call is done, refused, or has somebody to ask: a call that has joined a load picks
+--                     its answer up
+--     Enters          a call up to there: rounds in which it was told to retry, and a last one, whose first phase found what comes after
+--                     what a take could have found at first
+--     counts_entered  the counts up to there: a step more, a reservation more, or nothing
+--     EndsAs          how it goes on from there: if it has somebody to ask, it is committed with what was answered
+--     IsCall          a whole call
+--     IsInvocation    a whole call that runs a processor, which stays of its type
+--     IsTried         a call that waits for nobody and asks nobody: it is done at once or refused in the one state that it found, or it
+--                     is refused as busy and nothing was done
+use Rattle.std.specs.declared.dyn_box.DynBox.{DynBox}
+use Rattle.std.specs.Prelude.{◌≡◌, ◌⊎◌, ℕ, zero, suc, List, Result, Ok, Err}
+use Rattle.jc_types.specs.declared.caller.Caller.{Caller}
+use Rattle.jc_types.specs.declared.refusal.Refusal.{Refusal}
+use Rattle.jc_types.specs.declared.refusal.Refusal.TheVariants.{Busy}
+use Rattle.jc_model.specs.Cache.{Bytes}
+use Rattle.jc_model.specs.Group.{nothing_said}
+use Rattle.jc_model.specs.declared.event.Op.{Op}
+use Rattle.jc_model.specs.declared.event.Op.TheVariants.{Invoke}
+use Rattle.jc_model.specs.declared.event.Out.{Out}
+use Rattle.jc_model.specs.declared.event.Reply.{Reply}
+use Rattle.jc_outside.specs.Calling.{LoadRelation, WriteRelation}
+use Rattle.jc_mutentry.specs.Running.{ProcessRelation}
+use Rattle.jc_stripe.specs.State.{State}
+use Rattle.jc_stripe.specs.Phases.{Commits, PicksUp}
+use Rattle.jc_stripe.specs.declared.begun.StepDone.{StepDone}
+use Rattle.jc_stripe.specs.declared.begun.Begun.{Begun}
+use Rattle.jc_stripe.specs.declared.begun.Begun.TheVariants as begun
+use Rattle.jc_stripe.specs.declared.begun.Picked.TheVariants as picked
+use Rattle.jc_stripe.specs.Tickets.{JoinClaim}
+use Rattle.jc_session.specs.Boxed.{boxed}
+use Rattle.jc_session.specs.Counting.{one_more}
+use Rattle.jc_session.specs.declared.counts.Counts.{Counts}
+use Rattle.jc_session.specs.declared.agent.Agent.{Agent}
+use Rattle.jc_engine.specs.declared.entering.Entered.{Entered}
+use Rattle.jc_engine.specs.declared.entering.Entered.TheVariants as entered
+use Rattle.jc_engine.specs.Chain.{Rests, Since, LentPhase}
+use Rattle.jc_engine.specs.Needs.{Starts, StartsAt}
+use Rattle.jc_engine.specs.Asking.{AsksLoader, AsksWriter, KeepsTypes, RunsProcessor, change_wanted, own_after}
+
+module _ {G T : Type 0} (takes gives : G → T → State → G → T → Type 0) (finds : G → T → State → Type 0) (caller : Caller) (key : Bytes) (op : Op) where
+  -- 1. Up to where the call is done, refused, or has somebody to ask.
+
+  pub record Rejoins (g : G) (t : T) (h : G) (u : T) : Type 0 where
+    pub join : JoinClaim
+    pub gate : G
+    pub token : T
+    pub joined : LentPhase takes gives finds caller.session g t (Starts caller key op (begun.Joined join)) gate token
+    pub retried : LentPhase takes gives finds join.caller.session gate token (λ a b. PicksUp a join picked.Again b) h u
+
+  abbrev pub Retries : ℕ → G → T → G → T → Type 0
+  Retries zero g t h u = (h ≡ g) × (u ≡ t)
+  Retries (suc n) g t h u = (gate : G) × (token : T) × Retries n g t gate token × Rejoins gate token h u
+
+  abbrev pub EntersAs : Begun → Entered → G → T → G → T → Type 0
+  EntersAs (begun.Done done) met g t h u = (met ≡ entered.Done done.reply) × (h ≡ g) × (u ≡ t)
+  EntersAs (begun.Refused refusal) met g t h u = (met ≡ entered.Refused refusal) × (h ≡ g) × (u ≡ t)
+  EntersAs (begun.Asks ticket) met g t h u = (met ≡ entered.Asks ticket) × (h ≡ g) × (u ≡ t)
+  EntersAs (begun.Joined join) met g t h u =
+      (reply : Reply) × (place : ℕ) × (shared_with : ℕ)
+      × (met ≡ entered.Done reply)
+      × LentPhase takes gives finds join.caller.session g t (λ a b. PicksUp a join (picked.Answer reply place shared_with) b) h u
+
+  pub record Enters (g : G) (t : T) (met : Entered) (h : G) (u : T) : Type 0 where
+    pub rounds : ℕ
+    pub gate : G
+    pub token : T
+    pub retried : Retries rounds g t gate token
+    pub begun : Begun
+    pub gate' : G
+    pub token' : T
+    pub first : LentPhase takes gives finds caller.session gate token (Starts caller key op begun) gate' token'
+    pub since : Since finds caller.session g t first.before
+    pub ends : EntersAs begun met gate' token' h u
+
+  -- 2. From there on.
+
+  abbrev pub EndsAs : Entered → Out → Result Reply Refusal → G → T → G → T → Type 0
+  EndsAs (entered.Done reply) asked ended g t h u = (ended ≡ Ok reply) × (asked ≡ nothing_said) × (h ≡ g) × (u ≡ t)
+  EndsAs (entered.Refused refusal) asked ended g t h u = (ended ≡ Err refusal) × (asked ≡ nothing_said) × (h ≡ g) × (u ≡ t)
+  EndsAs (entered.Asks ticket) asked ended g t h u =
+      (done : StepDone) × (ended ≡ Ok done.reply)
+      × LentPhase takes gives finds ticket.reservation.caller.session g t (λ a b. Commits a ticket.reservation asked done b) h u
+
+abbrev pub counts_entered : Counts → Entered → Counts
+counts_entered counts (entered.Done reply) = record counts { own = one_more counts.own }
+counts_entered counts (entered.Refused refusal) = counts
+counts_entered counts (entered.Asks ticket) = record counts { reservations = one_more counts.reservations }
+
+-- 3. The whole.
+
+pub record IsCall
+    {I J G T : Type 0} {D : I → Type 0} {E : J → Type 0}
+    (loads : LoadRelation ((i : I) × D i)) (load_state : (i : I) × D i → List ℕ)
+    (writes : WriteRelation ((j : J) × E j)) (write_state : (j : J) × E j → List ℕ)
+    (takes gives : G → T → State → G → T → Type 0) (finds : G → T → State → Type 0)
+    (old : Agent I J D E) (key : Bytes) (op : Op) (g : G) (t : T) (ended : Result Reply Refusal) (new : Agent I J D E) (h : G) (u : T) : Type 0 where
+  pub met : Entered
+  pub gate : G
+  pub token : T
+  pub enters : Enters takes gives finds old.caller key op g t met gate token
+  pub asked : Out
+  pub ends : EndsAs takes gives finds old.caller key op met asked ended gate token h u
+  pub loader : AsksLoader (boxed loads) (boxed load_state) old.hands.outside.loader key asked.load new.hands.outside.loader
+  pub writer : AsksWriter (boxed writes) (boxed write_state) old.hands.outside.writer key (change_wanted enters.first.before key op asked.process) asked.write new.hands.outside.writer
+  pub types : KeepsTypes old new
+  pub held : new.hands.held ≡ 0
+  pub agent : new ≡ record old { counts = record old.counts { own = own_after old.counts.own ended }; hands = new.hands }
+
+pub record IsInvocation
+    {I J P Z G T : Type 0} {D : I → Type 0} {E : J → Type 0} {F : P → Type 0}
+    (loads : LoadRelation ((i : I) × D i)) (load_state : (i : I) × D i → List ℕ)
+    (writes : WriteRelation ((j : J) × E j)) (write_state : (j : J) × E j → List ℕ)
+    (processes : ProcessRelation (DynBox P Z F)) (process_state : DynBox P Z F → List ℕ)
+    (takes gives : G → T → State → G → T → Type 0) (finds : G → T → State → Type 0)
+    (old : Agent I J D E) (key : Bytes) (args : List Bytes) (processor : DynBox P Z F) (g : G) (t : T) (ended : Result Reply Refusal) (new : Agent I J D E) (processor' : DynBox P Z F) (h : G) (u : T) : Type 0 where
+  pub call : IsCall loads load_state writes write_state takes gives finds old key Invoke g t ended new h u
+  pub run : RunsProcessor processes process_state processor call.enters.first.before key args call.asked processor'
+  pub type : processor'.vtable ≡ processor.vtable
+
+-- 4. A call that waits for nobody.
+
+module _ {G T : Type 0} (takes gives : G → T → State → G → T → Type 0) (finds : G → T → State → Type 0) (caller : Caller) (key : Bytes) (op : Op) where
+  abbrev pub IsTried : G → T → Result Reply Refusal → G → T → Type 0
+  IsTried g t (Ok reply) h u = (done : StepDone) × (done.reply ≡ reply) × LentPhase takes gives finds caller.session g t (StartsAt caller key op (begun.Done done)) h u
+  IsTried g t (Err refusal) h u =
+      LentPhase takes gives finds caller.session g t (StartsAt caller key op (begun.Refused refusal)) h u
+      ⊎ ((refusal ≡ Busy) × Rests takes gives finds g t h u)

@@ -1,0 +1,38 @@
+-- A phase on a gate's stripe after lendings in which nothing was done.
+--     AllSame     nothing was done in any of these lendings
+--     Rests       a row of lendings in which nothing was done
+--     Since       a state comes after one in which a take could have found the stripe at first
+--     LentPhase   after a row of lendings in which nothing was done, one in which this phase of the session was made; what it found comes
+--                 after what a take could have found at first, and what the next take finds comes after what it left
+use Rattle.std.specs.Prelude.{◌≡◌, ℕ, List, [], ◌∷◌}
+use Rattle.jc_stripe.specs.State.{State}
+use Rattle.jc_stripe.specs.OnePhase.{IsPhaseOf}
+use Rattle.jc_gate.specs.Lending.{ComesAfter, Lends, Lent}
+
+abbrev pub AllSame : List (State × State) → Type 0
+AllSame [] = Unit {0}
+AllSame (p ∷ ps) = (p.1 ≡ p.0) × AllSame ps
+
+pub record Since {G T : Type 0} (finds : G → T → State → Type 0) (session : ℕ) (g : G) (t : T) (found : State) : Type 0 where
+  pub first : State
+  pub finds_first : finds g t first
+  pub after : ComesAfter session first found
+
+module _ {G T : Type 0} (takes gives : G → T → State → G → T → Type 0) (finds : G → T → State → Type 0) where
+  -- the states in which the stripe was found and left
+  pub record Rests (g : G) (t : T) (h : G) (u : T) : Type 0 where
+    pub idle : List (State × State)
+    pub same : AllSame idle
+    pub lent : Lent takes gives g t idle h u
+
+  pub record LentPhase (session : ℕ) (g : G) (t : T) (phase : State → State → Type 0) (h : G) (u : T) : Type 0 where
+    pub gate : G
+    pub token : T
+    pub rests : Rests g t gate token
+    pub before : State
+    pub after : State
+    pub since : Since finds session g t before
+    pub lent : Lends takes gives gate token before after h u
+    pub made : phase before after
+    pub one : IsPhaseOf session before after
+    pub next : (a : State) → finds h u a → ComesAfter session after a

@@ -1,0 +1,7 @@
+pub mod Chain
+pub mod Needs
+pub mod Stays
+pub mod Answered
+pub mod Asking
+pub mod Calls
+pub mod Owned

@@ -1,0 +1,51 @@
+-- A whole call on a stripe that nobody else has.
+--     next_after      the number of the next reservation after a call: the next one if the call had to reserve its key
+--     OneStep         the stripe appends the group of one step, which nobody shares, with this reply
+--     EndsCall        how a call ends: with one step, or refused as its first phase refuses it, and then nothing is asked and nothing
+--                     changes
+--     IsOwnedCall     a whole call on an owner's stripe: how it ends there, and what it leaves of the agent, the loader and the writer
+use Rattle.std.specs.Prelude.{◌≡◌, ◌+◌, ℕ, List, [], Option, None, Some, Result, Ok, Err, if◌then◌else◌}
+use Rattle.jc_types.specs.declared.caller.Caller.{Caller}
+use Rattle.jc_types.specs.declared.refusal.Refusal.{Refusal}
+use Rattle.jc_model.specs.Cache.{Bytes, entry_at}
+use Rattle.jc_model.specs.Group.{nothing_said}
+use Rattle.jc_model.specs.declared.event.Op.{Op}
+use Rattle.jc_model.specs.declared.event.Out.{Out}
+use Rattle.jc_model.specs.declared.event.Reply.{Reply}
+use Rattle.jc_outside.specs.Calling.{LoadRelation, WriteRelation}
+use Rattle.jc_stripe.specs.declared.begun.StepDone.{StepDone}
+use Rattle.jc_stripe.specs.State.{State}
+use Rattle.jc_stripe.specs.Refusals.{first_asked, first_refusal, reserves}
+use Rattle.jc_stripe.specs.Phases.{Steps}
+use Rattle.jc_session.specs.Boxed.{boxed}
+use Rattle.jc_session.specs.declared.agent.Agent.{Agent}
+use Rattle.jc_engine.specs.Asking.{AsksLoader, AsksWriter, KeepsTypes, change_wanted, own_after}
+
+abbrev pub next_after : State → Bytes → Op → ℕ
+next_after old key op = if reserves (first_asked old.config op (entry_at old.cache key)) then old.next + 1 else old.next
+
+pub record OneStep (old : State) (caller : Caller) (key : Bytes) (op : Op) (out : Out) (reply : Reply) (new : State) : Type 0 where
+  pub done : StepDone
+  pub reply_is : done.reply ≡ reply
+  pub steps : Steps (record old { next = next_after old key op }) caller key op out [] done new
+
+abbrev pub EndsCall : State → Caller → Bytes → Op → Out → Result Reply Refusal → State → Type 0
+EndsCall old caller key op out (Ok reply) new = (first_refusal old caller key op ≡ None) × OneStep old caller key op out reply new
+EndsCall old caller key op out (Err refusal) new = (first_refusal old caller key op ≡ Some refusal) × (out ≡ nothing_said) × (new ≡ old)
+
+pub record IsOwnedCall
+    {I J : Type 0} {D : I → Type 0} {E : J → Type 0}
+    (loads : LoadRelation ((i : I) × D i)) (load_state : (i : I) × D i → List ℕ)
+    (writes : WriteRelation ((j : J) × E j)) (write_state : (j : J) × E j → List ℕ)
+    (old : Agent I J D E) (key : Bytes) (op : Op) (owner : Option State) (ended : Result Reply Refusal) (new : Agent I J D E) (owner' : Option State) : Type 0 where
+  pub before : State
+  pub after : State
+  pub out : Out
+  pub was : owner ≡ Some before
+  pub is : owner' ≡ Some after
+  pub ends : EndsCall before old.caller key op out ended after
+  pub loader : AsksLoader (boxed loads) (boxed load_state) old.hands.outside.loader key out.load new.hands.outside.loader
+  pub writer : AsksWriter (boxed writes) (boxed write_state) old.hands.outside.writer key (change_wanted before key op out.process) out.write new.hands.outside.writer
+  pub types : KeepsTypes old new
+  pub held : new.hands.held ≡ 0
+  pub agent : new ≡ record old { counts = record old.counts { own = own_after old.counts.own ended }; hands = new.hands }

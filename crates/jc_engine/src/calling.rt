@@ -1,0 +1,96 @@
+//! A whole call on one key.
+ghost use Rattle.std.specs.Prelude.{◌≡◌, ◌||◌, ℕ, true, false, Option, IsSome};
+ghost use Rattle.jc_types.specs.declared.config.Config.{Config};
+ghost use Rattle.jc_model.specs.Table.{is_invoke};
+ghost use Rattle.jc_model.specs.declared.event.Change.{Change};
+ghost use Rattle.jc_model.specs.declared.event.ProcessAnswer.TheVariants.{NotAsked};
+ghost use Rattle.jc_stripe.specs.State.{State};
+ghost use Rattle.jc_stripe.specs.Tickets.{asks_loader, asks_writer, change_asked};
+ghost use Rattle.jc_session.specs.Boxed.{boxed};
+ghost use Rattle.jc_engine.specs.Answered.{IsAnswered, out_of};
+ghost use Rattle.jc_engine.specs.Asking.{AsksLoader, AsksWriter, KeepsTypes};
+ghost use Rattle.jc_engine.specs.Needs.{BeginsIfClear, IsReported};
+ghost use Rattle.jc_engine.specs.Calls.{IsCall};
+
+use crate::answered::Answered;
+use crate::entering::{Entered, enter};
+use crate::phase::make_phase;
+use crate::phases::Commit;
+use jc_gate::Gate;
+use jc_model::{Op, Reply};
+use jc_session::Agent;
+use jc_stripe::{First, Ticket};
+use jc_types::{Key, Refusal};
+use std::sync::Wait;
+
+/// The agent's current call, whole: its first phase, then the loader or the writer while no stripe is held, and its last phase; or
+/// the answer of a load that it has joined.
+///
+/// It waits while others hold the stripe, for the loader or the writer, for a load that it has joined, and until it may begin
+/// (`Busy`, `TooManyInFlight` and `TooManyJoiners` are waited out). Nothing says that it returns. Of the refusals that change
+/// nothing it answers `HistoryFull` alone.
+///
+/// Conditions: the agent holds no stripe, and has no reservation and no join out; the token has not taken the gate's stripe and
+/// speaks for the session; the stripe that a take finds is live, the session's own steps there let the call come, and if it has
+/// write-through on, the agent has a writer. The operation runs no processor.
+pub fn call<G: Gate, R: Wait>(
+    rt: &R,
+    gate: &mut G,
+    token: &mut G::Token,
+    agent: &mut Agent,
+    key: &Key,
+    op: &Op,
+) -> Result<Reply, Refusal>
+    requires held { agent.old.hands.held ≡ 0 }
+    requires free { G.is_free gate.old token.old }
+    requires speaks { G.speaks_for token.old agent.old.caller.session }
+    requires op { is_invoke op.now ≡ false }
+    requires needs { (a : State) → G.finds gate.old token.old a → BeginsIfClear agent.old.caller key.now a }
+    requires none { (agent.old.counts.reservations ≡ 0) × (agent.old.counts.joins ≡ 0) }
+    requires writer { (a : State) → G.finds gate.old token.old a → a.config.write_through ≡ true → IsSome agent.old.hands.outside.writer }
+    ensures free { G.is_free gate.new token.new }
+    ensures speaks { (n : ℕ) → G.speaks_for token.old n → G.speaks_for token.new n }
+    ensures call { IsCall loads load_state writes write_state G.takes G.gives G.finds
+        agent.old key.now op.now gate.old token.old result agent.new gate.new token.new }
+{
+    match enter(rt, gate, token, agent, key, op) {
+        Entered::Done(reply) => Ok(reply),
+        Entered::Refused(refusal) => Err(refusal),
+        Entered::Asks(ticket) => {
+            let commit = ask(rt, agent, ticket);
+            let step = make_phase(rt, gate, token, agent, commit);
+            Ok(step.reply)
+        }
+    }
+}
+
+/// Asks the loader or the writer, whichever the ticket's reservation asks first: the call may then be committed.
+fn ask<R: Wait>(rt: &R, agent: &mut Agent, ticket: Ticket) -> Commit
+    requires held { agent.old.hands.held ≡ 0 }
+    requires unasked { ticket.asked ≡ false }
+    requires first { asks_loader ticket.reservation.first || asks_writer ticket.reservation.first ≡ true }
+    requires writer { asks_writer ticket.reservation.first ≡ true → IsSome agent.old.hands.outside.writer }
+    ensures ticket { result.ticket.reservation ≡ ticket.reservation }
+    ensures answered { IsAnswered result.ticket result.answered }
+    ensures reported { (config : Config) → IsReported config ticket.reservation result.answered }
+    ensures loader { AsksLoader (boxed loads) (boxed load_state)
+        agent.old.hands.outside.loader ticket.reservation.key
+        (out_of result.answered).load agent.new.hands.outside.loader }
+    ensures writer { (wanted : Option Change)
+        → (asks_writer ticket.reservation.first ≡ true → wanted ≡ change_asked ticket.reservation.first)
+        → AsksWriter (boxed writes) (boxed write_state)
+        agent.old.hands.outside.writer ticket.reservation.key wanted
+        (out_of result.answered).write agent.new.hands.outside.writer }
+    ensures types { KeepsTypes agent.old agent.new }
+    ensures process { (out_of result.answered).process ≡ NotAsked }
+    ensures held { agent.new.hands.held ≡ 0 }
+    ensures rest { agent.new ≡ record agent.old { hands = agent.new.hands } }
+{
+    let mut ticket = ticket;
+    let answered = match ticket.reservation().first {
+        First::Loader => Answered::Loaded(agent.ask_loader(rt, ticket.ask())),
+        First::Writer(_) => Answered::Written(agent.ask_writer(rt, ticket.ask())),
+        First::Nobody | First::Processor { .. } => unreachable!(),
+    };
+    Commit { ticket, answered }
+}

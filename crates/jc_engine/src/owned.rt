@@ -1,0 +1,41 @@
+//! A whole call on a stripe that nobody else has.
+ghost use Rattle.std.specs.Prelude.{◌≡◌, true, false, Some, IsSome};
+ghost use Rattle.jc_model.specs.Table.{is_invoke};
+ghost use Rattle.jc_stripe.specs.State.{State, IsIdle};
+ghost use Rattle.jc_engine.specs.Needs.{BeginsIfClear};
+ghost use Rattle.jc_engine.specs.Owned.{IsOwnedCall};
+
+use crate::calling::call;
+use jc_gate::Owner;
+use jc_model::{Op, Reply};
+use jc_session::Agent;
+use jc_stripe::phase_laws::{joins_only_loads, whole_call};
+use jc_types::{Key, Refusal};
+use std::sync::Wait;
+
+/// The agent's current call, whole, on a stripe that nobody else has: it is one step there, or it is refused and changes nothing.
+///
+/// It waits for the loader or the writer.
+///
+/// Conditions: those of [`call`](crate::call), and the owner has its stripe, and no reservation and no join is out there.
+pub fn call_owned<R: Wait>(
+    rt: &R,
+    owner: &mut Owner,
+    agent: &mut Agent,
+    key: &Key,
+    op: &Op,
+) -> Result<Reply, Refusal>
+    requires held { agent.old.hands.held ≡ 0 }
+    requires there { IsSome owner.old }
+    requires op { is_invoke op.now ≡ false }
+    requires needs { (a : State) → owner.old ≡ Some a → BeginsIfClear agent.old.caller key.now a }
+    requires idle { (a : State) → owner.old ≡ Some a → IsIdle a }
+    requires none { (agent.old.counts.reservations ≡ 0) × (agent.old.counts.joins ≡ 0) }
+    requires writer { (a : State) → owner.old ≡ Some a → a.config.write_through ≡ true → IsSome agent.old.hands.outside.writer }
+    ensures call { IsOwnedCall loads load_state writes write_state
+        agent.old key.now op.now owner.old result agent.new owner.new }
+{
+    joins_only_loads();
+    whole_call();
+    call(rt, owner, &mut (), agent, key, op)
+}

@@ -1,0 +1,50 @@
+//! A call that waits for nobody.
+ghost use Rattle.std.specs.Prelude.{◌≡◌, ℕ};
+ghost use Rattle.jc_stripe.specs.State.{State};
+ghost use Rattle.jc_engine.specs.Asking.{own_after};
+ghost use Rattle.jc_engine.specs.Needs.{BeginsIfClear};
+ghost use Rattle.jc_engine.specs.Calls.{IsTried};
+
+use crate::phase::try_phase;
+use crate::phases::TryStart;
+use jc_gate::Gate;
+use jc_model::{Op, Reply};
+use jc_session::Agent;
+use jc_stripe::Begun;
+use jc_types::{Key, Refusal};
+
+/// The agent's current call, if it can be done at once: it never waits, never joins a load and never asks anybody outside.
+///
+/// It is refused as `Busy` if somebody else holds the stripe, if the stripe has a call of this session out, and if the call would
+/// have to ask the loader, the writer or a processor, or to join a load; and else as any call is.
+///
+/// Conditions: the agent holds no stripe; the token has not taken the gate's and speaks for the session; the stripe that a take
+/// finds is live, and the session's own steps there let the call come.
+pub fn try_call<G: Gate>(
+    gate: &mut G,
+    token: &mut G::Token,
+    agent: &mut Agent,
+    key: &Key,
+    op: &Op,
+) -> Result<Reply, Refusal>
+    requires held { agent.old.hands.held ≡ 0 }
+    requires free { G.is_free gate.old token.old }
+    requires speaks { G.speaks_for token.old agent.old.caller.session }
+    requires needs { (a : State) → G.finds gate.old token.old a → BeginsIfClear agent.old.caller key.now a }
+    ensures agent { agent.new ≡ record agent.old { counts = record agent.old.counts { own = own_after agent.old.counts.own result } } }
+    ensures free { G.is_free gate.new token.new }
+    ensures speaks { (n : ℕ) → G.speaks_for token.old n → G.speaks_for token.new n }
+    ensures tried { IsTried G.takes G.gives G.finds agent.old.caller key.now op.now
+        gate.old token.old result gate.new token.new }
+{
+    let caller = agent.caller();
+    match try_phase(gate, token, agent, TryStart { caller, key, op }) {
+        Ok(begun) => match begun {
+            Begun::Done(step) => Ok(step.reply),
+            Begun::Refused(refusal) => Err(refusal),
+            Begun::Asks(_ticket) => unreachable!(),
+            Begun::Joined(_join) => unreachable!(),
+        },
+        Err(_start) => Err(Refusal::Busy),
+    }
+}

@@ -1,0 +1,31 @@
+-- What one lending of a stripe leaves, and what a row of lendings leaves.
+--     ComesAfter   what a take finds comes after what was given back: the same stripe, a history that continues its history, and the
+--                  same own steps of a session
+--     Lends        one take that finds a state, and one give that leaves a state
+--     Lent         a row of lendings, one after another: the states that were found and left
+use Rattle.std.specs.Prelude.{◌≡◌, ◌≤◌, ℕ, List, [], ◌∷◌}
+use mathlib.Core.List.{IsPrefix}
+use Rattle.jc_stripe.specs.State.{State}
+use Rattle.jc_stripe.specs.Laws.{IsSameStripe}
+use Rattle.jc_stripe.specs.Reached.{IsReached}
+use Rattle.jc_stripe.specs.OnePhase.{own_steps}
+
+pub record ComesAfter (session : ℕ) (left found : State) : Type 0 where
+  pub same : IsSameStripe left found
+  pub front : IsPrefix left.history found.history
+  pub next : left.next ≤ found.next
+  pub own : own_steps session found ≡ own_steps session left
+
+-- `takes` and `gives` are a gate's; `g` and `t` are the gate and the token before, `h` and `u` after
+module _ {G T : Type 0} (takes gives : G → T → State → G → T → Type 0) where
+  pub record Lends (g : G) (t : T) (found left : State) (h : G) (u : T) : Type 0 where
+    pub gate : G
+    pub token : T
+    pub took : takes g t found gate token
+    pub reached : IsReached found
+    pub gave : gives gate token left h u
+
+  abbrev pub Lent : G → T → List (State × State) → G → T → Type 0
+  Lent g t [] h u = (h ≡ g) × (u ≡ t)
+  Lent g t (lending ∷ lendings) h u =
+      (k : G) × (v : T) × Lends g t lending.0 lending.1 k v × Lent k v lendings h u

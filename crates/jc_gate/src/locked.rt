@@ -1,0 +1,48 @@
+//! A lock as a gate.
+use crate::gate::{Gate, pause};
+use jc_lock::{HistLock, Seat};
+use jc_stripe::Stripe;
+use std::sync::Wait;
+
+/// A lock that threads share lends its stripe to the holders of its seats. A take finds what the seat's view says.
+impl Gate for &HistLock {
+    ghost use Rattle.std.specs.Prelude.{◌≡◌, Some, true, false};
+    ghost use Rattle.jc_lock.specs.Views.{Finds, after_take, after_give};
+
+    type Token = Seat;
+
+    ghost speaks_for = { λ t n. t.1.session ≡ Some n };
+
+    ghost is_anonymous = { λ t. ⊥ };
+
+    ghost is_free = { λ g t. (t.0 ≡ g.now) × (t.1.holds ≡ false) };
+
+    ghost has = { λ g t a. (t.0 ≡ g.now) × (t.1.holds ≡ true) × (t.1.noted ≡ a) };
+
+    ghost finds = { λ g t a. Finds t.1 a };
+
+    ghost takes = { λ g t a h u. (u ≡ (t.0, after_take t.1 a)) × Finds t.1 a };
+
+    ghost gives = { λ g t b h u. u ≡ (t.0, after_give t.1 b) };
+
+    ghost may_fail = { λ g t. Unit {0} };
+
+    fn try_take(&mut self, token: &mut Seat) -> Option<Box<Stripe>> {
+        let lock: &HistLock = self;
+        lock.try_take(token)
+    }
+
+    fn take<R: Wait>(&mut self, rt: &R, token: &mut Seat) -> Box<Stripe> {
+        let lock: &HistLock = self;
+        lock.take(rt, token)
+    }
+
+    fn give(&mut self, token: &mut Seat, stripe: Box<Stripe>) {
+        let lock: &HistLock = self;
+        lock.give(token, stripe);
+    }
+
+    fn wait_for_change<R: Wait>(&mut self, _rt: &R, _token: &mut Seat) {
+        pause();
+    }
+}

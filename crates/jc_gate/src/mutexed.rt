@@ -1,0 +1,127 @@
+//! A `Mutex` as a gate.
+ghost use Rattle.std.specs.Prelude.{◌≡◌, false, IfSome};
+ghost use Rattle.jc_stripe.specs.Reached.{IsReached};
+
+use crate::gate::{Gate, pause};
+use crossbeam_utils::Backoff;
+use jc_stripe::Stripe;
+use std::marker::Model;
+use std::sync::{Mutex, MutexGuard, Wait};
+
+/// A `Mutex` round a stripe, which threads share by `&MutexGate`. It is for tests and comparisons with `HistLock`: it
+/// knows nothing of what its users have seen, so a take finds a stripe as every stripe is, and nothing more.
+#[derive(Drop)]
+pub struct MutexGate {
+    stripe: Mutex<Option<Box<Stripe>>>,
+}
+
+/// What one user of a [`MutexGate`] needs for every call: the guard of the `Mutex`, as long as the user holds the stripe. If it is
+/// dropped meanwhile, later takes find no stripe: `try_take` returns None, and `take` waits forever.
+///
+/// Contracts see whether it holds a stripe.
+#[derive(Drop)]
+pub struct MutexSeat<'a> {
+    guard: Option<MutexGuard<'a, Option<Box<Stripe>>>>,
+}
+
+impl<'a> Model for MutexSeat<'a> {
+    ghost use Rattle.std.specs.Prelude.{Bool, is_some};
+
+    ghost Value = { Bool };
+
+    ghost view = { λ s. is_some s.guard };
+}
+
+impl MutexGate {
+    /// A `Mutex` round a stripe.
+    pub fn new(stripe: Box<Stripe>) -> MutexGate {
+        MutexGate {
+            stripe: Mutex::new(Some(stripe)),
+        }
+    }
+
+    /// A seat for one more user. It holds no stripe.
+    pub fn seat(&self) -> MutexSeat<'_>
+        ensures { result ≡ false }
+    {
+        MutexSeat { guard: None }
+    }
+
+    /// Ends the gate, and returns its stripe; None if a seat was dropped while it held the stripe.
+    pub fn into_stripe(self) -> Option<Box<Stripe>>
+        ensures { IfSome result (λ s. IsReached s.value) }
+    {
+        let stripe = self.stripe.into_inner()?;
+        // For its contract: every stripe is reached.
+        let _ = stripe.events_len();
+        Some(stripe)
+    }
+}
+
+/// A `Mutex` that threads share lends its stripe to the holders of its seats. No seat speaks for a session, since nothing is known of
+/// what others did between a give and the next take.
+impl<'a> Gate for &'a MutexGate {
+    ghost use Rattle.std.specs.Prelude.{◌≡◌, true, false};
+    ghost use Rattle.jc_stripe.specs.Reached.{IsReached};
+
+    type Token = MutexSeat<'a>;
+
+    ghost speaks_for = { λ t n. ⊥ };
+
+    ghost is_anonymous = { λ t. Unit {0} };
+
+    ghost is_free = { λ g t. t ≡ false };
+
+    ghost has = { λ g t a. t ≡ true };
+
+    ghost finds = { λ g t a. IsReached a };
+
+    ghost takes = { λ g t a h u. u ≡ true };
+
+    ghost gives = { λ g t b h u. u ≡ false };
+
+    ghost may_fail = { λ g t. Unit {0} };
+
+    fn try_take(&mut self, token: &mut MutexSeat<'a>) -> Option<Box<Stripe>> {
+        let gate: &'a MutexGate = *self;
+        let mut guard = gate.stripe.try_lock()?;
+        let stripe = guard.take()?;
+        // For its contract: every stripe is reached.
+        let _ = stripe.events_len();
+        token.guard = Some(guard);
+        Some(stripe)
+    }
+
+    fn take<R: Wait>(&mut self, rt: &R, token: &mut MutexSeat<'a>) -> Box<Stripe> {
+        let gate: &'a MutexGate = *self;
+        let backoff = Backoff::new();
+        for _ in rt.forever() {
+            let mut guard = gate.stripe.lock(rt);
+            if let Some(stripe) = guard.take() {
+                // For its contract: every stripe is reached.
+                let _ = stripe.events_len();
+                token.guard = Some(guard);
+                return stripe;
+            }
+            backoff.snooze();
+        }
+        unreachable!()
+    }
+
+    fn give(&mut self, token: &mut MutexSeat<'a>, stripe: Box<Stripe>) {
+        match token.guard.take() {
+            Some(guard) => put_back(guard, stripe),
+            None => unreachable!(),
+        }
+    }
+
+    fn wait_for_change<R: Wait>(&mut self, _rt: &R, _token: &mut MutexSeat<'a>) {
+        pause();
+    }
+}
+
+/// Puts the stripe back under the lock, and releases it.
+fn put_back(guard: MutexGuard<'_, Option<Box<Stripe>>>, stripe: Box<Stripe>) {
+    let mut guard = guard;
+    *guard = Some(stripe);
+}

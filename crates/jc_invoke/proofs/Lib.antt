@@ -1,3 +1,0 @@
-pub mod Full
-pub mod Results
-pub mod Runs

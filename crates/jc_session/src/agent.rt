@@ -1,0 +1,270 @@
+//! Agents.
+ghost use Rattle.std.specs.Prelude.{◌≡◌, ℕ, true, is_some, IsSome, IfSome, IfNone};
+ghost use Rattle.jc_model.specs.Table.{is_load_given, is_write_given, is_process_given};
+ghost use Rattle.jc_outside.specs.declared.done.Origin.TheVariants.{Live};
+ghost use Rattle.jc_outside.specs.Calling.{KeepsType, LoadsOnce, WritesOnce};
+ghost use Rattle.jc_mutentry.specs.Running.{RunsOnce, LoadsIfGiven};
+ghost use Rattle.jc_stripe.specs.State.{State};
+ghost use Rattle.jc_stripe.specs.Tickets.{asks_loader, asks_processor, entry_seen, is_loadable};
+ghost use Rattle.jc_stripe.specs.Reached.{IsReached};
+ghost use Rattle.jc_gate.specs.Lending.{ComesAfter};
+ghost use Rattle.jc_session.specs.Boxed.{boxed};
+ghost use Rattle.jc_session.specs.Counting.{one_more, counts_after, IsCounted};
+
+mod calls_all;
+
+use crate::counts::{Counted, Counts, one_more};
+use jc_gate::Gate;
+use jc_mutentry::{EntryProcessor, ProcDone, run_processor};
+use jc_outside::{
+    CacheLoader, CacheWriter, Hands, LoadDone, Outside, WriteDone, call_loader, call_writer,
+};
+use jc_stripe::{Ask, Stripe};
+use jc_types::{Caller, Value};
+use std::sync::Wait;
+
+/// Who calls a cache: the numbers of its calls, what it has begun and not ended, and its hands. A session is an agent beside a seat
+/// on every stripe.
+///
+/// An agent reaches its loader and its writer only by its hands, which count the stripes that it has taken and not given back.
+/// Nobody can put other hands in their place.
+#[derive(Drop)]
+pub struct Agent {
+    caller: Caller,
+    counts: Counts,
+    hands: Hands<Outside>,
+}
+
+impl Agent {
+    /// The agent of the session with this number. It holds no stripe, and has begun no call.
+    pub fn new(
+        session: u32,
+        loader: Option<Box<dyn CacheLoader + Send + Drop>>,
+        writer: Option<Box<dyn CacheWriter + Send + Drop>>,
+    ) -> Agent
+        ensures caller { result.caller ≡ record { session = session; call = 0 } }
+        ensures counts { result.counts ≡ record { reservations = 0; joins = 0; own = 0 } }
+        ensures held { result.hands.held ≡ 0 }
+        ensures boxes { result.hands.outside ≡ record { loader = loader; writer = writer } }
+    {
+        Agent {
+            caller: Caller { session, call: 0 },
+            counts: Counts {
+                reservations: 0,
+                joins: 0,
+                own: 0,
+            },
+            hands: Hands::new(Outside { loader, writer }),
+        }
+    }
+
+    /// Begins a call, by the next number. The last number, `u64::MAX`, is given to each call from then on; the cache refuses such a
+    /// call (`HistoryFull`).
+    pub fn next_call(&mut self) -> Caller
+        ensures caller { result ≡ self.new.caller }
+        ensures call { self.new
+            ≡ record self.old { caller = record self.old.caller { call = one_more self.old.caller.call } } }
+    {
+        self.caller.call = one_more(self.caller.call);
+        self.caller
+    }
+
+    /// Who makes the call that was begun last: the session's number, and the call's.
+    pub fn caller(&self) -> Caller
+        ensures { result ≡ self.now.caller }
+    {
+        self.caller
+    }
+
+    /// How many steps the agent has made on the cache, up to `u64::MAX`: one for each key of a call that was neither refused
+    /// there nor is still to be answered.
+    pub fn own(&self) -> u64
+        ensures { result ≡ self.now.counts.own }
+    {
+        self.counts.own
+    }
+
+    /// What the agent has begun and not ended, and what it has done.
+    pub fn counts(&self) -> Counts
+        ensures { result ≡ self.now.counts }
+    {
+        self.counts
+    }
+
+    /// Takes a stripe, if it is there. None leaves everything as it was.
+    ///
+    /// Conditions: the agent holds no stripe, and the token has not taken the gate's.
+    pub fn try_take<G: Gate>(&mut self, gate: &mut G, token: &mut G::Token) -> Option<Box<Stripe>>
+        requires held { self.old.hands.held ≡ 0 }
+        requires free { G.is_free gate.old token.old }
+        ensures some { IfSome result (λ s. self.new ≡ record self.old { hands = record self.old.hands { held = 1 } }) }
+        ensures none { IfNone result (self.new ≡ self.old) }
+        ensures speaks { (n : ℕ) → G.speaks_for token.old n → G.speaks_for token.new n }
+        ensures taken { IfSome result (λ s. G.has gate.new token.new s.value) }
+        ensures takes { IfSome result (λ s. G.takes gate.old token.old s.value gate.new token.new) }
+        ensures found { IfSome result (λ s. G.finds gate.old token.old s.value × IsReached s.value) }
+        ensures failed { IfNone result (G.may_fail gate.old token.old) }
+        ensures same { IfNone result ((gate.new ≡ gate.old) × (token.new ≡ token.old)) }
+    {
+        let stripe = gate.try_take(token)?;
+        self.hands.hold();
+        Some(stripe)
+    }
+
+    /// Takes a stripe, and waits as long as somebody else has it. Nothing says that it returns.
+    ///
+    /// Conditions: the agent holds no stripe, and the token has not taken the gate's.
+    pub fn take<G: Gate, R: Wait>(
+        &mut self,
+        rt: &R,
+        gate: &mut G,
+        token: &mut G::Token,
+    ) -> Box<Stripe>
+        requires held { self.old.hands.held ≡ 0 }
+        requires free { G.is_free gate.old token.old }
+        ensures agent { self.new ≡ record self.old { hands = record self.old.hands { held = 1 } } }
+        ensures speaks { (n : ℕ) → G.speaks_for token.old n → G.speaks_for token.new n }
+        ensures taken { G.has gate.new token.new result.value }
+        ensures takes { G.takes gate.old token.old result.value gate.new token.new }
+        ensures found { G.finds gate.old token.old result.value × IsReached result.value }
+    {
+        let stripe = gate.take(rt, token);
+        self.hands.hold();
+        stripe
+    }
+
+    /// Gives a stripe back, and counts what its phase was.
+    ///
+    /// Conditions: the agent holds one stripe, and the token speaks for its session. This is the stripe that the token has taken, after
+    /// at most one phase of that session, which changes this of the agent's counts.
+    pub fn give<G: Gate>(
+        &mut self,
+        gate: &mut G,
+        token: &mut G::Token,
+        stripe: Box<Stripe>,
+        counted: Counted,
+    )
+        requires held { self.old.hands.held ≡ 1 }
+        requires speaks { G.speaks_for token.old self.old.caller.session }
+        requires phase { (a : State) × G.has gate.old token.old a
+            × IsCounted counted self.old.caller.session a stripe.value }
+        ensures agent { self.new ≡ record self.old {
+          counts = counts_after self.old.counts counted;
+          hands = record self.old.hands { held = 0 };
+        } }
+        ensures speaks { (n : ℕ) → G.speaks_for token.old n → G.speaks_for token.new n }
+        ensures free { G.is_free gate.new token.new }
+        ensures gives { G.gives gate.old token.old stripe.value gate.new token.new }
+        ensures next { (n : ℕ) (a : State) → G.speaks_for token.old n → G.finds gate.new token.new a
+            → ComesAfter n stripe.value a }
+    {
+        gate.give(token, stripe);
+        self.hands.let_go();
+        self.counts = self.counts.after(counted);
+    }
+
+    /// Pauses once between two takes. It may return though nothing has changed.
+    ///
+    /// Conditions: the agent has no reservation out and holds no stripe, and the token has not taken the gate's.
+    pub fn wait_for_change<G: Gate, R: Wait>(&mut self, rt: &R, gate: &mut G, token: &mut G::Token)
+        requires reservations { self.old.counts.reservations ≡ 0 }
+        requires held { self.old.hands.held ≡ 0 }
+        requires free { G.is_free gate.old token.old }
+        ensures agent { self.new ≡ self.old }
+        ensures same { (gate.new ≡ gate.old) × (token.new ≡ token.old) }
+    {
+        gate.wait_for_change(rt, token);
+    }
+
+    /// Pauses once between two takes, unless the agent has a reservation out: then it returns at once, so that nobody waits for the
+    /// reservation meanwhile.
+    ///
+    /// Conditions: the agent holds no stripe, and the token has not taken the gate's.
+    pub fn pause<G: Gate, R: Wait>(&mut self, rt: &R, gate: &mut G, token: &mut G::Token)
+        requires held { self.old.hands.held ≡ 0 }
+        requires free { G.is_free gate.old token.old }
+        ensures agent { self.new ≡ self.old }
+        ensures same { (gate.new ≡ gate.old) × (token.new ≡ token.old) }
+    {
+        if self.counts.reservations == 0 {
+            self.wait_for_change(rt, gate, token);
+        }
+    }
+
+    /// Calls the loader once, with the key of the ask. Without a loader nothing is found.
+    ///
+    /// It may wait, as long as the loader does.
+    ///
+    /// Conditions: the agent holds no stripe, and the ask's reservation asks the loader first.
+    pub fn ask_loader<R: Wait>(&mut self, rt: &R, ask: Ask) -> LoadDone<Ask>
+        requires held { self.old.hands.held ≡ 0 }
+        requires first { asks_loader ask.reservation.first ≡ true }
+        ensures ask { result.ask ≡ ask }
+        ensures origin { result.origin ≡ Live }
+        ensures given { is_load_given result.answer ≡ true }
+        ensures loader { LoadsOnce (boxed loads) (boxed load_state)
+            self.old.hands.outside.loader ask.reservation.key result.answer self.new.hands.outside.loader }
+        ensures loader_type { KeepsType self.old.hands.outside.loader self.new.hands.outside.loader }
+        ensures writer { self.new.hands.outside.writer ≡ self.old.hands.outside.writer }
+        ensures held { self.new.hands.held ≡ 0 }
+        ensures rest { self.new ≡ record self.old { hands = self.new.hands } }
+    {
+        call_loader(rt, &mut self.hands, ask)
+    }
+
+    /// Calls the writer once, for the change that is asked for: `write` with the key and the value, or `delete` with the key.
+    ///
+    /// It may wait, as long as the writer does.
+    ///
+    /// Conditions: the agent holds no stripe, and has a writer; the ask has a change.
+    pub fn ask_writer<R: Wait>(&mut self, rt: &R, ask: Ask) -> WriteDone<Ask>
+        requires held { self.old.hands.held ≡ 0 }
+        requires change { is_some ask.change ≡ true }
+        requires writer { IsSome self.old.hands.outside.writer }
+        ensures ask { result.ask ≡ ask }
+        ensures origin { result.origin ≡ Live }
+        ensures given { is_write_given result.answer ≡ true }
+        ensures writer { WritesOnce (boxed writes) (boxed write_state)
+            self.old.hands.outside.writer ask.reservation.key ask.change
+            result.answer self.new.hands.outside.writer }
+        ensures writer_type { KeepsType self.old.hands.outside.writer self.new.hands.outside.writer }
+        ensures loader { self.new.hands.outside.loader ≡ self.old.hands.outside.loader }
+        ensures held { self.new.hands.held ≡ 0 }
+        ensures rest { self.new ≡ record self.old { hands = self.new.hands } }
+    {
+        call_writer(rt, &mut self.hands, ask)
+    }
+
+    /// Runs an entry processor once, on the key and the entry of the ask (`javax.cache.processor.EntryProcessor.process`). The
+    /// loader is called at most once, if the processor asks for the value of an entry that it may load; without a loader
+    /// nothing is found.
+    ///
+    /// It may wait, as long as the processor and the loader do.
+    ///
+    /// Conditions: the agent holds no stripe, and the ask's reservation asks the processor first.
+    pub fn run_processor<R: Wait>(
+        &mut self,
+        rt: &R,
+        ask: Ask,
+        processor: &mut Box<dyn EntryProcessor + Send + Drop>,
+        args: &[Value],
+    ) -> ProcDone<Ask>
+        requires held { self.old.hands.held ≡ 0 }
+        requires first { asks_processor ask.reservation.first ≡ true }
+        ensures ask { result.ask ≡ ask }
+        ensures origin { result.origin ≡ Live }
+        ensures given { is_process_given result.process ≡ true }
+        ensures run { RunsOnce processes process_state
+            processor.old ask.reservation.key args.now (is_loadable ask.reservation.first) (entry_seen ask.reservation.first)
+            result.load result.process processor.new }
+        ensures loader { LoadsIfGiven (boxed loads) (boxed load_state)
+            self.old.hands.outside.loader ask.reservation.key result.load self.new.hands.outside.loader }
+        ensures loader_type { KeepsType self.old.hands.outside.loader self.new.hands.outside.loader }
+        ensures processor_type { processor.new.vtable ≡ processor.old.vtable }
+        ensures writer { self.new.hands.outside.writer ≡ self.old.hands.outside.writer }
+        ensures held { self.new.hands.held ≡ 0 }
+        ensures rest { self.new ≡ record self.old { hands = self.new.hands } }
+    {
+        run_processor(rt, &mut self.hands, processor, ask, args)
+    }
+}

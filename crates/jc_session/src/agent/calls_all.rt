@@ -1,0 +1,80 @@
+//! An agent's calls outside for many keys at once.
+ghost use Rattle.std.specs.Prelude.{◌≡◌, ◌≤◌, ◌+◌, ◌++◌, List, map, Some, IsSome, vec_len, vec_capacity};
+ghost use Rattle.jc_model.specs.Cache.{Bytes};
+ghost use Rattle.jc_model.specs.declared.event.LoadAnswer.{LoadAnswer};
+ghost use Rattle.jc_model.specs.declared.event.WriteAnswer.{WriteAnswer};
+ghost use Rattle.jc_batch.specs.Changes.{changes_of};
+ghost use Rattle.jc_outside.specs.Calling.{KeepsType};
+ghost use Rattle.jc_outside.specs.CallingAll.{LoadsAllOnce, WritesAllOnce, loads_done, writes_done, asked_changes};
+ghost use Rattle.jc_stripe.specs.Tickets.{Claim};
+ghost use Rattle.jc_session.specs.Boxed.{boxed};
+
+use super::Agent;
+use jc_batch::Batch;
+use jc_outside::{LoadBatch, LoadDone, WriteDone, call_loader_all, call_writer_all};
+use jc_stripe::Ask;
+use std::sync::Wait;
+
+impl Agent {
+    /// Calls the loader once, with the keys of these asks (`loadAll`), and appends a done value for each ask, in their order. A
+    /// failed call fails for each of the keys; a key without an answer isn't found. Without a loader nothing is found.
+    ///
+    /// It may wait, as long as the loader does. It takes no memory of its own.
+    ///
+    /// Conditions: the agent holds no stripe; the batch is of the asks' keys, in their order; there is room for the done values.
+    pub fn ask_loader_all<R: Wait>(
+        &mut self,
+        rt: &R,
+        asks: Vec<Ask>,
+        batch: LoadBatch,
+        done: &mut Vec<LoadDone<Ask>>,
+    )
+        requires held { self.old.hands.held ≡ 0 }
+        requires batch { batch.items ≡ map (λ (ask : Claim). ask.reservation.key) asks.items }
+        requires room { vec_len done.old + vec_len asks ≤ vec_capacity done.old }
+        ensures loader { (said : Bytes → LoadAnswer)
+            × LoadsAllOnce (boxed loads_all) (boxed load_state)
+            self.old.hands.outside.loader batch.items said self.new.hands.outside.loader
+            × (done.new.items ≡ done.old.items ++ loads_done (λ (ask : Claim). ask.reservation.key) said asks.items) }
+        ensures loader_type { KeepsType self.old.hands.outside.loader self.new.hands.outside.loader }
+        ensures room { vec_capacity done.new ≡ vec_capacity done.old }
+        ensures writer { self.new.hands.outside.writer ≡ self.old.hands.outside.writer }
+        ensures held { self.new.hands.held ≡ 0 }
+        ensures rest { self.new ≡ record self.old { hands = self.new.hands } }
+    {
+        call_loader_all(rt, &mut self.hands, asks, batch, done);
+    }
+
+    /// Calls the writer once, for a whole batch (`writeAll` or `deleteAll`), and appends a done value for each ask, in their
+    /// order: a key that the writer leaves in the collection failed, with the writer's code or, if it returned normally, with 0;
+    /// every other key was written. It returns what the writer returned: the writer may fail and leave nothing.
+    ///
+    /// It may wait, as long as the writer does. It takes no memory of its own.
+    ///
+    /// Conditions: the agent holds no stripe, and has a writer; the batch has exactly what the asks ask for, in their order;
+    /// there is room for the done values.
+    pub fn ask_writer_all<R: Wait>(
+        &mut self,
+        rt: &R,
+        asks: Vec<Ask>,
+        batch: Batch,
+        done: &mut Vec<WriteDone<Ask>>,
+    ) -> Result<(), u32>
+        requires held { self.old.hands.held ≡ 0 }
+        requires writer { IsSome self.old.hands.outside.writer }
+        requires batch { changes_of batch
+            ≡ asked_changes (λ (ask : Claim). ask.reservation.key) (λ (ask : Claim). ask.change) asks.items }
+        requires room { vec_len done.old + vec_len asks ≤ vec_capacity done.old }
+        ensures writer { (said : Bytes → WriteAnswer)
+            × WritesAllOnce (boxed writes_all) (boxed deletes_all) (boxed write_state)
+            self.old.hands.outside.writer batch result said self.new.hands.outside.writer
+            × (done.new.items ≡ done.old.items ++ writes_done (λ (ask : Claim). ask.reservation.key) said asks.items) }
+        ensures writer_type { KeepsType self.old.hands.outside.writer self.new.hands.outside.writer }
+        ensures room { vec_capacity done.new ≡ vec_capacity done.old }
+        ensures loader { self.new.hands.outside.loader ≡ self.old.hands.outside.loader }
+        ensures held { self.new.hands.held ≡ 0 }
+        ensures rest { self.new ≡ record self.old { hands = self.new.hands } }
+    {
+        call_writer_all(rt, &mut self.hands, asks, batch, done)
+    }
+}
