@@ -25,4 +25,5 @@ pub mod run;
 mod words;
 
 pub use noted::Noted;
+pub use printing::{put, put_flag, put_number};
 pub use run::{RunEnd, RunFault};

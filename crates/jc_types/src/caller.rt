@@ -7,13 +7,13 @@ use crate::limits::SESSIONS_MAX;
 /// Who calls: a session, and the number of its call.
 #[derive(Clone, Copy, Debug, PartialEq, Eq)]
 pub struct Caller {
-    /// The session, from 1 to [`SESSIONS_MAX`](crate::limits::SESSIONS_MAX).
+    /// The session. In a script it is from 1 to [`SESSIONS_MAX`](crate::limits::SESSIONS_MAX).
     pub session: u32,
     /// The number of the call. A session's numbers rise from call to call; the keys of a bulk call share one.
     pub call: u64,
 }
 
-/// Whether a number is that of a session: from 1 to [`SESSIONS_MAX`].
+/// Whether a number is that of a session of a script: from 1 to [`SESSIONS_MAX`].
 pub fn is_session(session: u32) -> bool
     ensures { result ≡ is_session session }
 {

@@ -24,7 +24,7 @@ pub const RESERVATIONS_MAX: usize = 64;
 /// The most calls of one stripe that have joined a load and have not picked up their answer.
 pub const JOINERS_MAX: usize = 64;
 
-/// The most sessions of a cache. They have the numbers from 1 to this one.
+/// The most sessions of a cache. A script numbers them from 1 to this one; a cache that threads share numbers its own from 0.
 pub const SESSIONS_MAX: u32 = 32;
 
 /// The most keys that a bulk call names.
