@@ -1,8 +1,8 @@
 -- The events of a line about a call under way fit, if it is the time for it.
-use Rattle.std.proofs.Common.{◌≡◌, ◌==◌, ◌∙◌, ◌&&◌, ◌||◌, ◌++◌, ◌+◌, ◌<◌, ℕ, Bool, true, false, not, List, [], ◌∷◌, Option, None, Some, is_none, is_some, length, filter, get_or, map, option_to_list, slice_get, take, cond, refl, sym, ap, subst, append-nil, arith, zero, suc}
+use Rattle.std.proofs.Common.{◌≡◌, ◌==◌, ◌∙◌, ◌&&◌, ◌||◌, ◌++◌, ◌+◌, ◌<◌, ℕ, Bool, true, false, not, List, [], ◌∷◌, Option, None, Some, find, is_none, is_some, length, filter, get_or, map, option_to_list, take, cond, refl, sym, ap, subst, append-nil, arith, zero, suc}
 use Rattle.std.specs.List.{AllByRecursion, IsDistinct, list_all, list_any}
 use Rattle.std.specs.Cmp.Lexicographic.{pointwise}
-use Rattle.std.proofs.lemmas.Bool.{and_from, and_parts}
+use Rattle.std.proofs.lemmas.Bool.{and_from, and_parts, and_right}
 use Rattle.std.proofs.lemmas.Cmp.{nat_eq_equiv, nat_list_eq_equiv}
 use Rattle.std.proofs.lemmas.List.{map-append, take_more}
 use Rattle.std.proofs.lemmas.List.Elements.{filter-append}
@@ -13,12 +13,12 @@ use Rattle.jc_model.specs.Batches.{is_among}
 use Rattle.jc_model.specs.Cache.{Bytes}
 use Rattle.jc_model.specs.Table.{is_load_given}
 use Rattle.jc_world.specs.declared.event.Part.{Part}
-use Rattle.jc_world.specs.Calls.{CallState, keys_at_work, may_work, open_keys, takes_turns}
+use Rattle.jc_world.specs.Calls.{CallState, op_at, open_keys}
 use Rattle.jc_world.specs.declared.event.WorldEvent.TheVariants as event
 use Rattle.jc_world.specs.World.{WorldState, is_joined, open_call, part_of}
-use Rattle.jc_world.specs.Fits.{fits, is_free, may_report, may_start, waits_at}
+use Rattle.jc_world.specs.Fits.{fits, is_asked, is_free, may_change, may_report, may_start}
 use Rattle.jc_world.specs.Events.{AllFit}
-use Rattle.jc_world.specs.Together.{at_call, key_at, looks, AreAt, FitTogether}
+use Rattle.jc_world.specs.Together.{at_call, key_at, looks, AreAt, is_start, is_change, FitTogether}
 use Rattle.jc_script.specs.declared.line.Act.{Act}
 use Rattle.jc_script.specs.declared.line.Act.TheVariants.{Read, ReadFail, Say, Apply, ApplyFail, ApplyLie, End, Drop, More, Take, Process}
 use Rattle.jc_script.specs.Words.{said_after}
@@ -86,41 +86,38 @@ said_given (pair ∷ pairs) key answer given =
     said_given pairs key (cond (pointwise ◌==◌ pair.0 key) (Found pair.1) answer)
     (elim (pointwise ◌==◌ pair.0 key) as (λ b. is_load_given (cond b (Found pair.1) answer) ≡ true) [ true ↦ refl | false ↦ given ])
 
--- the events at the keys of an act
-keys_fit : (w : WorldState) → FitTogether w → (call : ℕ) (act : Act) (keys : List Bytes) → IsDistinct (pointwise ◌==◌) keys → list_all (fits w) (key_events w call act keys) ≡ true
+-- an act by which no writer changes the store
+abbrev IsQuiet : ℕ → Act → Type 0
+IsQuiet call act = (key : Bytes) → is_change (event_at call act key) ≡ false
+
+none_change : (call : ℕ) (act : Act) → IsQuiet call act → (keys : List Bytes) → list_any is_change (map (event_at call act) keys) ≡ false
+none_change call act quiet [] = refl
+none_change call act quiet (key ∷ keys) = ap (λ b. b || list_any is_change (map (event_at call act) keys)) (quiet key) ∙ none_change call act quiet keys
+
+-- the events at the keys of such an act
+keys_fit : (w : WorldState) → FitTogether w → (call : ℕ) (act : Act) → IsQuiet call act → (keys : List Bytes) → IsDistinct (pointwise ◌==◌) keys → list_all (fits w) (key_events w call act keys) ≡ true
     → AllFit w (key_events w call act keys)
-keys_fit w together call act keys differ fit =
+keys_fit w together call act quiet keys differ fit =
     together.events call (filter (is_meant w call act) keys) (key_events w call act keys) (are_at call act (filter (is_meant w call act) keys))
-    (kept_differ (is_meant w call act) keys differ) fit
+    (kept_differ (is_meant w call act) keys differ)
+    (and_right (list_any is_start (key_events w call act keys)) (list_any is_change (key_events w call act keys)) (none_change call act quiet (filter (is_meant w call act) keys))) fit
 
 -- and nothing after them
-alone_fit : (w : WorldState) → FitTogether w → (call : ℕ) (act : Act) (keys : List Bytes) → IsDistinct (pointwise ◌==◌) keys → list_all (fits w) (key_events w call act keys) ≡ true
+alone_fit : (w : WorldState) → FitTogether w → (call : ℕ) (act : Act) → IsQuiet call act → (keys : List Bytes) → IsDistinct (pointwise ◌==◌) keys → list_all (fits w) (key_events w call act keys) ≡ true
     → AllFit w (key_events w call act keys ++ [])
-alone_fit w together call act keys differ fit = subst (AllFit w) (sym (append-nil (key_events w call act keys))) (keys_fit w together call act keys differ fit)
+alone_fit w together call act quiet keys differ fit = subst (AllFit w) (sym (append-nil (key_events w call act keys))) (keys_fit w together call act quiet keys differ fit)
 
--- a key at work is open, so the writer may return if it was asked for one
-asked_open : (p : Bytes → Bool) (u : CallState) → list_any p (keys_at_work u) ≡ true → list_any p (open_keys u) ≡ true
-asked_open p u = go (takes_turns u.kind) (open_keys u)
-  where
-    or_more : (a b : Bool) → (a || false) ≡ true → (a || b) ≡ true
-    or_more true b h = refl
-    or_more false b h = cc
-
-    go : (b : Bool) (keys : List Bytes) → list_any p (cond b (option_to_list (cond b (slice_get keys 0) None)) keys) ≡ true → list_any p keys ≡ true
-    go false keys h = h
-    go true [] h = h
-    go true (key ∷ keys) h = or_more (p key) (list_any p keys) h
-
-report_fits : (w : WorldState) (call : ℕ) (u : CallState) (left : List Bytes) (fault : Option ℕ) → open_call w call ≡ Some u → list_any (waits_at w call) (keys_at_work u) ≡ true → fits w (event.Report call left fault) ≡ true
-report_fits w call u left fault here asked = ap (may_report w call) here ∙ asked_open (waits_at w call) u asked
+-- the writer may return if it is asked for an open key
+report_fits : (w : WorldState) (call : ℕ) (u : CallState) (left : List Bytes) (fault : Option ℕ) → open_call w call ≡ Some u → list_any (is_asked w call) (open_keys u) ≡ true → fits w (event.Report call left fault) ≡ true
+report_fits w call u left fault here asked = ap (may_report w call) here ∙ (λ i. list_any (λ key. may_change w call key (sym here i)) (open_keys u)) ∙ asked
 
 -- the writer's changes, and its return
 writer_fit : (w : WorldState) → FitTogether w → (call : ℕ) (p : Bytes → Bool) (u : CallState) (keys left : List Bytes) (fault : Option ℕ) → ((key : Bytes) → p key ≡ true → fits w (event.Change call key) ≡ true) → open_call w call ≡ Some u
-    → keys ≡ keys_at_work u → IsDistinct (pointwise ◌==◌) keys → list_any (waits_at w call) keys ≡ true → AllFit w (map (event.Change call) (filter p keys) ++ event.Report call left fault ∷ [])
+    → keys ≡ open_keys u → IsDistinct (pointwise ◌==◌) keys → list_any (is_asked w call) keys ≡ true → AllFit w (map (event.Change call) (filter p keys) ++ event.Report call left fault ∷ [])
 writer_fit w together call p u keys left fault waits here is differ asked =
     together.report call (filter p keys) left fault (kept_differ p keys differ)
     (sym (all_mapped (event.Change call) (fits w) (filter p keys)) ∙ all_of_kept p (event.Change call) (fits w) waits keys)
-    (report_fits w call u left fault here (ap (list_any (waits_at w call)) (sym is) ∙ asked))
+    (report_fits w call u left fault here (ap (list_any (is_asked w call)) (sym is) ∙ asked))
 
 -- a weaker test
 all_from_more : (q : Bytes → Bool) (r : Bytes → Bool) (keys : List Bytes) → ((key : Bytes) → q key ≡ true → r key ≡ true) → list_all q keys ≡ true → list_all r keys ≡ true
@@ -199,30 +196,39 @@ looks-more call from (suc count) =
     let same : (from + 1) + count ≡ from + suc count = omega (arith) in
     ap (λ events. event.Look call from ∷ events) (looks-more call (from + 1) count ∙ ap (λ n. looks call (from + 1) count ++ event.Look call n ∷ []) same)
 
--- the first phases of a call that has just begun fit, at each key at which it works
-pub starts_fit : (w : WorldState) → FitTogether w → (call : ℕ) (u : CallState) → open_call w call ≡ Some u → ((key : Bytes) → is_free w call key ≡ true) → IsDistinct (pointwise ◌==◌) (keys_at_work u)
-    → list_all (may_work u) (keys_at_work u) ≡ true → AllFit w (key_events w call More (keys_at_work u))
-starts_fit w together call u here free differ work =
-    keys_fit w together call More (keys_at_work u) differ (all_kept (keys_at_work u) work)
+-- the first phases of a call that has just begun fit, at each of its keys
+pub starts_fit : (w : WorldState) → FitTogether w → (call : ℕ) (u : CallState) → open_call w call ≡ Some u → ((key : Bytes) → is_free w call key ≡ true) → IsDistinct (pointwise ◌==◌) (open_keys u)
+    → list_all (λ key. is_some (op_at u key)) (open_keys u) ≡ true → AllFit w (key_events w call More (open_keys u))
+starts_fit w together call u here free differ opens =
+    keys_fit w together call More (λ key. refl) (open_keys u) differ (all_kept (open_keys u) opens)
   where
-    all_kept : (keys : List Bytes) → list_all (may_work u) keys ≡ true → list_all (fits w) (key_events w call More keys) ≡ true
+    all_kept : (keys : List Bytes) → list_all (λ key. is_some (op_at u key)) keys ≡ true → list_all (fits w) (key_events w call More keys) ≡ true
     all_kept [] h = refl
     all_kept (key ∷ keys) h =
-        let parts = and_parts (may_work u key) (list_all (may_work u) keys) h in
+        let parts = and_parts (is_some (op_at u key)) (list_all (λ k. is_some (op_at u k)) keys) h in
         and_from _ _ (ap (may_start w call key) here ∙ and_from _ _ parts.0 (free key)) (all_kept keys parts.1)
 
+-- one key, or none, differs from no other
+one_differs : (o : Option Bytes) → IsDistinct (pointwise ◌==◌) (option_to_list o)
+unfolding IsDistinct
+one_differs None = tt
+one_differs (Some key) = (tt, tt)
+
+pub first_differs : (p : Bytes → Bool) (keys : List Bytes) → IsDistinct (pointwise ◌==◌) (option_to_list (find p keys))
+first_differs p keys = one_differs (find p keys)
+
 -- the events of an act fit if it is the time for it
-pub act_fits : (w : WorldState) → FitTogether w → (call : ℕ) (act : Act) (u : CallState) (keys : List Bytes) → open_call w call ≡ Some u → keys ≡ keys_of_act act u → IsDistinct (pointwise ◌==◌) keys
+pub act_fits : (w : WorldState) → FitTogether w → (call : ℕ) (act : Act) (u : CallState) (keys : List Bytes) → open_call w call ≡ Some u → keys ≡ keys_of_act w call act u → IsDistinct (pointwise ◌==◌) keys
     → is_time w call act keys (key_events w call act keys) ≡ true → AllFit w (events_of_act w call act keys)
-act_fits w together call Read u keys here is differ time = alone_fit w together call Read keys differ (all_of_kept _ (event_at call Read) (fits w) (λ key h. h) keys)
-act_fits w together call (ReadFail code) u keys here is differ time = alone_fit w together call (ReadFail code) keys differ (all_of_kept _ (event_at call (ReadFail code)) (fits w) (λ key h. h) keys)
-act_fits w together call (Say pairs) u keys here is differ time = alone_fit w together call (Say pairs) keys differ (all_of_kept _ (event_at call (Say pairs)) (fits w) (λ key h. and_from _ _ (said_given pairs key Nothing refl) h) keys)
+act_fits w together call Read u keys here is differ time = alone_fit w together call Read (λ key. refl) keys differ (all_of_kept _ (event_at call Read) (fits w) (λ key h. h) keys)
+act_fits w together call (ReadFail code) u keys here is differ time = alone_fit w together call (ReadFail code) (λ key. refl) keys differ (all_of_kept _ (event_at call (ReadFail code)) (fits w) (λ key h. h) keys)
+act_fits w together call (Say pairs) u keys here is differ time = alone_fit w together call (Say pairs) (λ key. refl) keys differ (all_of_kept _ (event_at call (Say pairs)) (fits w) (λ key h. and_from _ _ (said_given pairs key Nothing refl) h) keys)
 act_fits w together call (Apply left) u keys here is differ time =
-    writer_fit w together call (is_meant w call (Apply left)) u keys (left_keys w call (Apply left) keys) None (λ key h. (and_parts (waits_at w call key) (not (leaves (Apply left) key)) h).0) here is differ time
+    writer_fit w together call (is_meant w call (Apply left)) u keys (left_keys w call (Apply left) keys) None (λ key h. (and_parts (is_asked w call key) (not (leaves (Apply left) key)) h).0) here is differ time
 act_fits w together call (ApplyFail code left) u keys here is differ time =
-    writer_fit w together call (is_meant w call (ApplyFail code left)) u keys (left_keys w call (ApplyFail code left) keys) (Some code) (λ key h. (and_parts (waits_at w call key) (not (leaves (ApplyFail code left) key)) h).0) here is differ time
+    writer_fit w together call (is_meant w call (ApplyFail code left)) u keys (left_keys w call (ApplyFail code left) keys) (Some code) (λ key h. (and_parts (is_asked w call key) (not (leaves (ApplyFail code left) key)) h).0) here is differ time
 act_fits w together call (ApplyLie code) u keys here is differ time = writer_fit w together call (is_meant w call (ApplyLie code)) u keys (left_keys w call (ApplyLie code) keys) (Some code) (λ key h. h) here is differ time
-act_fits w together call End u keys here is differ time = alone_fit w together call End keys differ (and_parts _ _ time).1
+act_fits w together call End u keys here is differ time = alone_fit w together call End (λ key. refl) keys differ (and_parts _ _ time).1
 act_fits w together call Drop u keys here is differ time =
     let parts = and_parts (list_all (fits w) (key_events w call Drop keys)) (not (list_any (is_joined w call) keys)) time in
     together.leave call u (filter (is_started w call) keys) here (kept_differ (is_started w call) keys differ)
@@ -232,6 +238,6 @@ act_fits w together call Drop u keys here is differ time =
     unset : (b : Bool) → not b ≡ true → b ≡ false
     unset true e = cc
     unset false e = refl
-act_fits w together call More u keys here is differ time = alone_fit w together call More keys differ (and_parts _ _ time).1
-act_fits w together call Take u keys here is differ time = alone_fit w together call Take keys differ (all_of_kept _ (event_at call Take) (fits w) (λ key h. h) keys)
-act_fits w together call (Process source calls fail) u keys here is differ time = alone_fit w together call (Process source calls fail) keys differ (all_of_kept _ (event_at call (Process source calls fail)) (fits w) (λ key h. h) keys)
+act_fits w together call More u keys here is differ time = alone_fit w together call More (λ key. refl) keys differ (and_parts _ _ time).1
+act_fits w together call Take u keys here is differ time = alone_fit w together call Take (λ key. refl) keys differ (all_of_kept _ (event_at call Take) (fits w) (λ key h. h) keys)
+act_fits w together call (Process source calls fail) u keys here is differ time = alone_fit w together call (Process source calls fail) (λ key. refl) keys differ (all_of_kept _ (event_at call (Process source calls fail)) (fits w) (λ key h. h) keys)

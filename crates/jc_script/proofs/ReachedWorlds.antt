@@ -33,9 +33,9 @@ use Rattle.jc_world.specs.declared.event.Part.{Part}
 use Rattle.jc_world.specs.declared.event.Shown.{Shown}
 use Rattle.jc_world.specs.declared.event.WorldEvent.{WorldEvent}
 use Rattle.jc_world.specs.declared.event.WorldEvent.TheVariants as event
-use Rattle.jc_world.specs.Calls.{CallState, has_number, open_keys}
-use Rattle.jc_world.specs.Events.{after_report, after_reports, keys_reported, reported_keys, with_met_by, reported_at, all_fit, is_fit, Ends, Happens, Picks, Run, Starts}
-use Rattle.jc_world.specs.Fits.{fits, may_leave, may_look, may_report, may_start}
+use Rattle.jc_world.specs.Calls.{CallState, has_number}
+use Rattle.jc_world.specs.Events.{after_report, after_reports, keys_reported, reported_now, with_met_by, reported_at, all_fit, is_fit, Ends, Happens, Picks, Run, Starts}
+use Rattle.jc_world.specs.Fits.{fits, may_change, may_leave, may_look, may_report, may_start}
 use Rattle.jc_world.specs.Headline.{start_with, Reaches, StartsOpen}
 use Rattle.jc_world.specs.Premises.{report_for}
 use Rattle.jc_world.specs.Together.{opening_events}
@@ -123,7 +123,7 @@ happens_fresh w new (event.Read call key) seen h stale = ap fresh h.3 ∙ stale
 happens_fresh w new (event.Say call key answer) seen h stale = ap fresh h.3 ∙ stale
 happens_fresh w new (event.Change call key) seen h stale = ap fresh h.5 ∙ stale
 happens_fresh w new (event.Report call left fault) seen h stale =
-    ap fresh h.3 ∙ reports_fresh (with_met_by w call (option_map WriterFailed fault)) call (report_for h.0.kind left fault) (keys_reported (reported_keys w.parts call (open_keys h.0))) ∙ stale
+    ap fresh h.3 ∙ reports_fresh (with_met_by w call (option_map WriterFailed fault)) call (report_for h.0.kind left fault) (keys_reported (reported_now w call h.0)) ∙ stale
 happens_fresh w new (event.Process call key source calls fail) seen h stale = ap fresh h.3 ∙ stale
 happens_fresh w new (event.Commit call key) seen h stale = ends_fresh w new call key h.0 h.2 h.4 seen.outcome h.5 ∙ stale
 happens_fresh w new (event.Withdraw call key) seen h stale = ap fresh h.7 ∙ stale
@@ -164,7 +164,7 @@ idle_unfit w idle (event.Look call stripe) other = ap (may_look w.config.stripes
 idle_unfit w idle (event.Start call key) other = ap (may_start w call key) (none_open w call idle)
 idle_unfit w idle (event.Read call key) other = ap (has_progress waits_for_load) (none_part w call key idle)
 idle_unfit w idle (event.Say call key answer) other = ap (λ p. is_load_given answer && has_progress waits_for_load p) (none_part w call key idle) ∙ and-false (is_load_given answer)
-idle_unfit w idle (event.Change call key) other = ap (has_progress waits_for_report) (none_part w call key idle)
+idle_unfit w idle (event.Change call key) other = ap (may_change w call key) (none_open w call idle)
 idle_unfit w idle (event.Report call left fault) other = ap (may_report w call) (none_open w call idle)
 idle_unfit w idle (event.Process call key source calls fail) other = ap (has_progress waits_for_process) (none_part w call key idle)
 idle_unfit w idle (event.Commit call key) other = ap (has_progress is_answered) (none_part w call key idle)
@@ -260,7 +260,7 @@ act_stays : (es : List WorldEvent) (ss : List Shown) (w : WorldState) (number : 
 act_stays es ss w number act None text new reached h = absurd h
 act_stays es ss w number act (Some u) text new reached h =
     let fault = fails_text number (load_code act) in
-    some_events es ss w h.after text new (events_of_act w number act (keys_of_act act u)) h.plays.seen fault reached h.plays.runs h.plays.fit (h.text_is ∙ ap (λ (t : List ℕ). t ++ fault) h.plays.text_is) h.new_is
+    some_events es ss w h.after text new (events_of_act w number act (keys_of_act w number act u)) h.plays.seen fault reached h.plays.runs h.plays.fit (h.text_is ∙ ap (λ (t : List ℕ). t ++ fault) h.plays.text_is) h.new_is
 
 foreign_stays : (es : List WorldEvent) (ss : List Shown) (w : WorldState) (key : Bytes) (value : Option Bytes) (text : List ℕ) (new : OpenedWorld) → IsReachedBy es ss (Some w) → PlaysForeign w key value text new → LeadsOn es ss text new
 foreign_stays es ss w key value text None reached h = absurd h

@@ -1,33 +1,31 @@
 -- The events that lines stand for.
 --     single          the command of a call that makes one operation
 --     bulk_call       what a line says of a command on many keys; it says a command on one in another way
---     is_drop         an act gives its call up
---     keys_of_act     the keys of a call that an act may be about: those at which the call works; of an act that gives the call up all
---                     open ones
+--     is_process      a processor runs by an act
+--     keys_of_act     the open keys of a call that an act may be about: of one by which a processor runs the first that waits for it
 --     is_started      a call has reserved a key
 --     is_listed       a key is among those after `but`, if `but` is there
 --     is_left_failing     a writer that fails leaves a key: one that is listed, and every key if there is no list
 --     leaves          an act says that the writer leaves a key
---     is_changed      the writer was asked for a key, and the act says that it changes the store there
+--     is_changed      the writer is asked for a key now, and the act says that it changes the store there
 --     is_meant        an act is about a key: what it says or asks for is waited for there
 --     event_at        the event that an act stands for at a key that it is about
 --     key_events      those events, at each key that an act is about, in the order of the call's keys
 --     start_events    the first phases of a call that has just begun, unless it is over: as `more` starts keys
---     is_left         the writer was asked for a key, and the act says that it leaves it
---     left_keys       the keys that the writer was asked for and leaves, as an act says
+--     is_left         the writer is asked for a key now, and the act says that it leaves it
+--     left_keys       the keys that the writer is asked for now and leaves, as an act says
 --     end_of_act      the event of the whole call that comes after them: the writer's return, or the call's leaving
 --     events_of_act   the events that an act stands for
 --     is_about_one    there is an event at a key
 --     is_time         whether it is the time for an act, by the call's keys and the events at those that it is about. The writer returns
---                     if some key is asked of it and not reported. Any other act but a call's leaving is about some key. Each key
---                     that ends is answered, and each that retries is neither reserved nor joined. A call that picks up has
---                     reserved no key. A call that leaves has joined no load, and nothing was answered outside for the keys
---                     that it has reserved
+--                     if it is asked for some key now. Any other act but a call's leaving is about some key. Each key that ends is
+--                     answered, and each that retries is neither reserved nor joined. A call that picks up has reserved no key. A
+--                     call that leaves has joined no load, and nothing was answered outside for the keys that it has reserved
 --     is_time_for     the same, of an act of a call under way
 --     has_but         an act names keys that the writer leaves
---     allows_but      a call whose writer may leave some of its keys and not others: one that takes its keys all at once
+--     allows_but      a call whose writer may leave some of its keys and not others: one of many keys
 --     load_code      the code with which an act says that the loader fails
-use Rattle.std.specs.Prelude.{◌&&◌, ℕ, List, [], ◌∷◌, ◌++◌, filter, map, Bool, true, false, not, Option, None, Some, is_some, if◌then◌else◌}
+use Rattle.std.specs.Prelude.{◌&&◌, ℕ, List, [], ◌∷◌, ◌++◌, filter, map, Bool, true, false, not, Option, None, Some, find, is_some, option_to_list, if◌then◌else◌}
 use Rattle.std.specs.List.{list_all, list_any}
 use Rattle.jc_model.specs.Cache.{Bytes}
 use Rattle.jc_model.specs.declared.event.LoadAnswer.TheVariants.{Failed}
@@ -35,11 +33,11 @@ use Rattle.jc_script.specs.declared.line.Operation.{Operation}
 use Rattle.jc_world.specs.declared.command.Command.{Command}
 use Rattle.jc_world.specs.declared.command.Command.TheVariants as command
 use Rattle.jc_model.specs.Batches.{is_among}
-use Rattle.jc_world.specs.Calls.{CallState, keys_at_work, open_keys, takes_turns}
+use Rattle.jc_world.specs.Calls.{CallState, is_bulk, open_keys}
 use Rattle.jc_world.specs.declared.event.WorldEvent.{WorldEvent}
 use Rattle.jc_world.specs.declared.event.WorldEvent.TheVariants as event
 use Rattle.jc_world.specs.World.{WorldState, has_progress, is_joined, part_of, waits_for_load, waits_for_process}
-use Rattle.jc_world.specs.Fits.{fits, waits_at}
+use Rattle.jc_world.specs.Fits.{fits, is_asked, passes_in}
 use Rattle.jc_script.specs.declared.line.BulkCall.{BulkCall}
 use Rattle.jc_script.specs.declared.line.BulkCall.TheVariants as bulk
 use Rattle.jc_script.specs.declared.line.Act.{Act}
@@ -61,21 +59,24 @@ bulk_call (command.InvokeAll set) = Some (bulk.InvokeAll set.keys)
 
 -- 1. What an act does at the keys of its call.
 
-abbrev pub is_drop : Act → Bool
-is_drop Read = false
-is_drop (ReadFail code) = false
-is_drop (Say pairs) = false
-is_drop (Apply left) = false
-is_drop (ApplyFail code left) = false
-is_drop (ApplyLie code) = false
-is_drop End = false
-is_drop Drop = true
-is_drop More = false
-is_drop Take = false
-is_drop (Process source calls fail) = false
+abbrev pub is_process : Act → Bool
+is_process Read = false
+is_process (ReadFail code) = false
+is_process (Say pairs) = false
+is_process (Apply left) = false
+is_process (ApplyFail code left) = false
+is_process (ApplyLie code) = false
+is_process End = false
+is_process Drop = false
+is_process More = false
+is_process Take = false
+is_process (Process source calls fail) = true
 
-abbrev pub keys_of_act : Act → CallState → List Bytes
-keys_of_act act u = if is_drop act then open_keys u else keys_at_work u
+-- the processors of a call run one after the other, in the order of its keys
+abbrev pub keys_of_act : WorldState → ℕ → Act → CallState → List Bytes
+keys_of_act w call act u =
+    if is_process act then option_to_list (find (passes_in waits_for_process w.parts call) (open_keys u))
+    else open_keys u
 
 abbrev pub is_started : WorldState → ℕ → Bytes → Bool
 is_started w call key = is_some (part_of w call key)
@@ -105,7 +106,7 @@ leaves Take key = false
 leaves (Process source calls fail) key = false
 
 abbrev pub is_changed : WorldState → ℕ → Act → Bytes → Bool
-is_changed w call act key = waits_at w call key && not (leaves act key)
+is_changed w call act key = is_asked w call key && not (leaves act key)
 
 abbrev pub is_meant : WorldState → ℕ → Act → Bytes → Bool
 is_meant w call Read key = has_progress waits_for_load (part_of w call key)
@@ -113,7 +114,7 @@ is_meant w call (ReadFail code) key = has_progress waits_for_load (part_of w cal
 is_meant w call (Say pairs) key = has_progress waits_for_load (part_of w call key)
 is_meant w call (Apply left) key = is_changed w call (Apply left) key
 is_meant w call (ApplyFail code left) key = is_changed w call (ApplyFail code left) key
-is_meant w call (ApplyLie code) key = waits_at w call key
+is_meant w call (ApplyLie code) key = is_asked w call key
 is_meant w call End key = is_started w call key
 is_meant w call Drop key = is_started w call key
 is_meant w call More key = true
@@ -140,10 +141,10 @@ key_events w call act keys = map (event_at call act) (filter (is_meant w call ac
 -- as `more` does
 abbrev pub start_events : WorldState → ℕ → Option CallState → List WorldEvent
 start_events w number None = []
-start_events w number (Some u) = key_events w number More (keys_at_work u)
+start_events w number (Some u) = key_events w number More (open_keys u)
 
 abbrev pub is_left : WorldState → ℕ → Act → Bytes → Bool
-is_left w call act key = waits_at w call key && leaves act key
+is_left w call act key = is_asked w call key && leaves act key
 
 abbrev pub left_keys : WorldState → ℕ → Act → List Bytes → List Bytes
 left_keys w call act keys = filter (is_left w call act) keys
@@ -178,9 +179,9 @@ abbrev pub is_time : WorldState → ℕ → Act → List Bytes → List WorldEve
 is_time w call Read keys events = is_about_one events
 is_time w call (ReadFail code) keys events = is_about_one events
 is_time w call (Say pairs) keys events = is_about_one events
-is_time w call (Apply left) keys events = list_any (waits_at w call) keys
-is_time w call (ApplyFail code left) keys events = list_any (waits_at w call) keys
-is_time w call (ApplyLie code) keys events = list_any (waits_at w call) keys
+is_time w call (Apply left) keys events = list_any (is_asked w call) keys
+is_time w call (ApplyFail code left) keys events = list_any (is_asked w call) keys
+is_time w call (ApplyLie code) keys events = list_any (is_asked w call) keys
 is_time w call End keys events = is_about_one events && list_all (fits w) events
 is_time w call Drop keys events = list_all (fits w) events && not (list_any (is_joined w call) keys)
 is_time w call More keys events = is_about_one events && list_all (fits w) events
@@ -189,7 +190,7 @@ is_time w call (Process source calls fail) keys events = is_about_one events
 
 abbrev pub is_time_for : WorldState → ℕ → Act → CallState → Bool
 is_time_for w call act u =
-    let keys = keys_of_act act u in is_time w call act keys (key_events w call act keys)
+    let keys = keys_of_act w call act u in is_time w call act keys (key_events w call act keys)
 
 -- the keys that the writer leaves
 abbrev pub has_but : Act → Bool
@@ -205,9 +206,9 @@ has_but More = false
 has_but Take = false
 has_but (Process source calls fail) = false
 
--- such an act is of no call that takes its keys one after the other
+-- a call of one key is asked for one change
 abbrev pub allows_but : CallState → Bool
-allows_but u = not (takes_turns u.kind)
+allows_but u = is_bulk u.kind
 
 -- at all keys that the loader was asked for
 abbrev pub load_code : Act → Option ℕ

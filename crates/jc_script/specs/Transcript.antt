@@ -88,7 +88,7 @@ PlaysBulk w number session call text new =
 abbrev pub PlaysAct : WorldState → ℕ → Act → Option CallState → List ℕ → OpenedWorld → Type 0
 PlaysAct w number act None text new = ⊥
 PlaysAct w number act (Some u) text new =
-    PlaysCall w number (events_of_act w number act (keys_of_act act u)) (load_code act) text new
+    PlaysCall w number (events_of_act w number act (keys_of_act w number act u)) (load_code act) text new
 
 abbrev pub PlaysForeign : WorldState → Bytes → Option Bytes → List ℕ → OpenedWorld → Type 0
 PlaysForeign w key value text None = ⊥

@@ -12,8 +12,7 @@ use Rattle.jc_model.specs.declared.event.Event.{Event}
 use Rattle.jc_model.specs.Cache.{Bytes, entry_at}
 use Rattle.jc_model.specs.Table.{entry_after}
 use Rattle.jc_model.specs.Group.{Group, nothing_said, events_of}
-use Rattle.jc_model.specs.Legal.{Legal, IsHistory}
-use Rattle.jc_model.proofs.CallerLemmas.{opening_of}
+use Rattle.jc_model.specs.Legal.{Legal}
 use Rattle.jc_stripe.specs.declared.begun.Begun.{Begun}
 use Rattle.jc_stripe.specs.declared.begun.Begun.TheVariants as begun
 use Rattle.jc_inflight.specs.declared.joiner.Joiner.{Joiner}
@@ -40,18 +39,15 @@ use Rattle.std.proofs.lemmas.Bool.{or_right}
 -- 1. A reached state's history is legal.
 
 pub reached_legal : (state : State) → IsReached state → Legal state.config state.opening state.history
-reached_legal state old =
-    let P : List (Bytes × Bytes) → Type 0 = λ o. Legal state.config o state.history in
-    let legal = old.legal in
-    subst P (sym old.opening) (record {
-      config_fits = old.config_fits;
-      once = refl;
-      stripe = state.stripe;
-      opens = opening_of state.config state.stripe [] refl (omega arith) refl;
-      own = old.own;
-      next = state.cache;
-      history = let Q : List (Bytes × Bytes) → Type 0 = λ o. IsHistory state.config (from_entries o) state.history state.cache in subst Q old.opening legal;
-    })
+reached_legal state old = record {
+  config_fits = old.config_fits;
+  once = old.opened_once;
+  stripe = state.stripe;
+  opens = old.opens;
+  own = old.own;
+  next = state.cache;
+  history = old.legal;
+}
 
 -- 2. A step that is done at once.
 
@@ -79,7 +75,8 @@ begins_done old new caller key op done reached may none nobody steps =
     (λ j e. or_right (not (waits j)) (is_other_join caller key j) e) may.apart in
     let next : IsReached (after_group old g) = record {
       config_fits = reached.config_fits;
-      opening = reached.opening;
+      opened_once = reached.opened_once;
+      opens = reached.opens;
       legal = legal_on old (from_entries old.opening) g reached.legal steps.lawful
           (order-group old.history (length old.history) g reached.legal.order (record { behind = may.behind; callers_behind = refl; callers_away = refl; callers_apart = refl }));
       used = used_on old g reached.used may.of_stripe;
@@ -126,7 +123,8 @@ commits_found old new r out done reached found steps =
     let room = reached.places in
     let next : IsReached (after_group m g) = record {
       config_fits = reached.config_fits;
-      opening = reached.opening;
+      opened_once = reached.opened_once;
+      opens = reached.opens;
       legal = legal_on m (from_entries old.opening) g reached.legal steps.lawful
           (order-group old.history (length old.history) g reached.legal.order
           (record { behind = may.behind; callers_behind = callers_behind old r reached found; callers_away = callers_other old r reached found; callers_apart = callers_apart old r reached found }));

@@ -1,5 +1,5 @@
 -- The phases without a step: a reached state's tables change, and it stays reached.
---     reached_start         the first state
+--     reached_start         the first state, whatever it opens with
 --     reached_reserved      a reservation more
 --     reached_joined        a joiner more
 --     reached_withdrawn     a reservation given back
@@ -18,6 +18,7 @@ use Rattle.jc_model.specs.declared.event.Op.{Op}
 use Rattle.jc_model.specs.Cache.{Bytes, key_cmp, entry_at}
 use Rattle.jc_model.specs.Legal.{in_order}
 use Rattle.jc_model.specs.Listed.{has_distinct_keys}
+use Rattle.jc_model.proofs.CallerLemmas.{opening_of}
 use Rattle.jc_inflight.specs.declared.joiner.Joiner.{Joiner}
 use Rattle.jc_inflight.specs.declared.joiner.JoinState.TheVariants.{Waiting, Again}
 use Rattle.jc_inflight.specs.Joining.{belongs_to, waits_for}
@@ -31,7 +32,7 @@ use Rattle.jc_stripe.specs.State.{State, is_of as is_own_key, is_reserved, new_r
 use Rattle.jc_stripe.specs.Refusals.{first_asked, load_joined}
 use Rattle.jc_stripe.specs.OrderOfUse.{by_use}
 use Rattle.jc_stripe.specs.Phases.{MayBegin, with_joiner, Withdraws, after_withdrawal, PicksUp, without_joiner, is_other_join}
-use Rattle.jc_stripe.specs.Reached.{IsReached, AreNumbered, AllAsk, AllJoin, FindsLoad, may_end, may_share, are_beside, are_apart, all_apart, is_own}
+use Rattle.jc_stripe.specs.Reached.{IsReached, IsOpened, AreNumbered, AllAsk, AllJoin, FindsLoad, may_end, may_share, are_beside, are_apart, all_apart, is_own}
 use Rattle.jc_types.specs.declared.limits.TheConstants.{STEP_PLACES, HIT_PLACES, RESERVATIONS_MAX, JOINERS_MAX}
 use Rattle.jc_stripe.proofs.Refusing.{joins_known}
 use Rattle.jc_stripe.proofs.Numbering.{numbered-push, numbered-left}
@@ -42,26 +43,35 @@ use Rattle.jc_stripe.specs.declared.ticket.Reservation.{Reservation}
 
 -- 1. The first state.
 
-pub reached_start : (config : Config) (state : State) → check config ≡ Ok tt → state.config ≡ config → state.opening ≡ [] → state.cache ≡ empty → state.reservations ≡ [] → state.joiners ≡ [] → state.history ≡ [] → IsReached state
-reached_start config state fits config_is opening cache reservations joiners history =
-    let entries : by_use state.opening state.history ≡ [] = λ i. by_use (opening i) (history i) in
+pub reached_start : (state : State) → IsOpened state → IsReached state
+reached_start state start =
+    let opens = opening_of state.config state.stripe state.opening start.once start.few start.own in
+    let entries : by_use state.opening state.history ≡ state.opening = ap (by_use state.opening) start.history in
+    let reservations = start.reservations in
+    let joiners = start.joiners in
+    let history = start.history in
     let none : length state.reservations ≡ 0 = ap length reservations in
     let nobody : length state.joiners ≡ 0 = ap length joiners in
     let waiting : count_by waits state.joiners ≡ 0 = ap (count_by waits) joiners in
     record {
-      config_fits = ap check config_is ∙ fits;
-      opening = opening;
+      config_fits = start.config_fits;
+      opened_once = start.once;
+      opens = opens;
       legal = record {
         groups = [];
         spelled = history;
         lawful = tt;
-        left = cache ∙ ap (from_entries {R = key_cmp}) (sym opening);
+        left = start.cache;
         order = ap in_order history;
       };
-      used = record { once = ap has_distinct_keys entries; cache = cache ∙ ap (from_entries {R = key_cmp}) (sym entries); own = ap (list_all (λ (entry : Bytes × Bytes). is_own_key state entry.0)) entries };
+      used = record {
+        once = ap has_distinct_keys entries ∙ start.once;
+        own = ap (list_all (λ (entry : Bytes × Bytes). is_own_key state entry.0)) entries ∙ start.own;
+        cache = start.cache ∙ ap (from_entries {R = key_cmp}) (sym entries);
+      };
       own = ap (list_all (is_own state)) history;
       keys = ap (list_all (λ (r : Reservation). is_own_key state r.key)) reservations;
-      few_entries = let e : len state.cache ≡ 0 = ap len cache ∙ len-empty key_cmp Bytes in omega arith;
+      few_entries = let e = ap len start.cache in let few = opens.few in omega arith;
       few_reservations = omega arith;
       few_joiners = omega arith;
       places = let e : length state.history ≡ 0 = ap length history in omega arith;
@@ -105,7 +115,8 @@ record Tabled (state : State) (rs : List Reservation) (js : List Joiner) (next :
 reached_tabled : (state : State) (rs : List Reservation) (js : List Joiner) (next : ℕ) → IsReached state → Tabled state rs js next → IsReached (tabled state rs js next)
 reached_tabled state rs js next old new = record {
   config_fits = old.config_fits;
-  opening = old.opening;
+  opened_once = old.opened_once;
+  opens = old.opens;
   legal = old.legal;
   used = record { once = old.used.once; cache = old.used.cache; own = old.used.own };
   own = old.own;

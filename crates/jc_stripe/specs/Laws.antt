@@ -1,5 +1,6 @@
 -- The laws of the phases, over every state.
 --     StaysReached      each phase leads from a reached state to a reached one
+--     OpenedIsReached   a state in which nothing has happened yet is reached, whatever it opens with
 --     ReachedIsLegal    a reached state's history is legal from its opening
 --     IsSameStripe      one state is of the same stripe as another: of the same shape, number, origin and opening
 --     Extends           one state comes after another: of the same stripe, with the earlier history as a prefix of its own
@@ -20,13 +21,16 @@ use Rattle.jc_stripe.specs.declared.begun.Picked.{Picked}
 use Rattle.jc_stripe.specs.Tickets.{JoinClaim}
 use Rattle.jc_stripe.specs.State.{State, is_reserved, without_reservation}
 use Rattle.jc_stripe.specs.Phases.{MayBegin, Begins, Commits, Withdraws, PicksUp}
-use Rattle.jc_stripe.specs.Reached.{IsReached}
+use Rattle.jc_stripe.specs.Reached.{IsReached, IsOpened}
 
 pub record StaysReached : Type 0 where
   pub begins : (old new : State) (caller : Caller) (key : Bytes) (op : Op) (b : Begun) → IsReached old → MayBegin old caller key → Begins old caller key op b new → IsReached new
   pub commits : (old new : State) (r : Reservation) (out : Out) (done : StepDone) → IsReached old → Commits old r out done new → IsReached new
   pub withdraws : (old new : State) (r : Reservation) → IsReached old → Withdraws old r new → IsReached new
   pub picks_up : (old new : State) (join : JoinClaim) (p : Picked) → IsReached old → PicksUp old join p new → IsReached new
+
+abbrev pub OpenedIsReached : Type 0
+OpenedIsReached = (state : State) → IsOpened state → IsReached state
 
 abbrev pub ReachedIsLegal : Type 0
 ReachedIsLegal = (state : State) → IsReached state → Legal state.config state.opening state.history

@@ -13,9 +13,10 @@
 --     all_apart        and no reservation and joiner of a session
 --     is_own           an event is of one of the stripe's keys
 --     IsUsed           the entries by use are what is cached, each key once, and they are of the stripe's keys
---     IsReached        its history is legal from its opening and leaves its entries, its tables are within their limits, each
---                      reservation still asks what it asked, each joiner that waits still finds its load, and the steps of both may
---                      still come
+--     IsReached        its opening is one of its stripe, its history is legal from it and leaves its entries, its tables are within
+--                      their limits, each reservation still asks what it asked, each joiner that waits still finds its load, and the
+--                      steps of both may still come
+--     IsOpened         nothing has happened in it yet: it caches what it opens with, and nobody has called
 use Rattle.std.specs.Prelude.{◌≡◌, ◌==◌, ◌+◌, ◌≤◌, ◌<◌, ℕ, List, [], ◌∷◌, length, Ok, IsTrue, Bool, true, false, not, ◌&&◌, ◌||◌, None, Some, All, AllPairs, slice_get}
 use Rattle.std.specs.List.{list_all}
 use Rattle.std.specs.FinMap.{len, from_entries}
@@ -29,7 +30,7 @@ use Rattle.jc_model.specs.declared.event.Event.{Event}
 use Rattle.jc_model.specs.declared.event.Event.TheVariants.{Step}
 use Rattle.jc_model.specs.Cache.{Cache, entry_at}
 use Rattle.jc_model.specs.Listed.{has_distinct_keys}
-use Rattle.jc_model.specs.Legal.{IsHistory, is_of_stripe, may_come}
+use Rattle.jc_model.specs.Legal.{IsOpening, IsHistory, is_of_stripe, may_come}
 use Rattle.jc_inflight.specs.declared.joiner.Joiner.{Joiner}
 use Rattle.jc_inflight.specs.declared.joiner.JoinState.{JoinState}
 use Rattle.jc_inflight.specs.declared.joiner.JoinState.TheVariants.{Waiting, Answered, Again}
@@ -110,7 +111,8 @@ pub record IsUsed (state : State) : Type 0 where
 
 pub record IsReached (state : State) : Type 0 where
   pub config_fits : check state.config ≡ Ok tt
-  pub opening : state.opening ≡ []
+  pub opened_once : IsTrue (has_distinct_keys state.opening)
+  pub opens : IsOpening state.config state.stripe (from_entries state.opening)
   pub legal : IsHistory state.config (from_entries state.opening) state.history state.cache
   pub used : IsUsed state
   pub own : IsTrue (list_all (is_own state) state.history)
@@ -127,3 +129,14 @@ pub record IsReached (state : State) : Type 0 where
   pub shares : IsTrue (list_all (may_share state.history) state.joiners)
   pub apart : IsTrue (are_apart state.joiners)
   pub between : IsTrue (all_apart state.reservations state.joiners)
+
+-- the first state, whatever it opens with
+pub record IsOpened (state : State) : Type 0 where
+  pub config_fits : check state.config ≡ Ok tt
+  pub once : IsTrue (has_distinct_keys state.opening)
+  pub own : IsTrue (list_all (λ entry. is_of state entry.0) state.opening)
+  pub few : length state.opening ≤ state.config.capacity
+  pub cache : state.cache ≡ from_entries state.opening
+  pub reservations : state.reservations ≡ []
+  pub joiners : state.joiners ≡ []
+  pub history : state.history ≡ []

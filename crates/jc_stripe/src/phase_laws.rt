@@ -1,7 +1,13 @@
 //! The laws of the phases, over every stripe. Each function does nothing: what it says is its contract.
-ghost use Rattle.jc_stripe.specs.Laws.{StaysReached, ReachedIsLegal, Grows, KeepsReserved};
+ghost use Rattle.jc_stripe.specs.Laws.{StaysReached, OpenedIsReached, ReachedIsLegal, Grows, KeepsReserved};
 ghost use Rattle.jc_stripe.specs.OnePhase.{OnePhase};
 ghost use Rattle.jc_stripe.specs.OwnSteps.{OwnSteps, CallerNumbers, OwnNumbers, StepsBehind, WholeCall, JoinsOnlyLoads};
+
+/// A stripe in which nothing has happened yet is as every stripe is (`IsReached`), whatever entries it opens with: as many as it may
+/// cache at most, of its own keys, each key once.
+pub fn opened_is_reached()
+    ensures { OpenedIsReached }
+{}
 
 /// Whatever phase a stripe makes, it stays as every stripe is (`IsReached`): among other things its history is legal from its
 /// opening and leaves its entries, its tables are within their limits, each reservation still asks what it asked and its step

@@ -3,17 +3,16 @@
 --     reached_empty, start_is        the stripes of the start, which are reached
 --     order_called                   once a call has begun
 --     may_start_at, begins_at        the conditions on a first phase
---     may_turn, part_turn            a call may work at a key that it starts, and at one that it has reserved
-use Rattle.jc_world.proofs.Common.{◌≡◌, ℕ, zero, suc, ◌+◌, Bool, true, false, cond, not, ◌&&◌, ◌||◌, List, [], ◌∷◌, ◌++◌, length, is_some, is_none, IsSomeAnd, ◌==◌, slice_get, Some, None, Ok, Option, find, sym, refl, ap, ◌∙◌, subst, append-nil, add-zero, zero-add, arith, not-true, eqb-true, eq-eqb, and_parts, and_from, or_left, or_right, false_from_ne_true, nat_list_cmp_total, pointwise, get, insert, len-empty, get-insert, all_filter, is_session, check, stripe_of, Caller, Config, Bytes, Cache, key_cmp, may_come, is_of_stripe, Op, Get, belongs_to, Joiner, may_come_all, is_other_call, is_other_join, MayBegin, IsReached, State, is_of, is_key, Reservation, Command, Part, Premises, WorldEvent, CallState, new_call, has_number, op_at, op_for, is_turn, opened, is_playable, is_new, is_free, may_start, fits, IsWorldStripe, is_up_to, has_parked_answer, is_served_in, is_served, FitsKey, FitsCall, CallsFit, IsHeld, IsCallOf, IsOwned, IsCalled, AllCalled, IsSoundWorld, Parts, WorldState, home, stripe_for, empty_stripe, empty_stripes, is_busy, open_call, part_of, is_joined}
+use Rattle.jc_world.proofs.Common.{◌≡◌, ℕ, zero, suc, ◌+◌, Bool, true, false, cond, not, ◌&&◌, ◌||◌, List, [], ◌∷◌, ◌++◌, length, is_some, is_none, IsSomeAnd, ◌==◌, slice_get, Some, None, Ok, Option, find, sym, refl, ap, ◌∙◌, subst, append-nil, add-zero, zero-add, arith, not-true, eqb-true, eq-eqb, and_parts, and_from, or_left, or_right, false_from_ne_true, nat_list_cmp_total, pointwise, get, insert, len-empty, get-insert, all_filter, is_session, check, stripe_of, Caller, Config, Bytes, Cache, key_cmp, may_come, is_of_stripe, Op, Get, belongs_to, Joiner, may_come_all, is_other_call, is_other_join, MayBegin, IsReached, State, is_of, Reservation, Command, Part, Premises, WorldEvent, CallState, new_call, has_number, op_at, op_for, opened, is_playable, is_new, is_free, may_start, fits, IsWorldStripe, is_up_to, has_parked_answer, is_served_in, is_served, FitsKey, FitsCall, CallsFit, IsCallOf, IsOwned, IsCalled, AllCalled, IsSoundWorld, Parts, WorldState, home, stripe_for, empty_stripe, empty_stripes, is_busy, open_call, part_of, is_joined}
+use Rattle.jc_model.proofs.CallerLemmas.{empty_opens}
 use Rattle.jc_world.proofs.Numbered.{some_of}
 use Rattle.jc_world.proofs.Halves.{HasOrder}
 use Rattle.jc_world.proofs.Shares.{found_test, shape_same, fact_found, each_map, each_test}
 use Rattle.jc_world.proofs.Underway.{found_number, fits_found, calls_on, calls_all, elsewhere_found, up_self, up_more, numbers_more, comes_new, calls_pushed, each_found, find_pushed, same_bytes, of_call-none}
 use Rattle.jc_world.proofs.Joiners.{joiner_of, other_key}
 use Rattle.jc_world.proofs.Looked.{Taken}
-use Rattle.jc_world.proofs.Settling.{Left, IsTurnOf, done_for}
+use Rattle.jc_world.proofs.Settling.{Left, done_for}
 use Rattle.jc_world.proofs.NewCalls.{opened_cases}
-use Rattle.jc_world.proofs.Facts.{same_found}
 use Rattle.jc_world.proofs.Entries.{split}
 
 -- 1. What changes nothing of the callers' order.
@@ -112,7 +111,8 @@ empty_count config base (suc count) = ap suc (empty_count config (base + 1) coun
 pub reached_empty : (config : Config) (n : ℕ) → check config ≡ Ok tt → IsReached (empty_stripe config n)
 reached_empty config n fits = record {
   config_fits = fits;
-  opening = refl;
+  opened_once = refl;
+  opens = empty_opens config n;
   legal = record { groups = []; spelled = refl; lawful = tt; left = refl; order = refl };
   used = record { once = refl; own = refl; cache = refl };
   own = refl;
@@ -194,7 +194,6 @@ order_called w call session command fit old =
 pub record MayStart (w : WorldState) (u : CallState) (key : Bytes) (op : Op) : Type 0 where
   pub here : open_call w u.caller.call ≡ Some u
   pub op_is : op_at u key ≡ Some op
-  pub turn : is_turn u key ≡ true
   pub fit : FitsKey w u.caller key op
   pub none : is_none (part_of w u.caller.call key) ≡ true
   pub alone : is_joined w u.caller.call key ≡ false
@@ -202,31 +201,16 @@ pub record MayStart (w : WorldState) (u : CallState) (key : Bytes) (op : Op) : T
 -- so if a start fits
 pub may_start_at : (w : WorldState) (call : ℕ) (key : Bytes) (u : CallState) (op : Op) → fits w (WorldEvent.Start call key) ≡ true → open_call w call ≡ Some u → op_at u key ≡ Some op → IsSoundWorld w → MayStart w u key op
 may_start_at w call key u op fit is op_is old =
-    let tests = and_parts (is_some (op_at u key) && is_turn u key) (is_free w call key) (sym (ap (may_start w call key) is) ∙ fit) in
+    let tests = and_parts (is_some (op_at u key)) (is_free w call key) (sym (ap (may_start w call key) is) ∙ fit) in
     let parts = and_parts (is_none (part_of w call key)) (not (is_joined w call key)) tests.1 in
     let number = found_number call w.calls u is in
     record {
       here = ap (open_call w) number ∙ is;
       op_is = op_is;
-      turn = (and_parts (is_some (op_at u key)) (is_turn u key) tests.0).1;
       fit = (fits_found w (has_number call) w.calls u is old.calls).keys key op (done_for u key op op_is);
       none = ap (λ n. is_none (part_of w n key)) number ∙ parts.0;
       alone = ap (λ n. is_joined w n key) number ∙ not-true (is_joined w call key) parts.1;
     }
-
--- a call may work at a key that it starts
-pub may_turn : (w : WorldState) (u : CallState) (key : Bytes) (op : Op) → MayStart w u key op → IsTurnOf w.calls u.caller.call key
-may_turn w u key op may v here = ap (λ (x : CallState). is_turn x key) (same_found (open_call w u.caller.call) v u here may.here) ∙ may.turn
-
--- and at one that it has reserved
-pub part_turn : (w : WorldState) (call : ℕ) (key : Bytes) (part : Part) → get w.parts key ≡ Some part → part.reservation.caller.call ≡ call → IsSoundWorld w → IsTurnOf w.calls call key
-part_turn w call key part there mine old v here =
-    let r = part.reservation in
-    let held = some_of (stripe_for w key) (λ s. IsHeld s key part) (old.held key part there) in
-    let own = fact_found (IsOwned w) (is_key r.key) held.0.reservations r held.2.out (old.owned (home w key) held.0 held.1) in
-    let u = some_of (open_call w r.caller.call) (IsCallOf r.caller.session r.key r.op) own.call in
-    let same : v ≡ u.0 = same_found (open_call w call) v u.0 here (ap (open_call w) (sym mine) ∙ u.1) in
-    (λ i. is_turn (same i) (sym held.2.key_is i)) ∙ u.2.2
 
 -- no reservation is of this call and this key
 pub not_own : (w : WorldState) (call : ℕ) (key : Bytes) (r : Reservation) → is_none (part_of w call key) ≡ true → IsOwned w r → r.caller.call ≡ call → r.key ≡ key → ⊥

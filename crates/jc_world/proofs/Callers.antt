@@ -2,7 +2,7 @@
 --     order_key                       after each kind of change at a key
 --     order_happens, order_opened     after any event that fits, and after an entry of the store's opening
 --     order_is, has_shares            the order is one legal history over all stripes, and each stripe's history is its part of it
-use Rattle.jc_world.proofs.Common.{◌≡◌, ℕ, zero, suc, ◌+◌, ◌%◌, ◌<◌, Bool, true, false, cond, not, ◌&&◌, ◌||◌, ◌⊎◌, List, [], ◌∷◌, ◌++◌, length, is_none, IsSomeAnd, nat_lt, ◌==◌, slice_get, slice_set, Some, None, sum, Option, option_map, find, sym, refl, ap, ◌∙◌, subst, inl, inr, arith, not-true, eqb-true, and_parts, false_from_ne_true, nat_list_cmp_total, nat_list_eq_equiv, eq_by_cmp_equiv, pointwise, texts_ties, get, insert, remove, get-insert, get-remove, list_all, eq_by_cmp, all_imply, Caller, Config, Refusal, Bytes, Cache, key_cmp, nothing_said, events_of, of_stripe, IsHistory, IsOpening, opens_well, Op, Get, Out, belongs_to, is_waiting, waits_for, callers_of, after_resolve, JoinState, Again, Answered, Waiting, Joiner, StaysReached, IsSameStripe, Extends, may_come_all, new_group, Steps, with_joiner, Begins, after_commit, Commits, Withdraws, without_joiner, PicksUp, JoinFits, IsReached, State, is_of, is_key, is_reserved, with_reservation, without_key, IsOut, JoinClaim, Begun, Picked, StepDone, Reservation, Part, Premises, PartProgress, Shown, WorldEvent, cache_at, opening_at, IsOrder, HasShares, SweepState, CallState, has_number, op_at, op_for, open_keys, is_turn, going_on, with_met, replaced, settle, drop_call, with_found, with_stripe, with_phase, step_of, fault_in, with_settled, with_met_by, without_call, with_look, new_part, with_part, without_part, with_join, without_join, Happens, is_free, may_leave, fits, IsWorldStripe, is_up_to, has_answer, has_parked_answer, is_served_in, is_served, FitsCall, CallsFit, Each, IsHeld, IsCallOf, IsOwned, AllOwned, IsCalled, IsSoundWorld, Parts, Joins, WorldState, home, stripe_for, open_call, part_of, out_of, join_of, is_joined, with_stored}
+use Rattle.jc_world.proofs.Common.{◌≡◌, ℕ, zero, suc, ◌+◌, ◌%◌, ◌<◌, Bool, true, false, cond, not, ◌&&◌, ◌||◌, ◌⊎◌, List, [], ◌∷◌, ◌++◌, length, is_none, IsSomeAnd, nat_lt, ◌==◌, slice_get, slice_set, Some, None, sum, Option, option_map, find, sym, refl, ap, ◌∙◌, subst, inl, inr, arith, not-true, eqb-true, and_parts, false_from_ne_true, nat_list_cmp_total, nat_list_eq_equiv, eq_by_cmp_equiv, pointwise, texts_ties, get, insert, remove, get-insert, get-remove, list_all, eq_by_cmp, all_imply, Caller, Config, Refusal, Bytes, Cache, key_cmp, nothing_said, events_of, of_stripe, IsHistory, IsOpening, Op, Get, Out, belongs_to, is_waiting, waits_for, callers_of, after_resolve, JoinState, Again, Answered, Waiting, Joiner, StaysReached, IsSameStripe, Extends, may_come_all, new_group, Steps, with_joiner, Begins, after_commit, Commits, Withdraws, without_joiner, PicksUp, JoinFits, IsReached, State, is_of, is_key, is_reserved, with_reservation, without_key, IsOut, JoinClaim, Begun, Picked, StepDone, Reservation, Part, Premises, PartProgress, Shown, WorldEvent, cache_at, opening_at, IsOrder, HasShares, SweepState, CallState, has_number, op_at, op_for, open_keys, going_on, with_met, replaced, settle, drop_call, with_found, with_stripe, with_phase, step_of, fault_in, with_settled, with_met_by, without_call, with_look, new_part, with_part, without_part, with_join, without_join, Happens, is_free, may_leave, fits, IsWorldStripe, is_up_to, has_answer, has_parked_answer, is_served_in, is_served, FitsCall, CallsFit, Each, IsHeld, IsCallOf, IsOwned, AllOwned, IsCalled, IsSoundWorld, Parts, Joins, WorldState, home, stripe_for, open_call, part_of, out_of, join_of, is_joined, with_stored}
 use Rattle.jc_world.proofs.Numbered.{some_of}
 use Rattle.jc_inflight.specs.Taking.{without_joiner as without}
 use Rattle.jc_world.proofs.Halves.{HasOrder, order_half}
@@ -12,10 +12,10 @@ use Rattle.jc_world.proofs.Reservations.{out_reserved}
 use Rattle.jc_world.proofs.Shares.{is_some_and, set_cases, added, share_grows, share_stays, shape_set, AllBy, by_map, by_group, added_order, numbers_added, comes_behind, comes_added, fact_found, each_kept, each_map, each_pushed}
 use Rattle.jc_world.proofs.Underway.{found_number, find_over, fits_found, calls_filter, calls_on, each_found, elsewhere_found, all_owned, others_left, same_bytes, of_call-at}
 use Rattle.jc_world.proofs.Looked.{Taken, taken_of, taken_met, taken_on, calls_taken, still_taken}
-use Rattle.jc_world.proofs.Settling.{open_now, Left, done_for, IsTurnOf, still_called, calls_settled}
+use Rattle.jc_world.proofs.Settling.{open_now, Left, done_for, still_called, calls_settled}
 use Rattle.jc_world.proofs.LoadKeys.{key_of_load, each_fits}
 use Rattle.jc_world.proofs.Joiners.{joiner_of, unanswered, told_resolved, told_waiting, told_dissolved, told_pushed, find_kept, each_own, each_caller, each_both, join_at, joined_no_part}
-use Rattle.jc_world.proofs.Beginning.{unless, fits_left, fits_same, fits_taken, calls_same, order_stored, owned_part, order_parted, order_called, MayStart, may_turn, part_turn, not_own, apart_or, unserved, begins_with, order_beside}
+use Rattle.jc_world.proofs.Beginning.{unless, fits_left, fits_same, fits_taken, calls_same, order_stored, owned_part, order_parted, order_called, MayStart, not_own, apart_or, unserved, begins_with, order_beside}
 use Rattle.jc_world.proofs.Facts.{same_found}
 use Rattle.jc_world.proofs.Entries.{tied}
 use Rattle.jc_world.proofs.KeyChanges.{KeyChange, by_answer, by_commit, by_join, by_nothing, by_refusal, by_reservation, by_retry, by_step, by_withdrawal, key_change, may_of}
@@ -31,8 +31,8 @@ abbrev IsFound : WorldState → CallState → Type 0
 IsFound w u = find (has_number u.caller.call) w.calls ≡ Some u
 
 -- a reservation of another call, or at another key, keeps its call
-call_kept : (w : WorldState) (call : ℕ) (key : Bytes) (met : Option Refusal) (r : Reservation) → (r.caller.call ≡ call → r.key ≡ key → ⊥) → IsTurnOf w.calls call key → IsOwned w r → IsSomeAnd (find (has_number r.caller.call) (settle call key met w.calls)) (IsCallOf r.caller.session r.key r.op)
-call_kept w call key met r other turn h = still_called call key met r.caller.call r.caller.session r.key r.op w.calls other turn h.call
+call_kept : (w : WorldState) (call : ℕ) (key : Bytes) (met : Option Refusal) (r : Reservation) → (r.caller.call ≡ call → r.key ≡ key → ⊥) → IsOwned w r → IsSomeAnd (find (has_number r.caller.call) (settle call key met w.calls)) (IsCallOf r.caller.session r.key r.op)
+call_kept w call key met r other h = still_called call key met r.caller.call r.caller.session r.key r.op w.calls other h.call
 
 -- a first phase was refused, and the key has its last refusal
 order_refused : (w : WorldState) (u : CallState) (key : Bytes) (op : Op) (met : Option Refusal) → MayStart w u key op → IsSoundWorld w → HasOrder (with_settled w u.caller.call key met)
@@ -41,7 +41,7 @@ order_refused w u key op met may old =
     let new : WorldState = with_settled w call key met in
     order_beside w (settle call key met w.calls) w.parts w.store w.premises w.is_fresh
     (calls_settled w new call key met (IsFound w) w.calls (λ x v left found h. fits_left w new call key x v left refl refl (λ q o is k. k) h) (each_found w w.calls old.calls) old.calls)
-    (λ r h. record { part = h.part; call = call_kept w call key met r (not_own w call key r may.none h) (may_turn w u key op may) h }) old
+    (λ r h. record { part = h.part; call = call_kept w call key met r (not_own w call key r may.none h) h }) old
 
 -- a call leaves: no reservation is of it
 order_over : (w : WorldState) (call : ℕ) (u : CallState) → list_all (is_free w call) (open_keys u) ≡ true → open_call w call ≡ Some u → IsSoundWorld w → HasOrder (without_call w call)
@@ -183,7 +183,7 @@ order_done stays w u key op met from to done there begins may old =
     let reached = stays.begins from to u.caller key op (Begun.Done done) at.reached (begins_with w u key op from old there may) begins in
     let g = goes from from to u.caller key op nothing_said [] done (record { config = refl; stripe = refl; origin = refl; opening = refl }) refl begins.2 in
     let one : IsPut w new call key u.caller key = record { v = u; here = may.here; session_is = refl; op = op; op_is = may.op_is; unserved = unserved w u.caller key may.alone old; over = inl (refl, refl) } in
-    let kept : (rs : List Reservation) → AllOwned w rs → AllOwned new rs = λ rs. each_map (IsOwned w) (IsOwned new) rs (λ r h. record { part = h.part; call = call_kept w call key met r (not_own w call key r may.none h) (may_turn w u key op may) h }) in
+    let kept : (rs : List Reservation) → AllOwned w rs → AllOwned new rs = λ rs. each_map (IsOwned w) (IsOwned new) rs (λ r h. record { part = h.part; call = call_kept w call key met r (not_own w call key r may.none h) h }) in
     order_stepped w key from to call met w.parts old there g reached
     (by_group (IsPut w new call key) (length from.history) (new_group from u.caller key op nothing_said [] begins.2.short) one tt)
     (same_told from to (ap (λ (s : State). s.joiners) begins.2.after))
@@ -218,7 +218,7 @@ order_reserved w u key op from to p r there free caller_is key_is op_is is reach
     }) in
     let one : IsOwned new r = record {
       part = is_some_and (get new.parts r.key) (λ p. p.reservation.caller.call ≡ r.caller.call) (new_part p r) (ap (get new.parts) key_is ∙ get-insert nat_list_cmp_total w.parts key (new_part p r) key ∙ ap (λ b. cond b (Some (new_part p r)) (get w.parts key)) (tied key)) refl;
-      call = is_some_and (open_call new r.caller.call) (IsCallOf r.caller.session r.key r.op) u (ap (λ (c : Caller). open_call w c.call) caller_is ∙ may.here) (ap (λ (c : Caller). c.session) (sym caller_is), ap (op_at u) key_is ∙ may.op_is ∙ ap Some (sym op_is), ap (is_turn u) key_is ∙ may.turn);
+      call = is_some_and (open_call new r.caller.call) (IsCallOf r.caller.session r.key r.op) u (ap (λ (c : Caller). open_call w c.call) caller_is ∙ may.here) (ap (λ (c : Caller). c.session) (sym caller_is), ap (op_at u) key_is ∙ may.op_is ∙ ap Some (sym op_is));
     } in
     record {
       shape = shape_set w new key from to refl refl old.shape there (ap (λ (s : State). s.config) is) (ap (λ (s : State). s.stripe) is) (ap (λ (s : State). s.origin) is) reached
@@ -361,14 +361,14 @@ ending_at w call key met part from to done is there commits old =
     (fact_found (IsOwned w) (is_key part.reservation.key) from.reservations part.reservation commits.0 (old.owned (home w key) from there)) old
 
 -- the key of the commit is settled
-order_commit : (w : WorldState) (call : ℕ) (key : Bytes) (met : Option Refusal) (from to : State) → IsSoundWorld w → stripe_for w key ≡ Some from → IsTurnOf w.calls call key → (e : Ending w call key met from to) → IsReached to → HasOrder (ended_world w key from to call met)
-order_commit w call key met from to old there turn e reached =
+order_commit : (w : WorldState) (call : ℕ) (key : Bytes) (met : Option Refusal) (from to : State) → IsSoundWorld w → stripe_for w key ≡ Some from → (e : Ending w call key met from to) → IsReached to → HasOrder (ended_world w key from to call met)
+order_commit w call key met from to old there e reached =
     let new : WorldState = ended_world w key from to call met in
     order_stepped w key from to call met (remove w.parts key) old there e.extends reached e.put e.keeps
     (owned_left_over w new key from to there e.left
     (λ r apart h. record {
       part = part_kept w key r apart h;
-      call = call_kept w call key met r (λ mine at. let t : true ≡ false = sym (ap (pointwise ◌==◌ key) at ∙ nat_list_eq_equiv.refl key) ∙ apart in cc) turn h;
+      call = call_kept w call key met r (λ mine at. let t : true ≡ false = sym (ap (pointwise ◌==◌ key) at ∙ nat_list_eq_equiv.refl key) ∙ apart in cc) h;
     }) old)
 
 -- 6. A reservation is given back, and an answer picked up.
@@ -409,7 +409,6 @@ pub record Picking (w : WorldState) (call : ℕ) (key : Bytes) (join : JoinClaim
   pub here : open_call w call ≡ Some u
   pub session_is : u.caller.session ≡ join.caller.session
   pub op_is : op_at u key ≡ Some Get
-  pub turn : is_turn u key ≡ true
   pub call_is : join.caller.call ≡ call
   pub join_key : join.key ≡ key
   pub none : part_of w call key ≡ None
@@ -423,15 +422,10 @@ picking w call key join there old =
       here = ap (open_call w) (sym is.0) ∙ u.1;
       session_is = u.2.0;
       op_is = ap (op_at u.0) (sym is.1) ∙ u.2.1;
-      turn = ap (is_turn u.0) (sym is.1) ∙ u.2.2;
       call_is = is.0;
       join_key = is.1;
       none = (λ i. part_of w (sym is.0 i) (sym is.1 i)) ∙ is.2.no_part;
     }
-
--- the call may work at the key
-pub picking_turn : (w : WorldState) (call : ℕ) (key : Bytes) (join : JoinClaim) → Picking w call key join → IsTurnOf w.calls call key
-picking_turn w call key join p v here = ap (λ (x : CallState). is_turn x key) (same_found (open_call w call) v p.u here p.here) ∙ p.turn
 
 -- at that key it does a `Get`
 picked_at : (w : WorldState) (call : ℕ) (key : Bytes) (join : JoinClaim) (one : Picking w call key join) (u : CallState) → IsFound w u → (q : Bytes) → u.caller.call ≡ call → q ≡ key → op_at u q ≡ Some Get
@@ -454,7 +448,7 @@ order_picked stays w call key met join from to p joined there picks is old =
     let new : WorldState = with_settled (without_join (with_stripe w key to) call key) call key met in
     let one = picking w call key join joined old in
     let at = old.shape.each (home w key) from there in
-    let kept : (rs : List Reservation) → AllOwned w rs → AllOwned new rs = λ rs. each_map (IsOwned w) (IsOwned new) rs (λ r h. record { part = h.part; call = call_kept w call key met r (not_own w call key r (ap is_none one.none) h) (picking_turn w call key join one) h }) in
+    let kept : (rs : List Reservation) → AllOwned w rs → AllOwned new rs = λ rs. each_map (IsOwned w) (IsOwned new) rs (λ r h. record { part = h.part; call = call_kept w call key met r (not_own w call key r (ap is_none one.none) h) h }) in
     record {
       shape = shape_set w new key from to refl refl old.shape there (ap (λ (s : State). s.config) is) (ap (λ (s : State). s.stripe) is) (ap (λ (s : State). s.origin) is) (stays.picks_up from to join p at.reached picks)
           (at.share ∙ sym (ap (λ (s : State). s.history) is)) (λ n apart. refl);
@@ -571,8 +565,7 @@ order_key stays w new e key seen (by_join u op from to join start there h is non
 order_key stays w new e key seen (by_commit call part from to x e_is part_is there h home_is is shows) fit old =
     let end = ending_at w call key (fault_in x.reply) part from to (step_of x) part_is there h old in
     let reached = stays.commits from to part.reservation (out_of part) (step_of x) (old.shape.each (home w key) from there).reached h in
-    let mine = of_call-at call (get w.parts key) part part_is in
-    subst HasOrder (sym is) (order_commit w call key (fault_in x.reply) from to old there (part_turn w call key part mine.0 mine.1 old) end reached)
+    subst HasOrder (sym is) (order_commit w call key (fault_in x.reply) from to old there end reached)
 order_key stays w new e key seen (by_withdrawal call part from to e_is part_is there h is shows) fit old = subst HasOrder (sym is) (order_withdrawn stays w key part.reservation from to (part_key w call key part part_is old) there h old)
 order_key stays w new e key seen (by_answer call join from to x e_is join_is there h home_is is shows ends) fit old =
     subst HasOrder (sym is) (order_picked stays w call key (fault_in x.reply) join from to (Picked.Answer x.reply x.place x.shared) join_is there h h.3 old)
@@ -610,7 +603,7 @@ history_of_stripe w n s there at =
 
 opening_of_stripe : (w : WorldState) (n : ℕ) (s : State) → slice_get w.stripes n ≡ Some s → IsWorldStripe w n s → IsOpening w.config n (opening_at w n)
 opening_of_stripe w n s there at =
-    rw there (rw at.number_is at (rw at.config_is at (opens_well s at.reached)))
+    rw there (rw at.number_is at (rw at.config_is at at.reached.opens))
 
 -- and so is the whole order
 pub order_is : (w : WorldState) → IsSoundWorld w → IsOrder w

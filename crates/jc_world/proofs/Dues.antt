@@ -3,7 +3,7 @@
 --     due_run                    the progress of a key once its processor has run
 --     dues_reported              the writer has returned for a key
 --     dues_happens               any event that fits
-use Rattle.jc_world.proofs.Common.{and_parts, fits, asks_loader, is_unanswered, has_progress, waits_for_load, is_load_given, LoadAnswer, First, Loader, Nobody, Processor, Writer, with_loaded, IsDue, IsDueIn, ◌≡◌, ℕ, true, Some, option_map, sym, refl, ap, ◌∙◌, subst, get, insert, remove, Config, WriterFailed, Bytes, entry_at, WriteAnswer, ProcessResult, Claim, change_due, Part, PartProgress, Shown, WorldEvent, open_keys, with_met_by, new_part, with_change, with_report, after_report, reported_keys, keys_reported, run_result, progress_after, Happens, load_from, report_for, AllDue, Parts, WorldState, part_of}
+use Rattle.jc_world.proofs.Common.{and_parts, fits, asks_loader, is_unanswered, has_progress, waits_for_load, is_load_given, LoadAnswer, First, Loader, Nobody, Processor, Writer, with_loaded, IsDue, IsDueIn, ◌≡◌, ℕ, true, Some, option_map, sym, refl, ap, ◌∙◌, subst, get, insert, remove, Config, WriterFailed, Bytes, entry_at, WriteAnswer, ProcessResult, Claim, change_due, Part, PartProgress, Shown, WorldEvent, with_met_by, new_part, with_change, with_report, after_report, keys_reported, run_result, progress_after, Happens, load_from, report_for, AllDue, Parts, WorldState, part_of, reported_now}
 use Rattle.jc_world.proofs.Holding.{is_part}
 use Rattle.jc_world.proofs.Maps.{keys_ordered, each_put, each_left}
 use Rattle.jc_world.proofs.Lemmas.{KeyChange, by_nothing, by_refusal, by_step, by_reservation, by_join, by_commit, by_withdrawal, by_answer, by_retry, key_change, each_report}
@@ -78,7 +78,7 @@ dues_happens w new (WorldEvent.Change call key) seen fit h old =
     subst AllDueAt (sym h.5) (dues_insert w.config w.parts key _ old (due_change w.config h.0.reservation.first h.0.progress (due_of w call key h.0 h.2 old)))
 dues_happens w new (WorldEvent.Report call left fault) seen fit h old =
     let answer = report_for h.0.kind left fault in
-    subst AllDueAt (sym h.3) (each_report AllDueAt call answer (λ v key part at waits o. dues_reported v call key part (answer key) at o) (with_met_by w call (option_map WriterFailed fault)) (keys_reported (reported_keys w.parts call (open_keys h.0))) old)
+    subst AllDueAt (sym h.3) (each_report AllDueAt call answer (λ v key part at waits o. dues_reported v call key part (answer key) at o) (with_met_by w call (option_map WriterFailed fault)) (keys_reported (reported_now w call h.0)) old)
 dues_happens w new (WorldEvent.Call call session command) seen fit h old = subst AllDueAt (sym h.1) old
 dues_happens w new (WorldEvent.Leave call) seen fit h old = subst AllDueAt (sym h.1) old
 dues_happens w new (WorldEvent.Foreign key value) seen fit h old = subst AllDueAt (sym h.1) old

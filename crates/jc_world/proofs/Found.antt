@@ -4,8 +4,7 @@
 --     still_done             what is done is done still
 --     found_new              one key more, which is new
 --     first_found            the first open key keeps its place
---     first_kept             and stays the first
-use Rattle.jc_world.proofs.Common.{◌≡◌, ℕ, zero, suc, ◌<◌, Bool, true, false, cond, List, [], ◌∷◌, ◌++◌, length, get_or, take, is_none, ◌==◌, slice_get, Some, None, filter, Option, sym, refl, ap, ◌∙◌, and_parts, is_some-lookup, slice_get_read, pointwise, list_any, list_all, IsDistinct, keys_of, lookup, option_or, option_flatten, none_is, Bytes, Op, Task, at_each, op_in, is_open, open_in, first_open, are_new}
+use Rattle.jc_world.proofs.Common.{◌≡◌, ℕ, zero, suc, ◌<◌, Bool, true, false, cond, List, [], ◌∷◌, ◌++◌, length, get_or, take, is_none, ◌==◌, slice_get, Some, None, Option, sym, refl, ap, ◌∙◌, and_parts, is_some-lookup, slice_get_read, pointwise, list_any, list_all, IsDistinct, lookup, option_or, option_flatten, none_is, Bytes, Op, Task, at_each, op_in, is_open, first_open, are_new}
 use Rattle.jc_types.proofs.CallerLemmas.{none_from}
 use Rattle.jc_outside.proofs.CallerLemmas.{new_at}
 use Rattle.jc_world.proofs.TaskLists.{keys-at_each, first_each}
@@ -55,11 +54,3 @@ pub first_found : (tasks : List Task) (one : Op) (keys : List Bytes) → first_o
 first_found [] one keys = first_each one keys
 first_found (task ∷ tasks) one keys =
     elim (is_open task) as (λ b. cond b 0 (suc (first_open (tasks ++ at_each one keys))) ≡ cond b 0 (suc (first_open tasks))) [ true ↦ refl | false ↦ ap suc (first_found tasks one keys) ]
-
-pub first_kept : (tasks more : List Task) (key : Bytes) → slice_get (open_in tasks) 0 ≡ Some key → slice_get (open_in (tasks ++ more)) 0 ≡ Some key
-first_kept [] more key h = cc
-first_kept (task ∷ tasks) more key h =
-    elim (is_open task) as (λ b. slice_get (keys_of (cond b (task ∷ filter is_open tasks) (filter is_open tasks))) 0 ≡ Some key → slice_get (keys_of (cond b (task ∷ filter is_open (tasks ++ more)) (filter is_open (tasks ++ more)))) 0 ≡ Some key) [
-      | true ↦ λ h. h
-      | false ↦ λ h. first_kept tasks more key h
-    ] h

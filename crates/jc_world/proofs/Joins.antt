@@ -2,8 +2,8 @@
 --     joins_called, joins_taken, joins_parted, joins_stored     what changes the calls, a part or the store alone
 --     joins_phase, joins_joined, joins_picked, joins_key        by the kind of the change at a key
 --     joins_happens                    after any event that fits
-use Rattle.jc_world.proofs.Common.{◌≡◌, ℕ, ◌+◌, Bool, true, false, not, ◌&&◌, List, [], ◌∷◌, ◌++◌, is_some, is_none, IsSomeAnd, ◌==◌, slice_get, slice_set, Some, None, Option, find, sym, refl, ap, ◌∙◌, subst, eqb-true, eq-eqb, and_parts, and_from, false_from_ne_true, nat_eq_equiv, nat_list_eq_equiv, pointwise, get, insert, remove, list_all, Caller, Refusal, none_is, Bytes, Cache, Event, Op, Get, belongs_to, after_resolve, Waiting, Joiner, with_joiner, without_joiner, State, IsJoined, JoinClaim, Reservation, Command, Part, Premises, Shown, WorldEvent, SweepState, CallState, new_call, has_number, op_at, open_keys, is_turn, opened, settle, drop_call, with_stripe, with_phase, fault_in, with_settled, with_met_by, without_call, with_look, new_part, with_join, Happens, is_free, may_leave, fits, IsCallOf, IsWaitedFor, AllWaitedFor, IsCalled, AllCalled, IsSoundWorld, Parts, JoinKey, join_key, WorldState, home, stripe_for, start, open_call, of_call, part_of, join_of, is_joined}
-use Rattle.jc_world.proofs.Lemmas.{denied, missing, joins_half, is_some_and, set_cases, found_test, each_map, fact_found, each_pushed, each_kept, find_over, find_pushed, same_bytes, of_call-at, open_now, IsTurnOf, still_called, joiner_of, find_kept, joined_resolved, joined_dissolved, joined_front, joined_last, called_resolved, called_dissolved, joined_no_part, other_key, none_inserted, none_removed, part_other, joins_get, MayStart, may_turn, part_turn, Picking, picking, picking_turn, looked_called, met_called, at_stripe, stripe_put, KeyChange, by_nothing, by_refusal, by_step, by_reservation, by_join, by_commit, by_withdrawal, by_answer, by_retry, key_change, may_of, some_of, IsReport}
+use Rattle.jc_world.proofs.Common.{◌≡◌, ℕ, ◌+◌, Bool, true, false, not, ◌&&◌, List, [], ◌∷◌, ◌++◌, is_some, is_none, IsSomeAnd, ◌==◌, slice_get, slice_set, Some, None, Option, find, sym, refl, ap, ◌∙◌, subst, eqb-true, eq-eqb, and_parts, and_from, false_from_ne_true, nat_eq_equiv, nat_list_eq_equiv, pointwise, get, insert, remove, list_all, Caller, Refusal, none_is, Bytes, Cache, Event, Op, Get, belongs_to, after_resolve, Waiting, Joiner, with_joiner, without_joiner, State, IsJoined, JoinClaim, Reservation, Command, Part, Premises, Shown, WorldEvent, SweepState, CallState, new_call, has_number, op_at, open_keys, opened, settle, drop_call, with_stripe, with_phase, fault_in, with_settled, with_met_by, without_call, with_look, new_part, with_join, Happens, is_free, may_leave, fits, IsCallOf, IsWaitedFor, AllWaitedFor, IsCalled, AllCalled, IsSoundWorld, Parts, JoinKey, join_key, WorldState, home, stripe_for, start, open_call, of_call, part_of, join_of, is_joined}
+use Rattle.jc_world.proofs.Lemmas.{denied, missing, joins_half, is_some_and, set_cases, found_test, each_map, fact_found, each_pushed, each_kept, find_over, find_pushed, same_bytes, of_call-at, open_now, still_called, joiner_of, find_kept, joined_resolved, joined_dissolved, joined_front, joined_last, called_resolved, called_dissolved, joined_no_part, other_key, none_inserted, none_removed, part_other, joins_get, MayStart, Picking, picking, looked_called, met_called, at_stripe, stripe_put, KeyChange, by_nothing, by_refusal, by_step, by_reservation, by_join, by_commit, by_withdrawal, by_answer, by_retry, key_change, may_of, some_of, IsReport}
 use Rattle.jc_inflight.specs.Taking.{without_joiner as without}
 use Rattle.jc_world.proofs.Halves.{HasJoins}
 use Rattle.jc_world.proofs.Maps.{joins_ordered, get-here, get-left, still-there, each_put, each_left}
@@ -79,14 +79,14 @@ pub joins_met : (w : WorldState) (call : ℕ) (met : Option Refusal) (u : CallSt
 joins_met w call met u here old = joins_taken w (with_met_by w call met).calls (met_called w call met u here) old
 
 -- a call that has joined continues if a key that isn't joined is settled
-still_under : (w : WorldState) (call : ℕ) (key : Bytes) (met : Option Refusal) → is_joined w call key ≡ false → IsTurnOf w.calls call key → (number session : ℕ) (q : Bytes) → is_joined w number q ≡ true
+still_under : (w : WorldState) (call : ℕ) (key : Bytes) (met : Option Refusal) → is_joined w call key ≡ false → (number session : ℕ) (q : Bytes) → is_joined w number q ≡ true
     → IsSomeAnd (open_call w number) (IsCallOf session q Get) → IsSomeAnd (find (has_number number) (settle call key met w.calls)) (IsCallOf session q Get)
-still_under w call key met free turn number session q joined h = still_called call key met number session q Get w.calls (other_key w call key number q free joined) turn h
+still_under w call key met free number session q joined h = still_called call key met number session q Get w.calls (other_key w call key number q free joined) h
 
 -- a first phase was refused, and the key has its last refusal
-joins_refused : (w : WorldState) (call : ℕ) (key : Bytes) (met : Option Refusal) → is_joined w call key ≡ false → IsTurnOf w.calls call key → IsSoundWorld w → HasJoins (with_settled w call key met)
-joins_refused w call key met free turn old =
-    joins_beside w w.last (settle call key met w.calls) w.parts w.store w.premises w.is_fresh (λ number session q t h. still_under w call key met free turn number session q t h) (λ number q h. h) old
+joins_refused : (w : WorldState) (call : ℕ) (key : Bytes) (met : Option Refusal) → is_joined w call key ≡ false → IsSoundWorld w → HasJoins (with_settled w call key met)
+joins_refused w call key met free old =
+    joins_beside w w.last (settle call key met w.calls) w.parts w.store w.premises w.is_fresh (λ number session q t h. still_under w call key met free number session q t h) (λ number q h. h) old
 
 -- a call without any join goes
 still_beside : (w : WorldState) (call : ℕ) (u : CallState) → open_call w call ≡ Some u → list_all (is_free w call) (open_keys u) ≡ true → (number session : ℕ) (q : Bytes) → is_joined w number q ≡ true
@@ -163,7 +163,7 @@ joins_joined w u key op from to join there join_is to_is get_is may old =
     let call_is : join.caller.call ≡ u.caller.call = ap (λ (j : JoinClaim). j.caller.call) join_is in
     let key_is : join.key ≡ key = ap (λ (j : JoinClaim). j.key) join_is in
     let on : (m : ℕ) (j : Joiner) → IsCalled w m j → IsCalled new m j = λ m j h. record { home_is = h.home_is; join = still-there joins_ordered w.joins (join_key join) join (j.caller.call, j.key) h.join; call = h.call } in
-    let its_call : IsSomeAnd (open_call w join.caller.call) (IsCallOf join.caller.session join.key Get) = is_some_and (open_call w join.caller.call) (IsCallOf join.caller.session join.key Get) u (ap (open_call w) call_is ∙ may.here) (sym session_is, ap (op_at u) key_is ∙ may.op_is ∙ ap Some get_is, ap (is_turn u) key_is ∙ may.turn) in
+    let its_call : IsSomeAnd (open_call w join.caller.call) (IsCallOf join.caller.session join.key Get) = is_some_and (open_call w join.caller.call) (IsCallOf join.caller.session join.key Get) u (ap (open_call w) call_is ∙ may.here) (sym session_is, ap (op_at u) key_is ∙ may.op_is ∙ ap Some get_is) in
     let one : IsCalled new (home w key) next = record {
       home_is = ap (home w) key_is;
       join = ap is_some (get-here joins_ordered w.joins (join_key join) join);
@@ -204,8 +204,8 @@ all_go_on : (w : WorldState) (call : ℕ) (key : Bytes) → GoOn w call key w.ca
 all_go_on w call key = record { keeps = λ number session q apart h. h }
 
 -- the others do, if the key is settled
-others_go_on : (w : WorldState) (call : ℕ) (key : Bytes) (met : Option Refusal) → IsTurnOf w.calls call key → GoOn w call key (settle call key met w.calls)
-others_go_on w call key met turn = record { keeps = λ number session q apart h. still_called call key met number session q Get w.calls apart turn h }
+others_go_on : (w : WorldState) (call : ℕ) (key : Bytes) (met : Option Refusal) → GoOn w call key (settle call key met w.calls)
+others_go_on w call key met = record { keeps = λ number session q apart h. still_called call key met number session q Get w.calls apart h }
 
 -- a call of the number is of the session of the join
 session_at : (w : WorldState) (call : ℕ) (key : Bytes) (join : JoinClaim) → Picking w call key join → (number session : ℕ) (q : Bytes) → number ≡ call → IsSomeAnd (open_call w number) (IsCallOf session q Get) → session ≡ join.caller.session
@@ -262,13 +262,13 @@ joins_key : (w new : WorldState) (e : WorldEvent) (key : Bytes) (seen : Shown) �
 joins_key w new e key seen (by_nothing is none ends) fit old = subst HasJoins (sym is) (joins_half w old)
 joins_key w new e key seen (by_refusal u op refusal start is none ends) fit old =
     let may = may_of w e key u op start fit old in
-    subst HasJoins (sym is) (joins_refused w u.caller.call key (Some refusal) may.alone (may_turn w u key op may) old)
+    subst HasJoins (sym is) (joins_refused w u.caller.call key (Some refusal) may.alone old)
 joins_key w new e key seen (by_step u op from to x start there h home_is is shows ends) fit old =
     let may = may_of w e key u op start fit old in
     let same : to.joiners ≡ from.joiners = ap (λ (s : State). s.joiners) h.2.after in
     subst HasJoins (sym is)
     (joins_phase w key from to (with_phase w key from to).order (settle u.caller.call key (fault_in x.reply) w.calls) w.parts there (same_joiners from to same) (same_called (home w key) from to same)
-    (λ number session q t k. still_under w u.caller.call key (fault_in x.reply) may.alone (may_turn w u key op may) number session q t k) (λ number q t k. k) old)
+    (λ number session q t k. still_under w u.caller.call key (fault_in x.reply) may.alone number session q t k) (λ number q t k. k) old)
 joins_key w new e key seen (by_reservation u op from to p r start there h is none ends) fit old =
     let same : to.joiners ≡ from.joiners = ap (λ (s : State). s.joiners) h.after in
     subst HasJoins (sym is)
@@ -279,14 +279,12 @@ joins_key w new e key seen (by_join u op from to join start there h is none ends
 joins_key w new e key seen (by_commit call part from to x e_is part_is there h home_is is shows) fit old =
     let joiners : to.joiners ≡ after_resolve part.reservation.number x.place from.joiners = ap (λ (s : State). s.joiners) h.1.after in
     let free = unjoined_part w call key part part_is old in
-    let at = of_call-at call (get w.parts key) part part_is in
-    let turn = part_turn w call key part at.0 at.1 old in
     let J : JoinClaim → List Joiner → Type 0 = λ j js. IsSomeAnd (joiner_of j.caller j.key js) (λ x. x.load ≡ j.load) in
     subst HasJoins (sym is)
     (joins_phase w key from to (with_phase w key from to).order (settle call key (fault_in x.reply) w.calls) (remove w.parts key) there
     (λ j t. subst (J j) (sym joiners) (joined_resolved (λ x. x.load ≡ j.load) part.reservation.number x.place (x.place + 1) j.caller j.key from.joiners (λ place x k. k) t))
     (λ n t. subst (AllCalled n (home w key)) (sym joiners) (called_resolved n (home w key) part.reservation.number x.place (x.place + 1) from.joiners t))
-    (λ number session q t k. still_under w call key (fault_in x.reply) free turn number session q t k) (λ number q t k. none_removed w.parts key q number k) old)
+    (λ number session q t k. still_under w call key (fault_in x.reply) free number session q t k) (λ number q t k. none_removed w.parts key q number k) old)
 joins_key w new e key seen (by_withdrawal call part from to e_is part_is there h is shows) fit old =
     let joiners = ap (λ (s : State). s.joiners) h.1 in
     let J : JoinClaim → List Joiner → Type 0 = λ j js. IsSomeAnd (joiner_of j.caller j.key js) (λ x. x.load ≡ j.load) in
@@ -296,7 +294,7 @@ joins_key w new e key seen (by_withdrawal call part from to e_is part_is there h
     (λ n t. subst (AllCalled n (home w key)) (sym joiners) (called_dissolved n (home w key) part.reservation.number from.joiners t))
     (λ number session q t k. k) (λ number q t k. none_removed w.parts key q number k) old)
 joins_key w new e key seen (by_answer call join from to x e_is join_is there h home_is is shows ends) fit old =
-    subst HasJoins (sym is) (joins_picked w call key join from to (settle call key (fault_in x.reply) w.calls) join_is there h.3 (others_go_on w call key (fault_in x.reply) (picking_turn w call key join (picking w call key join join_is old))) old)
+    subst HasJoins (sym is) (joins_picked w call key join from to (settle call key (fault_in x.reply) w.calls) join_is there h.3 (others_go_on w call key (fault_in x.reply)) old)
 joins_key w new e key seen (by_retry call join from to e_is join_is there h is shows ends) fit old =
     subst HasJoins (sym is) (joins_picked w call key join from to w.calls join_is there h.2 (all_go_on w call key) old)
 

@@ -3,15 +3,15 @@ pub use Rattle.jc_world.proofs.Facts.{denied, missing, same_found}
 pub use Rattle.jc_world.proofs.Halves.{HasParts, sound, joins_half}
 pub use Rattle.jc_world.proofs.Shares.{is_some_and, still_at, set_cases, length-slice_set, found_test, each_map, fact_found, each_pushed, each_filter, each_test, each_kept, added, share_stays}
 pub use Rattle.jc_world.proofs.Underway.{found_number, find_over, fits_found, find_pushed, others_left, same_bytes, of_call-at}
-pub use Rattle.jc_world.proofs.Settling.{open_now, done_for, Left, going_is, IsTurnOf, still_called, each_settled}
+pub use Rattle.jc_world.proofs.Settling.{open_now, done_for, Left, going_is, still_called, each_settled}
 pub use Rattle.jc_world.proofs.NewCalls.{opened_cases, begun_cases, begun_shown}
 pub use Rattle.jc_world.proofs.Looked.{Taken, taken_of, taken_met, each_taken, found_replaced, ended_at, put_at, none_replaced}
-pub use Rattle.jc_world.proofs.TaskLists.{keys-at_each, at_each-more, put_each_of-more, put_in_place, there_at, absent_same, open_more, open_fails, open_keys-more, open_distinct, first_each, first_put, open_within, first_key_at, first_here, first_next, first_settled, first_fits}
+pub use Rattle.jc_world.proofs.TaskLists.{keys-at_each, at_each-more, put_each_of-more, put_in_place, there_at, absent_same, open_more, open_fails, open_keys-more, open_distinct, first_each, first_put, open_within, first_here, first_next, first_settled, first_fits}
 pub use Rattle.jc_world.proofs.Found.{lookup-found, found_new}
 pub use Rattle.jc_world.proofs.Joiners.{joiner_of, find_kept, joined_resolved, joined_dissolved, joined_front, joined_last, called_resolved, called_dissolved, join_at, join_there, joined_no_part, other_key, none_inserted, none_removed, part_other}
 pub use Rattle.jc_world.proofs.LoadKeys.{found_holds, same_number, load_there, joins_get}
-pub use Rattle.jc_world.proofs.Beginning.{order_stored, empty_count, reached_empty, start_is, MayStart, may_start_at, may_turn, part_turn, begins_with, begins_at}
-pub use Rattle.jc_world.proofs.Callers.{Picking, picking, picking_turn, looked_called, met_called, order_met, order_part, part_key, order_happens, order_opened, order_is, has_shares}
+pub use Rattle.jc_world.proofs.Beginning.{order_stored, empty_count, reached_empty, start_is, MayStart, may_start_at, begins_with, begins_at}
+pub use Rattle.jc_world.proofs.Callers.{Picking, picking, looked_called, met_called, order_met, order_part, part_key, order_happens, order_opened, order_is, has_shares}
 pub use Rattle.jc_world.proofs.Places.{at_stripe_apart, at_stripe, stripe_put, few_stripes, home_stripe}
 pub use Rattle.jc_world.proofs.Entries.{split, tied, agrees_stepped, writes, loads_asked, writes_asked, loads, asks_nobody}
 pub use Rattle.jc_world.proofs.Reservations.{found_more, out_reserved, was_free, new_out, found_left}

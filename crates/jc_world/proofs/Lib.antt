@@ -11,7 +11,6 @@ pub mod Unseen
 pub mod Sweeps
 pub mod StripeKeys
 pub mod TaskLists
-pub mod AtWork
 pub mod Reporting
 pub mod Found
 pub mod Joiners
@@ -35,7 +34,6 @@ pub mod Holding
 pub mod Lengths
 pub mod Phased
 pub mod Opened
-pub mod OpensWell
 pub mod Sounding
 pub mod Reopening
 pub mod ReservedEntries
@@ -46,6 +44,8 @@ pub mod Loads
 pub mod Homes
 pub mod Fitting
 pub mod Opening
+pub mod WriterBatches
+pub mod Changes
 pub mod Together
 pub mod Closing
 pub mod Merging

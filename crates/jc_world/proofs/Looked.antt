@@ -12,11 +12,10 @@
 --                      a call that has changed is put in its place, or taken out if it is over, and what is said of its end
 --     put_at           one that stays under way is put in its place
 --     none_replaced    where no call has the number, nothing changes
-use Rattle.jc_world.proofs.Common.{◌≡◌, ℕ, zero, suc, ◌+◌, Bool, true, false, cond, List, [], ◌∷◌, ◌++◌, IsSomeAnd, ◌==◌, slice_get, slice_set, Some, None, Option, position, find, sym, refl, ap, ◌∙◌, subst, arith, position_from-zero, pointwise, cons_option, position_from, lookup, option_or, Caller, Refusal, Bytes, Op, Over, at_each, SweepState, takes_turns, CallState, has_number, op_at, op_found, op_or_found, op_for, open_in, open_keys, is_turn, is_going, going_on, over_of, with_met, replaced, has_looked_at_each, next_sweep, with_found, FitsCall, CallsFit, Each, IsCallOf, WorldState}
+use Rattle.jc_world.proofs.Common.{◌≡◌, ℕ, zero, suc, ◌+◌, Bool, true, false, cond, List, [], ◌∷◌, ◌++◌, IsSomeAnd, ◌==◌, slice_get, slice_set, Some, None, Option, position, find, sym, refl, ap, ◌∙◌, subst, arith, position_from-zero, pointwise, cons_option, position_from, lookup, option_or, Caller, Refusal, Bytes, Op, Over, at_each, SweepState, CallState, has_number, op_at, op_found, op_or_found, op_for, is_going, going_on, over_of, with_met, replaced, has_looked_at_each, next_sweep, with_found, FitsCall, CallsFit, Each, IsCallOf, WorldState}
 use Rattle.std.specs.List.{remove}
-use Rattle.jc_world.specs.Calls.{is_at}
 use Rattle.jc_world.proofs.Facts.{same_found}
-use Rattle.jc_world.proofs.Found.{lookup-found, op_of_found, still_done, first_kept}
+use Rattle.jc_world.proofs.Found.{lookup-found, op_of_found, still_done}
 use Rattle.jc_world.proofs.Settling.{going_is, none_left, calls_replaced, each_replaced, still_replaced}
 use Rattle.jc_world.proofs.Underway.{each_found}
 
@@ -26,7 +25,6 @@ pub record Taken (u v : CallState) : Type 0 where
   pub caller_is : v.caller ≡ u.caller
   pub was : (q : Bytes) (op : Op) → op_for v q ≡ Some op → op_for u q ≡ Some op
   pub goes : (q : Bytes) (op : Op) → op_at u q ≡ Some op → op_at v q ≡ Some op
-  pub turns : (q : Bytes) → is_turn u q ≡ true → is_turn v q ≡ true
 
 -- the sweep behind a look does the same at what it finds
 op_of_next : (stripes stripe : ℕ) (s : SweepState) (op : Op) → op_found (next_sweep stripes stripe s) ≡ Some op → s.op ≡ op
@@ -50,18 +48,6 @@ found_was stripes stripe keys s u q op sweeps h =
     go None (Some x) is h = ap op_found sweeps ∙ sym (is x refl) ∙ h
     go None None is h = ap op_found sweeps ∙ ap Some (op_of_next stripes stripe s op h)
 
--- the first open key stays the first
-found_turns : (stripes stripe : ℕ) (keys : List Bytes) (s : SweepState) (u : CallState) (q : Bytes) → is_turn u q ≡ true → is_turn (with_found stripes stripe keys s u) q ≡ true
-found_turns stripes stripe keys s u q h = by (takes_turns u.kind) h
-  where
-    at : (o : Option Bytes) → slice_get (open_keys u) 0 ≡ o → is_at o q ≡ true → is_at (slice_get (open_in (u.tasks ++ at_each s.op keys)) 0) q ≡ true
-    at None e h = cc
-    at (Some key) e h = ap (λ o. is_at o q) (first_kept u.tasks (at_each s.op keys) key e) ∙ h
-
-    by : (b : Bool) → cond b (is_at (cond b (slice_get (open_keys u) 0) None) q) true ≡ true → cond b (is_at (cond b (slice_get (open_in (u.tasks ++ at_each s.op keys)) 0) None) q) true ≡ true
-    by true h = at (slice_get (open_keys u) 0) refl h
-    by false h = refl
-
 pub taken_of : (stripes stripe : ℕ) (keys : List Bytes) (s : SweepState) (u v : CallState) → u.sweep ≡ Some s → going_on (with_found stripes stripe keys s u) ≡ Some v → Taken u v
 taken_of stripes stripe keys s u v sweeps h =
     subst (Taken u) (sym (going_is (with_found stripes stripe keys s u) v h))
@@ -69,14 +55,13 @@ taken_of stripes stripe keys s u v sweeps h =
       caller_is = refl;
       was = λ q op is. found_was stripes stripe keys s u q op sweeps is;
       goes = λ q op is. still_done u.tasks (at_each s.op keys) q op is;
-      turns = λ q is. found_turns stripes stripe keys s u q is;
     })
 
 -- and so is a call that has met something
 pub taken_met : (met : Option Refusal) (u v : CallState) → Some (with_met met u) ≡ Some v → Taken u v
 taken_met met u v h =
     let is : with_met met u ≡ v = cc in
-    subst (Taken u) is (record { caller_is = refl; was = λ q op h. h; goes = λ q op h. h; turns = λ q h. h })
+    subst (Taken u) is (record { caller_is = refl; was = λ q op h. h; goes = λ q op h. h })
 
 -- a call with an open key isn't over by a look
 pub taken_on : (stripes stripe : ℕ) (keys : List Bytes) (s : SweepState) (u : CallState) (q : Bytes) (op : Op) → op_at u q ≡ Some op → going_on (with_found stripes stripe keys s u) ≡ None → ⊥
@@ -98,7 +83,7 @@ pub still_taken : (call : ℕ) (left : CallState → Option CallState) (u : Call
     → (op_at u q ≡ Some op → left u ≡ None → ⊥) → IsSomeAnd (find (has_number number) calls) (IsCallOf session q op) → IsSomeAnd (find (has_number number) (replaced call left calls)) (IsCallOf session q op)
 still_taken call left u number session q op calls here taken over h =
     still_replaced call left number session q op calls (λ x v at goes. (at_found x v at goes).caller_is)
-    (λ x v at goes mine of. let t = at_found x v at goes in (ap (λ (c : Caller). c.session) t.caller_is ∙ of.0, t.goes q op of.1, t.turns q of.2))
+    (λ x v at goes mine of. let t = at_found x v at goes in (ap (λ (c : Caller). c.session) t.caller_is ∙ of.0, t.goes q op of.1))
     (λ x at gone mine of. let is = same_found (find (has_number call) calls) x u at here in over (ap (λ (c : CallState). op_at c q) (sym is) ∙ of.1) (ap left (sym is) ∙ gone)) h
   where
     at_found : (x v : CallState) → find (has_number call) calls ≡ Some x → left x ≡ Some v → Taken x v

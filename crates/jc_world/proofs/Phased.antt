@@ -1,5 +1,5 @@
 -- What the machine of a world does in a first and a last phase is what the definitions say.
-use Rattle.jc_world.proofs.Common.{◌≡◌, ℕ, zero, suc, true, false, cond, ◌&&◌, List, [], ◌∷◌, ◌++◌, length, drop, is_some, IsSomeAnd, slice_get, slice_set, Some, None, Option, sym, refl, ap, ◌∙◌, subst, subst₂, append-nil, and_parts, get, insert, remove, Config, Refusal, Bytes, Event, Op, Played, MayBegin, Commits, Withdraws, PicksUp, reserves, State, IsOut, IsJoined, TicketClaim, JoinClaim, Begun, Picked, StepDone, First, Loader, Nobody, Processor, Writer, Reservation, Outcome, Over, Part, JoinAnswer, PartProgress, Shown, Stepped, WorldEvent, puts_off, CallState, op_at, is_turn, settle, over_settled, step_of, not_over, fault_in, over_by, asks_as, new_progress, new_part, with_new_part, BeginsAs, ReservesAs, Starts, RefusesAs, Happens, is_free, may_start, fits, IsDue, IsHeld, IsSoundWorld, OrderedStripes, IsPhase, IsQuietPhase, Parts, join_key, WorldState, home, stripe_for, open_call, part_of, out_of, join_of}
+use Rattle.jc_world.proofs.Common.{◌≡◌, ℕ, zero, suc, true, false, cond, List, [], ◌∷◌, ◌++◌, length, drop, is_some, IsSomeAnd, slice_get, slice_set, Some, None, Option, sym, refl, ap, ◌∙◌, subst, subst₂, append-nil, and_parts, get, insert, remove, Config, Refusal, Bytes, Event, Op, Played, MayBegin, Commits, Withdraws, PicksUp, reserves, State, IsOut, IsJoined, TicketClaim, JoinClaim, Begun, Picked, StepDone, First, Loader, Nobody, Processor, Writer, Reservation, Outcome, Over, Part, JoinAnswer, PartProgress, Shown, Stepped, WorldEvent, puts_off, CallState, op_at, settle, over_settled, step_of, not_over, fault_in, over_by, asks_as, new_progress, new_part, with_new_part, BeginsAs, ReservesAs, Starts, RefusesAs, Happens, is_free, may_start, fits, IsDue, IsHeld, IsSoundWorld, OrderedStripes, IsPhase, IsQuietPhase, Parts, join_key, WorldState, home, stripe_for, open_call, part_of, out_of, join_of}
 use Rattle.jc_world.proofs.Lemmas.{missing, join_at, may_start_at, begins_at, was_free, some_of}
 use Rattle.jc_world.proofs.Holding.{is_part}
 use Rattle.jc_world.proofs.Kept.{unheld, stripe_at}
@@ -17,7 +17,7 @@ may_begin_at w call key u op fit is op_is sound =
 
 -- the key of a call that starts is open in it
 pub start_open : (w : WorldState) (call : ℕ) (key : Bytes) (u : CallState) → fits w (WorldEvent.Start call key) ≡ true → open_call w call ≡ Some u → is_some (op_at u key) ≡ true
-start_open w call key u fit is = (and_parts (is_some (op_at u key)) (is_turn u key) (and_parts (is_some (op_at u key) && is_turn u key) (is_free w call key) (sym (ap (may_start w call key) is) ∙ fit)).0).0
+start_open w call key u fit is = (and_parts (is_some (op_at u key)) (is_free w call key) (sym (ap (may_start w call key) is) ∙ fit)).0
 
 -- 2. The stripe that a phase has changed.
 

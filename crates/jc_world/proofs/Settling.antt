@@ -3,12 +3,10 @@
 --     done_for               what is done at an open key
 --     Left                   a call that goes on: what it does or may still do at a key it did before, and not at the key that was
 --                            settled
---     IsTurnOf               a call may work at a key, if it is under way
 --     still_called           a call continues at each other key
 --     calls_settled          the calls fit another world
 --     each_settled           a fact of each call
-use Rattle.jc_world.proofs.Common.{◌≡◌, ℕ, Bool, true, false, cond, not, ◌&&◌, ◌||◌, List, [], ◌∷◌, is_some, IsSomeAnd, ◌==◌, Some, None, filter, Option, find, sym, refl, ap, ◌∙◌, subst, not-true, eqb-true, eq-eqb, and_parts, and_from, or_right, false_from_ne_true, pointwise, list_any, list_all, cons_option, keys_of, lookup, set_value, option_flatten, Caller, Refusal, Bytes, Op, Task, takes_turns, CallState, has_number, op_in, op_at, op_or_found, op_for, is_open, open_in, open_keys, current_key, is_turn, is_going, going_on, settled, replaced, settle, is_apart, FitsCall, CallsFit, Each, IsCallOf, WorldState}
-use Rattle.jc_world.specs.Calls.{is_at}
+use Rattle.jc_world.proofs.Common.{◌≡◌, ℕ, Bool, true, false, cond, not, ◌&&◌, ◌||◌, List, [], ◌∷◌, is_some, IsSomeAnd, ◌==◌, Some, None, filter, Option, find, sym, refl, ap, ◌∙◌, subst, not-true, eqb-true, eq-eqb, and_parts, and_from, or_right, false_from_ne_true, pointwise, list_any, list_all, cons_option, keys_of, lookup, set_value, option_flatten, Caller, Refusal, Bytes, Op, Task, CallState, has_number, op_in, op_at, op_or_found, op_for, is_open, open_in, open_keys, is_going, going_on, settled, replaced, settle, is_apart, FitsCall, CallsFit, Each, IsCallOf, WorldState}
 use Rattle.jc_world.proofs.Underway.{same_bytes, calls_on, found_number}
 
 -- 1. Open keys.
@@ -61,7 +59,7 @@ at_self key q (task ∷ tasks) same =
     ] refl
 
 -- at each other key the same is done
-at_other : (key q : Bytes) (tasks : List Task) → (q ≡ key → ⊥) → op_in (set_value (pointwise ◌==◌ key) tasks None) q ≡ op_in tasks q
+pub at_other : (key q : Bytes) (tasks : List Task) → (q ≡ key → ⊥) → op_in (set_value (pointwise ◌==◌ key) tasks None) q ≡ op_in tasks q
 at_other key q [] other = refl
 at_other key q (task ∷ tasks) other =
     elim (pointwise ◌==◌ key task.0) as (λ b. pointwise ◌==◌ key task.0 ≡ b → op_in (cond b ((task.0, None) ∷ tasks) (task ∷ set_value (pointwise ◌==◌ key) tasks None)) q ≡ op_in (task ∷ tasks) q) [
@@ -168,28 +166,7 @@ left_same call key u apart = record {
   other = λ q op one h at mine same. let t : true ≡ false = sym (eq-eqb u.caller.call call mine) ∙ apart in cc;
 }
 
--- of two keys at which a call may work that takes one after the other, one is the other
-one_turn : (u : CallState) (q key : Bytes) → takes_turns u.kind ≡ true → is_turn u q ≡ true → is_turn u key ≡ true → q ≡ key
-one_turn u q key turns a b = go (current_key u) (at q a) (at key b)
-  where
-    at : (k : Bytes) → is_turn u k ≡ true → is_at (current_key u) k ≡ true
-    at k h = ap (λ t. cond t (is_at (current_key u) k) true) (sym turns) ∙ h
-
-    go : (o : Option Bytes) → is_at o q ≡ true → is_at o key ≡ true → q ≡ key
-    go None a b = cc
-    go (Some own) a b = same_bytes q own a ∙ sym (same_bytes key own b)
-
--- what a call may still work at, if a key at which it may work is settled
-turn_left : (key : Bytes) (met : Option Refusal) (u : CallState) (q : Bytes) → is_turn u key ≡ true → (q ≡ key → ⊥) → is_turn u q ≡ true → is_turn (settled key met u) q ≡ true
-turn_left key met u q turn other h = batch (settled key met u) (false_from_ne_true (takes_turns u.kind) (λ t. other (one_turn u q key t h turn)))
-  where
-    batch : (v : CallState) → takes_turns v.kind ≡ false → is_turn v q ≡ true
-    batch v e = ap (λ t. cond t (is_at (current_key v) q) true) e
-
 -- 4. The calls under way.
-
-abbrev pub IsTurnOf : List CallState → ℕ → Bytes → Type 0
-IsTurnOf calls call key = (u : CallState) → find (has_number call) calls ≡ Some u → is_turn u key ≡ true
 
 -- a fact of a call at a key that stays open
 abbrev Goes : ℕ → ℕ → Bytes → Op → List CallState → Type 0
@@ -230,15 +207,14 @@ still_replaced call left number session q op (x ∷ xs) same now over h =
     passed None e is apart h = h
     passed (Some v) e is apart h = goes_behind number session q op v xs (ap (λ (c : Caller). c.call == number) (same x v is e) ∙ apart) h
 
--- the settled key is one at which its call may work
-pub still_called : (call : ℕ) (key : Bytes) (met : Option Refusal) (number session : ℕ) (q : Bytes) (op : Op) (calls : List CallState) → (number ≡ call → q ≡ key → ⊥) → IsTurnOf calls call key → IsSomeAnd (find (has_number number) calls) (IsCallOf session q op)
+pub still_called : (call : ℕ) (key : Bytes) (met : Option Refusal) (number session : ℕ) (q : Bytes) (op : Op) (calls : List CallState) → (number ≡ call → q ≡ key → ⊥) → IsSomeAnd (find (has_number number) calls) (IsCallOf session q op)
     → IsSomeAnd (find (has_number number) (settle call key met calls)) (IsCallOf session q op)
-still_called call key met number session q op calls other turn h =
+still_called call key met number session q op calls other h =
     still_replaced call (λ u. going_on (settled key met u)) number session q op calls (λ u v is e. (left_of call key met u v e).caller_is)
     (λ u v is e mine of.
     let v_is = going_is (settled key met u) v e in
     let away = other (sym mine ∙ mine_of u is) in
-    (ap (λ (c : CallState). c.caller.session) v_is ∙ of.0, ap (λ (c : CallState). op_at c q) v_is ∙ at_other key q u.tasks away ∙ of.1, ap (λ (c : CallState). is_turn c q) v_is ∙ turn_left key met u q (turn u is) away of.2))
+    (ap (λ (c : CallState). c.caller.session) v_is ∙ of.0, ap (λ (c : CallState). op_at c q) v_is ∙ at_other key q u.tasks away ∙ of.1))
     (λ u is e mine of. none_left (settled key met u) q op e (at_other key q u.tasks (other (sym mine ∙ mine_of u is)) ∙ of.1)) h
   where
     mine_of : (u : CallState) → find (has_number call) calls ≡ Some u → u.caller.call ≡ call

@@ -1,10 +1,11 @@
 -- Each event leads from a sound world to a sound one, and so does each run.
-use Rattle.jc_world.proofs.Common.{◌≡◌, ℕ, true, List, [], ◌∷◌, OnOk, OnErr, Some, Ok, Err, Option, Result, option_map, sym, refl, ap, ◌∙◌, subst, inl, inr, and_parts, Refusal, WriterFailed, Bytes, entry_at, with_entry, is_load_given, WriteAnswer, StaysReached, KeepsReserved, Part, Shown, WorldEvent, CallState, open_keys, with_met_by, after_report, reported_keys, keys_reported, Happens, Step, Run, fits, read_answer, load_from, report_for, IsSoundWorld, WorldState, open_call, part_of, has_progress, waits_for_load, waits_for_report, with_stored}
+use Rattle.jc_world.proofs.Common.{◌≡◌, ℕ, true, List, [], ◌∷◌, OnOk, OnErr, Some, Ok, Err, Option, Result, option_map, sym, refl, ap, ◌∙◌, subst, inl, inr, and_parts, Refusal, WriterFailed, Bytes, entry_at, with_entry, is_load_given, WriteAnswer, StaysReached, KeepsReserved, Part, Shown, WorldEvent, CallState, with_met_by, after_report, keys_reported, Happens, Step, Run, fits, read_answer, load_from, report_for, IsSoundWorld, WorldState, open_call, part_of, has_progress, waits_for_load, waits_for_report, with_stored, reported_now}
 use Rattle.jc_world.proofs.Lemmas.{HasParts, sound, order_met, order_part, order_happens, order_opened, key_change, each_report, IsReport}
 use Rattle.jc_world.proofs.Joins.{joins_met, joins_parted, joins_happens, joins_stored}
 use Rattle.jc_world.proofs.Dues.{dues_reported, dues_happens}
 use Rattle.jc_world.proofs.Sweeps.{sweeps_met, sweeps_happens}
 use Rattle.jc_world.proofs.Kept.{parts_half, parts_processed, parts_called, parts_answered, parts_changed, parts_reported, parts_disturbed, parts_stored, parts_left, parts_over, parts_key}
+use Rattle.jc_world.proofs.WriterBatches.{asked_waits}
 
 -- the writer has returned for a key
 sound_reported : (w : WorldState) (call : ℕ) (key : Bytes) (part : Part) (report : WriteAnswer) → part_of w call key ≡ Some part → waits_for_report part ≡ true → IsSoundWorld w → IsSoundWorld (after_report w key part report)
@@ -22,7 +23,7 @@ sound_returned w new (WorldEvent.Report call left fault) seen h old back =
     let answer = report_for h.0.kind left fault in
     let met = option_map WriterFailed fault in
     subst IsSoundWorld (sym h.3)
-    (each_report IsSoundWorld call answer (λ v key part at waits o. sound_reported v call key part (answer key) at waits o) (with_met_by w call met) (keys_reported (reported_keys w.parts call (open_keys h.0))) (sound_met w call met h.0 h.1 old))
+    (each_report IsSoundWorld call answer (λ v key part at waits o. sound_reported v call key part (answer key) at waits o) (with_met_by w call met) (keys_reported (reported_now w call h.0)) (sound_met w call met h.0 h.1 old))
 sound_returned w new e seen h old back = absurd back
 
 parts_happens : (w new : WorldState) (e : WorldEvent) (seen : Shown) → fits w e ≡ true → Happens w e seen new → (IsReport e → IsSoundWorld new) → IsSoundWorld w → HasParts new
@@ -33,7 +34,7 @@ parts_happens w new (WorldEvent.Say call key answer) seen fit (part, there, show
     subst HasParts (sym is) (parts_answered w call key part answer there ((and_parts (is_load_given answer) (has_progress waits_for_load (part_of w call key)) fit).1) h)
 parts_happens w new (WorldEvent.Process call key source calls fail) seen fit (part, there, shows, is) back h =
     subst HasParts (sym is) (parts_processed w key call part (load_from source (entry_at w.store key)) calls fail there fit h)
-parts_happens w new (WorldEvent.Change call key) seen fit (part, change, there, asked, shows, is) back h = subst HasParts (sym is) (parts_changed w call key part change there asked fit h)
+parts_happens w new (WorldEvent.Change call key) seen fit (part, change, there, asked, shows, is) back h = subst HasParts (sym is) (parts_changed w call key part change there asked (asked_waits w call key fit) h)
 parts_happens w new (WorldEvent.Report call left fault) seen fit happens back h = parts_half new (back tt)
 parts_happens w new (WorldEvent.Leave call) seen fit (shows, is) back h = subst HasParts (sym is) (parts_left w call fit h)
 parts_happens w new (WorldEvent.Foreign key value) seen fit (shows, is) back h = subst HasParts (sym is) (parts_disturbed w (with_entry w.store key value) h)

@@ -4,7 +4,7 @@
 --     AllBegun       what is under way, reserved and joined is so of calls that have begun
 --     AllStand       each answer that was shown is that of its call's step, and the call has begun before it
 --     stands_run     so a run of events keeps that
-use Rattle.jc_world.proofs.Common.{◌≡◌, ℕ, zero, suc, true, false, cond, not, List, [], ◌∷◌, ◌++◌, length, take, slice_get, slice_set, Some, None, Option, option_map, zip, sym, refl, ap, ◌∙◌, subst, subst₂, inl, inr, append_assoc, append-nil, arith, take-append_seam, and_from, nat_eq_equiv, take-append-le, filter-append, slice_get_within, get, insert, remove, stripe_of, Caller, Config, Refusal, WriterFailed, Bytes, nothing_said, is_of_stripe, of_stripe, Op, Get, Out, Reply, callers_of, step_at, after_commit, State, JoinClaim, Reservation, Command, Outcome, Part, Shown, WorldEvent, CallState, new_call, has_number, op_for, open_keys, is_going, has_too_many_keys, opened, going_on, with_met, settle, with_found, step_of, with_met_by, new_part, reported_keys, keys_reported, Happens, Step, Run, IsOpeningWorld, report_for, IsReplyOfStep, Stands, is_answer_at, Each, IsSoundWorld, Parts, JoinKey, join_key, Joins, WorldState, home, stripe_for, open_call, part_of, out_of}
+use Rattle.jc_world.proofs.Common.{◌≡◌, ℕ, zero, suc, true, false, cond, not, List, [], ◌∷◌, ◌++◌, length, take, slice_get, slice_set, Some, None, Option, option_map, zip, sym, refl, ap, ◌∙◌, subst, subst₂, inl, inr, append_assoc, append-nil, arith, take-append_seam, and_from, nat_eq_equiv, take-append-le, filter-append, slice_get_within, get, insert, remove, stripe_of, Caller, Config, Refusal, WriterFailed, Bytes, nothing_said, is_of_stripe, of_stripe, Op, Get, Out, Reply, callers_of, step_at, after_commit, State, JoinClaim, Reservation, Command, Outcome, Part, Shown, WorldEvent, CallState, new_call, has_number, op_for, is_going, has_too_many_keys, opened, going_on, with_met, settle, with_found, step_of, with_met_by, new_part, keys_reported, Happens, Step, Run, IsOpeningWorld, report_for, IsReplyOfStep, Stands, is_answer_at, Each, IsSoundWorld, Parts, JoinKey, join_key, Joins, WorldState, home, stripe_for, open_call, part_of, out_of, reported_now}
 use Rattle.jc_model.specs.declared.event.Event.{Event as StripeEvent}
 use Rattle.jc_world.proofs.Lemmas.{still_at, each_map, fact_found, each_pushed, each_filter, added, found_number, of_call-at, done_for, Left, each_settled, begun_shown, Taken, taken_of, taken_met, each_taken, join_at, joins_get, part_key, stripe_put, AnswersNone, IsStart, KeyChange, by_nothing, by_refusal, by_step, by_reservation, by_join, by_commit, by_withdrawal, by_answer, by_retry, key_change, StripeChange, by_key, beside_stripes, change_of, Move, no_move, quiet_move, step_move, move_step, each_report}
 use Rattle.jc_world.proofs.Maps.{keys_ordered, joins_ordered, each_put, each_left}
@@ -211,7 +211,7 @@ begun_happens shows w new (WorldEvent.Report call left fault) seen last h old =
     subst (AllBegun shows) (sym h.3)
     (each_report (AllBegun shows) call (report_for h.0.kind left fault)
     (λ v key part at waits o. record { calls = o.calls; parts = parts_put shows v.parts key _ (part_begun shows v call key part at o) o.parts; joins = o.joins })
-    (with_met_by w call met) (keys_reported (reported_keys w.parts call (open_keys h.0)))
+    (with_met_by w call met) (keys_reported (reported_now w call h.0))
     (record { calls = each_taken call (λ x. Some (with_met met x)) (IsBegun shows) h.0 w.calls h.1 (λ v goes b. begun_taken shows h.0 v (taken_met met h.0 v goes) b) old.calls; parts = old.parts; joins = old.joins }))
 begun_happens shows w new (WorldEvent.Leave call) seen last h old =
     subst (AllBegun shows) (sym h.1) (record { calls = each_filter (IsBegun shows) (λ x. not (has_number call x)) w.calls old.calls; parts = old.parts; joins = old.joins })

@@ -3,18 +3,18 @@
 --                             one key more, and one entry more, which go last
 --     put_in_place            a key that is there keeps its place
 --     open_keys-more          the open keys of one task more
---     open_distinct, one_distinct
+--     open_distinct, alone_differs, one_distinct
 --                             of keys that differ the open ones differ; one key differs from no other
+--     all_open                at each open key something is done
 --     open_more, open_fails   a test of the open keys, at one task more, and at one that fails
 --     absent_same             a key that isn't there can't be settled
 --     first_each, first_put   all keys are open at first
 --     open_within             a key is open exactly if the first one is before the end
---     first_key_at            the first of the open keys is there
 --     first_here, first_next
 --                             the first open key from a place on
 --     first_settled, first_fits
 --                             once a key is settled, the first open one is found from where it was
-use Rattle.jc_world.proofs.Common.{◌≡◌, ℕ, zero, suc, ◌+◌, ◌<◌, ◌≤◌, Bool, true, false, cond, not, ◌&&◌, ◌||◌, List, [], ◌∷◌, ◌++◌, length, get_or, take, drop, is_some, ◌==◌, slice_get, Some, None, filter, Option, option_map, sym, refl, ap, ◌∙◌, subst, zero-add, arith, and_parts, and_from, and_right, nat_tests, map-append, take_more, IsDistinct-keys_filter, slice_get_within, slice_get_read, get_or_from_slice_get, pointwise, list_any, list_all, IsDistinct, keys_of, lookup, set_value, option_flatten, IndexMap, insert_entry, Bytes, Op, Task, at_each, put_each_of, op_in, is_open, open_in, first_open}
+use Rattle.jc_world.proofs.Common.{◌≡◌, ℕ, zero, suc, ◌+◌, ◌<◌, ◌≤◌, Bool, true, false, cond, not, ◌&&◌, ◌||◌, List, [], ◌∷◌, ◌++◌, length, get_or, take, drop, is_some, ◌==◌, slice_get, Some, None, filter, Option, sym, refl, ap, ◌∙◌, subst, zero-add, arith, and_parts, and_from, and_right, nat_tests, map-append, take_more, IsDistinct-keys_filter, slice_get_within, slice_get_read, get_or_from_slice_get, pointwise, list_any, list_all, IsDistinct, keys_of, lookup, set_value, option_flatten, IndexMap, insert_entry, Bytes, Op, Task, at_each, put_each_of, op_in, is_open, open_in, first_open, IsDistinct-head, IsDistinct-tail, nat_list_eq_equiv, AllByRecursion, CallState, op_at, open_keys}
 use Rattle.jc_outside.proofs.CallerLemmas.{not_before, entry_last}
 
 -- 1. New keys.
@@ -145,6 +145,36 @@ open_keys-more tasks i key one at = let next : i + 1 ≡ suc i = omega (arith) i
 pub open_distinct : (tasks : List Task) → IsDistinct (pointwise ◌==◌) (keys_of tasks) → IsDistinct (pointwise ◌==◌) (open_in tasks)
 open_distinct tasks d = IsDistinct-keys_filter (pointwise ◌==◌) is_open tasks d
 
+-- the operation of an open key is found by the key
+opens : (tasks : List Task) → IsDistinct (pointwise ◌==◌) (keys_of tasks) → list_all (λ key. is_some (op_in tasks key)) (open_in tasks) ≡ true
+opens [] d = refl
+opens (task ∷ tasks) d =
+    let rest = later tasks (IsDistinct-head (pointwise ◌==◌) task.0 (keys_of tasks) d) (opens tasks (IsDistinct-tail (pointwise ◌==◌) task.0 (keys_of tasks) d)) in
+    elim (is_open task) as (λ b. is_open task ≡ b → list_all here (keys_of (cond b (task ∷ filter is_open tasks) (filter is_open tasks))) ≡ true) [
+      | true ↦ λ e. and_from _ _ (ap (λ b. is_some (option_flatten (cond b (Some task.1) (lookup (pointwise ◌==◌ task.0) tasks)))) (nat_list_eq_equiv.refl task.0) ∙ e) rest
+      | false ↦ λ e. rest
+    ] refl
+  where
+    here : Bytes → Bool
+    here key = is_some (op_in (task ∷ tasks) key)
+
+    later : (ts : List Task) → AllByRecursion (λ k. pointwise ◌==◌ task.0 k ≡ false) (keys_of ts) → list_all (λ key. is_some (op_in tasks key)) (open_in ts) ≡ true → list_all here (open_in ts) ≡ true
+    later [] apart h = refl
+    later (t ∷ ts) apart h =
+        elim (is_open t) as (λ b. list_all (λ key. is_some (op_in tasks key)) (keys_of (cond b (t ∷ filter is_open ts) (filter is_open ts))) ≡ true → list_all here (keys_of (cond b (t ∷ filter is_open ts) (filter is_open ts))) ≡ true) [
+          | true ↦ λ h.
+              let parts = and_parts (is_some (op_in tasks t.0)) (list_all (λ key. is_some (op_in tasks key)) (open_in ts)) h in
+              and_from _ _ (ap (λ b. is_some (option_flatten (cond b (Some task.1) (lookup (pointwise ◌==◌ t.0) tasks)))) (nat_list_eq_equiv.symm t.0 task.0 ∙ apart.0) ∙ parts.0) (later ts apart.1 parts.1)
+          | false ↦ λ h. later ts apart.1 h
+        ] h
+
+pub all_open : (u : CallState) → IsDistinct (pointwise ◌==◌) (keys_of u.tasks) → list_all (λ key. is_some (op_at u key)) (open_keys u) ≡ true
+all_open u d = opens u.tasks d
+
+pub alone_differs : (key : Bytes) → IsDistinct (pointwise ◌==◌) (key ∷ [])
+unfolding IsDistinct
+alone_differs key = (tt, tt)
+
 -- one key differs from no other
 pub one_distinct : (key : Bytes) (one : Option Op) → IsDistinct (pointwise ◌==◌) (open_in ((key, one) ∷ []))
 unfolding IsDistinct
@@ -175,15 +205,6 @@ open_within (task ∷ tasks) =
   where
     no_zero : (n : ℕ) → (0 == suc n) ≡ false
     no_zero n = grind (arith, nat_tests)
-
--- the first of the open keys is there
-pub first_key_at : (tasks : List Task) → slice_get (open_in tasks) 0 ≡ option_map (λ (task : Task). task.0) (slice_get tasks (first_open tasks))
-first_key_at [] = refl
-first_key_at (task ∷ tasks) =
-    elim (is_open task) as (λ b. slice_get (keys_of (cond b (task ∷ filter is_open tasks) (filter is_open tasks))) 0 ≡ option_map (λ (t : Task). t.0) (slice_get (task ∷ tasks) (cond b 0 (suc (first_open tasks))))) [
-      | true ↦ refl
-      | false ↦ first_key_at tasks
-    ]
 
 -- if a key at a place is open, it is the first from there
 pub first_here : (tasks : List Task) (i : ℕ) (key : Bytes) (one : Option Op) → slice_get tasks i ≡ Some (key, one) → is_some one ≡ true → first_open (drop i tasks) ≡ 0

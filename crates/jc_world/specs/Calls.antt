@@ -5,7 +5,6 @@
 --     tasks           what a command does at each of its keys, in their order. Those of `removeAll()` and `clear()` are found stripe
 --                     by stripe
 --     kind_of         how the call of a command takes its keys
---     takes_turns     a call of a kind works at one key at a time
 --     is_bulk         a call of a kind has many keys
 --     puts_off        a key of a call of a kind that meets a refusal stays open, to be tried again: in a call of one key it doesn't
 --     has_too_many    tasks are more than a call may have keys
@@ -27,15 +26,11 @@
 --     is_open         the key of a task is open
 --     open_in, open_keys
 --                     the open keys of tasks, and of a call, in their order
---     current_key     the key at which a call works: the first open one of a call that works at one key at a time
---     is_at           a key is the one that there is
---     is_turn         a call may work at a key: the current one, if it works at one key at a time
---     keys_at_work    the keys at which a call works: the current one alone, if it works at one at a time, else all that are open
---     may_work        a key of a call is open, and it is its turn
 --     going_on        a call, if it isn't over
 --     over_of         that a call of many keys is over, with its cause, if it is: no key of it is open, and no look is left
---     cause_after     the first fault, or refusal that isn't put off, that a call of a kind has met, once it meets this or nothing. Only a
---                     batch keeps it: a call of one key is answered with it, and in an `invokeAll` each key has a result of its own
+--     cause_after     the first fault, or refusal that isn't put off, that a call of a kind has met, once it meets this or nothing. A call
+--                     of one key doesn't keep it, since it is answered with it, nor does an `invokeAll`, each key of which has a result
+--                     of its own
 --     with_met        a call that meets this
 --     settled         a call once a key of it has its reply or last refusal, and it has met this by it
 --     replaced        the calls, once of the one with this number is left what there is
@@ -50,7 +45,7 @@
 --     with_found      a call, of so many stripes, that has looked at a stripe and taken its keys
 --     look            the calls under way once a call has looked at a stripe and taken these keys: it is over if it has looked at
 --                     each stripe, and no key of it is open
-use Rattle.std.specs.Prelude.{◌==◌, ◌&&◌, ◌||◌, ℕ, zero, suc, List, [], ◌∷◌, ◌++◌, length, nat_lt, slice_get, Bool, true, false, not, Option, None, Some, find, filter, map, is_some, option_map, option_to_list, if◌then◌else◌}
+use Rattle.std.specs.Prelude.{◌==◌, ◌&&◌, ◌||◌, ℕ, zero, suc, List, [], ◌∷◌, ◌++◌, length, nat_lt, Bool, true, false, not, Option, None, Some, find, filter, map, is_some, option_map, if◌then◌else◌}
 use Rattle.std.specs.List.{cons_option, list_any}
 use Rattle.std.specs.Map.{keys_of, lookup, set_value}
 use Rattle.std.specs.Option.{option_flatten, option_or}
@@ -112,23 +107,17 @@ kind_of (RemoveAll keys) = kind.Batch
 kind_of RemoveEvery = kind.Batch
 kind_of Clear = kind.Batch
 kind_of (LoadAll replace keys) = kind.Batch
-kind_of (InvokeAll keys) = kind.KeyByKey
-
--- one key at a time
-abbrev pub takes_turns : CallKind → Bool
-takes_turns kind.Single = true
-takes_turns kind.KeyByKey = true
-takes_turns kind.Batch = false
+kind_of (InvokeAll keys) = kind.InvokeAll
 
 abbrev pub is_bulk : CallKind → Bool
 is_bulk kind.Single = false
-is_bulk kind.KeyByKey = true
 is_bulk kind.Batch = true
+is_bulk kind.InvokeAll = true
 
 abbrev pub puts_off : CallKind → Refusal → Bool
 puts_off kind.Single refusal = false
-puts_off kind.KeyByKey refusal = is_put_off refusal
 puts_off kind.Batch refusal = is_put_off refusal
+puts_off kind.InvokeAll refusal = is_put_off refusal
 
 abbrev pub has_too_many : List Task → Bool
 has_too_many tasks = nat_lt BULK_KEYS_MAX (length tasks)
@@ -186,23 +175,6 @@ open_in tasks = keys_of (filter is_open tasks)
 abbrev pub open_keys : CallState → List Bytes
 open_keys u = open_in u.tasks
 
--- the first open key
-abbrev pub current_key : CallState → Option Bytes
-current_key u = if takes_turns u.kind then slice_get (open_keys u) 0 else None
-
-abbrev pub is_at : Option Bytes → Bytes → Bool
-is_at None key = false
-is_at (Some own) key = pointwise ◌==◌ key own
-
-abbrev pub is_turn : CallState → Bytes → Bool
-is_turn u key = if takes_turns u.kind then is_at (current_key u) key else true
-
-abbrev pub keys_at_work : CallState → List Bytes
-keys_at_work u = if takes_turns u.kind then option_to_list (current_key u) else open_keys u
-
-abbrev pub may_work : CallState → Bytes → Bool
-may_work u key = is_some (op_at u key) && is_turn u key
-
 -- a call isn't over
 abbrev pub is_going : CallState → Bool
 is_going u = is_some u.sweep || list_any is_open u.tasks
@@ -229,8 +201,8 @@ over_of u =
 -- what a call has met before comes first
 abbrev pub cause_after : CallKind → Option Refusal → Option Refusal → Option Refusal
 cause_after kind.Single was met = None
-cause_after kind.KeyByKey was met = None
 cause_after kind.Batch was met = option_or was met
+cause_after kind.InvokeAll was met = None
 
 abbrev pub with_met : Option Refusal → CallState → CallState
 with_met met u = record u { cause = cause_after u.kind u.cause met }

@@ -32,8 +32,9 @@
 --     after_change                the world once the writer has changed the store
 --     after_report                the world once the writer has returned for a key
 --     reported_part, reported_in, reported_key
---                                 what a return of the writer shows of a key, if the writer was asked for it and hasn't returned
+--                                 what a return of the writer shows of a key, if the writer is asked for it now
 --     reported_keys               the same of the keys of a call, in their order
+--     reported_now                the same of the keys for which a call under way has the writer asked now
 --     keys_reported               the keys for which a writer returns
 --     reported_at                 the world once the writer has returned for a key, if it was asked for it and hadn't returned
 --     after_reports               the world once the writer has returned for these keys of a call, for each with its answer
@@ -91,13 +92,14 @@ use Rattle.jc_world.specs.declared.event.Over.{Over}
 use Rattle.jc_world.specs.declared.event.Shown.{Shown}
 use Rattle.jc_world.specs.declared.event.Stepped.{Stepped}
 use Rattle.jc_world.specs.declared.reports.ReportedKey.{ReportedKey}
+use Rattle.jc_world.specs.declared.reports.WriterBatch.{WriterBatch}
 use Rattle.jc_world.specs.Calls.{CallState, SweepState, open_keys, puts_off, op_at, new_call, has_too_many_keys, opened, over_of, settle, over_settled, meet, drop_call, with_found, look}
 use Rattle.jc_world.specs.declared.event.Part.{Part}
 use Rattle.jc_world.specs.declared.event.PartProgress.{PartProgress}
 use Rattle.jc_world.specs.World.{WorldState, home, stripe_for, open_call, of_call, part_of, Parts, waits_for_report, has_changed, join_of, join_key, out_of, writer_change}
 use Rattle.jc_world.specs.Premises.{read_answer, changed_to, report_for, is_true_load, is_true_report, with_loader, with_writer, with_foreign_write, load_from}
 use Rattle.jc_world.specs.declared.process.Processed.{Processed as ProcessShown}
-use Rattle.jc_world.specs.Fits.{fits}
+use Rattle.jc_world.specs.Fits.{fits, is_in_batch, writer_batch}
 
 -- 1. What a phase leaves.
 
@@ -282,22 +284,26 @@ after_report w key part report =
     record (with_progress w key part progress) { premises = with_writer w.premises honest }
 
 -- what a writer's return shows of a key
-abbrev pub reported_part : Bytes → Part → Option ReportedKey
-reported_part key part =
-    if waits_for_report part
+abbrev pub reported_part : WriterBatch → Bytes → Part → Option ReportedKey
+reported_part batch key part =
+    if is_in_batch batch part
     then option_map (λ change. record { key = key; change = change; is_changed = has_changed part })
     (writer_change part)
     else None
 
-abbrev pub reported_in : Bytes → Option Part → Option ReportedKey
-reported_in key None = None
-reported_in key (Some part) = reported_part key part
+abbrev pub reported_in : WriterBatch → Bytes → Option Part → Option ReportedKey
+reported_in batch key None = None
+reported_in batch key (Some part) = reported_part batch key part
 
-abbrev pub reported_key : Parts → ℕ → Bytes → Option ReportedKey
-reported_key parts call key = reported_in key (of_call call (get parts key))
+abbrev pub reported_key : WriterBatch → Parts → ℕ → Bytes → Option ReportedKey
+reported_key batch parts call key = reported_in batch key (of_call call (get parts key))
 
-abbrev pub reported_keys : Parts → ℕ → List Bytes → List ReportedKey
-reported_keys parts call keys = filter_map (reported_key parts call) keys
+abbrev pub reported_keys : WriterBatch → Parts → ℕ → List Bytes → List ReportedKey
+reported_keys batch parts call keys = filter_map (reported_key batch parts call) keys
+
+-- of those for which the call has the writer asked now
+abbrev pub reported_now : WorldState → ℕ → CallState → List ReportedKey
+reported_now w call u = reported_keys (writer_batch w.parts call u) w.parts call (open_keys u)
 
 abbrev pub keys_reported : List ReportedKey → List Bytes
 keys_reported reported = map (λ one. one.key) reported
@@ -385,10 +391,9 @@ Happens old (event.Change call key) seen new =
     × (new ≡ after_change old key part change)
 Happens old (event.Report call left fault) seen new =
     (u : CallState) × (open_call old call ≡ Some u)
-    × (seen ≡ not_over (outcome.Reported
-    (record { keys = reported_keys old.parts call (open_keys u); fault = fault })))
+    × (seen ≡ not_over (outcome.Reported (record { keys = reported_now old call u; fault = fault })))
     × (new ≡ after_reports (with_met_by old call (option_map WriterFailed fault)) call
-    (report_for u.kind left fault) (keys_reported (reported_keys old.parts call (open_keys u))))
+    (report_for u.kind left fault) (keys_reported (reported_now old call u)))
 Happens old (event.Process call key source calls fail) seen new =
     let answer = load_from source (entry_at old.store key) in
     (part : Part) × (part_of old call key ≡ Some part)

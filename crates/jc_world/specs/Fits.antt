@@ -3,15 +3,23 @@
 --     is_playable    a command that a world plays: one operation that is a call by itself, or one on many keys
 --     is_new         a call's number is above all before it
 --     is_free        a call has neither a reservation nor a join of a key
---     may_start      a key is open in a call, which may work at it and has neither a reservation nor a join of it
+--     may_start      a key is open in a call, which has neither a reservation nor a join of it
 --     may_leave      a call has neither a reservation nor a join of any of its open keys
---     waits_in       in these parts the writer was asked for a key by a call, and hasn't returned
---     waits_at       that is so in the parts of a world
---     may_report     that is so of an open key of the call
+--     passes_in      in these parts a call has reserved a key, and the part passes a test
+--     waits_at       a call has reserved a key, the writer was asked for it and hasn't returned
+--     is_in_batch    a part is among those for which the writer is asked at once
+--     batch_of       for which keys a call of a kind has the writer asked now, by whether a key of it waits for its processor, and
+--                    whether one waits for a write
+--     writer_batch   for which keys a call has the writer asked now: for all together; but in an `invokeAll` for none while a key of it
+--                    waits for its processor, then for the writes together, and once it has returned for these for the deletes
+--     is_asked_in    a key of a call under way is among these
+--     may_change     so it is, if the call is under way
+--     is_asked       so it is of the call with this number
+--     may_report     so it is of an open key of the call
 --     is_to_look     a sweep hasn't looked at a stripe yet
 --     may_look       a call takes the keys that are cached, and hasn't looked at this one of so many stripes
 --     fits           an event fits
-use Rattle.std.specs.Prelude.{ℕ, Bool, true, false, not, ◌&&◌, Option, None, Some, is_some, nat_lt}
+use Rattle.std.specs.Prelude.{ℕ, Bool, true, false, not, ◌&&◌, Option, None, Some, is_some, nat_lt, if◌then◌else◌}
 use Rattle.std.specs.List.{list_all, list_any}
 use Rattle.std.specs.FinMap.{get}
 use Rattle.jc_types.specs.Limits.{is_session}
@@ -21,10 +29,15 @@ use Rattle.jc_model.specs.Cache.{Bytes}
 use Rattle.jc_model.specs.Table.{is_load_given}
 use Rattle.jc_world.specs.declared.command.Command.{Command}
 use Rattle.jc_world.specs.declared.command.Command.TheVariants as command
+use Rattle.jc_world.specs.declared.command.CallKind.{CallKind}
+use Rattle.jc_world.specs.declared.command.CallKind.TheVariants as kind
+use Rattle.jc_world.specs.declared.event.Part.{Part}
 use Rattle.jc_world.specs.declared.event.WorldEvent.{WorldEvent}
 use Rattle.jc_world.specs.declared.event.WorldEvent.TheVariants as event
-use Rattle.jc_world.specs.Calls.{CallState, SweepState, has_looked, open_keys, is_turn, op_at}
-use Rattle.jc_world.specs.World.{WorldState, is_busy, open_call, of_call, part_of, Parts, is_free_of, waits_for_load, waits_for_report, is_answered, is_untouched, is_joined, has_progress, waits_for_process}
+use Rattle.jc_world.specs.declared.reports.WriterBatch.{WriterBatch}
+use Rattle.jc_world.specs.declared.reports.WriterBatch.TheVariants as batch
+use Rattle.jc_world.specs.Calls.{CallState, SweepState, has_looked, open_keys, op_at}
+use Rattle.jc_world.specs.World.{WorldState, is_busy, open_call, of_call, part_of, Parts, is_free_of, waits_for_load, waits_for_report, waits_for_write, is_answered, is_untouched, is_joined, has_progress, waits_for_process}
 
 -- the operations that are calls by themselves: the others are keys of a bulk call
 abbrev pub is_single : Op → Bool
@@ -63,27 +76,55 @@ is_new (Some last) call = nat_lt last call
 abbrev pub is_free : WorldState → ℕ → Bytes → Bool
 is_free w call key = is_free_of w.parts w.joins call key
 
--- the key is open in the call, which may work at it, and it has neither a reservation nor a join
+-- the key is open in the call, which has neither a reservation nor a join of it
 abbrev pub may_start : WorldState → ℕ → Bytes → Option CallState → Bool
 may_start w call key None = false
-may_start w call key (Some u) = is_some (op_at u key) && is_turn u key && is_free w call key
+may_start w call key (Some u) = is_some (op_at u key) && is_free w call key
 
 -- the call has neither a reservation nor a join
 abbrev pub may_leave : WorldState → ℕ → Option CallState → Bool
 may_leave w call None = false
 may_leave w call (Some u) = list_all (is_free w call) (open_keys u)
 
+-- the call has reserved the key, and its part passes the test
+abbrev pub passes_in : (Part → Bool) → Parts → ℕ → Bytes → Bool
+passes_in test parts call key = has_progress test (of_call call (get parts key))
+
 -- the key is asked of the writer, which hasn't returned
-abbrev pub waits_in : Parts → ℕ → Bytes → Bool
-waits_in parts call key = has_progress waits_for_report (of_call call (get parts key))
-
 abbrev pub waits_at : WorldState → ℕ → Bytes → Bool
-waits_at w call key = waits_in w.parts call key
+waits_at w call key = passes_in waits_for_report w.parts call key
 
--- that is so of an open key
+abbrev pub is_in_batch : WriterBatch → Part → Bool
+is_in_batch batch.Nothing part = false
+is_in_batch batch.Writes part = waits_for_write part
+is_in_batch batch.All part = waits_for_report part
+
+-- an `invokeAll` has its writes and its deletes asked for apart, and neither before its processors have run
+abbrev pub batch_of : CallKind → Bool → Bool → WriterBatch
+batch_of kind.Single to_process to_write = batch.All
+batch_of kind.Batch to_process to_write = batch.All
+batch_of kind.InvokeAll to_process to_write =
+    if to_process then batch.Nothing else if to_write then batch.Writes else batch.All
+
+abbrev pub writer_batch : Parts → ℕ → CallState → WriterBatch
+writer_batch parts call u =
+    batch_of u.kind (list_any (passes_in waits_for_process parts call) (open_keys u))
+    (list_any (passes_in waits_for_write parts call) (open_keys u))
+
+abbrev pub is_asked_in : Parts → ℕ → CallState → Bytes → Bool
+is_asked_in parts call u key = passes_in (is_in_batch (writer_batch parts call u)) parts call key
+
+abbrev pub may_change : WorldState → ℕ → Bytes → Option CallState → Bool
+may_change w call key None = false
+may_change w call key (Some u) = is_asked_in w.parts call u key
+
+abbrev pub is_asked : WorldState → ℕ → Bytes → Bool
+is_asked w call key = may_change w call key (open_call w call)
+
+-- the writer is asked for an open key
 abbrev pub may_report : WorldState → ℕ → Option CallState → Bool
 may_report w call None = false
-may_report w call (Some u) = list_any (waits_at w call) (open_keys u)
+may_report w call (Some u) = list_any (is_asked_in w.parts call u) (open_keys u)
 
 -- none is left of a sweep that has looked at each stripe
 abbrev pub is_to_look : ℕ → Option SweepState → Bool
@@ -103,7 +144,7 @@ fits w (event.Start call key) = may_start w call key (open_call w call)
 fits w (event.Read call key) = has_progress waits_for_load (part_of w call key)
 fits w (event.Say call key answer) =
     is_load_given answer && has_progress waits_for_load (part_of w call key)
-fits w (event.Change call key) = has_progress waits_for_report (part_of w call key)
+fits w (event.Change call key) = is_asked w call key
 fits w (event.Report call left fault) = may_report w call (open_call w call)
 fits w (event.Process call key source calls fail) = has_progress waits_for_process (part_of w call key)
 fits w (event.Commit call key) = has_progress is_answered (part_of w call key)

@@ -3,8 +3,8 @@
 --     load_from                    what the loader of a played processor answers, with this in the store
 --     changed_to                   what the store holds at a key once the writer did as it was asked
 --     report_of                    the writer's report, from its fault or none
---     report_for                   what a writer's return says for a key of a call of a kind: whether the key is left, and with which
---                                  code it then fails, or in a call that takes one key after the other its fault or none
+--     report_for                   what a writer's return says for a key of a call of a kind: its fault or none in a call of one key,
+--                                  else whether the key is left, and with which code it then fails
 --     is_true_load                 honest loaders: an answer is a failure, or what the store holds for the key
 --     is_done                      a report says that the writer did as it was asked
 --     is_true_report               honest writers: a report says done exactly where the store was changed. So in a batch the changed keys
@@ -47,11 +47,11 @@ abbrev pub report_of : Option ℕ → WriteAnswer
 report_of None = write.Done
 report_of (Some code) = write.Failed code
 
--- of a batch exactly the keys outside `left` are written; a call that takes one key after the other has the writer asked for each
+-- of a batch exactly the keys outside `left` are written
 abbrev pub report_for : CallKind → List Bytes → Option ℕ → Bytes → WriteAnswer
 report_for kind.Single left fault key = report_of fault
-report_for kind.KeyByKey left fault key = report_of fault
 report_for kind.Batch left fault key = answer_in_batch left fault key
+report_for kind.InvokeAll left fault key = answer_in_batch left fault key
 
 abbrev pub is_true_load : LoadAnswer → Option Bytes → Bool
 is_true_load load.NotAsked stored = true

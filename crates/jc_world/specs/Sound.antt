@@ -15,7 +15,7 @@
 --     IsDueIn, IsDue                after a processor the writer is asked for just that
 --     AllDue                        that is so of all parts
 --     IsHeld                        a part has its reservation, whose call is then under way
---     IsCallOf                      a call is of a session, and an operation is open in it at a key, at which it may work
+--     IsCallOf                      a call is of a session, and an operation is open in it at a key
 --     IsOwned, AllOwned             a reservation has its part and its call; each does
 --     IsWaitedFor, AllWaitedFor     a join has its joiner and its call, which has no part; each does, and is of the call and the key by
 --                                   which it is found
@@ -65,7 +65,7 @@ use Rattle.jc_stripe.specs.Tickets.{JoinClaim}
 use Rattle.jc_stripe.specs.State.{State, IsOut, IsJoined}
 use Rattle.jc_stripe.specs.Reached.{IsReached}
 use Rattle.jc_stripe.specs.OwnSteps.{may_come_all}
-use Rattle.jc_world.specs.Calls.{CallState, SweepState, has_looked, op_at, op_for, is_turn}
+use Rattle.jc_world.specs.Calls.{CallState, SweepState, has_looked, op_at, op_for}
 use Rattle.jc_world.specs.declared.event.Part.{Part}
 use Rattle.jc_world.specs.declared.event.PartProgress.{PartProgress}
 use Rattle.jc_world.specs.World.{WorldState, home, stripe_for, cached_entry, open_call, part_of, JoinKey, Joins, join_key, is_joined, is_unanswered, Parts}
@@ -171,9 +171,9 @@ pub record IsHeld (s : State) (key : Bytes) (part : Part) : Type 0 where
   pub out : IsOut s part.reservation
   pub asked : FitsAsked part.reservation.first part.progress
 
--- a call is of this session, and this operation is open in it at this key, at which it may work
+-- a call is of this session, and this operation is open in it at this key
 abbrev pub IsCallOf : ℕ → Bytes → Op → CallState → Type 0
-IsCallOf session key op u = (u.caller.session ≡ session) × (op_at u key ≡ Some op) × (is_turn u key ≡ true)
+IsCallOf session key op u = (u.caller.session ≡ session) × (op_at u key ≡ Some op)
 
 -- the reservation of a call under way, with its part
 pub record IsOwned (w : WorldState) (r : Reservation) : Type 0 where

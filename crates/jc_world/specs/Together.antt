@@ -5,10 +5,14 @@
 --     BeginFits          if a call fits, so do its looks after it, and then it is free of every key
 --     at_call, key_at    the key at which an event of the call with this number is, if it is one
 --     AreAt              events of this call, one at each of these keys, in their order
---     FitTogether        what fits at keys that differ fits one after the other: any such events; the writer's return after its
---                        changes of the store; and a call's leaving after the withdrawals of all that it has reserved
-use Rattle.std.specs.Prelude.{◌≡◌, ◌==◌, ◌||◌, ◌+◌, ℕ, zero, suc, List, [], ◌∷◌, ◌++◌, map, true, Option, None, Some, is_some, if◌then◌else◌}
-use Rattle.std.specs.List.{IsDistinct, list_all}
+--     is_start, is_change
+--                        an event is a first phase, and a change of the store by a writer
+--     FitTogether        what fits at keys that differ fits one after the other: any such events, unless there are both first phases and
+--                        the writer's changes of the store among them, since in an `invokeAll` the writer waits for the processor of
+--                        a key that is started; the writer's return after its changes; and a call's leaving after the withdrawals of
+--                        all that it has reserved
+use Rattle.std.specs.Prelude.{◌≡◌, ◌==◌, ◌&&◌, ◌||◌, ◌+◌, ℕ, zero, suc, List, [], ◌∷◌, ◌++◌, map, Bool, true, false, Option, None, Some, is_some, if◌then◌else◌}
+use Rattle.std.specs.List.{IsDistinct, list_all, list_any}
 use Rattle.std.specs.Cmp.Lexicographic.{pointwise}
 use Rattle.jc_model.specs.Batches.{is_among}
 use Rattle.jc_model.specs.Cache.{Bytes}
@@ -81,11 +85,42 @@ AreAt call (key ∷ keys) (e ∷ events) = (key_at call e ≡ Some key) × AreAt
 AreAt call [] (e ∷ events) = ⊥
 AreAt call (key ∷ keys) [] = ⊥
 
+abbrev pub is_start : WorldEvent → Bool
+is_start (event.Call call session command) = false
+is_start (event.Look call stripe) = false
+is_start (event.Start call key) = true
+is_start (event.Read call key) = false
+is_start (event.Say call key answer) = false
+is_start (event.Change call key) = false
+is_start (event.Report call left fault) = false
+is_start (event.Process call key source calls fail) = false
+is_start (event.Commit call key) = false
+is_start (event.Withdraw call key) = false
+is_start (event.Leave call) = false
+is_start (event.PickUp call key) = false
+is_start (event.Foreign key value) = false
+
+abbrev pub is_change : WorldEvent → Bool
+is_change (event.Call call session command) = false
+is_change (event.Look call stripe) = false
+is_change (event.Start call key) = false
+is_change (event.Read call key) = false
+is_change (event.Say call key answer) = false
+is_change (event.Change call key) = true
+is_change (event.Report call left fault) = false
+is_change (event.Process call key source calls fail) = false
+is_change (event.Commit call key) = false
+is_change (event.Withdraw call key) = false
+is_change (event.Leave call) = false
+is_change (event.PickUp call key) = false
+is_change (event.Foreign key value) = false
+
 -- of keys that differ
 pub record FitTogether (w : WorldState) : Type 0 where
   pub events : (call : ℕ) (keys : List Bytes) (events : List WorldEvent)
-      → AreAt call keys events → IsDistinct (pointwise ◌==◌) keys → list_all (fits w) events ≡ true
-      → AllFit w events
+      → AreAt call keys events → IsDistinct (pointwise ◌==◌) keys
+      → (list_any is_start events && list_any is_change events) ≡ false
+      → list_all (fits w) events ≡ true → AllFit w events
   pub report : (call : ℕ) (keys left : List Bytes) (fault : Option ℕ)
       → IsDistinct (pointwise ◌==◌) keys → list_all (λ key. fits w (event.Change call key)) keys ≡ true
       → fits w (event.Report call left fault) ≡ true

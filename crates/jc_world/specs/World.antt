@@ -20,6 +20,8 @@
 --     waits_for_load                  the loader was asked, and hasn't answered
 --     waits_for_process               the processor was asked, and hasn't run
 --     waits_for_report                the writer was asked, and hasn't returned
+--     is_write                        the writer is asked for a write, not for a delete
+--     waits_for_write                 the writer was asked for a write, and hasn't returned
 --     is_answered                     all that was asked is answered
 --     is_untouched                    nothing was answered outside for the key, and nothing done
 --     has_changed                     the writer has changed the store
@@ -38,6 +40,7 @@ use Rattle.std.specs.FinMap as map
 use Rattle.jc_types.specs.declared.config.Config.{Config}
 use Rattle.jc_types.specs.Stripes.{stripe_of}
 use Rattle.jc_model.specs.declared.event.Change.{Change}
+use Rattle.jc_model.specs.declared.event.Change.TheVariants.{Write, Delete}
 use Rattle.jc_model.specs.declared.event.Event.{Event}
 use Rattle.jc_model.specs.declared.event.Out.{Out}
 use Rattle.jc_model.specs.Cache.{Bytes, Cache, key_cmp, entry_at, with_entry}
@@ -171,6 +174,15 @@ waits_for_process part = asks_processor part.reservation.first && is_unanswered 
 -- the writer was asked, and hasn't returned
 abbrev pub waits_for_report : Part → Bool
 waits_for_report part = is_some part.progress.change && not (is_write_given part.progress.out.write)
+
+-- it is asked for a write
+abbrev pub is_write : Option Change → Bool
+is_write None = false
+is_write (Some (Write value)) = true
+is_write (Some Delete) = false
+
+abbrev pub waits_for_write : Part → Bool
+waits_for_write part = waits_for_report part && is_write part.progress.change
 
 -- all that was asked is answered
 abbrev pub is_answered : Part → Bool

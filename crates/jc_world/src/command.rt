@@ -1,6 +1,6 @@
 //! What calls do.
 ghost use Rattle.std.specs.Prelude.{◌≡◌, [], is_some, length, option_map};
-ghost use Rattle.jc_world.specs.Calls.{kind_of, sweep_of, takes_turns, is_bulk, cause_after, puts_off, tasks, has_too_many};
+ghost use Rattle.jc_world.specs.Calls.{kind_of, sweep_of, is_bulk, cause_after, puts_off, tasks, has_too_many};
 
 use crate::sweep::Sweep;
 use indexmap::{IndexMap, IndexSet};
@@ -58,7 +58,7 @@ impl Command {
     {
         match self {
             Command::Single { op: _, key: _ } => CallKind::Single,
-            Command::InvokeAll { keys: _ } => CallKind::KeyByKey,
+            Command::InvokeAll { keys: _ } => CallKind::InvokeAll,
             Command::GetAll { keys: _ }
             | Command::PutAll { entries: _ }
             | Command::RemoveAll { keys: _ }
@@ -138,40 +138,33 @@ impl Command {
 pub enum CallKind {
     /// It has one key.
     Single,
-    /// It has many keys, and takes one after the other, in their order: the next once the one before has its reply or last refusal.
-    /// So does `invokeAll`.
-    KeyByKey,
-    /// It has many keys, and takes each that it can, whatever becomes of the others. So do the other calls of many keys.
+    /// It has many keys, and takes each that it can, whatever becomes of the others. The loader or the writer is asked for them
+    /// together.
     Batch,
+    /// It has many keys, and takes each that it can, so too. On each that it has reserved an entry processor runs, and then the writer
+    /// is asked for the writes together, and after that for the deletes. Each key has a result of its own, so that a fault is that
+    /// of its key alone (JSR 107, "Entry Processors").
+    InvokeAll,
 }
 
 impl CallKind {
-    /// Whether such a call works at one key at a time.
-    pub fn takes_turns(self) -> bool
-        ensures { result ≡ takes_turns self }
-    {
-        match self {
-            CallKind::Single | CallKind::KeyByKey => true,
-            CallKind::Batch => false,
-        }
-    }
-
     /// Whether such a call has many keys.
-    pub(crate) fn is_bulk(self) -> bool
+    pub fn is_bulk(self) -> bool
         ensures { result ≡ is_bulk self }
     {
         match self {
             CallKind::Single => false,
-            CallKind::KeyByKey | CallKind::Batch => true,
+            CallKind::Batch | CallKind::InvokeAll => true,
         }
     }
 
-    /// The first fault, or refusal that isn't put off, that such a call has met, once it meets this or nothing. Only a batch keeps it.
+    /// The first fault, or refusal that isn't put off, that such a call has met, once it meets this or nothing. A call of
+    /// one key doesn't keep it, nor does an `invokeAll`.
     pub(crate) fn cause_after(self, was: Option<Refusal>, met: Option<Refusal>) -> Option<Refusal>
         ensures { result ≡ cause_after self was met }
     {
         match self {
-            CallKind::Single | CallKind::KeyByKey => None,
+            CallKind::Single | CallKind::InvokeAll => None,
             CallKind::Batch => was.or(met),
         }
     }
@@ -183,7 +176,7 @@ impl CallKind {
     {
         match self {
             CallKind::Single => false,
-            CallKind::KeyByKey | CallKind::Batch => refusal.is_put_off(),
+            CallKind::Batch | CallKind::InvokeAll => refusal.is_put_off(),
         }
     }
 }

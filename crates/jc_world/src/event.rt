@@ -43,9 +43,7 @@ pub enum WorldEvent {
     },
     /// The first phase of a key of the call. It fits if the key has neither a reply nor a last refusal in this call, and the
     /// call has neither reserved it nor joined its load: before its first phase, and once the key was put off, or the call was told
-    /// to retry or has given its reservation back. A `getAll`, a `putAll`, a `removeAll`, a `clear` and a `loadAll` take their keys
-    /// in any order, whatever becomes of the others. An `invokeAll` takes its keys one after the other: of its keys it fits at the
-    /// first one that has neither a reply nor a last refusal.
+    /// to retry or has given its reservation back. A call of many keys takes them in any order, whatever becomes of the others.
     Start {
         /// The call's number.
         call: u64,
@@ -69,6 +67,9 @@ pub enum WorldEvent {
         answer: LoadAnswer,
     },
     /// The writer changes the store, as it was asked. It fits if the writer is asked and hasn't returned, also once more.
+    ///
+    /// In an `invokeAll` the writer isn't asked for any key while a key of the call waits for its processor. Then it is asked for the
+    /// writes together, and once it has returned for these for the deletes.
     Change {
         /// The number of the call that has the writer asked.
         call: u64,
@@ -76,16 +77,16 @@ pub enum WorldEvent {
         key: Key,
     },
     /// The writer returns, for all keys of the call that it was asked for and hasn't returned for, whether it has changed the store
-    /// for them or not. It fits if there is one. In an `invokeAll` there is never more than one, that at which the call works.
+    /// for them or not. It fits if there is one. In an `invokeAll` these are first the keys with a write, and then those with a
+    /// delete, as with `Change`: it returns twice if there are both, also after a fault.
     ///
-    /// In a call of one key, and in an `invokeAll`, the write is committed if the writer reports no fault. In the other calls of
-    /// many keys exactly the keys outside `left` are committed, also after a fault. A key that is left fails, with the fault's
-    /// code or, after a normal return, with 0.
+    /// In a call of one key the write is committed if the writer reports no fault. In a call of many keys exactly the keys outside
+    /// `left` are committed, also after a fault. A key that is left fails, with the fault's code or, after a normal return, with 0.
     Report {
         /// The number of the call that has the writer asked.
         call: u64,
-        /// The keys that the writer's collection still holds. Keys that it wasn't asked for count for nothing, and in a call of one
-        /// key and an `invokeAll` no key counts.
+        /// The keys that the writer's collection still holds. Keys that it isn't asked for now count for nothing, and in a call of
+        /// one key no key counts.
         left: LeftKeys,
         /// The code with which the writer failed, or none if it returned normally.
         fault: Option<u32>,

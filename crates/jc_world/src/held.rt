@@ -12,13 +12,14 @@ ghost use Rattle.jc_stripe.specs.Refusals.{reserves};
 ghost use Rattle.jc_outside.specs.declared.done.Origin.TheVariants.{Played};
 ghost use Rattle.jc_world.specs.Premises.{changed_to};
 ghost use Rattle.jc_world.specs.World.{has_changed, out_of, is_answered, is_unanswered, is_untouched, waits_for_load, waits_for_process};
-ghost use Rattle.jc_world.specs.World.{waits_for_report, writer_change};
+ghost use Rattle.jc_world.specs.World.{is_write, waits_for_report, waits_for_write, writer_change};
+ghost use Rattle.jc_world.specs.Fits.{is_in_batch};
 ghost use Rattle.jc_world.specs.Events.{new_part, new_progress, with_loaded, with_change, with_report, run_answers, run_result, progress_after, reported_part};
 ghost use Rattle.jc_world.specs.Sound.{IsDue};
 
 use crate::event::{Part, PartProgress};
 use crate::outside::entry_after;
-use crate::reports::ReportedKey;
+use crate::reports::{ReportedKey, WriterBatch};
 use crate::run::{RunShown, change_due, commit_run, new_progress, progress_after};
 use jc_model::{Change, Contents, EntryAnswer, EntryCall, LoadAnswer, WriteAnswer};
 use jc_mutentry::played_process;
@@ -134,6 +135,24 @@ impl HeldKey {
         self.progress.change.is_some() && !self.progress.out.write.is_given()
     }
 
+    /// Whether the writer was asked for a write, and hasn't returned.
+    fn waits_for_write(&self) -> bool
+        ensures { result ≡ waits_for_write self.now }
+    {
+        self.waits_for_report() && is_write(&self.progress.change)
+    }
+
+    /// Whether the key is among those for which the writer is asked at once.
+    pub(crate) fn is_in_batch(&self, batch: WriterBatch) -> bool
+        ensures { result ≡ is_in_batch batch self.now }
+    {
+        match batch {
+            WriterBatch::Nothing => false,
+            WriterBatch::Writes => self.waits_for_write(),
+            WriterBatch::All => self.waits_for_report(),
+        }
+    }
+
     /// Whether all that was asked is answered.
     pub(crate) fn is_answered(&self) -> bool
         ensures { result ≡ is_answered self.now }
@@ -215,11 +234,11 @@ impl HeldKey {
         }
     }
 
-    /// What a return of the writer shows of this key, if the writer was asked for it and hasn't returned.
-    pub(crate) fn reported(&self, key: &Key) -> Option<ReportedKey>
-        ensures { result ≡ reported_part key.now self.now }
+    /// What a return of the writer shows of this key, if it is among those for which the writer is asked at once.
+    pub(crate) fn reported(&self, key: &Key, batch: WriterBatch) -> Option<ReportedKey>
+        ensures { result ≡ reported_part batch key.now self.now }
     {
-        if !self.waits_for_report() {
+        if !self.is_in_batch(batch) {
             return None;
         }
         match self.progress.change {
@@ -322,5 +341,15 @@ impl HeldKey {
         } else {
             self.commit_failed(stripe);
         }
+    }
+}
+
+/// Whether the writer is asked for a write, and not for a delete.
+fn is_write(change: &Option<Change>) -> bool
+    ensures { result ≡ is_write change.now }
+{
+    match change {
+        Some(Change::Write(_)) => true,
+        Some(Change::Delete) | None => false,
     }
 }

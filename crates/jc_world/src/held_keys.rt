@@ -12,14 +12,14 @@ ghost use Rattle.jc_world.specs.declared.event.Part.{Part};
 ghost use Rattle.jc_world.specs.Premises.{changed_to};
 ghost use Rattle.jc_world.specs.World.{has_changed, has_progress, of_call, waits_for_load, waits_for_process, waits_for_report};
 ghost use Rattle.jc_world.specs.World.{writer_change};
-ghost use Rattle.jc_world.specs.Fits.{waits_in};
+ghost use Rattle.jc_world.specs.Fits.{passes_in, is_in_batch};
 ghost use Rattle.jc_world.specs.Events.{asks_as, new_part, new_progress, not_over, with_loaded, with_change, with_report, reported_key};
 ghost use Rattle.jc_world.specs.Events.{run_answers, run_result, progress_after};
 ghost use Rattle.jc_world.specs.Held.{parts_of};
 
 use crate::event::{Shown, show};
 use crate::held::HeldKey;
-use crate::reports::ReportedKey;
+use crate::reports::{ReportedKey, WriterBatch};
 use crate::run::{RunShown, asks_as};
 use indexmap::IndexMap;
 use jc_model::{Change, Contents, EntryAnswer, EntryCall, LoadAnswer, WriteAnswer};
@@ -120,17 +120,39 @@ pub(crate) fn change(held: &mut HeldKeys, store: &mut Contents, key: &Key) -> Re
 
 /// Whether the writer was asked for a key by a call, and hasn't returned.
 pub(crate) fn waits_for_report(held: &HeldKeys, call: u64, key: &Key) -> bool
-    ensures { result ≡ waits_in (parts_of held.now) call key.now }
+    ensures { result ≡ passes_in waits_for_report (parts_of held.now) call key.now }
 {
     held_by(held, call, key).is_some_and(|one| one.waits_for_report())
 }
 
-/// What a return of the writer shows of a key, if the writer was asked for it by a call and hasn't returned.
-pub(crate) fn reported_key(held: &HeldKeys, call: u64, key: &Key) -> Option<ReportedKey>
-    ensures { result ≡ reported_key (parts_of held.now) call key.now }
+/// Whether the entry processor was asked for a key by a call, and hasn't run.
+pub(crate) fn waits_for_process(held: &HeldKeys, call: u64, key: &Key) -> bool
+    ensures { result ≡ passes_in waits_for_process (parts_of held.now) call key.now }
+{
+    held_by(held, call, key).is_some_and(|one| one.waits_for_process())
+}
+
+/// Whether a key of a call is among those for which the writer is asked at once.
+pub(crate) fn is_asked(held: &HeldKeys, call: u64, key: &Key, batch: WriterBatch) -> bool
+    ensures { result ≡ passes_in (is_in_batch batch) (parts_of held.now) call key.now }
 {
     match held_by(held, call, key) {
-        Some(one) => one.reported(key),
+        Some(one) => one.is_in_batch(batch),
+        None => false,
+    }
+}
+
+/// What a return of the writer shows of a key of a call, if it is among those for which the writer is asked at once.
+pub(crate) fn reported_key(
+    held: &HeldKeys,
+    call: u64,
+    key: &Key,
+    batch: WriterBatch,
+) -> Option<ReportedKey>
+    ensures { result ≡ reported_key batch (parts_of held.now) call key.now }
+{
+    match held_by(held, call, key) {
+        Some(one) => one.reported(key, batch),
         None => None,
     }
 }

@@ -4,22 +4,22 @@ ghost use Rattle.std.specs.Prelude.{OnErr, OnOk, IfOk};
 ghost use Rattle.std.specs.List.{list_all, list_any, IsDistinct};
 ghost use Rattle.std.specs.Cmp.Lexicographic.{pointwise};
 ghost use Rattle.jc_world.specs.declared.command.Command.TheVariants as command;
-ghost use Rattle.jc_world.specs.Calls.{op_at, open_keys, current_key, keys_at_work, may_work};
-ghost use Rattle.jc_world.specs.Calls.{is_turn, is_going, new_call, over_of, settled, with_found, with_met, SweepState};
+ghost use Rattle.jc_world.specs.Calls.{op_at, open_keys};
+ghost use Rattle.jc_world.specs.Calls.{is_going, new_call, over_of, settled, with_found, with_met, SweepState};
 ghost use Rattle.jc_world.specs.OpenCalls.{TakesKeys};
-ghost use Rattle.jc_world.specs.World.{is_free_of};
-ghost use Rattle.jc_world.specs.Fits.{is_to_look, waits_in};
+ghost use Rattle.jc_world.specs.World.{is_free_of, waits_for_process};
+ghost use Rattle.jc_world.specs.Fits.{is_asked_in, is_in_batch, is_to_look, passes_in, writer_batch};
 ghost use Rattle.jc_world.specs.Events.{reported_keys};
 ghost use Rattle.jc_world.specs.Held.{parts_of, joins_of};
 
 use crate::command::{CallKind, Command};
 use crate::event::Over;
-use crate::held_keys::{HeldKeys, waits_for_report};
+use crate::held_keys::{HeldKeys, is_asked, waits_for_process};
 use crate::joined::Joins;
-use crate::reports::ReportedKey;
+use crate::reports::{ReportedKey, WriterBatch};
 use crate::sweep::Sweep;
 use crate::tasks::{
-    Tasks, are_free, are_open, first_key, is_free_at, names_each_once, none_waits, op_among,
+    Tasks, are_free, are_open, is_free_at, names_each_once, none_asked, none_waits, op_among,
     push_each, push_reported, put_if_open, put_open_among, settle_at, take_keys, tasks_for,
 };
 use jc_model::Op;
@@ -95,56 +95,18 @@ impl OpenCall {
         self.kind
     }
 
-    /// The key at which the call works, if it works at one key at a time: the first that is open. It costs one look-up.
-    pub fn current_key(&self) -> Option<&Key>
-        ensures { option_copied result ≡ current_key self.now }
-    {
-        if self.kind.takes_turns() {
-            first_key(&self.tasks)
-        } else {
-            None
-        }
-    }
-
-    /// Appends the keys of the call that are open, in their order. No two of them are the same.
+    /// Appends the keys of the call that are open, in their order. No two of them are the same, and the call has something to do at
+    /// each.
+    #[tactic(auto, using(crate::proofs::TaskLists::all_open))]
     pub fn put_open_keys(&self, keys: &mut Vec<Key>) -> Result<(), AllocError>
         ensures keys { OnOk result (keys.new.items ≡ keys.old.items ++ open_keys self.now) }
         ensures distinct { IsDistinct (pointwise ◌==◌) (open_keys self.now) }
+        ensures ops { list_all (λ key. is_some (op_at self.now key)) (open_keys self.now) ≡ true }
     {
+        names_each_once(&self.tasks);
         match &self.tasks {
             Tasks::One { key, op } => put_if_open(key, op, keys),
             Tasks::Many { ops, first: _ } => put_open_among(ops, keys),
-        }
-    }
-
-    /// Appends the keys at which the call works: the current one, if it works at one key at a time, else all that are open. No two of
-    /// them are the same, and the call may work at each.
-    #[tactic(auto, using(crate::proofs::AtWork::all_work, crate::proofs::AtWork::work_differs))]
-    pub fn put_keys_at_work(&self, keys: &mut Vec<Key>) -> Result<(), AllocError>
-        ensures keys { OnOk result (keys.new.items ≡ keys.old.items ++ keys_at_work self.now) }
-        ensures distinct { IsDistinct (pointwise ◌==◌) (keys_at_work self.now) }
-        ensures work { list_all (may_work self.now) (keys_at_work self.now) ≡ true }
-    {
-        names_each_once(&self.tasks);
-        if !self.kind.takes_turns() {
-            return self.put_open_keys(keys);
-        }
-        if let Some(key) = self.current_key() {
-            keys.push(*key)?;
-        }
-        Ok(())
-    }
-
-    /// Whether the call may work at a key now, as far as the order of its keys goes.
-    pub(crate) fn is_turn(&self, key: &Key) -> bool
-        ensures { result ≡ is_turn self.now key.now }
-    {
-        if !self.kind.takes_turns() {
-            return true;
-        }
-        match self.current_key() {
-            Some(current) => *key == *current,
-            None => false,
         }
     }
 
@@ -206,18 +168,61 @@ impl OpenCall {
         }
     }
 
-    /// Whether an open key of the call is asked of the writer, which hasn't returned for it.
-    pub(crate) fn waits_for_report(&self, call: u64, held: &HeldKeys) -> bool
-        ensures { result ≡ list_any (waits_in (parts_of held.now) call) (open_keys self.now) }
+    /// Whether an open key of the call waits for its processor.
+    fn waits_for_process(&self, call: u64, held: &HeldKeys) -> bool
+        ensures { result ≡ list_any (passes_in waits_for_process (parts_of held.now) call) (open_keys self.now) }
     {
         match &self.tasks {
-            Tasks::One { key, op } => op.is_some() && waits_for_report(held, call, key),
+            Tasks::One { key, op } => op.is_some() && waits_for_process(held, call, key),
             Tasks::Many { ops, first: _ } => !none_waits(call, ops, held),
         }
     }
 
-    /// What a return of the writer shows: each key of the call that the writer was asked for and hasn't returned for, in the order
-    /// of its keys. An `Err` says that an allocation failed.
+    /// Whether an open key of the call is among those for which the writer is asked at once.
+    fn is_any_in(&self, call: u64, held: &HeldKeys, batch: WriterBatch) -> bool
+        ensures { result ≡
+            list_any (passes_in (is_in_batch batch) (parts_of held.now) call) (open_keys self.now) }
+    {
+        match &self.tasks {
+            Tasks::One { key, op } => op.is_some() && is_asked(held, call, key, batch),
+            Tasks::Many { ops, first: _ } => !none_asked(call, ops, held, batch),
+        }
+    }
+
+    /// For which of its keys the call has the writer asked now. An `invokeAll` looks at all its open keys for that.
+    fn writer_batch(&self, call: u64, held: &HeldKeys) -> WriterBatch
+        ensures { result ≡ writer_batch (parts_of held.now) call self.now }
+    {
+        match self.kind {
+            CallKind::Single | CallKind::Batch => WriterBatch::All,
+            CallKind::InvokeAll => {
+                if self.waits_for_process(call, held) {
+                    WriterBatch::Nothing
+                } else if self.is_any_in(call, held, WriterBatch::Writes) {
+                    WriterBatch::Writes
+                } else {
+                    WriterBatch::All
+                }
+            }
+        }
+    }
+
+    /// Whether the call has the writer asked for a key now.
+    pub(crate) fn is_asked(&self, call: u64, key: &Key, held: &HeldKeys) -> bool
+        ensures { result ≡ is_asked_in (parts_of held.now) call self.now key.now }
+    {
+        is_asked(held, call, key, self.writer_batch(call, held))
+    }
+
+    /// Whether the call has the writer asked for an open key now.
+    pub(crate) fn may_report(&self, call: u64, held: &HeldKeys) -> bool
+        ensures { result ≡ list_any (is_asked_in (parts_of held.now) call self.now) (open_keys self.now) }
+    {
+        self.is_any_in(call, held, self.writer_batch(call, held))
+    }
+
+    /// What a return of the writer shows: each key for which the call has the writer asked now, in the order of its keys. An `Err`
+    /// says that an allocation failed.
     pub(crate) fn reported_keys(
         &self,
         alloc: Global,
@@ -225,14 +230,16 @@ impl OpenCall {
         held: &HeldKeys,
     ) -> Result<Vec<ReportedKey>, AllocError>
         ensures { IfOk result (λ reported.
-            reported.items ≡ reported_keys (parts_of held.now) call (open_keys self.now)) }
+            reported.items ≡ reported_keys (writer_batch (parts_of held.now) call self.now)
+            (parts_of held.now) call (open_keys self.now)) }
     {
+        let batch = self.writer_batch(call, held);
         let mut reported = Vec::new(alloc);
         match &self.tasks {
             Tasks::One { key, op } => {
-                push_reported(&mut reported, call, key, op, held)?;
+                push_reported(&mut reported, call, key, op, held, batch)?;
             }
-            Tasks::Many { ops, first: _ } => push_each(&mut reported, call, ops, held)?,
+            Tasks::Many { ops, first: _ } => push_each(&mut reported, call, ops, held, batch)?,
         }
         Ok(reported)
     }

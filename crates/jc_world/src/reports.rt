@@ -62,9 +62,8 @@ impl LeftKeys {
     }
 }
 
-/// What the return of a writer says for a key of a call that takes its keys so. In a call that takes one key after
-/// the other that is the writer's fault or none, whatever is left. In a batch each key that is left failed, and each other one was
-/// written.
+/// What the return of a writer says for a key of a call of this kind. In a call of one key that is the writer's fault or none,
+/// whatever is left. In a call of many keys each key that is left failed, and each other one was written or deleted.
 pub(crate) fn report_for(
     kind: CallKind,
     left: &LeftKeys,
@@ -74,9 +73,21 @@ pub(crate) fn report_for(
     ensures { result ≡ report_for kind left.now fault key.now }
 {
     match kind {
-        CallKind::Single | CallKind::KeyByKey => report_with(fault),
-        CallKind::Batch => batch_answer(left.is_left(key), fault),
+        CallKind::Single => report_with(fault),
+        CallKind::Batch | CallKind::InvokeAll => batch_answer(left.is_left(key), fault),
     }
+}
+
+/// For which keys a call has the writer asked now, of those that the writer is to be asked for and hasn't returned for. The writer
+/// changes the store for these, and its next return is for all of them.
+#[derive(Clone, Copy, Debug, PartialEq, Eq)]
+pub enum WriterBatch {
+    /// For none: in an `invokeAll` a key waits for its processor.
+    Nothing,
+    /// For those with a write: in an `invokeAll`, once each processor has run.
+    Writes,
+    /// For all. In an `invokeAll` these are then deletes.
+    All,
 }
 
 /// A key for which a writer returns.
@@ -93,7 +104,7 @@ pub struct ReportedKey {
 /// What a writer's return shows.
 #[derive(Drop)]
 pub struct Reported {
-    /// The keys of the call that the writer was asked for and hadn't returned for before, in the order of the call.
+    /// The keys of the call that the writer was asked for together, and hadn't returned for before, in the order of the call.
     pub keys: ReadOnlyList<ReportedKey>,
     /// The code of the writer's fault, if it failed.
     pub fault: Option<u32>,

@@ -7,15 +7,15 @@ ghost use Rattle.std.specs.Cmp.Lexicographic.{pointwise};
 ghost use Rattle.jc_world.specs.Calls.{at_each, put_each_of, tasks, op_in, is_open, open_in, sweep_of};
 ghost use Rattle.jc_world.specs.OpenCalls.{tasks_of, first_open, are_new, IsFirstKept, IsMany, IsSwept};
 ghost use Rattle.indexmap.specs.IndexMap.{spare};
-ghost use Rattle.jc_world.specs.World.{is_free_of};
-ghost use Rattle.jc_world.specs.Fits.{waits_in};
+ghost use Rattle.jc_world.specs.World.{is_free_of, waits_for_process};
+ghost use Rattle.jc_world.specs.Fits.{passes_in, is_in_batch};
 ghost use Rattle.jc_world.specs.Events.{reported_keys};
 ghost use Rattle.jc_world.specs.Held.{parts_of, joins_of};
 
 use crate::command::Command;
-use crate::held_keys::{HeldKeys, held_by, reported_key, waits_for_report};
+use crate::held_keys::{HeldKeys, held_by, is_asked, reported_key, waits_for_process};
 use crate::joined::{Joins, has_joined};
-use crate::reports::ReportedKey;
+use crate::reports::{ReportedKey, WriterBatch};
 use indexmap::{IndexMap, IndexSet};
 use jc_model::{Change, Op};
 use jc_types::{Key, Value};
@@ -122,20 +122,6 @@ pub(crate) fn names_each_once(tasks: &Tasks)
     }
 }
 
-/// The first key that is open.
-pub(crate) fn first_key(tasks: &Tasks) -> Option<&Key>
-    requires { IsFirstKept tasks.now }
-    ensures { option_copied result ≡ slice_get (open_in (tasks_of tasks.now)) 0 }
-{
-    match tasks {
-        Tasks::One { key, op } => if op.is_some() { Some(key) } else { None },
-        Tasks::Many { ops, first } => match ops.get_index(*first) {
-            Some((key, _op)) => Some(key),
-            None => None,
-        },
-    }
-}
-
 /// The one key, if it is open.
 #[tactic(auto, using(crate::proofs::TaskLists::one_distinct))]
 pub(crate) fn put_if_open(key: &Key, op: &Option<Op>, keys: &mut Vec<Key>) -> Result<(), AllocError>
@@ -217,15 +203,38 @@ pub(crate) fn are_free(
     true
 }
 
-/// Whether no open key is asked of the writer, which hasn't returned for it.
+/// Whether no open key waits for its processor.
 pub(crate) fn none_waits(call: u64, ops: &IndexMap<Key, Option<Op>>, held: &HeldKeys) -> bool
-    ensures { result ≡
-        list_all (λ key. not (waits_in (parts_of held.now) call key)) (open_in ops.now.entries) }
+    ensures { result ≡ list_all (λ key. not (passes_in waits_for_process (parts_of held.now) call key))
+        (open_in ops.now.entries) }
 {
     for place in 0..ops.len() {
         match ops.get_index(place) {
             Some((key, op)) => {
-                if op.is_some() && waits_for_report(held, call, key) {
+                if op.is_some() && waits_for_process(held, call, key) {
+                    return false;
+                }
+            }
+            None => unreachable!(),
+        }
+    }
+    true
+}
+
+/// Whether no open key is among those for which the writer is asked at once.
+pub(crate) fn none_asked(
+    call: u64,
+    ops: &IndexMap<Key, Option<Op>>,
+    held: &HeldKeys,
+    batch: WriterBatch,
+) -> bool
+    ensures { result ≡ list_all (λ key. not (passes_in (is_in_batch batch) (parts_of held.now) call key))
+        (open_in ops.now.entries) }
+{
+    for place in 0..ops.len() {
+        match ops.get_index(place) {
+            Some((key, op)) => {
+                if op.is_some() && is_asked(held, call, key, batch) {
                     return false;
                 }
             }
@@ -242,13 +251,14 @@ pub(crate) fn push_reported(
     key: &Key,
     op: &Option<Op>,
     held: &HeldKeys,
+    batch: WriterBatch,
 ) -> Result<(), AllocError>
     ensures { OnOk result (reported.new.items ≡ reported.old.items
-        ++ reported_keys (parts_of held.now) call (open_in ((key.now, op.now) ∷ []))) }
+        ++ reported_keys batch (parts_of held.now) call (open_in ((key.now, op.now) ∷ []))) }
 {
     let _types: Option<&(Change, Value)> = None;
     if op.is_some() {
-        if let Some(one) = reported_key(held, call, key) {
+        if let Some(one) = reported_key(held, call, key, batch) {
             reported.push(one)?;
         }
     }
@@ -261,13 +271,14 @@ pub(crate) fn push_each(
     call: u64,
     ops: &IndexMap<Key, Option<Op>>,
     held: &HeldKeys,
+    batch: WriterBatch,
 ) -> Result<(), AllocError>
     ensures { OnOk result (reported.new.items ≡ reported.old.items
-        ++ reported_keys (parts_of held.now) call (open_in ops.now.entries)) }
+        ++ reported_keys batch (parts_of held.now) call (open_in ops.now.entries)) }
 {
     for place in 0..ops.len() {
         match ops.get_index(place) {
-            Some((key, op)) => push_reported(reported, call, key, op, held)?,
+            Some((key, op)) => push_reported(reported, call, key, op, held, batch)?,
             None => unreachable!(),
         }
     }

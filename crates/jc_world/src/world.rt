@@ -4,7 +4,7 @@ ghost use Rattle.std.specs.Prelude.{Err, take, length};
 ghost use Rattle.jc_types.specs.Limits.{check};
 ghost use Rattle.jc_world.specs.World.{start, is_busy, open_call, part_of, has_progress, waits_for_load, waits_for_process};
 ghost use Rattle.jc_world.specs.World.{waits_for_report, is_joined, with_stored};
-ghost use Rattle.jc_world.specs.Fits.{fits, is_new};
+ghost use Rattle.jc_world.specs.Fits.{fits, is_asked, is_new};
 ghost use Rattle.jc_world.specs.Events.{RunAppending};
 ghost use Rattle.jc_world.specs.Together.{BeginFits, FitTogether};
 ghost use Rattle.jc_world.specs.Coherent.{all_hold, Coherent};
@@ -193,6 +193,14 @@ impl World {
         self.machine.waits_for_report(call, key)
     }
 
+    /// Whether the writer is asked for a key of a call now: it was asked for it, hasn't returned, and doesn't answer for other keys of
+    /// the call before. In an `invokeAll` it answers once no key waits for its processor: first for the writes, then for the deletes.
+    pub fn is_asked(&self, call: u64, key: &Key) -> bool
+        ensures { result ≡ is_asked self.now.world call key.now }
+    {
+        self.machine.is_asked(call, key)
+    }
+
     /// Whether the entry processor was asked for a key that a call has reserved, and hasn't run.
     pub fn waits_for_process(&self, call: u64, key: &Key) -> bool
         ensures { result ≡ has_progress waits_for_process (part_of self.now.world call key.now) }
@@ -208,8 +216,10 @@ impl World {
     }
 
     /// Events of one call at keys that differ, each of which fits now, fit one after the other: what happens at one key of a call
-    /// takes nothing from its others. So does the writer's return after its changes of the store, and a call's leaving after the
-    /// withdrawals of all that it has reserved. This does nothing: what it says is its contract.
+    /// takes nothing from its others. First phases and the writer's changes of the store are not among them together: in an
+    /// `invokeAll` a change doesn't fit once a further key waits for its processor. So does the writer's return after its changes of
+    /// the store, and a call's leaving after the withdrawals of all that it has reserved. This does nothing: what it says is its
+    /// contract.
     pub fn lets_keys_go_together(&self)
         ensures { FitTogether self.now.world }
     {

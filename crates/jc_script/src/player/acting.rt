@@ -1,15 +1,15 @@
 //! The lines about a call under way.
-ghost use Rattle.std.specs.Prelude.{◌≡◌, ◌==◌, ◌&&◌, ◌++◌, ◌∷◌, List, ℕ, [], Some, None, true, false, not, OnOk, IfOk};
+ghost use Rattle.std.specs.Prelude.{◌≡◌, ◌==◌, ◌&&◌, ◌++◌, ◌∷◌, List, ℕ, [], Some, None, true, false, not, find, option_to_list, OnOk, IfOk};
 ghost use Rattle.std.specs.List.{IsDistinct, list_all, list_any};
 ghost use Rattle.std.specs.Cmp.Lexicographic.{pointwise};
 ghost use Rattle.jc_model.specs.Batches.{is_among};
 ghost use Rattle.jc_world.specs.declared.event.WorldEvent.TheVariants as event;
 ghost use Rattle.jc_world.specs.Calls.{CallState};
 ghost use Rattle.jc_world.specs.World.{open_call};
-ghost use Rattle.jc_world.specs.World.{is_joined};
-ghost use Rattle.jc_world.specs.Fits.{fits, waits_at};
+ghost use Rattle.jc_world.specs.World.{is_joined, waits_for_process};
+ghost use Rattle.jc_world.specs.Fits.{fits, is_asked, passes_in};
 ghost use Rattle.jc_script.specs.declared.line.Line.TheVariants as lines;
-ghost use Rattle.jc_script.specs.LineEvents.{is_drop, has_but, allows_but, keys_of_act, is_started, is_listed, is_left_failing};
+ghost use Rattle.jc_script.specs.LineEvents.{is_process, has_but, allows_but, keys_of_act, is_started, is_listed, is_left_failing};
 ghost use Rattle.jc_script.specs.LineEvents.{leaves, is_changed, is_meant, is_left, left_keys, event_at, key_events};
 ghost use Rattle.jc_script.specs.LineEvents.{end_of_act, is_about_one, is_time, load_code};
 ghost use Rattle.jc_script.specs.Transcript.{PlaysLine};
@@ -48,7 +48,7 @@ pub(super) fn act_on(
             if has_but(act) && !allows_but(open_call) {
                 return Ok(Some(Fault::NotNow));
             }
-            put_keys(open_call, act, &mut buffers.keys)?;
+            put_keys(world, call, open_call, act, &mut buffers.keys)?;
             act_at(alloc, world, call, act, buffers, out)
         }
     }
@@ -65,7 +65,7 @@ fn act_at(
 ) -> Result<Option<Fault>, AllocError>
     requires call { (u : CallState) × (open_call world.old.world call ≡ Some u)
         × ((has_but act.now && not (allows_but u)) ≡ false)
-        × (buffers.old.keys.items ≡ keys_of_act act.now u) }
+        × (buffers.old.keys.items ≡ keys_of_act world.old.world call act.now u) }
     requires distinct { IsDistinct (pointwise ◌==◌) buffers.old.keys.items }
     ensures { IfOk result (λ r. PlaysLine (Some world.old.world) (lines.OfCall call act.now) r out.old.items out.new.items (Some world.new.world)) }
 {
@@ -80,10 +80,10 @@ fn act_at(
     Ok(None)
 }
 
-fn is_drop(act: &Act) -> bool
-    ensures { result ≡ is_drop act.now }
+fn is_process(act: &Act) -> bool
+    ensures { result ≡ is_process act.now }
 {
-    matches!(act, Act::Drop)
+    matches!(act, Act::Process { .. })
 }
 
 /// Whether an act names keys that the writer leaves.
@@ -104,12 +104,11 @@ fn has_but(act: &Act) -> bool
     }
 }
 
-/// Whether the writer of a call may leave some of its keys and not others. A call that takes its keys one after the other asks for
-/// one at a time.
+/// Whether the writer of a call may leave some of its keys and not others. In a call of one key it is asked for one change.
 fn allows_but(open_call: &OpenCall) -> bool
     ensures { result ≡ allows_but open_call.now }
 {
-    !open_call.kind().takes_turns()
+    open_call.kind().is_bulk()
 }
 
 /// The code with which the loader fails, if the act says so.
@@ -132,16 +131,45 @@ fn load_code(act: &Act) -> Option<u32>
 }
 
 /// The keys of a call that an act may be about.
-fn put_keys(open_call: &OpenCall, act: &Act, keys: &mut Vec<Key>) -> Result<(), AllocError>
-    ensures keys { OnOk result (keys.new.items ≡ keys_of_act act.now open_call.now) }
-    ensures distinct { IsDistinct (pointwise ◌==◌) (keys_of_act act.now open_call.now) }
+#[tactic(auto, using(crate::proofs::Fitting::first_differs))]
+fn put_keys(
+    world: &World,
+    call: u64,
+    open_call: &OpenCall,
+    act: &Act,
+    keys: &mut Vec<Key>,
+) -> Result<(), AllocError>
+    ensures keys { OnOk result (keys.new.items ≡ keys_of_act world.now.world call act.now open_call.now) }
+    ensures distinct { OnOk result (IsDistinct (pointwise ◌==◌) keys.new.items) }
 {
     keys.clear();
-    if is_drop(act) {
-        open_call.put_open_keys(keys)
-    } else {
-        open_call.put_keys_at_work(keys)
+    open_call.put_open_keys(keys)?;
+    if is_process(act) {
+        keep_first(world, call, keys)?;
     }
+    Ok(())
+}
+
+/// Keeps the first key that waits for its processor alone: none, if none does.
+fn keep_first(world: &World, call: u64, keys: &mut Vec<Key>) -> Result<(), AllocError>
+    ensures { OnOk result (keys.new.items
+        ≡ option_to_list (find (passes_in waits_for_process world.now.world.parts call) keys.old.items)) }
+{
+    let first = first_to_process(world, call, keys);
+    keys.clear();
+    if let Some(key) = first {
+        keys.push(key)?;
+    }
+    Ok(())
+}
+
+/// The first key that waits for its processor.
+fn first_to_process(world: &World, call: u64, keys: &[Key]) -> Option<Key>
+    ensures { result ≡ find (passes_in waits_for_process world.now.world.parts call) keys.now }
+{
+    keys.iter()
+        .copied()
+        .find(|key| world.waits_for_process(call, key))
 }
 
 /// What an act does at each of these keys that it is about.
@@ -187,7 +215,7 @@ fn is_meant(world: &World, call: u64, act: &Act, key: &Key) -> bool
     match act {
         Act::Read | Act::ReadFail(_) | Act::Say(_) => world.waits_for_load(call, key),
         Act::Apply(_) | Act::ApplyFail(..) => is_changed(world, call, act, key),
-        Act::ApplyLie(_) => world.waits_for_report(call, key),
+        Act::ApplyLie(_) => world.is_asked(call, key),
         Act::End | Act::Drop => world.is_reserved(call, key),
         Act::More => true,
         Act::Take => world.is_joined(call, key),
@@ -195,18 +223,18 @@ fn is_meant(world: &World, call: u64, act: &Act, key: &Key) -> bool
     }
 }
 
-/// Whether the writer was asked for a key, and changes the store there as the act says.
+/// Whether the writer is asked for a key now, and changes the store there as the act says.
 fn is_changed(world: &World, call: u64, act: &Act, key: &Key) -> bool
     ensures { result ≡ is_changed world.now.world call act.now key.now }
 {
-    world.waits_for_report(call, key) && !leaves(act, key)
+    world.is_asked(call, key) && !leaves(act, key)
 }
 
-/// Whether the writer was asked for a key, and leaves it as the act says.
+/// Whether the writer is asked for a key now, and leaves it as the act says.
 fn is_left(world: &World, call: u64, act: &Act, key: &Key) -> bool
     ensures { result ≡ is_left world.now.world call act.now key.now }
 {
-    world.waits_for_report(call, key) && leaves(act, key)
+    world.is_asked(call, key) && leaves(act, key)
 }
 
 /// Whether an act says that the writer leaves a key.
@@ -358,7 +386,7 @@ fn put_leave(events: &mut Vec<WorldEvent>, call: u64) -> Result<(), AllocError>
     Ok(())
 }
 
-/// The keys that the writer was asked for and leaves, as an act says.
+/// The keys that the writer is asked for now and leaves, as an act says.
 fn left_keys(
     alloc: Global,
     world: &World,
@@ -422,9 +450,9 @@ fn all_fit(world: &World, events: &[WorldEvent]) -> bool
 }
 
 fn is_one_asked(world: &World, call: u64, keys: &[Key]) -> bool
-    ensures { result ≡ list_any (waits_at world.now.world call) keys.now }
+    ensures { result ≡ list_any (is_asked world.now.world call) keys.now }
 {
-    keys.iter().any(|key| world.waits_for_report(call, key))
+    keys.iter().any(|key| world.is_asked(call, key))
 }
 
 fn is_one_joined(world: &World, call: u64, keys: &[Key]) -> bool

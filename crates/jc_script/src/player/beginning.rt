@@ -152,7 +152,7 @@ fn put_single(
     Ok(())
 }
 
-/// A call of many keys begins, looks at the stripes if it takes the keys that are cached, and starts the keys at which it works
+/// A call of many keys begins, looks at the stripes if it takes the keys that are cached, and starts each of the keys that it has
 /// then.
 fn begin_bulk(
     alloc: Global,
@@ -228,7 +228,7 @@ fn put_starts(
         None => Ok(()),
         Some(open_call) => {
             buffers.keys.clear();
-            open_call.put_keys_at_work(&mut buffers.keys)?;
+            open_call.put_open_keys(&mut buffers.keys)?;
             put_key_events(
                 alloc,
                 world,

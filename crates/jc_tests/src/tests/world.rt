@@ -183,10 +183,6 @@ fn is_under_way(rt: &impl Abort, world: &World) {
     let caller = open.caller();
     assert!(rt; caller.session == 1 && caller.call == 101);
     assert!(rt;
-        open.current_key() == Some(&key_of(rt, "a")),
-        "its key is a"
-    );
-    assert!(rt;
         open.op_at(&key_of(rt, "a")) == Some(&Op::Put(value_of(rt, "101"))),
         "it puts there"
     );

@@ -69,7 +69,7 @@ impl Machine {
         key: &Key,
         seen: &mut Shown,
     ) -> Result<(), AllocError>
-        requires { has_progress waits_for_report (part_of self.old call key.now) ≡ true }
+        requires { fits self.old (event.Change call key.now) ≡ true }
         ensures ok { OnOk result (Happens self.old (event.Change call key.now) seen.new self.new) }
         ensures err { OnErr result (self.new ≡ self.old) }
     {
@@ -119,7 +119,7 @@ impl Machine {
         }
     }
 
-    /// The writer of a call returns, for all keys that it was asked for and hasn't returned for.
+    /// The writer of a call returns, for all keys that it is asked for now.
     #[inline(never)]
     pub(super) fn writer_returns(
         &mut self,

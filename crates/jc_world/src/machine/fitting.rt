@@ -4,7 +4,7 @@ ghost use Rattle.jc_world.specs.declared.event.WorldEvent.TheVariants as event;
 ghost use Rattle.jc_world.specs.World.{has_progress, is_busy, is_joined, open_call, part_of, waits_for_load, waits_for_process};
 ghost use Rattle.jc_types.specs.Limits.{is_session};
 ghost use Rattle.jc_world.specs.Fits.{is_playable, is_new, may_start, may_leave, is_free, may_report, waits_at, fits};
-ghost use Rattle.jc_world.specs.Fits.{is_single, may_look};
+ghost use Rattle.jc_world.specs.Fits.{is_asked, is_single, may_look};
 
 use crate::calls::is_playable;
 use crate::command::Command;
@@ -30,7 +30,7 @@ impl Machine {
             WorldEvent::Say { call, key, answer } => {
                 answer.is_given() && self.waits_for_load(*call, key)
             }
-            WorldEvent::Change { call, key } => self.waits_for_report(*call, key),
+            WorldEvent::Change { call, key } => self.is_asked(*call, key),
             WorldEvent::Report {
                 call,
                 left: _,
@@ -74,6 +74,16 @@ impl Machine {
         waits_for_report(&self.held, call, key)
     }
 
+    /// Whether a call has the writer asked for a key now.
+    pub(crate) fn is_asked(&self, call: u64, key: &Key) -> bool
+        ensures { result ≡ is_asked self.now call key.now }
+    {
+        match self.open_call(call) {
+            Some(u) => u.is_asked(call, key, &self.held),
+            None => false,
+        }
+    }
+
     /// Whether a call has neither a reservation nor a join of a key.
     fn is_free(&self, call: u64, key: &Key) -> bool
         ensures { result ≡ is_free self.now call key.now }
@@ -102,7 +112,7 @@ impl Machine {
         ensures { result ≡ may_start self.now call key.now (open_call self.now call) }
     {
         match self.open_call(call) {
-            Some(u) => u.op_at(key).is_some() && u.is_turn(key) && self.is_free(call, key),
+            Some(u) => u.op_at(key).is_some() && self.is_free(call, key),
             None => false,
         }
     }
@@ -120,7 +130,7 @@ impl Machine {
         ensures { result ≡ may_report self.now call (open_call self.now call) }
     {
         match self.open_call(call) {
-            Some(u) => u.waits_for_report(call, &self.held),
+            Some(u) => u.may_report(call, &self.held),
             None => false,
         }
     }

@@ -251,8 +251,6 @@ open 1 2 100 read write; begin 1 s1 get a; process 1
 open 1 2 100 read write; begin 1 s1 put a 1; process 1
 open 1 2 100 read write; begin 1 s1 put a 1; apply 1 but a
 open 1 2 100 read write; begin 1 s1 put a 1; applyfail 1 2 but
-open 1 2 100 write; begin 1 s1 invokeall a; process 1 set=1; apply 1 but a
-open 1 2 100 write; begin 1 s1 invokeall a; process 1 set=1; applyfail 1 2 but
 ";
 
 #[test]
@@ -293,6 +291,18 @@ open 1 2 100 read; begin 1 s1 getall a b; begin 2 s2 getall b; drop 1; drop 2
 open 1 2 100 read write; begin 1 s1 get a; begin 2 s2 put b 1; begin 3 s3 getall a b; more 3
 open 1 2 100 read write; begin 1 s1 get a; begin 2 s2 put b 1; begin 3 s3 getall a b; drop 3
 open 1 2 100 read write; begin 1 s1 get a; begin 2 s2 getall a b; read 2; end 2; drop 1; more 2
+open 1 2 100 write; begin 1 s1 invokeall a b; apply 1
+open 1 2 100 write; begin 1 s1 invokeall a b; more 1
+open 1 2 100 write; begin 1 s1 invokeall a b; end 1
+open 1 2 100 write; begin 1 s1 invokeall a b; process 1 set=1; apply 1
+open 1 2 100 write; begin 1 s1 invokeall a b; process 1 set=1; applyfail 1 2 but a
+open 1 2 100 write; begin 1 s1 invokeall a b; process 1 set=1; drop 1
+open 1 2 100 write; begin 1 s1 invokeall a b; process 1 set=1; process 1; process 1
+open 1 2 100 write; begin 1 s1 invokeall a b; process 1; process 1; apply 1
+open 1 2 100 write; begin 1 s1 invokeall a b; process 1 set=1; process 1 remove; apply 1; end 1
+open 1 2 100 write; begin 1 s1 invokeall a b; process 1 remove; process 1 set=1; apply 1; applyfail 1 2; applylie 1 3
+open 1 2 100 write; begin 1 s1 put b 2; begin 2 s2 invokeall a b; more 2
+open 1 2 100 write; begin 1 s1 put b 2; begin 2 s2 invokeall b; process 2
 ";
 
 #[test]

@@ -1,4 +1,4 @@
-//! Calls of many keys, event by event: a processor at one key after the other, and a batch that fails in part.
+//! Calls of many keys, event by event: processors at several keys, whose writes fail in part, and a batch that does.
 use super::courses::{plays, shows};
 use super::{differs, is_in_order, key_of, opened_world, value_of};
 use indexmap::IndexSet;
@@ -29,11 +29,17 @@ fn begins(
     shows(rt, alloc, world, begin, word, "the call");
 }
 
-/// The processor of call 1 sets 7 at a key, which is to show this.
-fn processes(rt: &impl Abort, alloc: Global, world: &mut World, name: &str, word: &str) {
+/// The processor of call 1 makes this call at a key, which is to show this.
+fn processes(
+    rt: &impl Abort,
+    alloc: Global,
+    world: &mut World,
+    name: &str,
+    entry_call: EntryCall,
+    word: &str,
+) {
     let mut calls = EntryCalls::new(alloc);
-    let set = EntryCall::SetValue(value_of(rt, "7"));
-    calls.push(set).expect(rt, "memory");
+    calls.push(entry_call).expect(rt, "memory");
     let process = WorldEvent::Process {
         call: 1,
         key: key_of(rt, name),
@@ -42,6 +48,12 @@ fn processes(rt: &impl Abort, alloc: Global, world: &mut World, name: &str, word
         fail: None,
     };
     shows(rt, alloc, world, process, word, name);
+}
+
+/// The processor of call 1 sets 7 at a key, which is to show this.
+fn sets(rt: &impl Abort, alloc: Global, world: &mut World, name: &str, word: &str) {
+    let seven = EntryCall::SetValue(value_of(rt, "7"));
+    processes(rt, alloc, world, name, seven, word);
 }
 
 /// The keys that a text names.
@@ -53,32 +65,37 @@ fn keys_of(rt: &impl Abort, alloc: Global, text: &str) -> IndexSet<Key> {
     keys
 }
 
-/// The second key isn't the one whose turn it is.
-const FIRST_STARTED: &str = "\
-start 1 b: unfit; leave
-start 1 c: unfit; leave
+/// The keys are reserved in any order, and each is given to its processor.
+const ALL_STARTED: &str = "\
+start 1 b: processes; withdraw
+start 1 c: processes; withdraw
 start 1 a: processes; withdraw
-start 1 b: unfit; none
 commit 1 a: unfit; withdraw
 ";
 
-/// The first key's change, and the second key's turn.
-const SECOND_STARTED: &str = "\
-start 1 b: unfit; report
-change 1 b: unfit; report
-change 1 a: changed; change report
-report 1 a: done; commit
-start 1 b: unfit; none
-commit 1 a: stepped; leave
-start 1 a: unfit; leave
-start 1 b: processes; withdraw
+/// The processor of c has not run: the writer isn't asked for the other keys.
+const ONE_WAITS: &str = "\
+change 1 a: unfit; none
+report 1 b: unfit; none
+commit 1 a: unfit; none
+start 1 c: unfit; withdraw
 ";
 
-/// The second key is committed, and the call is over.
-const SECOND_OVER: &str = "\
-report 1 b: unfit; commit
+/// Now it is asked for the writes, and not yet for the delete.
+const WRITES_CHANGED: &str = "\
+change 1 c: unfit; report
+change 1 a: changed; change report
+commit 1 b: unfit; change report
+";
+
+/// It has returned for these, and is asked for the delete. The keys of the first return can be committed.
+const DELETE_CHANGED: &str = "\
+change 1 b: unfit; report commit
+change 1 c: changed; change report
+commit 1 a: stepped; report
+report 1 c: done; commit
 commit 1 b: stepped; none
-start 1 b: unfit; none
+commit 1 c: stepped; none
 ";
 
 /// The writer returns normally for call 1. It hasn't changed the store, and its collection still holds a key.
@@ -92,24 +109,27 @@ fn leaves(rt: &impl Abort, alloc: Global, world: &mut World, name: &str) {
     shows(rt, alloc, world, report, "undone", "the report");
 }
 
-/// The writer was asked for one key, so its return without a fault says that this was written, whatever is left: it is cached then.
+/// An `invokeAll` has the writer asked twice: for its writes, once each processor has run, and then for its deletes. What the first
+/// return leaves has failed, and the failure is that key's alone.
 #[test]
-fn takes_one_key_after_the_other(rt: HostRuntime) {
+fn asks_for_writes_and_then_for_deletes(rt: HostRuntime) {
     let alloc = rt.alloc();
     let mut world = opened_world(&rt, alloc);
-    let keys = keys_of(&rt, alloc, "a b");
+    let keys = keys_of(&rt, alloc, "a b c");
     begins(&rt, alloc, &mut world, 1, keys, "begun");
-    processes(&rt, alloc, &mut world, "a", "unfit");
-    plays(&rt, alloc, &mut world, FIRST_STARTED);
-    processes(&rt, alloc, &mut world, "b", "unfit");
-    processes(&rt, alloc, &mut world, "a", "processed");
-    plays(&rt, alloc, &mut world, SECOND_STARTED);
-    processes(&rt, alloc, &mut world, "b", "processed");
+    sets(&rt, alloc, &mut world, "a", "unfit");
+    plays(&rt, alloc, &mut world, ALL_STARTED);
+    sets(&rt, alloc, &mut world, "b", "processed");
+    sets(&rt, alloc, &mut world, "a", "processed");
+    plays(&rt, alloc, &mut world, ONE_WAITS);
+    processes(&rt, alloc, &mut world, "c", EntryCall::Remove, "processed");
+    plays(&rt, alloc, &mut world, WRITES_CHANGED);
     leaves(&rt, alloc, &mut world, "b");
-    plays(&rt, alloc, &mut world, SECOND_OVER);
-    assert!(rt; !world.is_busy(1), "the call is over");
-    is_in_order(&rt, alloc, &world, "a b ");
-    differs(&rt, alloc, &world, "b ");
+    let over = plays(&rt, alloc, &mut world, DELETE_CHANGED);
+    let (call, cause) = (1, None);
+    assert!(rt; over == Some(Over { call, cause }), "no cause");
+    is_in_order(&rt, alloc, &world, "a b c ");
+    differs(&rt, alloc, &world, "");
     world.close();
 }
 

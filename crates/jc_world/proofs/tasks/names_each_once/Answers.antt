@@ -1,4 +1,4 @@
-use Rattle.jc_world.proofs.AtWork.{alone_differs}
+use Rattle.jc_world.proofs.TaskLists.{alone_differs}
 use Rattle.jc_world.proofs.tasks.names_each_once.Goals as goal
 
 pub returns-in-One : goal.returns-in-One

@@ -1,5 +1,5 @@
 use Rattle.jc_types.specs.declared.limits.TheConstants.{STEP_PLACES, HIT_PLACES}
-use Rattle.std.proofs.Common.{[], refl, ap, ◌∙◌, sym, length, count_by, ◌*◌, ◌+◌}
+use Rattle.std.proofs.Common.{[], refl, ap, ◌∙◌, sym, length, count_by, ◌*◌, ◌+◌, arith}
 use Rattle.std.specs.FinMap.{from_entries}
 use Rattle.jc_model.specs.Cache.{key_cmp}
 use Rattle.jc_entries.specs.ByUse.{ByUse}
@@ -22,5 +22,14 @@ invariant_of-result c =
       limit = ap (λ (h : Past). h.limit) history;
       by_use = ap (λ (e : ByUse). e.list) entries ∙ ap (λ (h : Past). by_use [] h.events) (sym history);
       promised = ap (λ (h : Past). h.promised) history ∙ sym (λ i. STEP_PLACES * length (table i).held + HIT_PLACES * count_by waits (joiners i));
-      state = reached_start c.args.config.now _ c.requires refl refl (ap (λ (e : ByUse). from_entries {R = key_cmp} e.list) entries) (ap (λ (t : Table Reservation). t.held) table) joiners (ap (λ (h : Past). h.events) history);
+      state = reached_start _ (record {
+        config_fits = c.requires;
+        once = refl;
+        own = refl;
+        few = omega arith;
+        cache = ap (λ (e : ByUse). from_entries {R = key_cmp} e.list) entries;
+        reservations = ap (λ (t : Table Reservation). t.held) table;
+        joiners = joiners;
+        history = ap (λ (h : Past). h.events) history;
+      });
     }
