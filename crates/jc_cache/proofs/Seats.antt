@@ -127,7 +127,7 @@ count_after caller before after (Err refusal) xs i lock at own =
 
 -- 5. The session.
 
-keeps_some : {I Z : Type 0} {D : I → Type 0} (old new : Option (DynBox I Z D)) → KeepsType old new → IsSome old → IsSome new
+pub keeps_some : {I Z : Type 0} {D : I → Type 0} (old new : Option (DynBox I Z D)) → KeepsType old new → IsSome old → IsSome new
 keeps_some None new keeps some = cc
 keeps_some (Some b) None keeps some = cc
 keeps_some (Some b) (Some c) keeps some = refl

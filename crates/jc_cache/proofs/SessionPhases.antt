@@ -3,12 +3,16 @@
 --     HasLonger                a phase leaves so many own steps more
 --     begun_longer, committed_longer, picked_longer
 --                              that is so of a first phase, of a commit and of a pick-up
+--     picks_late               a pick-up that isn't too early is a pick-up
+--     of_asked                 a session that has asked its loader or its writer is of the cache as before
+--     of_same                  so is one that has the same seats and the same agent
+--     set_itself               a row of seats in which a seat is replaced by itself
 --     start_needs, commit_needs    what a first phase and a commit ask of the stripe that they find
 --     phase_left               a phase: what is said of the session, which is of the cache as before
 --     LooksSo, looked_longer, look_lent    a look is a phase in which nothing was done
 --     number_at, shape_found, agent_same   the seat at a stripe with a number, the shape of the stripe, and the agent after a look
-use Rattle.std.proofs.Common.{◌≡◌, ⊎_elim, inl, ◌+◌, ◌<◌, ℕ, false, None, Some, IsSome, List, [], length, get_or, le_refl, slice_get, slice_set, refl, sym, ap, subst, ◌∙◌, arith}
-use Rattle.std.proofs.lemmas.Option.{slice_get_read}
+use Rattle.std.proofs.Common.{◌≡◌, ⊎_elim, inl, ◌+◌, ◌<◌, ℕ, false, None, Some, IsSome, List, [], length, get_or, le_refl, zero, suc, ◌∷◌, slice_get, slice_set, refl, sym, ap, subst, ◌∙◌, arith}
+use Rattle.std.proofs.lemmas.Option.{slice_get_read, same_Some}
 use Rattle.jc_types.specs.Stripes.{stripe_of}
 use Rattle.jc_types.specs.declared.caller.Caller.{Caller}
 use Rattle.jc_types.specs.declared.config.Config.{Config}
@@ -42,7 +46,7 @@ use Rattle.jc_session.specs.declared.counts.Counts.{Counts}
 use Rattle.jc_gate.specs.Lending.{ComesAfter}
 use Rattle.jc_engine.specs.Answered.{IsAnswered}
 use Rattle.jc_engine.specs.Chain.{LentPhase}
-use Rattle.jc_engine.specs.Needs.{BeginsIfClear, CommitsHere, IsReported}
+use Rattle.jc_engine.specs.Needs.{BeginsIfClear, CommitsHere, IsReported, PicksUpLate}
 use Rattle.jc_engine.specs.declared.answered.Answered.{Answered as AnsweredBy}
 use Rattle.jc_cache.specs.Caches.{CacheState}
 use Rattle.jc_cache.specs.Fronts.{IsSameSeat}
@@ -87,6 +91,11 @@ picked_longer law join (picked.Answer reply place shared_with) old new reached p
     one_longer _ _ _ (gains_one join.caller.session old new _ place gains.1)
 picked_longer law join picked.Again old new reached picks = as_long join.caller.session old new (law.again old new join reached picks)
 picked_longer law join (picked.NotYet back) old new reached picks = as_long join.caller.session old new (law.not_yet old new join back picks)
+
+pub picks_late : (old new : State) (join : JoinClaim) (p : Picked) → PicksUpLate old join p new → PicksUp old join p new
+picks_late old new join (picked.Answer reply place shared_with) picks = picks
+picks_late old new join picked.Again picks = picks
+picks_late old new join (picked.NotYet back) picks = absurd picks
 
 same_count : (counts : Counts) (own : ℕ) → counts.own ≡ capped own → counts.own ≡ capped (own + 0)
 same_count counts own is = let none : own ≡ own + 0 = omega arith in is ∙ ap capped none
@@ -234,3 +243,36 @@ module _ {I J : Type 0} {D : I → Type 0} {E : J → Type 0} where
   pub agent_same : (old mid new : Agent I J D E) → old.hands.held ≡ 0 → mid ≡ record old { hands = record old.hands { held = 1 } } → new ≡ record mid { hands = record mid.hands { held = 0 } } → new ≡ old
   agent_same old mid new free took gave =
       gave ∙ ap (λ (a : Agent I J D E). record a { hands = record a.hands { held = 0 } }) took ∙ ap (λ (n : ℕ). record old { hands = record old.hands { held = n } }) (sym free)
+
+  -- 5. A call outside.
+
+  pub of_asked : (cache : CacheState) (old new : Session I J D E) → new ≡ record old { agent = record old.agent { hands = new.agent.hands } } → new.agent.hands.held ≡ 0
+      → (IsSome old.agent.hands.outside.loader → IsSome new.agent.hands.outside.loader) → (IsSome old.agent.hands.outside.writer → IsSome new.agent.hands.outside.writer) → IsOf cache old → IsOf cache new
+  of_asked cache old new left held loads writes of =
+      let seats : new.seats.items ≡ old.seats.items = ap (λ (s : Session I J D E). s.seats.items) left in
+      let number : new.agent.caller.session ≡ old.agent.caller.session = ap (λ (s : Session I J D E). s.agent.caller.session) left in
+      record {
+        locks = ap locks_of seats ∙ of.locks;
+        count = of.count;
+        seats = λ i s there. subst (λ (n : ℕ). IsSeatAt cache.config i n s.1) (sym number) (of.seats i s (ap (λ (xs : List Seated). slice_get xs i) (sym seats) ∙ there));
+        held = held;
+        loads = λ on. loads (of.loads on);
+        writes = λ on. writes (of.writes on);
+        own = ap (λ (s : Session I J D E). s.agent.counts.own) left ∙ of.own ∙ ap (λ (xs : List Seated). capped (own_total xs)) (sym seats);
+      }
+
+  pub of_same : (cache : CacheState) (old new : Session I J D E) → new.seats.items ≡ old.seats.items → new.agent ≡ old.agent → IsOf cache old → IsOf cache new
+  of_same cache old new seats agent of = record {
+    locks = ap locks_of seats ∙ of.locks;
+    count = of.count;
+    seats = λ i s there. subst (λ (a : Agent I J D E). IsSeatAt cache.config i a.caller.session s.1) (sym agent) (of.seats i s (ap (λ (xs : List Seated). slice_get xs i) (sym seats) ∙ there));
+    held = ap (λ (a : Agent I J D E). a.hands.held) agent ∙ of.held;
+    loads = λ on. subst (λ (a : Agent I J D E). IsSome a.hands.outside.loader) (sym agent) (of.loads on);
+    writes = λ on. subst (λ (a : Agent I J D E). IsSome a.hands.outside.writer) (sym agent) (of.writes on);
+    own = ap (λ (a : Agent I J D E). a.counts.own) agent ∙ of.own ∙ ap (λ (xs : List Seated). capped (own_total xs)) (sym seats);
+  }
+
+pub set_itself : (xs : List Seated) (i : ℕ) (x : Seated) → slice_get xs i ≡ Some x → slice_set xs i x ≡ xs
+set_itself [] i x at = refl
+set_itself (y ∷ xs) zero x at = ap (λ (z : Seated). z ∷ xs) (sym (same_Some y x at))
+set_itself (y ∷ xs) (suc i) x at = ap (λ (zs : List Seated). y ∷ zs) (set_itself xs i x at)

@@ -11,18 +11,18 @@ ghost use Rattle.jc_model.specs.Group.{load_only, write_only};
 ghost use Rattle.jc_outside.specs.declared.done.Origin.TheVariants.{Live};
 ghost use Rattle.jc_stripe.specs.Effects.{HasReport, change_due, process_out};
 ghost use Rattle.jc_stripe.specs.Keys.{Looks};
-ghost use Rattle.jc_stripe.specs.Phases.{Begins, Commits, PicksUp};
+ghost use Rattle.jc_stripe.specs.Phases.{Commits, PicksUp};
 ghost use Rattle.jc_stripe.specs.Tickets.{asks_loader, asks_processor, asks_writer, claim_of};
 ghost use Rattle.jc_session.specs.Counting.{counted_begun, counted_picked};
 ghost use Rattle.jc_session.specs.declared.counts.Counted.TheVariants.{Committed, Nothing};
 ghost use Rattle.jc_engine.specs.Answered.{IsAnswered, out_of};
-ghost use Rattle.jc_engine.specs.Needs.{IsReported};
+ghost use Rattle.jc_engine.specs.Needs.{IsReported, PicksUpLate, StartsAt};
 ghost use Rattle.jc_cache.specs.Sessions.{IsOf};
 ghost use Rattle.jc_cache.specs.PhaseCalls.{MayStart, PhaseAt};
 
 use crate::cache::Cache;
 use crate::session::Session;
-use jc_engine::{Answered, Commit, PickUpNow, StartNow, make_phase};
+use jc_engine::{Answered, Commit, PickUp, PickUpNow, StartNow, make_phase};
 use jc_model::Op;
 use jc_session::Counted;
 use jc_stripe::phase_laws::{is_uniform, own_steps};
@@ -39,7 +39,7 @@ impl Cache {
         requires may { MayStart self.now session.old key.now }
         ensures own { IsOf self.now session.new }
         ensures phase { PhaseAt (stripe_of key.now self.now.config.stripes) session.old
-            (λ a b. Begins a session.old.agent.caller key.now op.now result b)
+            (λ a b. StartsAt session.old.agent.caller key.now op.now result a b)
             (counted_begun result) session.new }
     {
         is_uniform();
@@ -139,6 +139,41 @@ impl Cache {
         let seat = &mut session.seats[at];
         let agent = &mut session.agent;
         make_phase(rt, &mut lock, seat, agent, PickUpNow { join })
+    }
+
+    /// The answer of a load that a call has joined. It waits until the load was answered, or was given back (`Again`).
+    ///
+    /// Conditions: the session is of this cache, and the join is of the session.
+    pub fn wait_for_load<R: Wait>(&self, rt: &R, session: &mut Session, join: Join) -> Picked
+        requires own { IsOf self.now session.old }
+        requires caller { join.caller.session ≡ session.old.agent.caller.session }
+        ensures own { IsOf self.now session.new }
+        ensures phase { PhaseAt (stripe_of join.key self.now.config.stripes) session.old
+            (λ a b. PicksUpLate a join result b) (counted_picked result) session.new }
+    {
+        is_uniform();
+        own_steps();
+        let at = stripe_of(join.key(), self.config.stripes);
+        let mut lock = &self.locks[at];
+        let seat = &mut session.seats[at];
+        let agent = &mut session.agent;
+        make_phase(rt, &mut lock, seat, agent, PickUp { join })
+    }
+
+    /// Pauses once, for a call that has met another call's reservation of this key. It may return though nothing has changed.
+    ///
+    /// Conditions: the session is of this cache, and has no reservation out, so that nobody waits for it meanwhile.
+    pub fn wait_for_change<R: Wait>(&self, rt: &R, session: &mut Session, key: &Key)
+        requires own { IsOf self.now session.old }
+        requires reservations { session.old.agent.counts.reservations ≡ 0 }
+        ensures own { IsOf self.now session.new }
+        ensures seats { session.new.seats.items ≡ session.old.seats.items }
+        ensures agent { session.new.agent ≡ session.old.agent }
+    {
+        let at = stripe_of(key, self.config.stripes);
+        let mut lock = &self.locks[at];
+        let seat = &mut session.seats[at];
+        session.agent.wait_for_change(rt, &mut lock, seat);
     }
 
     /// Appends the keys of one stripe that have an entry, each once, in byte order. It changes no stripe, and takes no memory.

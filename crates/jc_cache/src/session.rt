@@ -1,10 +1,28 @@
 //! Sessions.
-ghost use Rattle.std.specs.Prelude.{◌≡◌};
+ghost use Rattle.std.specs.Prelude.{◌≡◌, ◌≤◌, ◌+◌, ◌++◌, map, true, is_some, IsSome, vec_len, vec_capacity};
+ghost use Rattle.jc_model.specs.Cache.{Bytes};
+ghost use Rattle.jc_model.specs.Table.{is_load_given, is_write_given, is_process_given};
+ghost use Rattle.jc_model.specs.declared.event.LoadAnswer.{LoadAnswer};
+ghost use Rattle.jc_model.specs.declared.event.WriteAnswer.{WriteAnswer};
+ghost use Rattle.jc_batch.specs.Changes.{changes_of};
+ghost use Rattle.jc_outside.specs.declared.done.Origin.TheVariants.{Live};
+ghost use Rattle.jc_outside.specs.Calling.{KeepsType, LoadsOnce, WritesOnce};
+ghost use Rattle.jc_outside.specs.CallingAll.{LoadsAllOnce, WritesAllOnce, loads_done, writes_done, asked_changes};
+ghost use Rattle.jc_mutentry.specs.Running.{RunsOnce, LoadsIfGiven};
+ghost use Rattle.jc_stripe.specs.Tickets.{Claim, asks_loader, asks_processor, entry_seen, is_loadable};
+ghost use Rattle.jc_session.specs.Boxed.{boxed};
 ghost use Rattle.jc_cache.specs.Calls.{next_call};
+ghost use Rattle.jc_cache.specs.Caches.{CacheState};
+ghost use Rattle.jc_cache.specs.Sessions.{IsOf};
 
+use jc_batch::Batch;
 use jc_lock::Seat;
+use jc_mutentry::{EntryProcessor, ProcDone};
+use jc_outside::{LoadBatch, LoadDone, WriteDone};
 use jc_session::Agent;
-use jc_types::Caller;
+use jc_stripe::Ask;
+use jc_types::{Caller, Value};
+use std::sync::Wait;
 
 /// Who calls a cache: an agent, with a seat at the lock of each stripe. One thread at a time has it.
 ///
@@ -40,5 +58,139 @@ impl Session {
     {
         // The empty condition above has this proved for whatever loader and writer the session has.
         self.agent.next_call()
+    }
+
+    /// Calls the loader once, with the key of the ask (`javax.cache.integration.CacheLoader.load`). Without a loader nothing is
+    /// found.
+    ///
+    /// It may wait, as long as the loader does. No stripe is held meanwhile.
+    ///
+    /// Conditions: the session holds no stripe, as between any two calls; the ask's reservation asks the loader first.
+    pub fn ask_loader<R: Wait>(&mut self, rt: &R, ask: Ask) -> LoadDone<Ask>
+        requires held { self.old.agent.hands.held ≡ 0 }
+        requires first { asks_loader ask.reservation.first ≡ true }
+        ensures done { (result.ask ≡ ask) × (result.origin ≡ Live) × (is_load_given result.answer ≡ true) }
+        ensures loader { LoadsOnce (boxed loads) (boxed load_state)
+            self.old.agent.hands.outside.loader ask.reservation.key result.answer self.new.agent.hands.outside.loader }
+        ensures loader_type { KeepsType self.old.agent.hands.outside.loader self.new.agent.hands.outside.loader }
+        ensures writer { self.new.agent.hands.outside.writer ≡ self.old.agent.hands.outside.writer }
+        ensures rest { self.new ≡ record self.old { agent = record self.old.agent { hands = self.new.agent.hands } } }
+        ensures own { (cache : CacheState) → IsOf cache self.old → IsOf cache self.new }
+    {
+        self.agent.ask_loader(rt, ask)
+    }
+
+    /// Calls the writer once, for the change that is asked for (`javax.cache.integration.CacheWriter`): `write` with the key and
+    /// the value, or `delete` with the key.
+    ///
+    /// It may wait, as long as the writer does. No stripe is held meanwhile.
+    ///
+    /// Conditions: the session holds no stripe, as between any two calls, and has a writer; the ask has a change.
+    pub fn ask_writer<R: Wait>(&mut self, rt: &R, ask: Ask) -> WriteDone<Ask>
+        requires held { self.old.agent.hands.held ≡ 0 }
+        requires change { is_some ask.change ≡ true }
+        requires writer { IsSome self.old.agent.hands.outside.writer }
+        ensures done { (result.ask ≡ ask) × (result.origin ≡ Live) × (is_write_given result.answer ≡ true) }
+        ensures writer { WritesOnce (boxed writes) (boxed write_state)
+            self.old.agent.hands.outside.writer ask.reservation.key ask.change
+            result.answer self.new.agent.hands.outside.writer }
+        ensures writer_type { KeepsType self.old.agent.hands.outside.writer self.new.agent.hands.outside.writer }
+        ensures loader { self.new.agent.hands.outside.loader ≡ self.old.agent.hands.outside.loader }
+        ensures rest { self.new ≡ record self.old { agent = record self.old.agent { hands = self.new.agent.hands } } }
+        ensures own { (cache : CacheState) → IsOf cache self.old → IsOf cache self.new }
+    {
+        self.agent.ask_writer(rt, ask)
+    }
+
+    /// Runs an entry processor once, on the key and the entry of the ask (`javax.cache.processor.EntryProcessor.process`). The
+    /// loader is called at most once, if the processor asks for the value of an entry that it may load; without a loader nothing
+    /// is found.
+    ///
+    /// It may wait, as long as the processor and the loader do. No stripe is held meanwhile.
+    ///
+    /// Conditions: the session holds no stripe, as between any two calls; the ask's reservation asks the processor first.
+    pub fn run_processor<R: Wait>(
+        &mut self,
+        rt: &R,
+        ask: Ask,
+        processor: &mut Box<dyn EntryProcessor + Send + Drop>,
+        args: &[Value],
+    ) -> ProcDone<Ask>
+        requires held { self.old.agent.hands.held ≡ 0 }
+        requires first { asks_processor ask.reservation.first ≡ true }
+        ensures done { (result.ask ≡ ask) × (result.origin ≡ Live) × (is_process_given result.process ≡ true) }
+        ensures run { RunsOnce processes process_state
+            processor.old ask.reservation.key args.now (is_loadable ask.reservation.first) (entry_seen ask.reservation.first)
+            result.load result.process processor.new }
+        ensures loader { LoadsIfGiven (boxed loads) (boxed load_state)
+            self.old.agent.hands.outside.loader ask.reservation.key result.load self.new.agent.hands.outside.loader }
+        ensures loader_type { KeepsType self.old.agent.hands.outside.loader self.new.agent.hands.outside.loader }
+        ensures processor_type { processor.new.vtable ≡ processor.old.vtable }
+        ensures writer { self.new.agent.hands.outside.writer ≡ self.old.agent.hands.outside.writer }
+        ensures rest { self.new ≡ record self.old { agent = record self.old.agent { hands = self.new.agent.hands } } }
+        ensures own { (cache : CacheState) → IsOf cache self.old → IsOf cache self.new }
+    {
+        self.agent.run_processor(rt, ask, processor, args)
+    }
+
+    /// Calls the session's loader once, with the keys of these asks (`loadAll`), and appends a done value for each ask, in their
+    /// order. A failed call fails for each of the keys; a key without an answer isn't found. Without a loader nothing is found.
+    ///
+    /// It may wait, as long as the loader does. It takes no memory of its own.
+    ///
+    /// Conditions: the session holds no stripe, as between any two calls of its cache; the batch is of the asks' keys, in their
+    /// order; there is room for the done values.
+    pub fn ask_loader_all<R: Wait>(
+        &mut self,
+        rt: &R,
+        asks: Vec<Ask>,
+        batch: LoadBatch,
+        done: &mut Vec<LoadDone<Ask>>,
+    )
+        requires held { self.old.agent.hands.held ≡ 0 }
+        requires batch { batch.items ≡ map (λ (ask : Claim). ask.reservation.key) asks.items }
+        requires room { vec_len done.old + vec_len asks ≤ vec_capacity done.old }
+        ensures own { (cache : CacheState) → IsOf cache self.old → IsOf cache self.new }
+        ensures loader { (said : Bytes → LoadAnswer)
+            × LoadsAllOnce (boxed loads_all) (boxed load_state)
+            self.old.agent.hands.outside.loader batch.items said self.new.agent.hands.outside.loader
+            × (done.new.items ≡ done.old.items ++ loads_done (λ (ask : Claim). ask.reservation.key) said asks.items) }
+        ensures writer { self.new.agent.hands.outside.writer ≡ self.old.agent.hands.outside.writer }
+        ensures rest { self.new
+            ≡ record self.old { agent = record self.old.agent { hands = self.new.agent.hands } } }
+    {
+        self.agent.ask_loader_all(rt, asks, batch, done);
+    }
+
+    /// Calls the session's writer once, for a whole batch (`writeAll` or `deleteAll`), and appends a done value for each ask, in
+    /// their order: a key that the writer leaves in the collection failed, with the writer's code or, if it returned normally,
+    /// with 0; every other key was written. It returns what the writer returned: the writer may fail and leave nothing.
+    ///
+    /// It may wait, as long as the writer does. It takes no memory of its own.
+    ///
+    /// Conditions: the session holds no stripe, as between any two calls of its cache, and has a writer; the batch has exactly
+    /// what the asks ask for, in their order; there is room for the done values.
+    pub fn ask_writer_all<R: Wait>(
+        &mut self,
+        rt: &R,
+        asks: Vec<Ask>,
+        batch: Batch,
+        done: &mut Vec<WriteDone<Ask>>,
+    ) -> Result<(), u32>
+        requires held { self.old.agent.hands.held ≡ 0 }
+        requires writer { IsSome self.old.agent.hands.outside.writer }
+        requires batch { changes_of batch
+            ≡ asked_changes (λ (ask : Claim). ask.reservation.key) (λ (ask : Claim). ask.change) asks.items }
+        requires room { vec_len done.old + vec_len asks ≤ vec_capacity done.old }
+        ensures own { (cache : CacheState) → IsOf cache self.old → IsOf cache self.new }
+        ensures writer { (said : Bytes → WriteAnswer)
+            × WritesAllOnce (boxed writes_all) (boxed deletes_all) (boxed write_state)
+            self.old.agent.hands.outside.writer batch result said self.new.agent.hands.outside.writer
+            × (done.new.items ≡ done.old.items ++ writes_done (λ (ask : Claim). ask.reservation.key) said asks.items) }
+        ensures loader { self.new.agent.hands.outside.loader ≡ self.old.agent.hands.outside.loader }
+        ensures rest { self.new
+            ≡ record self.old { agent = record self.old.agent { hands = self.new.agent.hands } } }
+    {
+        self.agent.ask_writer_all(rt, asks, batch, done)
     }
 }

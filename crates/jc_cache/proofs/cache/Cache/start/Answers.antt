@@ -1,6 +1,5 @@
 use Rattle.std.proofs.Common.{◌≡◌, ap, refl, subst, Some, slice_get}
 use Rattle.jc_types.specs.declared.caller.Caller.{Caller}
-use Rattle.jc_stripe.specs.Phases.{Begins}
 use Rattle.jc_stripe.specs.State.{State}
 use Rattle.jc_session.specs.Counting.{counted_begun}
 use Rattle.jc_engine.specs.Needs.{StartsAt}
@@ -34,9 +33,9 @@ returns-clause-phase g c =
     let there : slice_get c.args.session.now.seats.items c.stripe_of-at.result ≡ Some c.index_mut-seat.result.now =
     seat_at c.args.self.now c.args.session.now _ c.args.key.now _ _ c.requires.own c.self.invariant.fits same c.stripe_of-at.ensures c.index_mut-seat.ensures.value in
     let makes : State → State → Type 0 = λ a b. StartsAt c.caller-caller.result c.args.key.now c.args.op.now c.make_phase.result a b in
-    let phase : State → State → Type 0 = λ a b. Begins a c.args.session.now.agent.caller c.args.key.now c.args.op.now c.make_phase.result b in
+    let phase : State → State → Type 0 = λ a b. StartsAt c.args.session.now.agent.caller c.args.key.now c.args.op.now c.make_phase.result a b in
     (phase_left c.is_uniform.ensures c.args.self.now c.args.session.now _ _ c.stripe_of-at.result (counted_begun c.make_phase.result) makes phase _ c.index_mut-seat.result.now c.make_phase.new.gate c.make_phase.new.token
     c.requires.own (at_key c.args.self.now _ c.args.key.now _ same c.stripe_of-at.ensures) there refl c.make_phase.ensures.agent
-    (λ a b reached m. subst (λ (w : Caller). Begins a w c.args.key.now c.args.op.now c.make_phase.result b) c.caller-caller.ensures m.begins)
+    (λ a b reached m. subst (λ (w : Caller). StartsAt w c.args.key.now c.args.op.now c.make_phase.result a b) c.caller-caller.ensures m)
     (λ a b reached m. subst (λ (w : Caller). HasLonger w.session (counted_begun c.make_phase.result) a b) c.caller-caller.ensures
     (begun_longer c.own_steps.ensures c.caller-caller.result c.args.key.now c.args.op.now c.make_phase.result a b m.may m.begins)) c.make_phase.ensures.phase).0

@@ -1,0 +1,21 @@
+use Rattle.std.proofs.Common.{◌≡◌, ap, ◌∙◌, Some, slice_get, slice_set}
+use Rattle.jc_cache.specs.Caches.{CacheState}
+use Rattle.jc_cache.proofs.SessionPhases.{of_same, set_itself}
+use Rattle.jc_cache.proofs.WholeCalls.{seat_at}
+use Rattle.jc_cache.proofs.cache.Cache.wait_for_change.Goals as goal
+
+pub returns-clause-own : goal.returns-clause-own
+returns-clause-own g c =
+    let same = ap (λ (z : CacheState). z.config) c.self.view_is in
+    let there : slice_get c.args.session.now.seats.items c.stripe_of-at.result ≡ Some c.index_mut-seat.result.now =
+    seat_at c.args.self.now c.args.session.now _ c.args.key.now _ _ c.requires.own c.self.invariant.fits same c.stripe_of-at.ensures c.index_mut-seat.ensures.value in
+    of_same c.args.self.now c.args.session.now _
+    (ap (slice_set c.args.session.now.seats.items c.stripe_of-at.result) c.wait_for_change.ensures.same.1 ∙ set_itself c.args.session.now.seats.items c.stripe_of-at.result c.index_mut-seat.result.now there)
+    c.wait_for_change.ensures.agent c.requires.own
+
+pub returns-clause-seats : goal.returns-clause-seats
+returns-clause-seats g c =
+    let same = ap (λ (z : CacheState). z.config) c.self.view_is in
+    let there : slice_get c.args.session.now.seats.items c.stripe_of-at.result ≡ Some c.index_mut-seat.result.now =
+    seat_at c.args.self.now c.args.session.now _ c.args.key.now _ _ c.requires.own c.self.invariant.fits same c.stripe_of-at.ensures c.index_mut-seat.ensures.value in
+    ap (slice_set c.args.session.now.seats.items c.stripe_of-at.result) c.wait_for_change.ensures.same.1 ∙ set_itself c.args.session.now.seats.items c.stripe_of-at.result c.index_mut-seat.result.now there

@@ -1,0 +1,30 @@
+use Rattle.std.proofs.Common.{◌≡◌, ap, refl, subst, ◌∙◌, ℕ, Some, slice_get}
+use Rattle.jc_types.specs.Stripes.{stripe_of}
+use Rattle.jc_model.specs.Cache.{Bytes}
+use Rattle.jc_engine.specs.Needs.{PicksUpLate}
+use Rattle.jc_stripe.specs.State.{State}
+use Rattle.jc_session.specs.Counting.{counted_picked}
+use Rattle.jc_cache.specs.Caches.{CacheState}
+use Rattle.jc_cache.proofs.WholeCalls.{at_key, seat_at}
+use Rattle.jc_cache.proofs.SessionPhases.{HasLonger, picked_longer, picks_late, phase_left}
+use Rattle.jc_cache.proofs.cache.Cache.wait_for_load.Goals as goal
+
+pub returns-clause-own : goal.returns-clause-own
+returns-clause-own g c =
+    let same = ap (λ (z : CacheState). z.config) c.self.view_is in
+    let there : slice_get c.args.session.now.seats.items c.stripe_of-at.result ≡ Some c.index_mut-seat.result.now =
+    seat_at c.args.self.now c.args.session.now _ c.key.result.now _ _ c.requires.own c.self.invariant.fits same c.stripe_of-at.ensures c.index_mut-seat.ensures.value in
+    let makes : State → State → Type 0 = λ a b. PicksUpLate a c.args.join c.make_phase.result b in
+    (phase_left c.is_uniform.ensures c.args.self.now c.args.session.now _ _ c.stripe_of-at.result (counted_picked c.make_phase.result) makes makes _ c.index_mut-seat.result.now c.make_phase.new.gate c.make_phase.new.token
+    c.requires.own refl there refl c.make_phase.ensures.agent (λ a b reached m. m)
+    (λ a b reached m. subst (λ (n : ℕ). HasLonger n (counted_picked c.make_phase.result) a b) c.requires.caller (picked_longer c.own_steps.ensures c.args.join c.make_phase.result a b reached (picks_late a b c.args.join c.make_phase.result m))) c.make_phase.ensures.phase).1
+
+pub returns-clause-phase : goal.returns-clause-phase
+returns-clause-phase g c =
+    let same = ap (λ (z : CacheState). z.config) c.self.view_is in
+    let there : slice_get c.args.session.now.seats.items c.stripe_of-at.result ≡ Some c.index_mut-seat.result.now =
+    seat_at c.args.self.now c.args.session.now _ c.key.result.now _ _ c.requires.own c.self.invariant.fits same c.stripe_of-at.ensures c.index_mut-seat.ensures.value in
+    let makes : State → State → Type 0 = λ a b. PicksUpLate a c.args.join c.make_phase.result b in
+    (phase_left c.is_uniform.ensures c.args.self.now c.args.session.now _ _ c.stripe_of-at.result (counted_picked c.make_phase.result) makes makes _ c.index_mut-seat.result.now c.make_phase.new.gate c.make_phase.new.token
+    c.requires.own (at_key c.args.self.now _ c.key.result.now _ same c.stripe_of-at.ensures ∙ ap (λ (key : Bytes). stripe_of key c.args.self.now.config.stripes) c.key.ensures) there refl c.make_phase.ensures.agent (λ a b reached m. m)
+    (λ a b reached m. subst (λ (n : ℕ). HasLonger n (counted_picked c.make_phase.result) a b) c.requires.caller (picked_longer c.own_steps.ensures c.args.join c.make_phase.result a b reached (picks_late a b c.args.join c.make_phase.result m))) c.make_phase.ensures.phase).0
