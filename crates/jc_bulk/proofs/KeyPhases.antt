@@ -1,0 +1,216 @@
+-- What each phase of the call at a key tells of the key.
+--     early_none         a call that isn't refused isn't the last
+--     refused_as         a first phase refuses for the history's sake, or is put off
+--     key_begun          a first phase
+--     key_committed      a commit
+--     key_picked         a pick-up that isn't too early
+--     start_may          the session's own steps let the call begin at a key at which it has none
+use Rattle.std.proofs.Common.{◌≡◌, ◌&&◌, ◌||◌, ◌⊎◌, inl, inr, ◌+◌, ◌≤◌, ℕ, List, [], ◌∷◌, ◌++◌, length, Bool, true, false, cond, not, Option, None, Some, nat_le, nat_lt, is_some, slice_get, append-nil, refl, sym, ap, subst, ◌∙◌, arith}
+use Rattle.std.proofs.lemmas.Bool.{and_parts}
+use Rattle.std.proofs.lemmas.List.{length-append}
+use Rattle.std.proofs.lemmas.List.Folds.{list_all-append}
+use Rattle.std.proofs.lemmas.Option.{same_Some}
+use Rattle.std.specs.List.{list_all}
+use mathlib.Core.List.{IsPrefix}
+use Rattle.jc_types.specs.declared.caller.Caller.{Caller}
+use Rattle.jc_types.specs.declared.config.Config.{Config}
+use Rattle.jc_types.specs.declared.limits.TheConstants.{RESERVATIONS_MAX, JOINERS_MAX}
+use Rattle.jc_types.specs.declared.refusal.Refusal.{Refusal}
+use Rattle.jc_types.specs.declared.refusal.Refusal.TheVariants.{HistoryFull, Busy, TooManyInFlight, TooManyJoiners}
+use Rattle.jc_types.specs.Refusals.{is_put_off}
+use Rattle.jc_model.specs.Cache.{Bytes, entry_at}
+use Rattle.jc_model.specs.Group.{nothing_said}
+use Rattle.jc_model.specs.Legal.{may_come}
+use Rattle.jc_model.specs.declared.event.Event.{Event}
+use Rattle.jc_model.specs.declared.event.Event.TheVariants.{Step}
+use Rattle.jc_model.specs.declared.event.Op.{Op}
+use Rattle.jc_model.specs.declared.event.Op.TheVariants.{Get}
+use Rattle.jc_model.specs.declared.event.Out.{Out}
+use Rattle.jc_model.specs.declared.event.Reply.{Reply}
+use Rattle.jc_stripe.specs.State.{State, is_reserved}
+use Rattle.jc_stripe.specs.Laws.{IsSameStripe, ReachedIsLegal}
+use Rattle.jc_stripe.specs.OnePhase.{OnePhase, GainsOwn, own_steps}
+use Rattle.jc_stripe.specs.OwnSteps.{AddsOwn, OwnSteps, StepsBehind, may_come_all}
+use Rattle.jc_stripe.specs.Phases.{Commits}
+use Rattle.jc_stripe.specs.Refusals.{first_asked, first_refusal, has_room, last_number, load_joined, may_join, needs_free_key, needs_reservation, places_needed}
+use Rattle.jc_stripe.specs.Tickets.{TicketClaim, JoinClaim}
+use Rattle.jc_stripe.specs.declared.begun.Begun.{Begun}
+use Rattle.jc_stripe.specs.declared.begun.Begun.TheVariants as begun
+use Rattle.jc_stripe.specs.declared.begun.Picked.{Picked}
+use Rattle.jc_stripe.specs.declared.begun.Picked.TheVariants as picked
+use Rattle.jc_stripe.specs.declared.begun.StepDone.{StepDone}
+use Rattle.jc_stripe.specs.declared.ticket.Reservation.{Reservation}
+use Rattle.jc_lock.specs.declared.view.View.{View}
+use Rattle.jc_lock.proofs.CallerLemmas.{prefix-refl, prefix-trans}
+use Rattle.jc_engine.specs.Needs.{PicksUpLate, StartsAt}
+use Rattle.jc_cache.specs.PhaseCalls.{SeatPhase}
+use Rattle.jc_bulk.specs.Keys.{HasBegun, HasPicked, HasStep, IsCommitted, IsEarly, IsJoinFor, IsTicketFor, WasFull}
+use Rattle.jc_bulk.specs.Recorded.{steps_of}
+use Rattle.jc_bulk.specs.Seats.{HasGrown}
+use Rattle.jc_bulk.proofs.CallSteps.{steps-gained}
+use Rattle.jc_bulk.proofs.SeatPhases.{MovesSeat, front_found, gained_phase, grown_phase, legal_now, seen_own, seen_phase, uniform}
+
+-- 1. Refusals.
+
+early_by : (a b c : Bool) (rest : Option Refusal) → cond (not (a && b && c)) (Some HistoryFull) rest ≡ None → b ≡ true
+early_by true true c rest none = refl
+early_by true false c rest none = cc
+early_by false b c rest none = cc
+
+pub early_none : (state : State) (caller : Caller) (key : Bytes) (op : Op) → first_refusal state caller key op ≡ None → IsEarly caller
+early_none state caller key op none = early_by _ (nat_lt caller.call last_number) _ _ none
+
+as_one : (a b c d : Bool) (refusal : Refusal) → cond a (Some HistoryFull) (cond b (Some Busy) (cond c (Some TooManyInFlight) (cond d (Some TooManyJoiners) None))) ≡ Some refusal → (is_put_off refusal ≡ true) ⊎ (refusal ≡ HistoryFull)
+as_one true b c d refusal is = inr (sym (same_Some HistoryFull refusal is))
+as_one false true c d refusal is = inl (ap is_put_off (sym (same_Some Busy refusal is)))
+as_one false false true d refusal is = inl (ap is_put_off (sym (same_Some TooManyInFlight refusal is)))
+as_one false false false true refusal is = inl (ap is_put_off (sym (same_Some TooManyJoiners refusal is)))
+as_one false false false false refusal is = cc
+
+pub refused_as : (state : State) (caller : Caller) (key : Bytes) (op : Op) (refusal : Refusal) → first_refusal state caller key op ≡ Some refusal → (is_put_off refusal ≡ true) ⊎ (refusal ≡ HistoryFull)
+refused_as state caller key op refusal is = as_one _ _ _ _ refusal is
+
+-- 2. What is behind a front.
+
+longer : (xs ys : List Event) → IsPrefix xs ys → length xs ≤ length ys
+longer xs ys p = let n = length-append xs p.0 in let e = ap length p.1 in omega arith
+
+pub all_before : (p : Event → Bool) (xs ys : List Event) → IsPrefix xs ys → list_all p ys ≡ true → list_all p xs ≡ true
+all_before p xs ys more all = (and_parts (list_all p xs) (list_all p more.0) (sym (list_all-append p xs more.0) ∙ ap (list_all p) more.1 ∙ all)).0
+
+joins_by : (may reads none : Bool) (load other : Option ℕ) (n : ℕ) → cond (may && reads && none) load None ≡ Some n → may ≡ true
+joins_by true reads none load other n is = refl
+joins_by false reads none load other n is = cc
+
+get_joins : (op : Op) → may_join op ≡ true → op ≡ Get
+get_joins Get is = refl
+get_joins op is = cc
+
+-- 3. Phases.
+
+module _ (law : OnePhase) (legal : ReachedIsLegal) (steps : OwnSteps) where
+  -- a step that the phase adds behind all that was there
+  added : (session : ℕ) (phase : State → State → Type 0) (caller : Caller) (key : Bytes) (op : Op) (out : Out) (reply : Reply) (place : ℕ) (v w : View) (x : SeatPhase session v phase w) → session ≡ caller.session
+      → AddsOwn caller.session x.found w.noted (Step caller op key out None reply) place → IsEarly caller → steps_of caller key v.own ≡ []
+      → MovesSeat caller key v w × (steps_of caller key w.own ≡ Step caller op key out None reply ∷ []) × (slice_get w.front place ≡ Some (Step caller op key out None reply)) × (length v.front ≤ place)
+  added session phase caller key op out reply place v w x mine adds early none =
+      let is : w.own ≡ v.own ++ Step caller op key out None reply ∷ [] =
+      x.own_is ∙ ap (λ (n : ℕ). own_steps n w.noted) mine ∙ adds.own ∙ ap (λ (n : ℕ). own_steps n x.found ++ Step caller op key out None reply ∷ []) (sym mine)
+      ∙ ap (λ (es : List Event). es ++ Step caller op key out None reply ∷ []) x.own in
+      let was : v.own ≡ v.own ++ [] = sym (append-nil v.own) in (
+        gained_phase law legal session phase v w x caller key op out None reply v.own [] was is early,
+        steps-gained caller key op out None reply v.own w.own v.own [] was is none,
+        ap (λ (es : List Event). slice_get es place) x.front_is ∙ adds.there,
+        (let one = longer v.front x.found.history x.front in let two = adds.behind in omega arith),
+      )
+
+  pub key_begun : (caller : Caller) (config : Config) (key : Bytes) (op : Op) (b : Begun) (v w : View) (x : SeatPhase caller.session v (StartsAt caller key op b) w) → v.noted.config ≡ config → steps_of caller key v.own ≡ []
+      → MovesSeat caller key v w × HasBegun caller config v w key op b
+  key_begun caller config key op (begun.Done done) v w x shape none =
+      let early = early_none x.found caller key op x.made.begins.0 in
+      let a = added caller.session _ caller key op nothing_said done.reply done.place v w x refl (steps.done x.found w.noted caller key op done x.made.may x.made.begins) early none in (
+        a.0,
+        record {
+          out = nothing_said;
+          shared_with = None;
+          place = done.place;
+          said = inl refl;
+          one = a.1;
+          legal = legal_now law legal caller.session _ v w x;
+          there = a.2;
+          behind = a.3;
+        },
+      )
+  key_begun caller config key op (begun.Refused refusal) v w x shape none =
+      let same = steps.refused x.found w.noted caller key op refusal x.made.begins in
+      let own = seen_own law legal caller.session _ v w x same in
+      let why : first_refusal w.noted caller key op ≡ Some refusal = ap (λ (s : State). first_refusal s caller key op) x.made.begins.1 ∙ x.made.begins.0 in
+      let grown = grown_phase law legal caller.session _ v w x in
+      (seen_phase law legal caller.session _ v w x caller key same, (ap (steps_of caller key) own ∙ none, by grown why (refused_as w.noted caller key op refusal why)))
+    where
+      by : HasGrown v w → first_refusal w.noted caller key op ≡ Some refusal → (is_put_off refusal ≡ true) ⊎ (refusal ≡ HistoryFull) → (is_put_off refusal ≡ true) ⊎ ((refusal ≡ HistoryFull) × WasFull caller v w key op)
+      by grown why (inl put_off) = inl put_off
+      by grown why (inr full) = inr (
+        full,
+        record {
+          seen = w.noted;
+          reached = (uniform law legal caller.session _ v w x).reached;
+          since = subst (IsPrefix v.front) x.front_is grown.front;
+          later = subst (IsPrefix w.noted.history) (sym x.front_is) (prefix-refl w.noted.history);
+          same = record { config = refl; stripe = refl; origin = refl; opening = refl };
+          why = why ∙ ap (λ (r : Refusal). Some r) full;
+        },
+      )
+  key_begun caller config key op (begun.Asks ticket) v w x shape none =
+      let b = x.made.begins in
+      let same = steps.reserves x.found w.noted caller key op ticket b in
+      let own = seen_own law legal caller.session _ v w x same in
+      let found_shape : x.found.config ≡ config = x.same.config ∙ shape in (
+        seen_phase law legal caller.session _ v w x caller key same,
+        (
+          ap (steps_of caller key) own ∙ none,
+          ap (λ (t : TicketClaim). t.asked) b.4,
+          record {
+            caller_is = ap (λ (t : TicketClaim). t.reservation.caller) b.4;
+            key_is = ap (λ (t : TicketClaim). t.reservation.key) b.4;
+            op_is = ap (λ (t : TicketClaim). t.reservation.op) b.4;
+            entry = entry_at x.found.cache key;
+            first_is = sym b.2 ∙ ap (λ (c : Config). first_asked c op (entry_at x.found.cache key)) found_shape;
+            asks = b.3;
+            early = early_none x.found caller key op b.0;
+          },
+        ),
+      )
+  key_begun caller config key op (begun.Joined join) v w x shape none =
+      let b = x.made.begins in
+      let same = steps.joins x.found w.noted caller key op join b in
+      let own = seen_own law legal caller.session _ v w x same in (
+        seen_phase law legal caller.session _ v w x caller key same,
+        (
+          ap (steps_of caller key) own ∙ none,
+          record {
+            caller_is = ap (λ (j : JoinClaim). j.caller) b.2;
+            key_is = ap (λ (j : JoinClaim). j.key) b.2;
+            op_is = get_joins op (joins_by (may_join op) _ _ _ None join.load b.1);
+            early = early_none x.found caller key op b.0;
+            fresh = all_before (λ e. may_come e caller key) v.front x.found.history x.front x.made.may.behind;
+          },
+        ),
+      )
+
+  pub key_committed : (session : ℕ) (r : Reservation) (out : Out) (done : StepDone) (v w : View) (x : SeatPhase session v (λ a b. Commits a r out done b) w) → session ≡ r.caller.session → IsEarly r.caller → steps_of r.caller r.key v.own ≡ []
+      → MovesSeat r.caller r.key v w × IsCommitted r.caller r out v w done.reply
+  key_committed session r out done v w x mine early none =
+      let a = added session _ r.caller r.key r.op out done.reply done.place v w x mine (steps.commits x.found w.noted r out done x.reached x.made) early none in
+      (a.0, record { place = done.place; one = a.1; legal = legal_now law legal session _ v w x; there = a.2; behind = a.3 })
+
+  pub key_picked : StepsBehind → (session : ℕ) (join : JoinClaim) (p : Picked) (v w : View) (x : SeatPhase session v (λ a b. PicksUpLate a join p b) w) → session ≡ join.caller.session → IsEarly join.caller → steps_of join.caller join.key v.own ≡ []
+      → MovesSeat join.caller join.key v w × ((first : View) → HasGrown first v → IsJoinFor join.caller first join.key Get join → HasPicked join.caller first w join.key Get p)
+  key_picked places session join (picked.Answer reply place shared_with) v w x mine early none =
+      let gains = steps.picks_up x.found w.noted join reply place shared_with x.reached x.made in
+      let g = gains.1 in
+      let was : v.own ≡ g.before ++ g.after = sym x.own ∙ ap (λ (n : ℕ). own_steps n x.found) mine ∙ g.was in
+      let is : w.own ≡ g.before ++ Step join.caller Get join.key gains.0 (Some shared_with) reply ∷ g.after = x.own_is ∙ ap (λ (n : ℕ). own_steps n w.noted) mine ∙ g.own in
+      let there : slice_get w.front place ≡ Some (Step join.caller Get join.key gains.0 (Some shared_with) reply) = ap (λ (es : List Event). slice_get es place) x.front_is ∙ g.there in
+      let grown = grown_phase law legal session _ v w x in (
+        gained_phase law legal session _ v w x join.caller join.key Get gains.0 (Some shared_with) reply g.before g.after was is early,
+        λ first older for. (
+            let front = prefix-trans first.front v.front w.front older.front grown.front in
+            record {
+              out = gains.0;
+              shared_with = Some shared_with;
+              place = place;
+              said = tt;
+              one = steps-gained join.caller join.key Get gains.0 (Some shared_with) reply v.own w.own g.before g.after was is none;
+              legal = legal_now law legal session _ v w x;
+              there = there;
+              behind = places first.front front.0 join.caller Get join.key gains.0 (Some shared_with) reply place for.fresh
+                  (subst (λ (es : List Event). slice_get es place ≡ Some (Step join.caller Get join.key gains.0 (Some shared_with) reply)) (sym front.1) there);
+            }
+            ),
+      )
+  key_picked places session join picked.Again v w x mine early none =
+      let same : own_steps session w.noted ≡ own_steps session x.found =
+      ap (λ (n : ℕ). own_steps n w.noted) mine ∙ steps.again x.found w.noted join x.reached x.made ∙ ap (λ (n : ℕ). own_steps n x.found) (sym mine) in
+      (seen_phase law legal session _ v w x join.caller join.key same, λ first older for. ap (steps_of join.caller join.key) (seen_own law legal session _ v w x same) ∙ none)
+  key_picked places session join (picked.NotYet back) v w x mine early none = absurd x.made

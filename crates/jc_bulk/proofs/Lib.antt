@@ -1,0 +1,9 @@
+pub mod CallSteps
+pub mod SeatPhases
+pub mod KeyPhases
+pub mod Out
+pub mod SoFar
+pub mod ManyAnswered
+pub mod Underway
+pub mod Asking
+pub mod KeyCalls

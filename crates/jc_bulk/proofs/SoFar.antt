@@ -1,0 +1,253 @@
+-- A call so far, as one of its keys goes on by one phase, and as a round has called outside.
+--     among_more, among_last    what is among some is among more; the last one is among all
+--     said_more        what a round was told stays so in later rounds
+--     at_later         a phase at another key leaves what is said of this one
+--     at_since         what is so since a later view is so since an earlier one
+--     at_more          what is so stays so when a later round has called outside
+--     place_or         the place of this key, or another key
+--     goes_on          the key at this place goes on by one phase
+--     more_rounds      the call so far, when a round has called outside
+--     opens            before the first round
+--     at_place_of      what the call so far says of the key at a place
+use Rattle.std.proofs.Common.{◌≡◌, ◌==◌, ◌&&◌, ◌||◌, ◌⊎◌, ⊎_elim, inl, inr, ◌<◌, ◌≤◌, ◌+◌, ℕ, zero, suc, List, [], ◌∷◌, ◌++◌, length, length-set, set, Bool, true, false, None, Some, Ok, Err, Option, get_or, slice_get, refl, sym, ap, subst, ◌∙◌, arith}
+use Rattle.std.proofs.lemmas.Cmp.{nat_list_eq_equiv}
+use Rattle.std.proofs.lemmas.List.{length-append}
+use Rattle.std.proofs.lemmas.Map.Keys.{IsDistinct-head, IsDistinct-tail}
+use Rattle.std.proofs.lemmas.Option.{same_Some}
+use Rattle.std.specs.List.{IsAmong, IsDistinct, list_all}
+use Rattle.std.specs.Map.{keys_of}
+use Rattle.std.specs.Cmp.Lexicographic.{pointwise, same_text}
+use mathlib.Core.List.{IsPrefix}
+use Rattle.jc_types.specs.Stripes.{stripe_of}
+use Rattle.jc_types.specs.declared.caller.Caller.{Caller}
+use Rattle.jc_model.specs.Batches.{is_among}
+use Rattle.jc_model.specs.Cache.{Bytes}
+use Rattle.jc_model.specs.declared.event.Event.{Event}
+use Rattle.jc_model.specs.declared.event.Op.{Op}
+use Rattle.jc_model.specs.declared.event.Out.{Out}
+use Rattle.jc_stripe.specs.OwnSteps.{is_before_call}
+use Rattle.jc_outside.proofs.CallerLemmas.{at_place}
+use Rattle.jc_lock.specs.declared.view.View.{View}
+use Rattle.jc_lock.proofs.CallerLemmas.{prefix-trans, same_on}
+use Rattle.jc_bulk.specs.declared.progress.Progress.{Progress}
+use Rattle.jc_bulk.specs.declared.progress.Progress.TheVariants.{Waiting, Reserved, Joined, Ended}
+use Rattle.jc_bulk.specs.KeyProgress.{all_waiting}
+use Rattle.jc_bulk.specs.Keys.{HasEnded, HasStep, IsAt, WasFull}
+use Rattle.jc_bulk.specs.Recorded.{steps_of, former_steps}
+use Rattle.jc_bulk.specs.Rounds.{IsSaid, Round}
+use Rattle.jc_bulk.specs.Seats.{HasGrown, Moves, is_at, view_at, view_of}
+use Rattle.jc_bulk.specs.SoFar.{IsSoFar, is_due}
+use Rattle.jc_bulk.proofs.CallSteps.{no-steps, still-before}
+use Rattle.jc_bulk.proofs.SeatPhases.{Seated, grown_itself, grown_on}
+
+-- 1. Rounds.
+
+pub among_more : {X : Type 0} (xs ys : List X) (v : X) → IsAmong xs v → IsAmong (xs ++ ys) v
+among_more [] ys v is = absurd (let near = is.1.0 in omega arith)
+among_more (x ∷ xs) ys v (zero, (lt, is)) = (zero, (omega arith, is))
+among_more (x ∷ xs) ys v (suc i, (lt, is)) = let rest = among_more xs ys v (i, (omega (arith, lt), is)) in (suc rest.0, (omega (arith, rest.1.0), rest.1.1))
+
+pub among_last : {X : Type 0} (xs : List X) (v : X) → IsAmong (xs ++ v ∷ []) v
+among_last [] v = (zero, (omega arith, refl))
+among_last (x ∷ xs) v = let rest = among_last xs v in (suc rest.0, (let near = rest.1.0 in omega arith, rest.1.1))
+
+pub said_more : (rounds more : List Round) (key : Bytes) (shared : Option ℕ) (out : Out) → IsSaid rounds key shared out → IsSaid (rounds ++ more) key shared out
+said_more rounds more key None out (inl none) = inl none
+said_more rounds more key None out (inr said) = inr (said.0, among_more rounds more said.0 said.1, said.2, said.3)
+said_more rounds more key (Some shared) out said = said
+
+-- 2. One key.
+
+longer : (xs ys : List Event) → IsPrefix xs ys → length xs ≤ length ys
+longer xs ys p = let n = length-append xs p.0 in let e = ap length p.1 in omega arith
+
+slice_on : (xs zs : List Event) (place : ℕ) (e : Event) → slice_get xs place ≡ Some e → slice_get (xs ++ zs) place ≡ Some e
+slice_on [] zs place e at = cc
+slice_on (x ∷ xs) zs zero e at = at
+slice_on (x ∷ xs) zs (suc place) e at = slice_on xs zs place e at
+
+there_on : (xs ys : List Event) (place : ℕ) (e : Event) → IsPrefix xs ys → slice_get xs place ≡ Some e → slice_get ys place ≡ Some e
+there_on xs ys place e p at = subst (λ zs. slice_get zs place ≡ Some e) p.1 (slice_on xs p.0 place e at)
+
+full_later : (caller : Caller) (u v w : View) (key : Bytes) (op : Op) → HasGrown v w → WasFull caller u v key op → WasFull caller u w key op
+full_later caller u v w key op grown was = record {
+  seen = was.seen;
+  reached = was.reached;
+  since = was.since;
+  later = prefix-trans was.seen.history v.front w.front was.later grown.front;
+  same = same_on was.seen v.noted w.noted was.same grown.same;
+  why = was.why;
+}
+
+full_since : (caller : Caller) (u v w : View) (key : Bytes) (op : Op) → HasGrown u v → WasFull caller v w key op → WasFull caller u w key op
+full_since caller u v w key op grown was = record {
+  seen = was.seen;
+  reached = was.reached;
+  since = prefix-trans u.front v.front was.seen.history grown.front was.since;
+  later = was.later;
+  same = was.same;
+  why = was.why;
+}
+
+-- THE LEMMA: a phase at another key leaves what is said of this one
+pub at_later : (caller : Caller) (rounds : List Round) (u v w : View) (key : Bytes) (op : Op) (p : Progress) → HasGrown v w → steps_of caller key w.own ≡ steps_of caller key v.own → IsAt caller rounds u v key op p → IsAt caller rounds u w key op p
+at_later caller rounds u v w key op Waiting grown same at = same ∙ at
+at_later caller rounds u v w key op Reserved grown same at = same ∙ at
+at_later caller rounds u v w key op Joined grown same at = same ∙ at
+at_later caller rounds u v w key op (Ended (Ok reply)) grown same at = record {
+  out = at.out;
+  shared_with = at.shared_with;
+  place = at.place;
+  said = at.said;
+  one = same ∙ at.one;
+  legal = grown.legal at.legal;
+  there = there_on v.front w.front at.place _ grown.front at.there;
+  behind = at.behind;
+}
+at_later caller rounds u v w key op (Ended (Err refusal)) grown same at = (same ∙ at.0, ⊎_elim (λ memory. inl memory) (λ full. inr (full.0, full_later caller u v w key op grown full.1)) at.1)
+
+pub at_since : (caller : Caller) (rounds : List Round) (u v w : View) (key : Bytes) (op : Op) (p : Progress) → HasGrown u v → IsAt caller rounds v w key op p → IsAt caller rounds u w key op p
+at_since caller rounds u v w key op Waiting grown at = at
+at_since caller rounds u v w key op Reserved grown at = at
+at_since caller rounds u v w key op Joined grown at = at
+at_since caller rounds u v w key op (Ended (Ok reply)) grown at = record {
+  out = at.out;
+  shared_with = at.shared_with;
+  place = at.place;
+  said = at.said;
+  one = at.one;
+  legal = at.legal;
+  there = at.there;
+  behind = (let one = longer u.front v.front grown.front in let two = at.behind in omega arith);
+}
+at_since caller rounds u v w key op (Ended (Err refusal)) grown at = (at.0, ⊎_elim (λ memory. inl memory) (λ full. inr (full.0, full_since caller u v w key op grown full.1)) at.1)
+
+pub at_more : (caller : Caller) (rounds more : List Round) (u w : View) (key : Bytes) (op : Op) (p : Progress) → IsAt caller rounds u w key op p → IsAt caller (rounds ++ more) u w key op p
+at_more caller rounds more u w key op Waiting at = at
+at_more caller rounds more u w key op Reserved at = at
+at_more caller rounds more u w key op Joined at = at
+at_more caller rounds more u w key op (Ended (Ok reply)) at = record {
+  out = at.out;
+  shared_with = at.shared_with;
+  place = at.place;
+  said = said_more rounds more key at.shared_with at.out at.said;
+  one = at.one;
+  legal = at.legal;
+  there = at.there;
+  behind = at.behind;
+}
+at_more caller rounds more u w key op (Ended (Err refusal)) at = at
+
+-- 3. All keys.
+
+or_parts : (a b : Bool) → (a || b) ≡ false → (a ≡ false) × (b ≡ false)
+or_parts true b h = cc
+or_parts false b h = (refl, h)
+
+pub key_at : (targets : List (Bytes × Op)) (i : ℕ) (key : Bytes) (op : Op) → slice_get targets i ≡ Some (key, op) → slice_get (keys_of targets) i ≡ Some key
+key_at [] i key op at = cc
+key_at (t ∷ targets) zero key op at = ap Some (ap (λ (u : Bytes × Op). u.0) (same_Some t (key, op) at))
+key_at (t ∷ targets) (suc i) key op at = key_at targets i key op at
+
+pub place_or : (targets : List (Bytes × Op)) (i j : ℕ) (key q : Bytes) (op o : Op) → IsDistinct (pointwise ◌==◌) (keys_of targets) → slice_get targets i ≡ Some (key, op) → slice_get targets j ≡ Some (q, o)
+    → (ps : List Progress) (p r : Progress) → slice_get (set ps i p) j ≡ Some r → ((pointwise ◌==◌ key q ≡ false) × (slice_get ps j ≡ Some r)) ⊎ ((q ≡ key) × (o ≡ op) × (r ≡ p))
+place_or [] i j key q op o d at there ps p r is = cc
+place_or (t ∷ targets) i j key q op o d at there [] p r is = cc
+place_or (t ∷ targets) zero zero key q op o d at there (x ∷ ps) p r is =
+    let same : (q, o) ≡ (key, op) = sym (same_Some t (q, o) there) ∙ same_Some t (key, op) at in
+    inr (ap (λ (u : Bytes × Op). u.0) same, ap (λ (u : Bytes × Op). u.1) same, sym (same_Some p r is))
+place_or (t ∷ targets) zero (suc j) key q op o d at there (x ∷ ps) p r is =
+    let apart = at_place (λ k. pointwise ◌==◌ t.0 k ≡ false) (keys_of targets) j q (IsDistinct-head (pointwise ◌==◌) t.0 (keys_of targets) d) (key_at targets j q o there) in
+    let same : t.0 ≡ key = ap (λ (u : Bytes × Op). u.0) (same_Some t (key, op) at) in
+    inl (subst (λ k. pointwise ◌==◌ k q ≡ false) same apart, is)
+place_or (t ∷ targets) (suc i) zero key q op o d at there (x ∷ ps) p r is =
+    let apart = at_place (λ k. pointwise ◌==◌ t.0 k ≡ false) (keys_of targets) i key (IsDistinct-head (pointwise ◌==◌) t.0 (keys_of targets) d) (key_at targets i key op at) in
+    let same : t.0 ≡ q = ap (λ (u : Bytes × Op). u.0) (same_Some t (q, o) there) in
+    inl (nat_list_eq_equiv.symm key q ∙ subst (λ k. pointwise ◌==◌ k key ≡ false) same apart, is)
+place_or (t ∷ targets) (suc i) (suc j) key q op o d at there (x ∷ ps) p r is =
+    place_or targets i j key q op o (IsDistinct-tail (pointwise ◌==◌) t.0 (keys_of targets) d) at there ps p r is
+
+pub or_true : (a b : Bool) → b ≡ true → (a || b) ≡ true
+or_true true b is = refl
+or_true false b is = is
+
+among_at : (targets : List (Bytes × Op)) (i : ℕ) (key : Bytes) (op : Op) → slice_get targets i ≡ Some (key, op) → is_among (keys_of targets) key ≡ true
+among_at [] i key op at = cc
+among_at (t ∷ targets) zero key op at =
+    ap (λ k. pointwise ◌==◌ key k || is_among (keys_of targets) key) (ap (λ (u : Bytes × Op). u.0) (same_Some t (key, op) at)) ∙ ap (λ b. b || is_among (keys_of targets) key) (nat_list_eq_equiv.refl key)
+among_at (t ∷ targets) (suc i) key op at = or_true (pointwise ◌==◌ key t.0) (is_among (keys_of targets) key) (among_at targets i key op at)
+
+-- 4. The key at a place goes on.
+
+and_left : (a b : Bool) → a ≡ false → (a && b) ≡ false
+and_left a b is = ap (λ x. x && b) is
+
+and_right : (a b : Bool) → b ≡ false → (a && b) ≡ false
+and_right true b is = is
+and_right false b is = refl
+
+rest_false : (a b : Bool) → a ≡ true → (a && b) ≡ false → b ≡ false
+rest_false true b is h = h
+rest_false false b is h = cc
+
+-- a key of no place, or on another stripe, isn't at this one
+not_here : (targets : List (Bytes × Op)) (stripes place : ℕ) (key q : Bytes) (op : Op) (i : ℕ) (b : Bool) → pointwise ◌==◌ key q ≡ b → slice_get targets place ≡ Some (key, op) → is_due stripes targets q i ≡ false → is_at stripes key q i ≡ false
+not_here targets stripes place key q op i false apart at none = and_left _ _ apart
+not_here targets stripes place key q op i true same at none =
+    let is : key ≡ q = same_text key q (sym same) in
+    let elsewhere : (stripe_of q stripes == i) ≡ false = rest_false (is_among (keys_of targets) q) _ (subst (λ k. is_among (keys_of targets) k ≡ true) is (among_at targets place key op at)) none in
+    and_right _ _ (ap (λ k. stripe_of k stripes == i) is ∙ elsewhere)
+
+pub goes_on : (caller : Caller) (stripes : ℕ) (targets : List (Bytes × Op)) (rounds : List Round) (old mid new : List Seated) (ps : List Progress) (place : ℕ) (key : Bytes) (op : Op) (p : Progress)
+    → IsDistinct (pointwise ◌==◌) (keys_of targets) → slice_get targets place ≡ Some (key, op) → IsSoFar caller stripes targets rounds old mid ps → Moves caller stripes key mid new
+    → IsAt caller rounds (view_of stripes old key) (view_of stripes new key) key op p → IsSoFar caller stripes targets rounds old new (set ps place p)
+goes_on caller stripes targets rounds old mid new ps place key op p d at was moves now = record {
+  grown = λ i. grown_on (view_at old i) (view_at mid i) (view_at new i) (was.grown i) (moves.grown i);
+  numbers = λ i. moves.numbers i (was.numbers i);
+  former = λ i. moves.former i ∙ was.former i;
+  many = length-set ps place p ∙ was.many;
+  each = λ j q o r there is. by j q o r there (place_or targets place j key q op o d at there ps p r is);
+  others = λ q i none. moves.others q i (not_here targets stripes place key q op i (pointwise ◌==◌ key q) refl at none) ∙ was.others q i none;
+}
+  where
+    by : (j : ℕ) (q : Bytes) (o : Op) (r : Progress) → slice_get targets j ≡ Some (q, o) → ((pointwise ◌==◌ key q ≡ false) × (slice_get ps j ≡ Some r)) ⊎ ((q ≡ key) × (o ≡ op) × (r ≡ p))
+        → IsAt caller rounds (view_of stripes old q) (view_of stripes new q) q o r
+    by j q o r there (inl other) =
+        at_later caller rounds (view_of stripes old q) (view_of stripes mid q) (view_of stripes new q) q o r (moves.grown (stripe_of q stripes)) (moves.others q (stripe_of q stripes) (and_left _ _ other.0)) (was.each j q o r there other.1)
+    by j q o r there (inr same) =
+        subst (λ (k : Bytes). IsAt caller rounds (view_of stripes old k) (view_of stripes new k) k o r) (sym same.0)
+        (subst (λ (y : Op). IsAt caller rounds (view_of stripes old key) (view_of stripes new key) key y r) (sym same.1) (subst (IsAt caller rounds (view_of stripes old key) (view_of stripes new key) key op) (sym same.2) now))
+
+pub more_rounds : (caller : Caller) (stripes : ℕ) (targets : List (Bytes × Op)) (rounds more : List Round) (old new : List Seated) (ps : List Progress) → IsSoFar caller stripes targets rounds old new ps → IsSoFar caller stripes targets (rounds ++ more) old new ps
+more_rounds caller stripes targets rounds more old new ps so = record {
+  grown = so.grown;
+  numbers = so.numbers;
+  former = so.former;
+  many = so.many;
+  each = λ j q o r there is. at_more caller rounds more (view_of stripes old q) (view_of stripes new q) q o r (so.each j q o r there is);
+  others = so.others;
+}
+
+-- 5. Before the first round.
+
+waiting_many : (n : ℕ) → length (all_waiting n) ≡ n
+waiting_many zero = refl
+waiting_many (suc n) = ap suc (waiting_many n)
+
+pub waiting_there : (n place : ℕ) (p : Progress) → slice_get (all_waiting n) place ≡ Some p → p ≡ Waiting
+waiting_there zero place p at = cc
+waiting_there (suc n) zero p at = sym (same_Some Waiting p at)
+waiting_there (suc n) (suc place) p at = waiting_there n place p at
+
+pub opens : (caller : Caller) (stripes : ℕ) (targets : List (Bytes × Op)) (seats : List Seated) (ps : List Progress) → ((i : ℕ) → list_all (is_before_call caller.session caller.call) (view_at seats i).own ≡ true) → ps ≡ all_waiting (length targets)
+    → IsSoFar caller stripes targets [] seats seats ps
+opens caller stripes targets seats ps before is = record {
+  grown = λ i. grown_itself (view_at seats i);
+  numbers = λ i. still-before caller (view_at seats i).own (before i);
+  former = λ i. refl;
+  many = ap length is ∙ waiting_many (length targets);
+  each = λ place key op p at there.
+      subst (IsAt caller [] (view_of stripes seats key) (view_of stripes seats key) key op) (sym (waiting_there (length targets) place p (subst (λ (qs : List Progress). slice_get qs place ≡ Some p) is there)))
+      (no-steps caller key (view_of stripes seats key).own (before (stripe_of key stripes)));
+  others = λ q i none. no-steps caller q (view_at seats i).own (before i);
+}

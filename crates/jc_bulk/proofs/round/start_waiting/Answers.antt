@@ -1,0 +1,40 @@
+use Rattle.std.proofs.Common.{◌≡◌, length, refl, sym, ap, subst, ◌∙◌, arith}
+use Rattle.jc_types.specs.declared.caller.Caller.{Caller}
+use Rattle.jc_bulk.specs.Keys.{HasBegun}
+use Rattle.jc_bulk.specs.Recorded.{steps_of}
+use Rattle.jc_bulk.specs.Seats.{AreBefore, view_of}
+use Rattle.jc_bulk.proofs.Asking.{fits_begun}
+use Rattle.jc_bulk.proofs.Underway.{started_on}
+use Rattle.jc_bulk.proofs.round.start_waiting.Goals as goal
+
+pub at-target-requires : goal.at-target-requires
+at-target-requires g c = let many = c.requires.underway.3.so_far.many in let near = c.requires.place in omega arith
+
+pub start_key-begun-requires-clause-own : goal.start_key-begun-requires-clause-own
+start_key-begun-requires-clause-own g c = c.requires.underway.3.own
+
+pub start_key-begun-requires-clause-before : goal.start_key-begun-requires-clause-before
+start_key-begun-requires-clause-before g c =
+    let u = c.requires.underway.3 in subst (λ (w : Caller). AreBefore w c.args.session.now.seats.items) (sym u.caller_is) u.so_far.numbers
+
+pub start_key-begun-requires-clause-none : goal.start_key-begun-requires-clause-none
+start_key-begun-requires-clause-none g c =
+    let u = c.requires.underway.3 in
+    ap (λ (w : Caller). steps_of w c.at-target.result.0 (view_of c.args.cache.now.config.stripes c.args.session.now.seats.items c.at-target.result.0).own) u.caller_is
+    ∙ u.so_far.each c.args.place c.at-target.result.0 c.at-target.result.1 _ c.at-target.ensures c.requires.waits
+
+pub keep-requires-clause-fits : goal.keep-requires-clause-fits
+keep-requires-clause-fits g c =
+    let u = c.requires.underway.3 in
+    let key = c.at-target.result.0 in
+    let v = view_of c.args.cache.now.config.stripes c.args.session.now.seats.items key in
+    let w = view_of c.args.cache.now.config.stripes c.start_key-begun.new.session.seats.items key in
+    fits_begun c.requires.underway.0 c.args.cache.now.config c.args.targets.now c.args.progress.now c.args.calls.now c.args.place key c.at-target.result.1 v w c.start_key-begun.result c.requires.distinct c.at-target.ensures
+    c.requires.waits c.requires.kind u.calls_are
+    (subst (λ (who : Caller). HasBegun who c.args.cache.now.config v w key c.at-target.result.1 c.start_key-begun.result) u.caller_is c.start_key-begun.ensures.begun)
+
+pub returns-clause-underway : goal.returns-clause-underway
+returns-clause-underway g c caller rounds first u =
+    started_on c.args.cache.now caller _ rounds first c.args.session.now c.start_key-begun.new.session c.args.progress.now c.args.calls.now.items c.keep.new.calls.items c.args.joins.now.items c.keep.new.joins.items c.args.place
+    c.at-target.result.0 c.at-target.result.1 c.start_key-begun.result c.keep.result c.requires.distinct c.at-target.ensures c.requires.place c.requires.waits c.requires.settled c.start_key-begun.ensures.own c.start_key-begun.ensures.agent
+    c.start_key-begun.ensures.moves c.start_key-begun.ensures.begun c.requires.few.0 c.requires.few.1 c.keep.ensures.kept u

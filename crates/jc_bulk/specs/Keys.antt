@@ -1,0 +1,126 @@
+-- How far a call with many keys is at one of them, by what its session has seen of the key's stripe.
+--     HasStep        of the call's steps at this key there is exactly one, with this operation and reply; it is in the front, which is legal,
+--                    behind the former front; what it says of the loader and the writer is what a round of the call was told, or another
+--                    call whose load it shares
+--     WasFull        the history was full, or a number at its end: the stripe was in a state, between the former front and the present
+--                    one, in which this is the first refusal of the call at this key
+--     HasEnded       the key's end: the call has made its one step there; or it was refused, and has none
+--     IsAt           the key is so far: it has no step of the call yet, or has ended
+--     IsEarly        the call's number isn't the last one
+--     IsTicketFor    a reservation of the call for this key, which asks whom the operation asks first, in a cache of this shape
+--     IsJoinFor      a join of the call, a `Get`, at this key: a step of the call at the key may come after the former front
+--     HasBegun       how far a first phase leaves the key
+--     IsCommitted    what a commit leaves: the call's one step at the key of its reservation, with this answer of the loader or the writer
+--     IsOver         a pick-up that wasn't too early
+--     HasPicked      how far a pick-up leaves the key
+use Rattle.std.specs.Prelude.{◌≡◌, ◌≤◌, ◌⊎◌, ℕ, List, [], ◌∷◌, length, true, false, Option, None, Some, Result, Ok, Err, slice_get, nat_lt}
+use mathlib.Core.List.{IsPrefix}
+use Rattle.jc_types.specs.declared.caller.Caller.{Caller}
+use Rattle.jc_types.specs.declared.config.Config.{Config}
+use Rattle.jc_types.specs.Refusals.{is_put_off}
+use Rattle.jc_types.specs.declared.refusal.Refusal.{Refusal}
+use Rattle.jc_types.specs.declared.refusal.Refusal.TheVariants.{HistoryFull, OutOfMemory}
+use Rattle.jc_model.specs.Cache.{Bytes}
+use Rattle.jc_model.specs.Legal.{Legal}
+use Rattle.jc_model.specs.declared.event.Event.TheVariants.{Step}
+use Rattle.jc_model.specs.declared.event.Op.{Op}
+use Rattle.jc_model.specs.declared.event.Op.TheVariants.{Get}
+use Rattle.jc_model.specs.declared.event.Out.{Out}
+use Rattle.jc_model.specs.declared.event.Reply.{Reply}
+use Rattle.jc_stripe.specs.State.{State}
+use Rattle.jc_stripe.specs.Laws.{IsSameStripe}
+use Rattle.jc_stripe.specs.Reached.{IsReached}
+use Rattle.jc_stripe.specs.Refusals.{first_asked, first_refusal, last_number, reserves}
+use Rattle.jc_stripe.specs.OwnSteps.{may_come_all}
+use Rattle.jc_stripe.specs.Tickets.{TicketClaim, JoinClaim}
+use Rattle.jc_stripe.specs.declared.ticket.Reservation.{Reservation}
+use Rattle.jc_stripe.specs.declared.begun.Begun.{Begun}
+use Rattle.jc_stripe.specs.declared.begun.Begun.TheVariants as begun
+use Rattle.jc_stripe.specs.declared.begun.Picked.{Picked}
+use Rattle.jc_stripe.specs.declared.begun.Picked.TheVariants as picked
+use Rattle.jc_lock.specs.declared.view.View.{View}
+use Rattle.jc_bulk.specs.declared.progress.Progress.{Progress}
+use Rattle.jc_bulk.specs.declared.progress.Progress.TheVariants.{Waiting, Reserved, Joined, Ended}
+use Rattle.jc_bulk.specs.Recorded.{steps_of}
+use Rattle.jc_bulk.specs.Rounds.{Round, IsSaid}
+
+-- 1. Ends. `before` is the view from before the call.
+
+pub record HasStep (caller : Caller) (rounds : List Round) (before after : View) (key : Bytes) (op : Op) (reply : Reply) : Type 0 where
+  pub out : Out
+  pub shared_with : Option ℕ
+  pub place : ℕ
+  pub said : IsSaid rounds key shared_with out
+  pub one : steps_of caller key after.own ≡ Step caller op key out shared_with reply ∷ []
+  pub legal : Legal after.noted.config after.noted.opening after.front
+  pub there : slice_get after.front place ≡ Some (Step caller op key out shared_with reply)
+  pub behind : length before.front ≤ place
+
+pub record WasFull (caller : Caller) (before after : View) (key : Bytes) (op : Op) : Type 0 where
+  pub seen : State
+  pub reached : IsReached seen
+  pub since : IsPrefix before.front seen.history
+  pub later : IsPrefix seen.history after.front
+  pub same : IsSameStripe seen after.noted
+  pub why : first_refusal seen caller key op ≡ Some HistoryFull
+
+abbrev pub HasEnded : Caller → List Round → View → View → Bytes → Op → Result Reply Refusal → Type 0
+HasEnded caller rounds before after key op (Ok reply) = HasStep caller rounds before after key op reply
+HasEnded caller rounds before after key op (Err refusal) =
+    (steps_of caller key after.own ≡ []) × ((refusal ≡ OutOfMemory) ⊎ ((refusal ≡ HistoryFull) × WasFull caller before after key op))
+
+-- 2. On the way.
+
+abbrev pub IsAt : Caller → List Round → View → View → Bytes → Op → Progress → Type 0
+IsAt caller rounds before after key op Waiting = steps_of caller key after.own ≡ []
+IsAt caller rounds before after key op Reserved = steps_of caller key after.own ≡ []
+IsAt caller rounds before after key op Joined = steps_of caller key after.own ≡ []
+IsAt caller rounds before after key op (Ended ended) = HasEnded caller rounds before after key op ended
+
+abbrev pub IsEarly : Caller → Type 0
+IsEarly caller = nat_lt caller.call last_number ≡ true
+
+pub record IsTicketFor (caller : Caller) (config : Config) (key : Bytes) (op : Op) (r : Reservation) : Type 0 where
+  pub caller_is : r.caller ≡ caller
+  pub key_is : r.key ≡ key
+  pub op_is : r.op ≡ op
+  pub entry : Option Bytes
+  pub first_is : r.first ≡ first_asked config op entry
+  pub asks : reserves r.first ≡ true
+  pub early : IsEarly caller
+
+pub record IsJoinFor (caller : Caller) (before : View) (key : Bytes) (op : Op) (join : JoinClaim) : Type 0 where
+  pub caller_is : join.caller ≡ caller
+  pub key_is : join.key ≡ key
+  pub op_is : op ≡ Get
+  pub early : IsEarly caller
+  pub fresh : may_come_all before.front caller key ≡ true
+
+-- 3. Phases. `before` is the view from before the phase.
+
+abbrev pub HasBegun : Caller → Config → View → View → Bytes → Op → Begun → Type 0
+HasBegun caller config before after key op (begun.Done done) = HasStep caller [] before after key op done.reply
+HasBegun caller config before after key op (begun.Refused refusal) =
+    (steps_of caller key after.own ≡ []) × ((is_put_off refusal ≡ true) ⊎ ((refusal ≡ HistoryFull) × WasFull caller before after key op))
+HasBegun caller config before after key op (begun.Asks ticket) =
+    (steps_of caller key after.own ≡ []) × (ticket.asked ≡ false) × IsTicketFor caller config key op ticket.reservation
+HasBegun caller config before after key op (begun.Joined join) = (steps_of caller key after.own ≡ []) × IsJoinFor caller before key op join
+
+-- the step of a commit, with what was answered outside
+pub record IsCommitted (caller : Caller) (r : Reservation) (out : Out) (before after : View) (reply : Reply) : Type 0 where
+  pub place : ℕ
+  pub one : steps_of caller r.key after.own ≡ Step caller r.op r.key out None reply ∷ []
+  pub legal : Legal after.noted.config after.noted.opening after.front
+  pub there : slice_get after.front place ≡ Some (Step caller r.op r.key out None reply)
+  pub behind : length before.front ≤ place
+
+-- `first` is the view from before the call
+abbrev pub HasPicked : Caller → View → View → Bytes → Op → Picked → Type 0
+HasPicked caller first after key op (picked.Answer reply place shared_with) = HasStep caller [] first after key op reply
+HasPicked caller first after key op picked.Again = steps_of caller key after.own ≡ []
+HasPicked caller first after key op (picked.NotYet join) = ⊥
+
+abbrev pub IsOver : Picked → Type 0
+IsOver (picked.Answer reply place shared_with) = Unit {0}
+IsOver picked.Again = Unit {0}
+IsOver (picked.NotYet join) = ⊥

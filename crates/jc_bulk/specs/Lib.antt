@@ -1,0 +1,9 @@
+pub mod Recorded
+pub mod Seats
+pub mod Rounds
+pub mod KeyProgress
+pub mod Keys
+pub mod SoFar
+pub mod Calls
+pub mod CallsInside
+pub mod Targets
