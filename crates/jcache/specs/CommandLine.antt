@@ -1,28 +1,98 @@
--- The command line: which words are right, and what is wrong with the others.
---     program                   the command, as `clap` sees it: it has a version and one subcommand, `run`, which must be named
+-- The command line: which words are right, what they ask for, and what is wrong with the others.
+--     option_rule               an option with a number, which must be given
+--     threads                   the command of the subcommand `threads`: two such options, with their ranges
+--     program                   the command, as `clap` sees it: it has a version and two subcommands, `run` and `threads`, one of which
+--                               must be named
 --     faults_at                 the kinds of error that these words may have, the program's name first; none if they are right
---     RunIsRight                `run` alone is right, whatever the program is called
+--     subcommand_at             the subcommand that these words name, with its options
+--     Spells                    the number that an option's text spells in decimal digits
+--     IsAsked                   the task of a subcommand with its options
+--     RunIsRight                `run` alone is right, whatever the program is called, and asks for a script
+--     AsksFor                   these words are right, and ask for threads by this plan
+--     ThreadsIsRight            `threads` with both options is right, in any order of them, and asks for so many threads and rounds
+--     OptionMissingIsWrong      `threads` without one of its options is wrong
+--     NumberIsWrong             `threads` with no thread, with 32, with no round, with 10,001 or with a word that is no number is wrong
 --     NoWordIsWrong             no word at all is wrong: a subcommand is missing
 --     UnknownWordIsWrong        a word that isn't the program's, as `play`, is wrong
 --     WordTooManyIsWrong        a word after `run` is wrong
 --     FlagIsWrong               a flag that isn't the program's, as `--fast`, is wrong, before `run` and after it
---     HelpIsShown               `--help` and `-h` ask for help, before `run` and after it
+--     HelpIsShown               `--help` and `-h` ask for help, before a subcommand and after it
 --     HelpWordIsShownOrWrong    `help` asks for help, or is wrong: `clap`'s contract leaves it open
 --     VersionIsShown            `--version` and `-V` ask for the version
-use Rattle.std.specs.Prelude.{◌≡◌, ℕ, List, [], ◌∷◌, true, codes}
-use Rattle.clap.specs.Words.{App, Kinds, fault_of, new_app, with_subcommand}
+use Rattle.std.specs.Prelude.{◌≡◌, ◌≢◌, ◌<◌, ◌^◌, ℕ, List, [], ◌∷◌, true, codes, pos, Option, None, Some, option_map}
+use Rattle.std.specs.Str.Parse.{IsNumeral, digits_value, without_leading_plus}
+use Rattle.clap.specs.Walk.{Row, Rule, Text, one_of}
+use Rattle.clap.specs.Words.{App, Kinds, fault_of, new_app, new_rule, subcommand_of, with_rule, with_subcommand}
+use Rattle.clap.specs.declared.builder.value_parser.ValueParser.{ValueParser}
+use Rattle.clap.specs.declared.builder.value_parser.ValueParser.TheVariants.{Signed}
 use Rattle.clap.specs.declared.error.kind.ErrorKind.TheVariants as kind
+use Rattle.jcache.specs.declared.commands.Task.{Task}
+use Rattle.jcache.specs.declared.commands.Task.TheVariants as task
+use Rattle.jcache.specs.declared.plan.Plan.{Plan}
+use Rattle.jcache.specs.declared.plan.TheConstants.{WORKERS_MAX, ROUNDS_MAX}
+
+-- 1. The command.
+
+abbrev pub option_rule : Text → ValueParser → Rule
+option_rule name parser = record (new_rule name) { long = Some name; value_names = 1; required = true; parser = Some parser }
+
+abbrev pub threads : App
+threads =
+    with_rule (with_rule (new_app (codes "threads")) (option_rule (codes "workers") (Signed (pos 1) (pos WORKERS_MAX))))
+    (option_rule (codes "rounds") (Signed (pos 1) (pos ROUNDS_MAX)))
 
 abbrev pub program : App
 program =
     let app = new_app (codes "jcache") in
-    with_subcommand (record app { top = record app.top { has_version = true; subcommand_required = true } }) (new_app (codes "run")).top
+    with_subcommand
+    (with_subcommand (record app { top = record app.top { has_version = true; subcommand_required = true } }) (new_app (codes "run")).top)
+    threads.top
 
 abbrev pub faults_at : List (List ℕ) → Kinds
 faults_at words = fault_of program words
 
+abbrev pub subcommand_at : List (List ℕ) → Option (Text × List Row)
+subcommand_at words = subcommand_of program words
+
+-- 2. What is asked for.
+
+abbrev pub Spells : Option Text → ℕ → Type 0
+Spells None number = number ≡ 0
+Spells (Some text) number =
+    IsNumeral 10 (without_leading_plus text) → digits_value 10 (without_leading_plus text) < 2 ^ 32 → number ≡ digits_value 10 (without_leading_plus text)
+
+abbrev pub IsAsked : Option (Text × List Row) → Task → Type 0
+IsAsked found task.Run = option_map (λ named. named.0) found ≢ Some (codes "threads")
+IsAsked found (task.Threads plan) =
+    (options : List Row) × (found ≡ Some (codes "threads", options))
+    × Spells (one_of (codes "workers") options) plan.workers
+    × Spells (one_of (codes "rounds") options) plan.rounds
+
+-- 3. Words that are written out.
+
 abbrev pub RunIsRight : Type 0
-RunIsRight = (name : List ℕ) → faults_at (name ∷ codes "run" ∷ []) ≡ []
+RunIsRight = (name : List ℕ) → (faults_at (name ∷ codes "run" ∷ []) ≡ []) × ((t : Task) → IsAsked (subcommand_at (name ∷ codes "run" ∷ [])) t → t ≡ task.Run)
+
+abbrev pub AsksFor : List (List ℕ) → Plan → Type 0
+AsksFor words plan = (faults_at words ≡ []) × ((t : Task) → IsAsked (subcommand_at words) t → t ≡ task.Threads plan)
+
+abbrev pub ThreadsIsRight : Type 0
+ThreadsIsRight = (name : List ℕ)
+    → AsksFor (name ∷ codes "threads" ∷ codes "--workers" ∷ codes "4" ∷ codes "--rounds" ∷ codes "100" ∷ []) (record { workers = 4; rounds = 100 })
+    × AsksFor (name ∷ codes "threads" ∷ codes "--rounds=10000" ∷ codes "--workers=31" ∷ []) (record { workers = 31; rounds = 10000 })
+
+abbrev pub OptionMissingIsWrong : Type 0
+OptionMissingIsWrong = (name : List ℕ)
+    → (faults_at (name ∷ codes "threads" ∷ codes "--workers" ∷ codes "4" ∷ []) ≡ kind.MissingRequiredArgument ∷ [])
+    × (faults_at (name ∷ codes "threads" ∷ codes "--rounds" ∷ codes "100" ∷ []) ≡ kind.MissingRequiredArgument ∷ [])
+
+abbrev pub NumberIsWrong : Type 0
+NumberIsWrong = (name : List ℕ)
+    → (faults_at (name ∷ codes "threads" ∷ codes "--workers=0" ∷ codes "--rounds=1" ∷ []) ≡ kind.ValueValidation ∷ [])
+    × (faults_at (name ∷ codes "threads" ∷ codes "--workers=32" ∷ codes "--rounds=1" ∷ []) ≡ kind.ValueValidation ∷ [])
+    × (faults_at (name ∷ codes "threads" ∷ codes "--workers=1" ∷ codes "--rounds=0" ∷ []) ≡ kind.ValueValidation ∷ [])
+    × (faults_at (name ∷ codes "threads" ∷ codes "--workers=1" ∷ codes "--rounds=10001" ∷ []) ≡ kind.ValueValidation ∷ [])
+    × (faults_at (name ∷ codes "threads" ∷ codes "--workers=all" ∷ codes "--rounds=1" ∷ []) ≡ kind.ValueValidation ∷ [])
 
 abbrev pub NoWordIsWrong : Type 0
 NoWordIsWrong = (name : List ℕ) → faults_at (name ∷ []) ≡ kind.MissingSubcommand ∷ []
@@ -43,6 +113,7 @@ HelpIsShown = (name : List ℕ)
     → (faults_at (name ∷ codes "--help" ∷ []) ≡ kind.DisplayHelp ∷ [])
     × (faults_at (name ∷ codes "-h" ∷ []) ≡ kind.DisplayHelp ∷ [])
     × (faults_at (name ∷ codes "run" ∷ codes "--help" ∷ []) ≡ kind.DisplayHelp ∷ [])
+    × (faults_at (name ∷ codes "threads" ∷ codes "--help" ∷ []) ≡ kind.DisplayHelp ∷ [])
 
 abbrev pub HelpWordIsShownOrWrong : Type 0
 HelpWordIsShownOrWrong = (name : List ℕ) → faults_at (name ∷ codes "help" ∷ []) ≡ kind.DisplayHelp ∷ kind.InvalidSubcommand ∷ []

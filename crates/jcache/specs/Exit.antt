@@ -1,17 +1,31 @@
 -- What the program answers, by its words and its streams.
 --     ExitOfPlay        the script was played, and this status says how that ended
+--     status_of         the status of a report that was written: 0 if it is right, else 5
+--     ShowsReport       a report was written, and this status says whether it is right; or a write failed; or an allocation did, and nothing
+--                       was written
+--     ExitOfThreads     a report on these threads was shown; or they were too much work; or an allocation failed, and nothing was written
+--     ExitOfTask        a task was carried out, and this status says how that ended
 --     ExitOfFault       what is written for these words with an error of this kind: a text that they asked for on standard
 --                       output, or what is wrong with them on standard error
---     Exit              right words are played; wrong ones are reported, and nothing is read; or an allocation failed, and
---                       nothing was read or written
+--     Exit              the task of right words is carried out; wrong ones are reported, and nothing is read; or an allocation failed,
+--                       and nothing was read or written
 --     FailsByStreams    status 3 comes if a stream failed, and only then or if the script is too long; after a failed read nothing is on standard output
-use Rattle.std.specs.Prelude.{◌≡◌, ◌⊎◌, ◌<◌, ℕ, List, [], Bool, true, Option, IfSome, length}
+use Rattle.std.specs.Prelude.{◌≡◌, ◌⊎◌, ◌<◌, ◌≤◌, ◌*◌, ℕ, List, [], Bool, true, Option, IfSome, length, if◌then◌else◌}
+use Rattle.std.specs.Io.KnownBytes.{Appends}
+use Rattle.clap.specs.Walk.{Row, Text}
 use Rattle.clap.specs.Words.{IsAmong, Kinds}
 use Rattle.clap.specs.declared.error.kind.ErrorKind.{ErrorKind}
 use Rattle.clap.specs.declared.error.kind.ErrorKind.TheVariants as kind
 use Rattle.jc_script.specs.Running.{Broke, Ran}
 use Rattle.jc_script.specs.declared.run.RunEnd.TheVariants.{Clean, LineFault}
 use Rattle.jc_types.specs.declared.limits.TheConstants.{SCRIPT_MAX}
+use Rattle.jcache.specs.CommandLine.{IsAsked}
+use Rattle.jcache.specs.Reports.{IsReportOf, is_right, report_text}
+use Rattle.jcache.specs.declared.commands.Task.{Task}
+use Rattle.jcache.specs.declared.commands.Task.TheVariants as task
+use Rattle.jcache.specs.declared.plan.Plan.{Plan}
+use Rattle.jcache.specs.declared.plan.TheConstants.{INCREMENTS_MAX}
+use Rattle.jcache.specs.declared.report.Report.{Report}
 
 -- before and after: what the reader has left; old and new: what standard output holds; silent: that nothing was written to it
 abbrev pub ExitOfPlay : (status : ℕ) (before after old new : Option (List ℕ)) (silent : Type 0) → Type 0
@@ -21,15 +35,35 @@ ExitOfPlay status before after old new silent =
     ⊎ (((status ≡ 3) × (Broke before after old new ⊎ silent))
     ⊎ ((status ≡ 4) × silent)))
 
+abbrev pub status_of : Report → ℕ
+status_of report = if is_right report then 0 else 5
+
+abbrev pub ShowsReport : Report → (status : ℕ) (old new : Option (List ℕ)) (silent : Type 0) → Type 0
+ShowsReport report status old new silent =
+    ((status ≡ status_of report) × Appends old new (report_text report))
+    ⊎ ((status ≡ 3) ⊎ ((status ≡ 4) × silent))
+
+abbrev pub ExitOfThreads : Plan → (status : ℕ) (old new : Option (List ℕ)) (silent : Type 0) → Type 0
+ExitOfThreads plan status old new silent =
+    ((INCREMENTS_MAX < plan.workers * plan.rounds) × (status ≡ 2) × silent)
+    ⊎ ((plan.workers * plan.rounds ≤ INCREMENTS_MAX)
+    × (((report : Report) × IsReportOf plan report × ShowsReport report status old new silent)
+    ⊎ ((status ≡ 4) × silent)))
+
+-- played: that the script was played; counted: that this plan was carried out; unread: that nothing was read
+abbrev pub ExitOfTask : Task → (played : Type 0) (counted : Plan → Type 0) (unread : Type 0) → Type 0
+ExitOfTask task.Run played counted unread = played
+ExitOfTask (task.Threads plan) played counted unread = counted plan × unread
+
 abbrev pub ExitOfFault : ErrorKind → (status : ℕ) (silent : Type 0) → Type 0
 ExitOfFault kind.DisplayHelp status silent = (status ≡ 0) ⊎ (status ≡ 3)
 ExitOfFault kind.DisplayVersion status silent = (status ≡ 0) ⊎ (status ≡ 3)
 ExitOfFault k status silent = (status ≡ 2) × silent
 
--- unread: that nothing was read
-abbrev pub Exit : Kinds → (status : ℕ) (played unread silent : Type 0) → Type 0
-Exit kinds status played unread silent =
-    ((kinds ≡ []) × played)
+-- found: the subcommand with its options; done: that a task was carried out
+abbrev pub Exit : Kinds → (found : Option (Text × List Row)) → (status : ℕ) (done : Task → Type 0) (unread silent : Type 0) → Type 0
+Exit kinds found status done unread silent =
+    ((kinds ≡ []) × ((t : Task) × IsAsked found t × done t))
     ⊎ (((k : ErrorKind) × IsAmong k kinds × ExitOfFault k status silent × unread)
     ⊎ ((status ≡ 4) × unread × silent))
 

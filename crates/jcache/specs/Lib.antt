@@ -1,2 +1,4 @@
 pub mod CommandLine
 pub mod Exit
+pub mod Reports
+pub mod Teams

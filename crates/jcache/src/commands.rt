@@ -1,18 +1,79 @@
 //! The command line.
-ghost use Rattle.std.specs.Prelude.{◌≡◌, map, string_bytes, IfOk, IfErr};
-ghost use Rattle.clap.specs.Words.{FailsBy, app_of, kind_of};
-ghost use Rattle.jcache.specs.CommandLine.{program, faults_at, RunIsRight, NoWordIsWrong, UnknownWordIsWrong};
+ghost use Rattle.std.specs.Prelude.{◌≡◌, map, string_bytes, IfOk, IfErr, false, pos};
+ghost use Rattle.clap.specs.declared.builder.value_parser.ValueParser.TheVariants.{Signed};
+ghost use Rattle.clap.specs.Walk.{one_of};
+ghost use Rattle.clap.specs.declared.builder.command.Command.TheViews.{out-Command};
+ghost use Rattle.clap.specs.Words.{FailsBy, app_of, found_of, kind_of, rows_of, rule_of, subcommand_rows_of};
+ghost use Rattle.jcache.specs.CommandLine.{program, threads, option_rule, faults_at, subcommand_at, IsAsked, Spells};
+ghost use Rattle.jcache.specs.CommandLine.{RunIsRight, ThreadsIsRight, OptionMissingIsWrong, NumberIsWrong, NoWordIsWrong, UnknownWordIsWrong};
 ghost use Rattle.jcache.specs.CommandLine.{WordTooManyIsWrong, FlagIsWrong, HelpIsShown, HelpWordIsShownOrWrong};
 ghost use Rattle.jcache.specs.CommandLine.{VersionIsShown};
 
+use crate::plan::{Plan, ROUNDS_MAX, WORKERS_MAX};
+use clap::builder::ValueParser;
 use clap::error::ErrorKind;
-use clap::{Command, Error};
+use clap::{Arg, ArgMatches, Command, Error};
 use std::alloc::Global;
 
 /// What a command line asks for.
+#[derive(Clone, Copy)]
 pub enum Task {
     /// Play the script on standard input.
     Run,
+    /// Count on threads.
+    Threads(Plan),
+}
+
+/// The numbers from 1 to this one.
+fn up_to<'a>(most: u32) -> ValueParser<'a>
+    ensures { result ≡ Signed (pos 1) (pos most) }
+{
+    ValueParser::Signed(1, i64::from(most))
+}
+
+/// An option with a number, which must be given.
+fn number_option<'a>(
+    alloc: Global,
+    name: &'a str,
+    parser: ValueParser<'a>,
+    help: &'a str,
+) -> Arg<'a>
+    ensures rule { rule_of result ≡ option_rule name.now parser.entry }
+    ensures local { result.global ≡ false }
+{
+    Arg::new(alloc, name)
+        .long(name)
+        .value_name("NUMBER")
+        .help(help)
+        .required(true)
+        .value_parser(parser)
+}
+
+fn threads_command<'a>(alloc: Global) -> Result<Command<'a>, Error>
+    ensures made { IfOk result (λ c. app_of c ≡ threads) }
+    ensures local { IfOk result (λ c. (out-Command c).has_globals ≡ false) }
+    ensures memory { IfErr result (λ e. kind_of e ≡ ErrorKind.OutOfMemory) }
+{
+    let workers = number_option(
+        alloc,
+        "workers",
+        up_to(WORKERS_MAX),
+        "How many threads count: 1 to 31",
+    );
+    let rounds = number_option(
+        alloc,
+        "rounds",
+        up_to(ROUNDS_MAX),
+        "How often each of them counts: 1 to 10000; all threads together at most 60000 times",
+    );
+    Ok(
+        Command::new(alloc, "threads")
+            .about(
+                "Counts on threads that share a cache, and writes what they counted to standard output",
+            )
+            .arg(workers)?
+            .arg(rounds)?,
+    )
 }
 
 fn command<'a>(alloc: Global) -> Result<Command<'a>, Error>
@@ -27,7 +88,8 @@ fn command<'a>(alloc: Global) -> Result<Command<'a>, Error>
             .about("A read-through and write-through cache whose consistency rules are proved")
             .version("0.2.0")
             .subcommand_required(true)
-            .subcommand(run)?,
+            .subcommand(run)?
+            .subcommand(threads_command(alloc)?)?,
     )
 }
 
@@ -35,17 +97,41 @@ fn command<'a>(alloc: Global) -> Result<Command<'a>, Error>
 /// too.
 pub fn read_task(alloc: Global, words: &[String]) -> Result<Task, Error>
     // Right words give a task, unless an allocation fails. Others give an error of one of their kinds.
-    ensures { FailsBy (faults_at (map string_bytes words.now)) result }
+    ensures kinds { FailsBy (faults_at (map string_bytes words.now)) result }
+    ensures asked { IfOk result (λ task. IsAsked (subcommand_at (map string_bytes words.now)) task) }
 {
     let program = command(alloc)?;
-    program.try_get_matches_from(words)?;
-    Ok(Task::Run)
+    let matches = program.try_get_matches_from(words)?;
+    Ok(task_in(&matches))
+}
+
+/// The task that these matches ask for.
+fn task_in(matches: &ArgMatches) -> Task
+    ensures { IsAsked (subcommand_rows_of matches.now) result }
+{
+    match matches.subcommand_matches("threads") {
+        Some(options) => Task::Threads(Plan {
+            workers: number_in(options, "workers"),
+            rounds: number_in(options, "rounds"),
+        }),
+        None => Task::Run,
+    }
+}
+
+/// The number of an option that must be given.
+fn number_in(options: &ArgMatches, name: &str) -> u32
+    ensures { Spells (one_of name.now (rows_of (found_of options.now))) result }
+{
+    options.get_one::<u32>(name).unwrap_or(0)
 }
 
 /// Which words are right, and what is wrong with some others.
 #[tactic(auto, unfolding(clap::proofs::OnLiterals::clap_on_literals))]
 pub fn right_words()
     ensures run { RunIsRight }
+    ensures threads { ThreadsIsRight }
+    ensures option_missing { OptionMissingIsWrong }
+    ensures number { NumberIsWrong }
     ensures no_word { NoWordIsWrong }
     ensures unknown_word { UnknownWordIsWrong }
     ensures word_too_many { WordTooManyIsWrong }

@@ -1,15 +1,21 @@
 //! What the program does with its words, and the status that it ends with.
 ghost use Rattle.std.specs.Prelude.{◌≡◌, ◌⊎◌, ◌↔◌, map, string_bytes, true, false};
 ghost use Rattle.std.specs.Io.KnownBytes.{Appends};
-ghost use Rattle.jcache.specs.CommandLine.{faults_at};
-ghost use Rattle.jcache.specs.Exit.{Exit, ExitOfPlay, FailsByStreams};
+ghost use Rattle.jcache.specs.CommandLine.{faults_at, subcommand_at};
+ghost use Rattle.jcache.specs.Exit.{Exit, ExitOfPlay, ExitOfTask, ExitOfThreads, FailsByStreams, ShowsReport, status_of};
 
 use crate::commands::{Task, read_task};
+use crate::plan::{INCREMENTS_MAX, Plan};
+use crate::report::Report;
+use crate::threads::{Outfit, count_on_threads};
 use clap::error::ErrorKind;
 use jc_script::run::run;
 use jc_script::{Noted, RunEnd, RunFault};
+use jc_store::SharedStore;
 use std::alloc::Global;
 use std::io::{Read, Write};
+use std::sync::Wait;
+use std::thread::Threads;
 
 /// The script was played to its end, or the text that was asked for was shown.
 const CLEAN: u8 = 0;
@@ -21,6 +27,8 @@ const USAGE: u8 = 2;
 const STREAMS: u8 = 3;
 /// An allocation failed.
 const MEMORY: u8 = 4;
+/// What was counted on threads isn't what the plan says.
+const MISCOUNTED: u8 = 5;
 
 /// Says what failed. Nobody is left to hear of it if that fails, too.
 fn complain<E: Write>(err: &mut E, text: &str) {
@@ -76,29 +84,118 @@ fn show<W: Write, E: Write>(text: &str, out: &mut Noted<W>, err: &mut E) -> u8
     }
 }
 
-/// Does what the words of a command line ask for, and answers the status: 0 if the script was played to its end, or if a
-/// text was asked for and shown, as by `--help` and `--version`; 1 if the transcript ends with a line's fault; 2 if the words
-/// are none of this program's, which is written to `err`; 3 if the input or output failed, or the input is too long; 4 if an
-/// allocation failed.
-pub fn exec<R: Read, W: Write, E: Write>(
+/// Writes a report, and answers the status.
+fn show_report<W: Write, E: Write>(
     alloc: Global,
+    report: &Report,
+    out: &mut Noted<W>,
+    err: &mut E,
+) -> u8
+    ensures shown { ShowsReport report.now result (W.contents out.old.inner) (W.contents out.new.inner) (out.new ≡ out.old) }
+    ensures streams { out.old.failed ≡ false → (result ≡ 3 ↔ out.new.failed ≡ true) }
+{
+    let Ok(text) = report.text(alloc) else {
+        complain(err, "jcache: out of memory\n");
+        return MEMORY;
+    };
+    if out.write_all(&text).is_err() {
+        complain(err, "jcache: write failed\n");
+        return STREAMS;
+    }
+    status_of(report)
+}
+
+/// The status of a report that was written.
+fn status_of(report: &Report) -> u8
+    ensures { result ≡ status_of report.now }
+{
+    if report.is_right() { CLEAN } else { MISCOUNTED }
+}
+
+/// Counts on threads, and answers the status.
+fn count<Rt: Threads + Wait + Sync, W: Write, E: Write>(
+    rt: &Rt,
+    alloc: Global,
+    store: &SharedStore,
+    outfits: Vec<Outfit>,
+    plan: &Plan,
+    out: &mut Noted<W>,
+    err: &mut E,
+) -> u8
+    ensures counted { ExitOfThreads plan.now result (W.contents out.old.inner) (W.contents out.new.inner) (out.new ≡ out.old) }
+    ensures streams { out.old.failed ≡ false → (result ≡ 3 ↔ out.new.failed ≡ true) }
+{
+    if plan.increments() > INCREMENTS_MAX {
+        complain(err, "jcache: too much work\n");
+        return USAGE;
+    }
+    match count_on_threads(rt, alloc, store, outfits, plan) {
+        Ok(report) => show_report(alloc, &report, out, err),
+        Err(_) => {
+            complain(err, "jcache: out of memory\n");
+            MEMORY
+        }
+    }
+}
+
+/// Carries a task out, and answers the status.
+fn carry_out<Rt: Threads + Wait + Sync, R: Read, W: Write, E: Write>(
+    rt: &Rt,
+    alloc: Global,
+    store: &SharedStore,
+    outfits: Vec<Outfit>,
+    task: &Task,
+    reader: &mut Noted<R>,
+    out: &mut Noted<W>,
+    err: &mut E,
+) -> u8
+    ensures done { ExitOfTask task.now
+        (ExitOfPlay result (R.remaining reader.old.inner) (R.remaining reader.new.inner) (W.contents out.old.inner)
+        (W.contents out.new.inner) (out.new ≡ out.old))
+        (λ plan. ExitOfThreads plan result (W.contents out.old.inner) (W.contents out.new.inner) (out.new ≡ out.old))
+        (reader.new ≡ reader.old) }
+    ensures streams { reader.old.failed ≡ false → out.old.failed ≡ false
+        → FailsByStreams result reader.new.failed out.new.failed (R.remaining reader.old.inner) (out.new ≡ out.old) }
+{
+    match task {
+        Task::Run => play(alloc, reader, out, err),
+        Task::Threads(plan) => count(rt, alloc, store, outfits, plan, out, err),
+    }
+}
+
+/// Does what the words of a command line ask for, and answers the status: 0 if the script was played to its end, if threads
+/// counted right, or if a text was asked for and shown, as by `--help` and `--version`; 1 if the transcript ends with a line's
+/// fault; 2 if the words are none of this program's or ask for too much work, which is written to `err`; 3 if the input or output
+/// failed, or the input is too long; 4 if an allocation failed; 5 if the report that was written shows a wrong number, or that the
+/// history isn't legal. If a thread can't be started, another one makes its calls after its own.
+///
+/// For threads it waits until all have ended. Nothing else waits. Their sessions are made with the outfits, of which there are to
+/// be `WORKERS_MAX` and one, over the store, which is to be empty.
+pub fn exec<Rt: Threads + Wait + Sync, R: Read, W: Write, E: Write>(
+    rt: &Rt,
+    alloc: Global,
+    store: &SharedStore,
+    outfits: Vec<Outfit>,
     words: &[String],
     reader: &mut Noted<R>,
     out: &mut Noted<W>,
     err: &mut E,
 ) -> u8
-    // Right words are played. For others, that they are wrong is said, or the text that they ask for is shown; then nothing is
-    // read.
-    ensures answered { Exit (faults_at (map string_bytes words.now)) result
+    // What right words ask for is done. For others, that they are wrong is said, or the text that they ask for is shown; then
+    // nothing is read.
+    ensures answered { Exit (faults_at (map string_bytes words.now)) (subcommand_at (map string_bytes words.now)) result
+        (λ task. ExitOfTask task
         (ExitOfPlay result (R.remaining reader.old.inner) (R.remaining reader.new.inner) (W.contents out.old.inner)
         (W.contents out.new.inner) (out.new ≡ out.old))
+        (λ plan. ExitOfThreads plan result (W.contents out.old.inner) (W.contents out.new.inner) (out.new ≡ out.old))
+        (reader.new ≡ reader.old))
         (reader.new ≡ reader.old) (out.new ≡ out.old) }
     // Status 3 comes if a stream failed in this call, and only then or if the script is too long.
     ensures streams { reader.old.failed ≡ false → out.old.failed ≡ false
         → FailsByStreams result reader.new.failed out.new.failed (R.remaining reader.old.inner) (out.new ≡ out.old) }
 {
     match read_task(alloc, words) {
-        Ok(Task::Run) => play(alloc, reader, out, err),
+        Ok(task) => carry_out(rt, alloc, store, outfits, &task, reader, out, err),
         Err(error) => {
             if error.kind() == ErrorKind::OutOfMemory {
                 complain(err, "jcache: out of memory\n");

@@ -1,8 +1,10 @@
 use Rattle.std.proofs.Common.{inl}
 use Rattle.jcache.proofs.exec.exec.Goals as goal
 
-pub returns-in-Ok-Run-clause-answered : goal.returns-in-Ok-Run-clause-answered
-returns-in-Ok-Run-clause-answered g c = inl (c.in-Ok-Run.ensures, c.play.ensures.played)
+pub returns-in-Ok-clause-answered : goal.returns-in-Ok-clause-answered
+returns-in-Ok-clause-answered g c =
+    let right = c.in-Ok.ensures in
+    inl (right.kinds, (c.in-Ok.task, right.asked, c.carry_out.ensures.done))
 
-pub returns-in-Ok-Run-clause-streams : goal.returns-in-Ok-Run-clause-streams
-returns-in-Ok-Run-clause-streams g c = c.play.ensures.streams
+pub returns-in-Ok-clause-streams : goal.returns-in-Ok-clause-streams
+returns-in-Ok-clause-streams g c = c.carry_out.ensures.streams

@@ -1,0 +1,10 @@
+-- Sessions of workers on threads.
+--     HasCounted    a session may call the cache, and has made at most so many steps
+use Rattle.std.specs.Prelude.{◌≤◌, ℕ}
+use Rattle.jc_cache.specs.Caches.{CacheState}
+use Rattle.jc_cache.specs.Sessions.{MayCall}
+use Rattle.jc_cache.specs.declared.session.Session.{Session}
+
+pub record HasCounted {I J : Type 0} {D : I → Type 0} {E : J → Type 0} (cache : CacheState) (most : ℕ) (session : Session I J D E) : Type 0 where
+  pub may : MayCall cache session
+  pub few : session.agent.counts.own ≤ most
