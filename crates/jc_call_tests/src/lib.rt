@@ -1,0 +1,5 @@
+//! Tests of whole calls: sessions on a cache, before a store whose calls are counted. The crate has nothing but tests.
+#![tactic(auto)]
+
+#[cfg(test)]
+mod tests;

@@ -1,0 +1,72 @@
+//! Whole calls, as lines of text: an operation, its key and its values; what it is to answer; and how often, by then, the loader
+//! was called, and the writer to write and to delete.
+//!
+//!     get a = 1 | 1 0 0
+
+/// A loader or a writer, in a box. Only a test itself can make it.
+macro_rules! boxed {
+    ($rt:expr, $kind:ty, $inner:expr) => {{
+        let inner: $kind = Some(Box::new($rt.alloc(), $inner).ok().expect(&$rt, "memory"));
+        inner
+    }};
+}
+
+/// One more session on a stage, with a loader and a writer of its own; without others those of a desk, which count their calls.
+macro_rules! enter {
+    ($rt:expr, $stage:expr, $desk:expr) => {
+        enter!($rt, $stage, $desk.loader($rt), $desk.writer($rt))
+    };
+    ($rt:expr, $stage:expr, $loader:expr, $writer:expr) => {{
+        let loader = boxed!($rt, Loader, $loader);
+        let writer = boxed!($rt, Writer, $writer);
+        $stage.enter(&$rt, $rt.alloc(), loader, writer)
+    }};
+}
+
+mod answers;
+mod before_store;
+mod calls;
+mod closing;
+mod desk;
+mod histories;
+mod invoking;
+mod limits;
+mod lines;
+mod outside;
+mod random;
+mod scripted;
+mod signals;
+mod stage;
+mod trying;
+
+use answers::{Answer, answer_of, called, first_word, key, value};
+use desk::Desk;
+use jc_cache::{Cache, CacheOwner, Session};
+use jc_outside::{CacheLoader, CacheWriter};
+use jc_types::{Config, Key, Refusal, Value};
+use stage::{Loader, Stage, Writer};
+use std::alloc::Global;
+use std::fmt::Debug;
+use std::process::Abort;
+use std::sync::Wait;
+use std::test::Fail;
+
+fn is<T: Copy + Debug + PartialEq>(rt: &impl Abort, found: T, want: T) {
+    assert_eq!(rt; found, want);
+}
+
+/// Asserts what the call of a line answers.
+fn is_at(rt: &impl Abort, line: &str, found: Answer, want: Answer) {
+    assert_eq!(rt; found, want, "{line}");
+}
+
+/// One stripe of four entries.
+fn config(history: usize, read_through: bool, write_through: bool) -> Config {
+    Config {
+        stripes: 1,
+        capacity: 4,
+        history,
+        read_through,
+        write_through,
+    }
+}

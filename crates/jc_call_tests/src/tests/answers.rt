@@ -1,0 +1,134 @@
+//! Calls and their answers, as words.
+ghost use Rattle.jc_cache.specs.Sessions.{MayCall};
+
+use super::invoking::invoked;
+use jc_cache::{Cache, Session};
+use jc_model::Reply;
+use jc_types::{Key, Refusal, Value};
+use std::alloc::Global;
+use std::process::Abort;
+use std::sync::Wait;
+
+/// What a call answers, in the words of the operation table.
+pub type Answer = Result<Reply, Refusal>;
+
+pub fn key(rt: &impl Abort, word: &str) -> Key {
+    Key::new(word.as_bytes()).expect(rt, "a key")
+}
+
+pub fn value(rt: &impl Abort, word: &str) -> Value {
+    Value::new(word.as_bytes()).expect(rt, "a value")
+}
+
+/// The first word, and what follows it, if anything.
+pub fn first_word(text: &str) -> (&str, &str) {
+    text.split_once(' ').unwrap_or((text, ""))
+}
+
+fn code(rt: &impl Abort, word: &str) -> u32 {
+    word.parse().ok().expect(rt, "a code")
+}
+
+/// The answer that a text says.
+pub fn answer_of(rt: &impl Abort, text: &str) -> Answer {
+    let (word, rest) = first_word(text);
+    match word {
+        "ok" => Ok(Reply::Unit),
+        "true" => Ok(Reply::Flag(true)),
+        "false" => Ok(Reply::Flag(false)),
+        "-" => Ok(Reply::Value(None)),
+        "LoaderFailed" => Err(Refusal::LoaderFailed(code(rt, rest))),
+        "WriterFailed" => Err(Refusal::WriterFailed(code(rt, rest))),
+        "ProcessorFailed" => Err(Refusal::ProcessorFailed(code(rt, rest))),
+        "HistoryFull" => Err(Refusal::HistoryFull),
+        "Busy" => Err(Refusal::Busy),
+        _ => Ok(Reply::Value(Some(value(rt, word)))),
+    }
+}
+
+pub fn entry(answer: Result<Option<Value>, Refusal>) -> Answer {
+    Ok(Reply::Value(answer?))
+}
+
+fn flag(answer: Result<bool, Refusal>) -> Answer {
+    Ok(Reply::Flag(answer?))
+}
+
+fn unit(answer: Result<(), Refusal>) -> Answer {
+    answer?;
+    Ok(Reply::Unit)
+}
+
+/// The operations that take a key alone.
+pub fn called_bare<R: Wait>(
+    rt: &R,
+    cache: &Cache,
+    session: &mut Session,
+    op: &str,
+    key: &Key,
+) -> Option<Answer>
+    requires { MayCall cache.now session.old }
+    ensures { MayCall cache.now session.new }
+{
+    match op {
+        "get" => Some(entry(cache.get(rt, session, key))),
+        "contains" => Some(flag(cache.contains_key(rt, session, key))),
+        "remove" => Some(flag(cache.remove(rt, session, key))),
+        "getremove" => Some(entry(cache.get_and_remove(rt, session, key))),
+        "tryget" => Some(entry(cache.try_get(session, key))),
+        "trycontains" => Some(flag(cache.try_contains_key(session, key))),
+        _ => None,
+    }
+}
+
+/// The operations that take a key and a value.
+pub fn called_valued<R: Wait>(
+    rt: &R,
+    cache: &Cache,
+    session: &mut Session,
+    op: &str,
+    key: &Key,
+    value: &Value,
+) -> Option<Answer>
+    requires { MayCall cache.now session.old }
+    ensures { MayCall cache.now session.new }
+{
+    match op {
+        "put" => Some(unit(cache.put(rt, session, key, value))),
+        "getput" => Some(entry(cache.get_and_put(rt, session, key, value))),
+        "putif" => Some(flag(cache.put_if_absent(rt, session, key, value))),
+        "removeif" => Some(flag(cache.remove_if(rt, session, key, value))),
+        "replace" => Some(flag(cache.replace(rt, session, key, value))),
+        "getreplace" => Some(entry(cache.get_and_replace(rt, session, key, value))),
+        "tryput" => Some(unit(cache.try_put(session, key, value))),
+        _ => None,
+    }
+}
+
+/// Makes the call that a text says: an operation, a key, and none, one or two values; of `invoke` the processor's calls follow.
+pub fn called<R: Abort + Wait>(
+    rt: &R,
+    alloc: Global,
+    cache: &Cache,
+    session: &mut Session,
+    text: &str,
+) -> Answer
+    requires { MayCall cache.now session.old }
+    ensures { MayCall cache.now session.new }
+{
+    let (op, rest) = first_word(text);
+    let (at, values) = first_word(rest);
+    let key = key(rt, at);
+    if op == "invoke" {
+        return invoked(rt, alloc, cache, session, &key, values);
+    }
+    if values.is_empty() {
+        return called_bare(rt, cache, session, op, &key).expect(rt, "an operation");
+    }
+    let (first, second) = first_word(values);
+    let first = value(rt, first);
+    if second.is_empty() {
+        return called_valued(rt, cache, session, op, &key, &first).expect(rt, "an operation");
+    }
+    flag(cache.replace_if(rt, session, &key, &first, &value(rt, second)))
+}

@@ -1,0 +1,68 @@
+//! A store whose loaders and writers count their calls, with signals between threads.
+use super::signals::Signals;
+use super::*;
+use jc_store::{Counting, SharedCounts, SharedStore, Store, StoreLoader, StoreWriter};
+
+/// A store with a=1, and the counts of its loaders' and writers' calls.
+#[derive(Drop)]
+pub struct Desk {
+    pub store: SharedStore,
+    pub signals: Signals,
+    counts: SharedCounts,
+}
+
+impl Desk {
+    pub fn new(rt: &impl Abort, alloc: Global) -> Self {
+        let entries = [(key(rt, "a"), value(rt, "1"))];
+        Desk::of(rt, alloc, &entries)
+    }
+
+    /// A desk whose store has these entries.
+    pub fn of(rt: &impl Abort, alloc: Global, entries: &[(Key, Value)]) -> Self {
+        let store = Store::of(alloc, entries).expect(rt, "memory");
+        Desk {
+            store: SharedStore::new(alloc, store).expect(rt, "memory"),
+            signals: Signals::new(alloc).expect(rt, "memory"),
+            counts: SharedCounts::new(alloc).expect(rt, "memory"),
+        }
+    }
+
+    /// A loader from the store, which counts its calls.
+    pub fn loader<R: Abort + Wait + Drop + Copy>(&self, rt: R) -> Counting<StoreLoader<R>, R> {
+        let loader = self.store.loader(rt).expect(&rt, "memory");
+        self.counts.counting(rt, loader).expect(&rt, "memory")
+    }
+
+    /// A writer to the store, which counts its calls.
+    pub fn writer<R: Abort + Wait + Drop + Copy>(&self, rt: R) -> Counting<StoreWriter<R>, R> {
+        let writer = self.store.writer(rt).expect(&rt, "memory");
+        self.counts.counting(rt, writer).expect(&rt, "memory")
+    }
+
+    /// The loader was called so often, and the writer to write and to delete.
+    pub fn counted<R: Abort + Wait>(&self, rt: &R, counts: &str) {
+        let counted = self.counts.now(rt);
+        let mut wanted = counts.split(' ');
+        for count in [counted.loads, counted.writes, counted.deletes] {
+            is(rt, wanted.next().and_then(|w| w.parse().ok()), Some(count));
+        }
+    }
+
+    /// The store is to have these entries.
+    pub fn holds<R: Abort + Wait>(&self, rt: &R, alloc: Global, wanted: &str) {
+        let entries = self.store.entries(rt, alloc).expect(rt, "memory");
+        let mut pairs = wanted.split_whitespace();
+        for (key, value) in &entries {
+            let (k, v) = pairs
+                .next()
+                .and_then(|p| p.split_once('='))
+                .expect(rt, "a pair");
+            is(
+                rt,
+                (key.bytes(), value.bytes()),
+                (k.as_bytes(), v.as_bytes()),
+            );
+        }
+        is(rt, pairs.next(), None);
+    }
+}

@@ -1,0 +1,87 @@
+//! Lines of a session: calls on one key, and lines that say what there is by then: what is in the store, and how many steps the
+//! session has made. A line that begins with `# ` is a comment. The counts of a call may be left out.
+//!
+//!     get a = 1 | 1 0 0
+//!     get a = 1
+//!     stored a=1
+//!     own 2
+//!
+//! Between threads: `await` waits until a loader or a writer that waits was asked, `raise` lets it answer, and `rest` lets other
+//! threads go on.
+ghost use Rattle.jc_cache.specs.Sessions.{MayCall};
+
+use super::answers::first_word;
+use super::*;
+
+/// A call, its answer, and the counts by then, if a line says any.
+fn parts<'a>(rt: &impl Abort, line: &'a str) -> (&'a str, &'a str, Option<&'a str>) {
+    let (call, counts) = match line.split_once(" | ") {
+        Some((call, counts)) => (call, Some(counts)),
+        None => (line, None),
+    };
+    let (call, answer) = call.split_once(" = ").expect(rt, "a call and its answer");
+    (call, answer, counts)
+}
+
+impl Desk {
+    /// Makes the call that a line says. It is to answer what the line says, and the counts are to be these afterwards.
+    fn call<R: Abort + Wait>(
+        &self,
+        rt: &R,
+        alloc: Global,
+        cache: &Cache,
+        session: &mut Session,
+        line: &str,
+    )
+        requires { MayCall cache.now session.old }
+        ensures { MayCall cache.now session.new }
+    {
+        let (call, answer, counts) = parts(rt, line);
+        let found = called(rt, alloc, cache, session, call);
+        is_at(rt, line, found, answer_of(rt, answer));
+        if let Some(counts) = counts {
+            self.counted(rt, counts);
+        }
+    }
+
+    /// Does what a line says.
+    pub fn play<R: Abort + Wait>(
+        &self,
+        rt: &R,
+        alloc: Global,
+        cache: &Cache,
+        session: &mut Session,
+        line: &str,
+    )
+        requires { MayCall cache.now session.old }
+        ensures { MayCall cache.now session.new }
+    {
+        let (word, rest) = first_word(line);
+        match word {
+            "#" => {}
+            "stored" => self.holds(rt, alloc, rest),
+            "own" => is(rt, Some(session.own()), rest.parse().ok()),
+            "await" => self.signals.wait_for_ask(rt),
+            "raise" => self.signals.raise(),
+            "rest" => signals::rest(),
+            _ => self.call(rt, alloc, cache, session, line),
+        }
+    }
+
+    /// Does what each line of a text says.
+    pub fn plays<R: Abort + Wait>(
+        &self,
+        rt: &R,
+        alloc: Global,
+        cache: &Cache,
+        session: &mut Session,
+        text: &str,
+    )
+        requires { MayCall cache.now session.old }
+        ensures { MayCall cache.now session.new }
+    {
+        for line in text.split_terminator('\n') {
+            self.play(rt, alloc, cache, session, line);
+        }
+    }
+}
