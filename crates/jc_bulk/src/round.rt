@@ -418,3 +418,105 @@ fn pick<R: Wait>(rt: &R, cache: &Cache, session: &mut Session, join: Join) -> Pr
         Picked::NotYet(_join) => unreachable!(),
     }
 }
+
+// 4. The round.
+
+/// One call of the loader or the writer for all keys that a round has reserved, if there are any, and their last phases. It returns
+/// the fault that the writer has returned, if it failed.
+fn end_calls<R: Wait>(
+    rt: &R,
+    cache: &Cache,
+    session: &mut Session,
+    targets: &Targets<'_>,
+    progress: &mut [Progress],
+    calls: Calls,
+) -> Option<Refusal>
+    requires distinct { IsDistinct (pointwise ◌==◌) (keys_of (ops_of targets.now)) }
+    requires kind { calls.kind ≡ kind_for targets.now }
+    requires underway { (caller : Caller) × (rounds : List Round) × (first : List (TableId × View)) × (joins : List JoinClaim)
+        × IsUnderway cache.now caller (ops_of targets.now) rounds first session.old progress.old calls.items joins }
+    ensures stay { StayEnded progress.old progress.new }
+    ensures agent { session.new.agent ≡ record session.old.agent {
+      counts = session.new.agent.counts;
+      hands = session.new.agent.hands;
+    } }
+    ensures underway { (caller : Caller) (rounds : List Round) (first : List (TableId × View)) (joins : List JoinClaim)
+        → IsUnderway cache.now caller (ops_of targets.now) rounds first session.old progress.old calls.items joins
+        → (more : List Round) × (length more ≤ 1)
+        × CallsInRounds (boxed loads_all) (boxed load_state) (boxed writes_all) (boxed deletes_all) (boxed write_state)
+        session.old.agent.hands.outside.loader session.old.agent.hands.outside.writer more
+        session.new.agent.hands.outside.loader session.new.agent.hands.outside.writer
+        × (faults_in more ≡ cons_option result [])
+        × IsUnderway cache.now caller (ops_of targets.now) (rounds ++ more) first session.new progress.new [] joins }
+{
+    let _types: Option<&(Reply, Value)> = None;
+    if calls.len() == 0 {
+        calls.end();
+        None
+    } else {
+        let (answered, returned) = calls.ask(rt, session);
+        commit_round(rt, cache, session, targets, progress, answered);
+        writer_fault(returned)
+    }
+}
+
+/// The fault that a call of the writer has returned, if it failed.
+fn writer_fault(returned: Result<(), u32>) -> Option<Refusal>
+    ensures { result ≡ fault_of returned }
+{
+    match returned {
+        Ok(()) => None,
+        Err(code) => Some(Refusal::WriterFailed(code)),
+    }
+}
+
+/// One round of a call that has nothing out: each key that can is begun, and what follows of them. The first fault or refusal of the
+/// call is noted as soon as it is met.
+pub(crate) fn run_round<R: Wait>(
+    rt: &R,
+    cache: &Cache,
+    session: &mut Session,
+    targets: &Targets<'_>,
+    progress: &mut [Progress],
+    calls: Calls,
+    joins: &mut Vec<Join>,
+    cause: &mut Option<Refusal>,
+)
+    requires distinct { IsDistinct (pointwise ◌==◌) (keys_of (ops_of targets.now)) }
+    requires kind { calls.kind ≡ kind_for targets.now }
+    requires none { (calls.items ≡ []) × (joins.old.items ≡ []) }
+    requires underway { (caller : Caller) × (rounds : List Round) × (first : List (TableId × View))
+        × IsUnderway cache.now caller (ops_of targets.now) rounds first session.old progress.old [] [] }
+    ensures stay { StayEnded progress.old progress.new }
+    ensures agent { session.new.agent ≡ record session.old.agent {
+      counts = session.new.agent.counts;
+      hands = session.new.agent.hands;
+    } }
+    ensures none { joins.new.items ≡ [] }
+    ensures underway { (caller : Caller) (rounds : List Round) (first : List (TableId × View))
+        → IsUnderway cache.now caller (ops_of targets.now) rounds first session.old progress.old [] []
+        → (more : List Round)
+        × CallsInRounds (boxed loads_all) (boxed load_state) (boxed writes_all) (boxed deletes_all) (boxed write_state)
+        session.old.agent.hands.outside.loader session.old.agent.hands.outside.writer more
+        session.new.agent.hands.outside.loader session.new.agent.hands.outside.writer
+        × IsNoted cause.old (failures progress.new ++ faults_in more) cause.new
+        × IsUnderway cache.now caller (ops_of targets.now) (rounds ++ more) first session.new progress.new [] [] }
+{
+    let _types: Option<&(Reply, Value)> = None;
+    let mut calls = calls;
+    start_round(rt, cache, session, targets, progress, &mut calls, joins);
+    note_first(cause, progress);
+    let fault = end_calls(rt, cache, session, targets, progress, calls);
+    note_fault(cause, fault);
+    pick_round(rt, cache, session, targets, progress, joins);
+    note_first(cause, progress);
+}
+
+/// Notes the fault that the writer has returned, unless a cause was noted before.
+fn note_fault(cause: &mut Option<Refusal>, returned: Option<Refusal>)
+    ensures { cause.new ≡ option_or cause.old returned }
+{
+    if cause.is_none() {
+        *cause = returned;
+    }
+}
