@@ -1,6 +1,6 @@
 //! Random calls of four sessions, each on a thread of its own, on a cache that is too small for their keys, before a loader and a
 //! writer that fail now and then.
-ghost use Rattle.std.specs.Prelude.{◌<◌};
+ghost use Rattle.std.specs.Prelude.{◌<◌, All};
 ghost use Rattle.jc_cache.specs.Sessions.{MayCall};
 
 use super::answers::{called_bare, called_valued};
@@ -168,7 +168,9 @@ fn is_coherent<R: Abort + Wait>(rt: &R, alloc: Global, desk: &Desk, stripe: &Clo
 }
 
 /// Ends a stage on which each of four sessions has made its calls. Each call is one step.
-fn ends_coherent<R: Abort + Wait>(rt: &R, alloc: Global, desk: &Desk, stage: Stage) {
+fn ends_coherent<R: Abort + Wait>(rt: &R, alloc: Global, desk: &Desk, stage: Stage)
+    requires { All (MayCall stage.owner.cache) stage.sessions.items }
+{
     stage.all_made(rt, CALLS);
     for stripe in &stage.close(rt, alloc) {
         is_coherent(rt, alloc, desk, stripe);
@@ -187,7 +189,7 @@ fn four_sessions_call_at_random(rt: HostRuntime) {
     for every in [0, 5] {
         let desk = Desk::new(&rt, alloc);
         let mut stage = Stage::new(&rt, alloc, &small);
-        for _ in 0..4 {
+        'entering: for _ in 0..4 {
             let loader = Unreliable::new(every, desk.loader(rt));
             let writer = Unreliable::new(every, desk.writer(rt));
             enter!(rt, stage, loader, writer);
