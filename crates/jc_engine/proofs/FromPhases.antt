@@ -26,6 +26,13 @@ use Rattle.jc_engine.proofs.AgentAfter.{after_first, after_both}
 use Rattle.jc_engine.proofs.Asked.{of_caller}
 use Rattle.jc_engine.proofs.Asking.{loader_for, writer_for}
 
+module _ {G T : Type 0} (takes gives : G → T → State → G → T → Type 0) (finds : G → T → State → Type 0) where
+  pub ends_by : (n : ℕ) (ticket : TicketClaim) (r : Reservation) (out : Out) (done : StepDone) (g : G) (t : T) (h : G) (u : T) → n ≡ ticket.reservation.caller.session → r ≡ ticket.reservation
+      → LentPhase takes gives finds n g t (λ a b. Commits a r out done b) h u → LentPhase takes gives finds ticket.reservation.caller.session g t (λ a b. Commits a ticket.reservation out done b) h u
+  ends_by n ticket r out done g t h u session its x =
+      subst (λ (q : Reservation). LentPhase takes gives finds ticket.reservation.caller.session g t (λ a b. Commits a q out done b) h u) its
+      (subst (λ (m : ℕ). LentPhase takes gives finds m g t (λ a b. Commits a r out done b) h u) session x)
+
 module _ {I J G T : Type 0} {D : I → Type 0} {E : J → Type 0}
     (loads : LoadRelation ((i : I) × D i)) (load_state : (i : I) × D i → List ℕ)
     (writes : WriteRelation ((j : J) × E j)) (write_state : (j : J) × E j → List ℕ)
@@ -48,12 +55,6 @@ module _ {I J G T : Type 0} {D : I → Type 0} {E : J → Type 0}
     agent = after_first old new _ first;
   }
 
-  pub ends_by : (n : ℕ) (ticket : TicketClaim) (r : Reservation) (out : Out) (done : StepDone) (g : G) (t : T) (h : G) (u : T) → n ≡ ticket.reservation.caller.session → r ≡ ticket.reservation
-      → LentPhase takes gives finds n g t (λ a b. Commits a r out done b) h u → LentPhase takes gives finds ticket.reservation.caller.session g t (λ a b. Commits a ticket.reservation out done b) h u
-  ends_by n ticket r out done g t h u session its x =
-      subst (λ (q : Reservation). LentPhase takes gives finds ticket.reservation.caller.session g t (λ a b. Commits a q out done b) h u) its
-      (subst (λ (m : ℕ). LentPhase takes gives finds m g t (λ a b. Commits a r out done b) h u) session x)
-
   abbrev pub reserved_call : (n : ℕ) (old mid asked new : Agent I J D E) (key : Bytes) (op : Op) (g : G) (t : T) (ticket : TicketClaim) (h : G) (u : T) (r : Reservation) (out : Out) (done : StepDone) (k : G) (v : T)
       → (x : Enters takes gives finds old.caller key op g t (entered.Asks ticket) h u)
       → LentPhase takes gives finds n h u (λ a b. Commits a r out done b) k v → n ≡ old.caller.session → r ≡ ticket.reservation
@@ -71,7 +72,7 @@ module _ {I J G T : Type 0} {D : I → Type 0} {E : J → Type 0}
         token = u;
         enters = x;
         asked = out;
-        ends = (done, refl, ends_by n ticket r out done h u k v (who ∙ sym (ap (λ (w : Caller). w.session) its_own.0)) its y);
+        ends = (done, refl, ends_by takes gives finds n ticket r out done h u k v (who ∙ sym (ap (λ (w : Caller). w.session) its_own.0)) its y);
         loader = loader_for (boxed loads) (boxed load_state) _ _ _ _ _ _ _ (ap (λ s. s.hands.outside.loader) first) its_own.1 loader (ap (λ s. s.hands.outside.loader) last);
         writer = writer_for (boxed writes) (boxed write_state) _ _ _ _ _ _ _ _ (ap (λ s. s.hands.outside.writer) first) its_own.1 writer (ap (λ s. s.hands.outside.writer) last);
         types = (

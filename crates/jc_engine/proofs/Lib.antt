@@ -10,3 +10,4 @@ pub mod OwnedCalls
 pub mod Processing
 pub mod Unasked
 pub mod Wanted
+pub mod Later

@@ -7,12 +7,13 @@
 --                     what a take could have found at first
 --     counts_entered  the counts up to there: a step more, a reservation more, or nothing
 --     EndsAs          how it goes on from there: if it has somebody to ask, it is committed with what was answered
+--     AsksAndEnds     a call from where it has somebody to ask: the loader or the writer is asked, and then the step is committed
 --     IsCall          a whole call
 --     IsInvocation    a whole call that runs a processor, which stays of its type
 --     IsTried         a call that waits for nobody and asks nobody: it is done at once or refused in the one state that it found, or it
 --                     is refused as busy and nothing was done
 use Rattle.std.specs.declared.dyn_box.DynBox.{DynBox}
-use Rattle.std.specs.Prelude.{◌≡◌, ◌⊎◌, ℕ, zero, suc, List, Result, Ok, Err}
+use Rattle.std.specs.Prelude.{◌≡◌, ◌⊎◌, ℕ, zero, suc, List, true, Option, Result, Ok, Err}
 use Rattle.jc_types.specs.declared.caller.Caller.{Caller}
 use Rattle.jc_types.specs.declared.refusal.Refusal.{Refusal}
 use Rattle.jc_types.specs.declared.refusal.Refusal.TheVariants.{Busy}
@@ -21,6 +22,8 @@ use Rattle.jc_model.specs.Group.{nothing_said}
 use Rattle.jc_model.specs.declared.event.Op.{Op}
 use Rattle.jc_model.specs.declared.event.Op.TheVariants.{Invoke}
 use Rattle.jc_model.specs.declared.event.Out.{Out}
+use Rattle.jc_model.specs.declared.event.Change.{Change}
+use Rattle.jc_model.specs.declared.event.ProcessAnswer.TheVariants.{NotAsked}
 use Rattle.jc_model.specs.declared.event.Reply.{Reply}
 use Rattle.jc_outside.specs.Calling.{LoadRelation, WriteRelation}
 use Rattle.jc_mutentry.specs.Running.{ProcessRelation}
@@ -30,9 +33,10 @@ use Rattle.jc_stripe.specs.declared.begun.StepDone.{StepDone}
 use Rattle.jc_stripe.specs.declared.begun.Begun.{Begun}
 use Rattle.jc_stripe.specs.declared.begun.Begun.TheVariants as begun
 use Rattle.jc_stripe.specs.declared.begun.Picked.TheVariants as picked
-use Rattle.jc_stripe.specs.Tickets.{JoinClaim}
+use Rattle.jc_stripe.specs.Tickets.{JoinClaim, asks_writer, change_asked}
+use Rattle.jc_stripe.specs.declared.ticket.Reservation.{Reservation}
 use Rattle.jc_session.specs.Boxed.{boxed}
-use Rattle.jc_session.specs.Counting.{one_more}
+use Rattle.jc_session.specs.Counting.{one_more, counts_ended}
 use Rattle.jc_session.specs.declared.counts.Counts.{Counts}
 use Rattle.jc_session.specs.declared.agent.Agent.{Agent}
 use Rattle.jc_engine.specs.declared.entering.Entered.{Entered}
@@ -89,6 +93,26 @@ abbrev pub counts_entered : Counts → Entered → Counts
 counts_entered counts (entered.Done reply) = record counts { own = one_more counts.own }
 counts_entered counts (entered.Refused refusal) = counts
 counts_entered counts (entered.Asks ticket) = record counts { reservations = one_more counts.reservations }
+
+pub record AsksAndEnds
+    {I J G T : Type 0} {D : I → Type 0} {E : J → Type 0}
+    (loads : LoadRelation ((i : I) × D i)) (load_state : (i : I) × D i → List ℕ)
+    (writes : WriteRelation ((j : J) × E j)) (write_state : (j : J) × E j → List ℕ)
+    (takes gives : G → T → State → G → T → Type 0) (finds : G → T → State → Type 0)
+    (r : Reservation) (old : Agent I J D E) (g : G) (t : T) (reply : Reply) (new : Agent I J D E) (h : G) (u : T) : Type 0 where
+  pub asked : Agent I J D E
+  pub out : Out
+  pub done : StepDone
+  pub replies : done.reply ≡ reply
+  pub loader : AsksLoader (boxed loads) (boxed load_state) old.hands.outside.loader r.key out.load asked.hands.outside.loader
+  pub writer : (wanted : Option Change) → (asks_writer r.first ≡ true → wanted ≡ change_asked r.first)
+      → AsksWriter (boxed writes) (boxed write_state) old.hands.outside.writer r.key wanted out.write asked.hands.outside.writer
+  pub process : out.process ≡ NotAsked
+  pub types : KeepsTypes old asked
+  pub held : asked.hands.held ≡ 0
+  pub rest : asked ≡ record old { hands = asked.hands }
+  pub last : new ≡ record asked { counts = counts_ended asked.counts }
+  pub phase : LentPhase takes gives finds r.caller.session g t (λ a b. Commits a r out done b) h u
 
 -- 3. The whole.
 

@@ -1,24 +1,26 @@
 //! A whole call on one key.
 ghost use Rattle.std.specs.Prelude.{◌≡◌, ◌||◌, ℕ, true, false, Option, IsSome};
-ghost use Rattle.jc_types.specs.declared.config.Config.{Config};
 ghost use Rattle.jc_model.specs.Table.{is_invoke};
+ghost use Rattle.jc_model.specs.declared.event.Op.TheVariants.{Get};
 ghost use Rattle.jc_model.specs.declared.event.Change.{Change};
 ghost use Rattle.jc_model.specs.declared.event.ProcessAnswer.TheVariants.{NotAsked};
 ghost use Rattle.jc_stripe.specs.State.{State};
 ghost use Rattle.jc_stripe.specs.Tickets.{asks_loader, asks_writer, change_asked};
 ghost use Rattle.jc_session.specs.Boxed.{boxed};
+ghost use Rattle.jc_outside.specs.declared.done.Origin.TheVariants.{Live};
 ghost use Rattle.jc_engine.specs.Answered.{IsAnswered, out_of};
+ghost use Rattle.jc_engine.specs.declared.answered.Answered.TheVariants.{Loaded, Written};
 ghost use Rattle.jc_engine.specs.Asking.{AsksLoader, AsksWriter, KeepsTypes};
-ghost use Rattle.jc_engine.specs.Needs.{BeginsIfClear, IsReported};
-ghost use Rattle.jc_engine.specs.Calls.{IsCall};
+ghost use Rattle.jc_engine.specs.Needs.{BeginsIfClear};
+ghost use Rattle.jc_engine.specs.Calls.{IsCall, AsksAndEnds};
 
-use crate::answered::Answered;
 use crate::entering::{Entered, enter};
 use crate::phase::make_phase;
-use crate::phases::Commit;
+use crate::phases::{CommitLoad, CommitWrite, Hit};
 use jc_gate::Gate;
 use jc_model::{Op, Reply};
 use jc_session::Agent;
+use jc_stripe::phase_laws::is_uniform;
 use jc_stripe::{First, Ticket};
 use jc_types::{Key, Refusal};
 use std::sync::Wait;
@@ -53,44 +55,195 @@ pub fn call<G: Gate, R: Wait>(
     ensures call { IsCall loads load_state writes write_state G.takes G.gives G.finds
         agent.old key.now op.now gate.old token.old result agent.new gate.new token.new }
 {
-    match enter(rt, gate, token, agent, key, op) {
-        Entered::Done(reply) => Ok(reply),
-        Entered::Refused(refusal) => Err(refusal),
-        Entered::Asks(ticket) => {
-            let commit = ask(rt, agent, ticket);
-            let step = make_phase(rt, gate, token, agent, commit);
-            Ok(step.reply)
-        }
+    if let Op::Get = op {
+        get(rt, gate, token, agent, key)
+    } else {
+        call_in_phases(rt, gate, token, agent, key, op)
     }
 }
 
-/// Asks the loader or the writer, whichever the ticket's reservation asks first: the call may then be committed.
-fn ask<R: Wait>(rt: &R, agent: &mut Agent, ticket: Ticket) -> Commit
+/// The agent's current call, if it is a `get`: a hit, or else as every other call.
+fn get<G: Gate, R: Wait>(
+    rt: &R,
+    gate: &mut G,
+    token: &mut G::Token,
+    agent: &mut Agent,
+    key: &Key,
+) -> Result<Reply, Refusal>
     requires held { agent.old.hands.held ≡ 0 }
+    requires free { G.is_free gate.old token.old }
+    requires speaks { G.speaks_for token.old agent.old.caller.session }
+    requires needs { (a : State) → G.finds gate.old token.old a → BeginsIfClear agent.old.caller key.now a }
+    requires none { (agent.old.counts.reservations ≡ 0) × (agent.old.counts.joins ≡ 0) }
+    requires writer { (a : State) → G.finds gate.old token.old a → a.config.write_through ≡ true → IsSome agent.old.hands.outside.writer }
+    ensures free { G.is_free gate.new token.new }
+    ensures speaks { (n : ℕ) → G.speaks_for token.old n → G.speaks_for token.new n }
+    ensures call { IsCall loads load_state writes write_state G.takes G.gives G.finds
+        agent.old key.now Get gate.old token.old result agent.new gate.new token.new }
+{
+    is_uniform();
+    let caller = agent.caller();
+    match make_phase(rt, gate, token, agent, Hit { caller, key }) {
+        Some(value) => Ok(Reply::Value(Some(value))),
+        None => call_in_phases(rt, gate, token, agent, key, &Op::Get),
+    }
+}
+
+/// The call, if it isn't a hit. Out of line: a hit shouldn't clear the room of tickets.
+#[inline(never)]
+fn call_in_phases<G: Gate, R: Wait>(
+    rt: &R,
+    gate: &mut G,
+    token: &mut G::Token,
+    agent: &mut Agent,
+    key: &Key,
+    op: &Op,
+) -> Result<Reply, Refusal>
+    requires held { agent.old.hands.held ≡ 0 }
+    requires free { G.is_free gate.old token.old }
+    requires speaks { G.speaks_for token.old agent.old.caller.session }
+    requires op { is_invoke op.now ≡ false }
+    requires needs { (a : State) → G.finds gate.old token.old a → BeginsIfClear agent.old.caller key.now a }
+    requires none { (agent.old.counts.reservations ≡ 0) × (agent.old.counts.joins ≡ 0) }
+    requires writer { (a : State) → G.finds gate.old token.old a → a.config.write_through ≡ true → IsSome agent.old.hands.outside.writer }
+    ensures free { G.is_free gate.new token.new }
+    ensures speaks { (n : ℕ) → G.speaks_for token.old n → G.speaks_for token.new n }
+    ensures call { IsCall loads load_state writes write_state G.takes G.gives G.finds
+        agent.old key.now op.now gate.old token.old result agent.new gate.new token.new }
+{
+    match enter(rt, gate, token, agent, key, op) {
+        Entered::Done(reply) => Ok(reply),
+        Entered::Refused(refusal) => Err(refusal),
+        Entered::Asks(ticket) => Ok(ask_and_end(rt, gate, token, agent, ticket)),
+    }
+}
+
+/// Asks the loader or the writer, whichever the ticket's reservation asks first, and commits the call. It gives the step's reply.
+fn ask_and_end<G: Gate, R: Wait>(
+    rt: &R,
+    gate: &mut G,
+    token: &mut G::Token,
+    agent: &mut Agent,
+    ticket: Ticket,
+) -> Reply
+    requires held { agent.old.hands.held ≡ 0 }
+    requires free { G.is_free gate.old token.old }
+    requires speaks { G.speaks_for token.old agent.old.caller.session }
     requires unasked { ticket.asked ≡ false }
+    requires who { ticket.reservation.caller.session ≡ agent.old.caller.session }
+    requires live { (a : State) → G.finds gate.old token.old a → a.origin ≡ Live }
     requires first { asks_loader ticket.reservation.first || asks_writer ticket.reservation.first ≡ true }
     requires writer { asks_writer ticket.reservation.first ≡ true → IsSome agent.old.hands.outside.writer }
+    ensures free { G.is_free gate.new token.new }
+    ensures speaks { (n : ℕ) → G.speaks_for token.old n → G.speaks_for token.new n }
+    ensures ends { AsksAndEnds loads load_state writes write_state G.takes G.gives G.finds
+        ticket.reservation agent.old gate.old token.old result agent.new gate.new token.new }
+{
+    match ticket.reservation().first {
+        First::Loader => load_and_end(rt, gate, token, agent, ticket),
+        First::Writer(_) => write_and_end(rt, gate, token, agent, ticket),
+        First::Nobody | First::Processor { .. } => unreachable!(),
+    }
+}
+
+/// The call, if its loader is asked.
+#[inline(never)]
+fn load_and_end<G: Gate, R: Wait>(
+    rt: &R,
+    gate: &mut G,
+    token: &mut G::Token,
+    agent: &mut Agent,
+    ticket: Ticket,
+) -> Reply
+    requires held { agent.old.hands.held ≡ 0 }
+    requires free { G.is_free gate.old token.old }
+    requires speaks { G.speaks_for token.old agent.old.caller.session }
+    requires unasked { ticket.asked ≡ false }
+    requires who { ticket.reservation.caller.session ≡ agent.old.caller.session }
+    requires live { (a : State) → G.finds gate.old token.old a → a.origin ≡ Live }
+    requires first { asks_loader ticket.reservation.first ≡ true }
+    ensures free { G.is_free gate.new token.new }
+    ensures speaks { (n : ℕ) → G.speaks_for token.old n → G.speaks_for token.new n }
+    ensures ends { AsksAndEnds loads load_state writes write_state G.takes G.gives G.finds
+        ticket.reservation agent.old gate.old token.old result agent.new gate.new token.new }
+{
+    let commit = ask_loader(rt, agent, ticket);
+    make_phase(rt, gate, token, agent, commit).reply
+}
+
+/// The call, if its writer is asked.
+#[inline(never)]
+fn write_and_end<G: Gate, R: Wait>(
+    rt: &R,
+    gate: &mut G,
+    token: &mut G::Token,
+    agent: &mut Agent,
+    ticket: Ticket,
+) -> Reply
+    requires held { agent.old.hands.held ≡ 0 }
+    requires free { G.is_free gate.old token.old }
+    requires speaks { G.speaks_for token.old agent.old.caller.session }
+    requires unasked { ticket.asked ≡ false }
+    requires who { ticket.reservation.caller.session ≡ agent.old.caller.session }
+    requires live { (a : State) → G.finds gate.old token.old a → a.origin ≡ Live }
+    requires first { asks_writer ticket.reservation.first ≡ true }
+    requires writer { IsSome agent.old.hands.outside.writer }
+    ensures free { G.is_free gate.new token.new }
+    ensures speaks { (n : ℕ) → G.speaks_for token.old n → G.speaks_for token.new n }
+    ensures ends { AsksAndEnds loads load_state writes write_state G.takes G.gives G.finds
+        ticket.reservation agent.old gate.old token.old result agent.new gate.new token.new }
+{
+    let commit = ask_writer(rt, agent, ticket);
+    make_phase(rt, gate, token, agent, commit).reply
+}
+
+/// Asks the loader: the call may then be committed.
+fn ask_loader<R: Wait>(rt: &R, agent: &mut Agent, ticket: Ticket) -> CommitLoad
+    requires held { agent.old.hands.held ≡ 0 }
+    requires unasked { ticket.asked ≡ false }
+    requires first { asks_loader ticket.reservation.first ≡ true }
     ensures ticket { result.ticket.reservation ≡ ticket.reservation }
-    ensures answered { IsAnswered result.ticket result.answered }
-    ensures reported { (config : Config) → IsReported config ticket.reservation result.answered }
+    ensures answered { IsAnswered result.ticket (Loaded result.done) }
     ensures loader { AsksLoader (boxed loads) (boxed load_state)
         agent.old.hands.outside.loader ticket.reservation.key
-        (out_of result.answered).load agent.new.hands.outside.loader }
+        (out_of (Loaded result.done)).load agent.new.hands.outside.loader }
     ensures writer { (wanted : Option Change)
         → (asks_writer ticket.reservation.first ≡ true → wanted ≡ change_asked ticket.reservation.first)
         → AsksWriter (boxed writes) (boxed write_state)
         agent.old.hands.outside.writer ticket.reservation.key wanted
-        (out_of result.answered).write agent.new.hands.outside.writer }
+        (out_of (Loaded result.done)).write agent.new.hands.outside.writer }
     ensures types { KeepsTypes agent.old agent.new }
-    ensures process { (out_of result.answered).process ≡ NotAsked }
+    ensures process { (out_of (Loaded result.done)).process ≡ NotAsked }
     ensures held { agent.new.hands.held ≡ 0 }
     ensures rest { agent.new ≡ record agent.old { hands = agent.new.hands } }
 {
     let mut ticket = ticket;
-    let answered = match ticket.reservation().first {
-        First::Loader => Answered::Loaded(agent.ask_loader(rt, ticket.ask())),
-        First::Writer(_) => Answered::Written(agent.ask_writer(rt, ticket.ask())),
-        First::Nobody | First::Processor { .. } => unreachable!(),
-    };
-    Commit { ticket, answered }
+    let done = agent.ask_loader(rt, ticket.ask());
+    CommitLoad { ticket, done }
+}
+
+/// Asks the writer: the call may then be committed.
+fn ask_writer<R: Wait>(rt: &R, agent: &mut Agent, ticket: Ticket) -> CommitWrite
+    requires held { agent.old.hands.held ≡ 0 }
+    requires unasked { ticket.asked ≡ false }
+    requires first { asks_writer ticket.reservation.first ≡ true }
+    requires writer { IsSome agent.old.hands.outside.writer }
+    ensures ticket { result.ticket.reservation ≡ ticket.reservation }
+    ensures answered { IsAnswered result.ticket (Written result.done) }
+    ensures loader { AsksLoader (boxed loads) (boxed load_state)
+        agent.old.hands.outside.loader ticket.reservation.key
+        (out_of (Written result.done)).load agent.new.hands.outside.loader }
+    ensures writer { (wanted : Option Change)
+        → (asks_writer ticket.reservation.first ≡ true → wanted ≡ change_asked ticket.reservation.first)
+        → AsksWriter (boxed writes) (boxed write_state)
+        agent.old.hands.outside.writer ticket.reservation.key wanted
+        (out_of (Written result.done)).write agent.new.hands.outside.writer }
+    ensures types { KeepsTypes agent.old agent.new }
+    ensures process { (out_of (Written result.done)).process ≡ NotAsked }
+    ensures held { agent.new.hands.held ≡ 0 }
+    ensures rest { agent.new ≡ record agent.old { hands = agent.new.hands } }
+{
+    let mut ticket = ticket;
+    let done = agent.ask_writer(rt, ticket.ask());
+    CommitWrite { ticket, done }
 }

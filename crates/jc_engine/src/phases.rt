@@ -1,5 +1,6 @@
 //! The phases of a call.
-ghost use Rattle.std.specs.Prelude.{◌≡◌};
+ghost use Rattle.std.specs.Prelude.{◌≡◌, ◌↔◌, IsTrue};
+ghost use Rattle.jc_stripe.specs.State.{IsOut};
 ghost use Rattle.jc_engine.specs.Needs.{is_waited_out};
 
 use crate::answered::Answered;
@@ -7,8 +8,8 @@ use crate::phase::Phase;
 use jc_model::Op;
 use jc_session::Counted;
 use jc_stripe::phase_laws::caller_numbers;
-use jc_stripe::{Begun, Join, Picked, StepDone, Stripe, Ticket};
-use jc_types::{Caller, Key};
+use jc_stripe::{Ask, Begun, Join, LoadDone, Picked, StepDone, Stripe, Ticket, WriteDone};
+use jc_types::{Caller, Key, Value};
 
 /// Whether a first phase is to be tried again.
 fn is_waited_out(begun: &Begun) -> bool
@@ -18,6 +19,13 @@ fn is_waited_out(begun: &Begun) -> bool
         Begun::Refused(refusal) => refusal.is_put_off(),
         Begun::Done(_) | Begun::Asks(_) | Begun::Joined(_) => false,
     }
+}
+
+/// Whether a ticket's reservation is out here, so that its call may be committed.
+fn is_out(stripe: &Stripe, ticket: &Ticket) -> bool
+    ensures { IsTrue result ↔ IsOut stripe.now ticket.now.reservation }
+{
+    stripe.holds(ticket.reservation())
 }
 
 /// The first phase of a call, which waits out `Busy`, `TooManyInFlight` and `TooManyJoiners`.
@@ -69,6 +77,50 @@ impl<'a> Phase for Start<'a> {
         ensures { result ≡ counted_begun begun.now }
     {
         Counted::of_begun(begun)
+    }
+}
+
+/// The first phase of a `get` that finds its entry. It answers the value; None says that nothing was done, and that the call is to
+/// be begun by [`Start`].
+#[derive(Drop)]
+pub(crate) struct Hit<'a> {
+    /// The call.
+    pub(crate) caller: Caller,
+    /// Its key.
+    pub(crate) key: &'a Key,
+}
+
+impl<'a> Phase for Hit<'a> {
+    ghost use Rattle.jc_engine.specs.Needs.{BeginsIfClear, Hits, counted_hit};
+    ghost use Rattle.jc_engine.specs.Stays.{begins-stays};
+
+    type Answer = Option<Value>;
+
+    ghost who = { λ p. p.caller.session };
+
+    ghost needs = { λ p a. BeginsIfClear p.caller p.key.now a };
+
+    ghost makes = { λ p a found b. Hits p.caller p.key.now found a b };
+
+    ghost counts = { λ found. counted_hit found };
+
+    ghost stays = { λ p a b after needs. begins-stays p.caller p.key.now a b after needs };
+
+    fn make(self, stripe: &mut Stripe) -> Result<Option<Value>, Self> {
+        caller_numbers();
+        if !stripe.is_clear(self.caller, self.key) {
+            return Ok(None);
+        }
+        Ok(stripe.hit(self.caller, self.key))
+    }
+
+    fn counted(found: &Option<Value>) -> Counted
+        ensures { result ≡ counted_hit found.now }
+    {
+        match found {
+            Some(_) => Counted::Step,
+            None => Counted::Nothing,
+        }
     }
 }
 
@@ -189,7 +241,7 @@ impl Phase for Commit {
     ghost stays = { λ p a b after needs. commits-stays p.ticket p.answered a b after needs };
 
     fn make(self, stripe: &mut Stripe) -> Result<StepDone, Self> {
-        if !stripe.holds(self.ticket.reservation()) {
+        if !is_out(stripe, &self.ticket) {
             return Err(self);
         }
         let Commit { ticket, answered } = self;
@@ -198,6 +250,88 @@ impl Phase for Commit {
             Answered::Written(done) => Ok(stripe.commit_write(ticket, done)),
             Answered::Processed(done, report) => Ok(stripe.commit_process(ticket, done, report)),
         }
+    }
+
+    fn counted(_step: &StepDone) -> Counted {
+        Counted::Committed
+    }
+}
+
+/// The last phase of a call that was answered by the loader: a [`Commit`] that has no room for a processor's answer.
+pub(crate) struct CommitLoad {
+    /// The ticket of its reservation.
+    pub(crate) ticket: Ticket,
+    /// What the loader has answered.
+    pub(crate) done: LoadDone<Ask>,
+}
+
+impl Phase for CommitLoad {
+    ghost use Rattle.jc_stripe.specs.Phases.{Commits};
+    ghost use Rattle.jc_session.specs.declared.counts.Counted.TheVariants.{Committed};
+    ghost use Rattle.jc_engine.specs.Answered.{out_of};
+    ghost use Rattle.jc_engine.specs.declared.answered.Answered.TheVariants.{Loaded};
+    ghost use Rattle.jc_engine.specs.Needs.{CommitsHere};
+    ghost use Rattle.jc_engine.specs.Stays.{commits-stays};
+
+    type Answer = StepDone;
+
+    ghost who = { λ p. p.ticket.reservation.caller.session };
+
+    ghost needs = { λ p a. CommitsHere p.ticket (Loaded p.done) a };
+
+    ghost makes = { λ p a step b. Commits a p.ticket.reservation (out_of (Loaded p.done)) step b };
+
+    ghost counts = { λ step. Committed };
+
+    ghost stays = { λ p a b after needs. commits-stays p.ticket (Loaded p.done) a b after needs };
+
+    fn make(self, stripe: &mut Stripe) -> Result<StepDone, Self> {
+        if !is_out(stripe, &self.ticket) {
+            return Err(self);
+        }
+        let CommitLoad { ticket, done } = self;
+        Ok(stripe.commit_load(ticket, done))
+    }
+
+    fn counted(_step: &StepDone) -> Counted {
+        Counted::Committed
+    }
+}
+
+/// The last phase of a call that was answered by the writer: a [`Commit`] that has no room for a processor's answer.
+pub(crate) struct CommitWrite {
+    /// The ticket of its reservation.
+    pub(crate) ticket: Ticket,
+    /// What the writer has reported.
+    pub(crate) done: WriteDone<Ask>,
+}
+
+impl Phase for CommitWrite {
+    ghost use Rattle.jc_stripe.specs.Phases.{Commits};
+    ghost use Rattle.jc_session.specs.declared.counts.Counted.TheVariants.{Committed};
+    ghost use Rattle.jc_engine.specs.Answered.{out_of};
+    ghost use Rattle.jc_engine.specs.declared.answered.Answered.TheVariants.{Written};
+    ghost use Rattle.jc_engine.specs.Needs.{CommitsHere};
+    ghost use Rattle.jc_engine.specs.Stays.{commits-stays};
+
+    type Answer = StepDone;
+
+    ghost who = { λ p. p.ticket.reservation.caller.session };
+
+    ghost needs = { λ p a. CommitsHere p.ticket (Written p.done) a };
+
+    ghost makes = { λ p a step b. Commits a p.ticket.reservation (out_of (Written p.done)) step b };
+
+    ghost counts = { λ step. Committed };
+
+    ghost stays = { λ p a b after needs. commits-stays p.ticket (Written p.done) a b after needs };
+
+    fn make(self, stripe: &mut Stripe) -> Result<StepDone, Self> {
+        if !is_out(stripe, &self.ticket) {
+            return Err(self);
+        }
+        let CommitWrite { ticket, done } = self;
+        Ok(stripe.commit_write(ticket, done))
     }
 
     fn counted(_step: &StepDone) -> Counted {

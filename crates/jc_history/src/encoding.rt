@@ -2,8 +2,8 @@
 //!
 //! Each function appends to a vector that has room for the longest thing of its kind, so it takes no
 //! memory. Beside the bytes it ensures that they can be decoded again.
-ghost use Rattle.std.specs.Prelude.{◌≡◌, ◌+◌, ◌<◌, ◌≤◌, ◌^◌, ◌∷◌, ◌++◌, length, vec_len, vec_capacity};
-ghost use Rattle.std.specs.Int.{w32, to_le_bytes};
+ghost use Rattle.std.specs.Prelude.{◌≡◌, ◌+◌, ◌*◌, ◌<◌, ◌≤◌, ◌^◌, ◌∷◌, ◌++◌, length, vec_len, vec_capacity};
+ghost use Rattle.std.specs.Int.{w16, w32, to_le_bytes};
 ghost use Rattle.jc_history.specs.Appending.{Appends};
 ghost use Rattle.jc_history.specs.Encoding.{text_bytes, optional_bytes, caller_bytes, op_bytes, load_bytes, write_bytes};
 ghost use Rattle.jc_history.specs.Encoding.{effect_bytes, process_bytes, out_bytes, refusal_bytes, reply_bytes, event_bytes};
@@ -11,6 +11,7 @@ ghost use Rattle.jc_history.specs.Encodable.{IsCode, IsKeyText, IsValueText, IsE
 ghost use Rattle.jc_history.specs.Encodable.{IsEncodableOp, IsEncodableLoad, IsEncodableWrite, IsEncodableEffect};
 ghost use Rattle.jc_history.specs.Encodable.{IsEncodableProcess, IsEncodableOut, IsEncodableRefusal, IsEncodableReply};
 ghost use Rattle.jc_history.specs.Encodable.{IsEncodable};
+ghost use Rattle.jc_history.specs.Past.{hit_event};
 
 use crate::lent::LentStep;
 use jc_model::{Cause, Effect, Event, LoadAnswer, Op, Out, ProcessAnswer, Reply, WriteAnswer};
@@ -286,6 +287,44 @@ pub(crate) fn encode_step(out: &mut Vec<u8>, step: &LentStep)
     encode_op(out, step.op);
     encode_out(out, step.out);
     encode_shared_with(out, step.shared_with);
+}
+
+/// Appends the length of a value and the tags before it: those of a step, and of a reply with a value.
+fn encode_hit_start(out: &mut Vec<u8>, length: u16)
+    requires { vec_len out.old + (2 * TAG_ROOM + LENGTH_ROOM) ≤ vec_capacity out.old }
+    ensures { Appends out.old out.new (0 ∷ 4 ∷ to_le_bytes w16 length) (2 * TAG_ROOM + LENGTH_ROOM) }
+{
+    let [a, b] = length.to_le_bytes();
+    append(out, &[0, 4, a, b]);
+}
+
+/// Appends a caller, and the length of the key behind it.
+fn encode_hit_caller(out: &mut Vec<u8>, caller: &Caller, length: u16)
+    requires { vec_len out.old + (CALLER_ROOM + LENGTH_ROOM) ≤ vec_capacity out.old }
+    ensures appends { Appends out.old out.new (caller_bytes caller.now ++ to_le_bytes w16 length) (CALLER_ROOM + LENGTH_ROOM) }
+    ensures encodable { IsEncodableCaller caller.now }
+{
+    let Caller { session, call } = *caller;
+    let [a, b, c, d] = session.to_le_bytes();
+    let [e, f, g, h, i, j, k, l] = call.to_le_bytes();
+    let [m, n] = length.to_le_bytes();
+    append(out, &[a, b, c, d, e, f, g, h, i, j, k, l, m, n]);
+}
+
+/// Appends the bytes of a `get` that found this value, and asked nobody: what [`encode_step`] appends of the same step, in fewer
+/// and fixed pieces.
+pub(crate) fn encode_hit(out: &mut Vec<u8>, caller: &Caller, key: &Key, value: &Value)
+    requires { vec_len out.old + EVENT_ROOM ≤ vec_capacity out.old }
+    ensures appends { Appends out.old out.new (event_bytes (hit_event caller.now key.now value.now)) EVENT_ROOM }
+    ensures encodable { IsEncodable (hit_event caller.now key.now value.now) }
+{
+    let (value, key) = (value.bytes(), key.bytes());
+    encode_hit_start(out, value.len() as u16);
+    append(out, value);
+    encode_hit_caller(out, caller, key.len() as u16);
+    append(out, key);
+    // `Get`, nothing said by the loader, the writer or a processor, and no load shared.
+    append(out, &[0, 0, 0, 0, 0]);
 }
 
 /// Appends the bytes of an event, at most [`EVENT_ROOM`] of them.

@@ -5,15 +5,15 @@
 //! when it has the answer: such a push is never refused. The places that it doesn't use it gives back.
 ghost use Rattle.std.specs.Prelude.{◌≡◌, ◌+◌, ◌<◌, ◌≤◌, ◌^◌, ◌↔◌, [], length, vec_len, vec_capacity, ◌∷◌, ◌++◌, Some, IsTrue};
 ghost use Rattle.std.specs.Prelude.{IfOk, OnOk, OnErr, All, if◌then◌else◌, slice_get, slice_range};
-ghost use Rattle.jc_history.specs.Past.{places_used, IsWithinLimit, promise, unpromise, push, reply_in};
+ghost use Rattle.jc_history.specs.Past.{places_used, IsWithinLimit, promise, unpromise, push, hit_event, reply_in};
 ghost use Rattle.jc_history.specs.Stored.{events_at, IsComplete};
 ghost use Rattle.jc_history.specs.HistoryInside.{CanAppend, AppendsEvent};
 
 use crate::decoding::{decode_event, decode_reply_of_step};
-use crate::encoding::{EVENT_ROOM, encode_event, encode_step};
+use crate::encoding::{EVENT_ROOM, encode_event, encode_hit, encode_step};
 use crate::lent::LentStep;
 use jc_model::{Event, Reply};
-use jc_types::HISTORY_MAX;
+use jc_types::{Caller, HISTORY_MAX, Key, Value};
 use std::alloc::{AllocError, Global};
 use std::marker::Model;
 
@@ -120,6 +120,16 @@ impl History {
         self.promised -= 1;
     }
 
+    /// Appends the step of a `get` that found its entry and asked nobody, in a place that is free: what a promise of one place and
+    /// then a [`push`](History::push) of the same event do. It is never refused, and takes no memory.
+    pub fn push_hit(&mut self, caller: &Caller, key: &Key, value: &Value)
+        requires { places_used self.old < self.old.limit }
+        ensures after { self.new ≡ push (hit_event caller.now key.now value.now) (promise 1 self.old) }
+        ensures within { IsWithinLimit self.new }
+    {
+        append_hit(&mut self.bytes, &mut self.starts, caller, key, value);
+    }
+
     /// How many events there are, at most [`HISTORY_MAX`]. Promised places don't count.
     pub fn len(&self) -> usize
         ensures len { result ≡ length self.now.events }
@@ -178,6 +188,15 @@ fn append_step(bytes: &mut Vec<u8>, starts: &mut Vec<u32>, step: &LentStep)
 {
     starts.push_reserved(bytes.len() as u32);
     encode_step(bytes, step);
+}
+
+/// Appends the bytes of a hit, and the index at which they start.
+fn append_hit(bytes: &mut Vec<u8>, starts: &mut Vec<u32>, caller: &Caller, key: &Key, value: &Value)
+    requires { CanAppend bytes.old starts.old }
+    ensures { AppendsEvent bytes.old starts.old (hit_event caller.now key.now value.now) bytes.new starts.new }
+{
+    starts.push_reserved(bytes.len() as u32);
+    encode_hit(bytes, caller, key, value);
 }
 
 /// The event that starts at the index that is at a place.

@@ -40,10 +40,17 @@ impl<R: Reserved> Reservations<R> {
     pub fn new() -> Self
         ensures { result ≡ record { held = []; next = 0 } }
     {
+        Reservations::new_from(0)
+    }
+
+    /// A table with no key reserved, whose first reservation has this number. By [`LAST_NUMBER`] there is none.
+    pub fn new_from(next: u64) -> Self
+        ensures { result ≡ record { held = []; next = next } }
+    {
         Reservations {
             held: ArrayVec::new(),
             keys: ArrayVec::new(),
-            next: 0,
+            next,
         }
     }
 

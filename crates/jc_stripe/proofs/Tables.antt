@@ -4,15 +4,13 @@
 --     reached_joined        a joiner more
 --     reached_withdrawn     a reservation given back
 --     reached_picked        a joiner less
-use Rattle.std.proofs.Common.{◌≡◌, ◌≤◌, ◌<◌, ◌+◌, ◌*◌, ◌&&◌, ℕ, List, [], ◌∷◌, ◌++◌, length, IsTrue, Bool, true, false, cond, not, Some, Ok, filter, refl, sym, ap, ◌∙◌, subst, arith, append-nil}
+use Rattle.std.proofs.Common.{◌≡◌, ◌≤◌, ◌<◌, ◌+◌, ◌*◌, ◌&&◌, ℕ, List, [], ◌∷◌, ◌++◌, length, IsTrue, Bool, true, false, cond, not, Some, filter, refl, sym, ap, ◌∙◌, subst, arith, append-nil}
 use Rattle.std.proofs.lemmas.List.{length-append}
 use Rattle.std.proofs.lemmas.List.Sums.{length-filter, count_by-le-length}
 use Rattle.std.specs.List.{list_all, count_by}
-use Rattle.std.specs.FinMap.{len, empty, len-empty, from_entries}
+use Rattle.std.specs.FinMap.{len, from_entries}
 use Rattle.std.proofs.lemmas.Bool.{and_parts, and_from}
 use Rattle.jc_types.proofs.CallerLemmas.{all_filter, found_more}
-use Rattle.jc_types.specs.declared.config.Config.{Config}
-use Rattle.jc_types.specs.Limits.{check}
 use Rattle.jc_model.specs.declared.event.Event.{Event}
 use Rattle.jc_model.specs.declared.event.Op.{Op}
 use Rattle.jc_model.specs.Cache.{Bytes, key_cmp, entry_at}

@@ -11,6 +11,7 @@
 --     own_eviction     the eviction of the step's own key, at the last place of its group, if it is evicted
 --     Steps            the stripe appends the group of one step
 --     with_joiner      the stripe with one joiner more, who waits for a load
+--     hit_done         the step of a get that found this value, at this place: nobody is evicted
 --     Begins           the first phase
 --     after_commit     the stripe with a reservation over, and the answer parked for each that waits for its load
 --     Commits          the last phase: the reservation ends, its step is appended, and with it those of its joiners
@@ -29,6 +30,7 @@ use Rattle.jc_model.specs.declared.event.Op.{Op}
 use Rattle.jc_model.specs.declared.event.Op.TheVariants.{Get}
 use Rattle.jc_model.specs.declared.event.Out.{Out}
 use Rattle.jc_model.specs.declared.event.Reply.{Reply}
+use Rattle.jc_model.specs.declared.event.Reply.TheVariants as reply
 use Rattle.jc_model.specs.declared.event.Cause.{Cause}
 use Rattle.jc_model.specs.declared.event.Cause.TheVariants.{Full, Memory}
 use Rattle.jc_model.specs.declared.event.Event.TheVariants.{Step}
@@ -128,6 +130,10 @@ pub record Steps (old : State) (caller : Caller) (key : Bytes) (op : Op) (out : 
 
 abbrev pub with_joiner : State → JoinClaim → State
 with_joiner old join = record old { joiners = joining.with_joiner join.caller join.key join.load old.joiners }
+
+-- the step of a get that found this value, at this place: nobody is evicted
+abbrev pub hit_done : ℕ → Bytes → StepDone
+hit_done place value = record { reply = reply.Value (Some value); place = place; victim = None; evicted = None }
 
 abbrev pub Begins : State → Caller → Bytes → Op → Begun → State → Type 0
 Begins old caller key op (begun.Refused refusal) new = (first_refusal old caller key op ≡ Some refusal) × (new ≡ old)

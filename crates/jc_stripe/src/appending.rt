@@ -151,35 +151,6 @@ pub(crate) fn make_step<'a>(
     }
 }
 
-/// The step of a call that found this entry and has it only moved to the front: nobody is evicted.
-pub(crate) fn touching_step<'a>(
-    caller: Caller,
-    key: &'a Key,
-    value: Value,
-    op: &'a Op,
-    out: &'a Out,
-) -> NewGroup<'a>
-    ensures { result ≡ record {
-      caller = caller;
-      key = key.now;
-      op = op.now;
-      out = out.now;
-      reply = reply_after op.now (Some value) out.now;
-      victim = None;
-      evicted = None;
-    } }
-{
-    NewGroup {
-        caller,
-        key,
-        op,
-        out,
-        reply: op.reply_after(Some(value), out),
-        victim: None,
-        evicted: None,
-    }
-}
-
 /// Appends an eviction. It is a function of its own, as the other that builds an event is: most steps come without, and needn't
 /// clear the room of an event.
 #[inline(never)]

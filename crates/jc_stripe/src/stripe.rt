@@ -1,9 +1,11 @@
 //! A stripe and its phases.
-ghost use Rattle.std.specs.Prelude.{◌≡◌, ◌≤◌, ◌<◌, ◌+◌, ◌++◌, ◌↔◌, [], true, false, IsTrue, IfOk, IsOk, OnOk, OnErr, Ok, None};
+ghost use Rattle.std.specs.Prelude.{◌≡◌, ◌≤◌, ◌<◌, ◌+◌, ◌++◌, ◌↔◌, [], true, false, IsTrue, IfOk, IsOk, OnOk, OnErr, IfSome, IfNone, Ok, None};
 ghost use Rattle.std.specs.Prelude.{Some, is_some, length, nat_le, slice_get, slice_range, vec_len, vec_capacity};
 ghost use Rattle.std.specs.FinMap as map;
 ghost use Rattle.jc_types.specs.Limits.{check};
 ghost use Rattle.jc_model.specs.declared.event.Op.{Op};
+ghost use Rattle.jc_model.specs.declared.event.Op.TheVariants.{Get};
+ghost use Rattle.jc_stripe.specs.declared.begun.Begun.TheVariants.{Done};
 ghost use Rattle.jc_model.specs.Cache.{Bytes, entry_at};
 ghost use Rattle.jc_model.specs.Listed.{has_distinct_keys};
 ghost use Rattle.jc_model.specs.Table.{is_write_given};
@@ -14,7 +16,7 @@ ghost use Rattle.jc_types.specs.declared.limits.TheConstants.{RESERVATIONS_MAX, 
 ghost use Rattle.jc_stripe.specs.State.{IsOut, IsJoined, IsIdle};
 ghost use Rattle.jc_stripe.specs.OrderOfUse.{by_use};
 ghost use Rattle.jc_stripe.specs.Appending.{AnswersFirst, HasToldStep, after_pick_up};
-ghost use Rattle.jc_stripe.specs.Phases.{MayBegin, Begins, Commits, Withdraws, PicksUp, told_to};
+ghost use Rattle.jc_stripe.specs.Phases.{MayBegin, Begins, hit_done, Commits, Withdraws, PicksUp, told_to};
 ghost use Rattle.jc_stripe.specs.Effects.{HasReport, change_due, report_answer, process_out};
 ghost use Rattle.jc_stripe.specs.OnePhase.{IsPhaseOf};
 
@@ -106,8 +108,36 @@ impl Stripe {
           next = 0;
         }) }
     {
+        Stripe::new_from(alloc, config, number, origin, 0)
+    }
+
+    /// An empty stripe as by `new`, whose first reservation has the number `next`. No reservation has the last one, `u64::MAX`: at
+    /// it every first phase is refused (`HistoryFull`).
+    ///
+    /// Conditions: `config.check()` is `Ok`.
+    pub fn new_from(
+        alloc: Global,
+        config: &Config,
+        number: usize,
+        origin: Origin,
+        next: u64,
+    ) -> Result<Self, AllocError>
+        requires { check config.now ≡ Ok tt }
+        ensures made { IfOk result (λ s. s ≡ record {
+          config = config.now;
+          stripe = number;
+          origin = origin;
+          opening = [];
+          cache = map.empty;
+          reservations = [];
+          joiners = [];
+          history = [];
+          next = next;
+        }) }
+        ensures reached { IfOk result (λ s. IsReached s) }
+    {
         let entries = Entries::new(alloc, config.capacity)?;
-        let reservations = Reservations::new();
+        let reservations = Reservations::new_from(next);
         let joiners = Joiners::new();
         let history = History::new(alloc, config.history)?;
         Ok(Stripe {
@@ -140,6 +170,19 @@ impl Stripe {
         ensures phase { IsPhaseOf caller.session self.old self.new }
     {
         self.first_phase(caller, key, op)
+    }
+
+    /// A `get` that finds its entry, as [`begin`](Stripe::begin) makes it, and gives its value. None says that the entry is missing,
+    /// or that the history lacks the place or a number is at its end; then nothing is done.
+    ///
+    /// Conditions: those of [`begin`](Stripe::begin).
+    pub fn hit(&mut self, caller: Caller, key: &Key) -> Option<Value>
+        requires begins { MayBegin self.old caller key.now }
+        ensures none { IfNone result (self.new ≡ self.old) }
+        ensures some { IfSome result (λ value. Begins self.old caller key.now Get
+            (Done (hit_done (length self.old.history) value)) self.new) }
+    {
+        self.hit_at_once(caller, key)
     }
 
     /// The last phase of a call whose loader was asked: its reservation ends, and its step is appended with the loader's answer.

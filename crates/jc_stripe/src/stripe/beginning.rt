@@ -1,5 +1,5 @@
 //! The first phase of a call: a hit, and what it is otherwise.
-ghost use Rattle.std.specs.Prelude.{◌≡◌, [], true, None, Some, MatchOption};
+ghost use Rattle.std.specs.Prelude.{◌≡◌, ◌↔◌, [], length, true, IsTrue, None, Some, IfSome, IfNone, MatchOption};
 ghost use Rattle.jc_types.specs.declared.limits.TheConstants.{HIT_PLACES};
 ghost use Rattle.jc_model.specs.declared.event.Op.TheVariants.{Get};
 ghost use Rattle.jc_model.specs.Cache.{entry_at};
@@ -7,17 +7,36 @@ ghost use Rattle.jc_model.specs.Group.{nothing_said};
 ghost use Rattle.jc_stripe.specs.State.{new_reservation, with_reservation};
 ghost use Rattle.jc_stripe.specs.Refusals.{has_room, first_refusal, first_asked, load_joined, needs_reservation};
 ghost use Rattle.jc_stripe.specs.Finding.{found_at};
-ghost use Rattle.jc_stripe.specs.Phases.{MayBegin, Steps, Begins, with_joiner};
+ghost use Rattle.jc_stripe.specs.Phases.{MayBegin, Steps, Begins, hit_done, with_joiner};
 ghost use Rattle.jc_stripe.specs.declared.ticket.First.TheVariants.{Nobody};
 ghost use Rattle.jc_stripe.specs.declared.begun.Begun.TheVariants.{Done};
 
 use super::Stripe;
-use crate::appending::{append_group, make_step, touching_step};
+use crate::appending::{append_group, make_step};
 use crate::begun::{Begun, StepDone};
 use crate::call_rules::{Found, places_needed};
 use crate::ticket::{First, Join, Reservation, Ticket};
-use jc_model::{Op, Out};
+use jc_model::{Op, Out, Reply};
 use jc_types::{Caller, HIT_PLACES, Key, STEP_PLACES, Value};
+
+/// Whether a call is a `get`.
+fn is_get(op: &Op) -> bool
+    ensures { IsTrue result ↔ (op.now ≡ Get) }
+{
+    *op == Op::Get
+}
+
+/// The step of a `get` that found this value, at this place.
+fn hit_done(place: u32, value: Value) -> StepDone
+    ensures { result ≡ hit_done place value }
+{
+    StepDone {
+        reply: Reply::Value(Some(value)),
+        place,
+        victim: None,
+        evicted: None,
+    }
+}
 
 impl Stripe {
     /// What a first phase gives, and what it leaves.
@@ -25,9 +44,10 @@ impl Stripe {
         requires begins { MayBegin self.old caller key.now }
         ensures { Begins self.old caller key.now op.now result self.new }
     {
-        if *op == Op::Get && self.has_room(caller.call, HIT_PLACES) {
-            return match self.hit(caller, key) {
-                Some(done) => Begun::Done(done),
+        if is_get(op) && self.has_room(caller.call, HIT_PLACES) {
+            let place = self.next_place();
+            return match self.find_and_use(caller, key) {
+                Some(value) => Begun::Done(hit_done(place, value)),
                 None => self.begin_on(caller, key, op, None),
             };
         }
@@ -35,7 +55,15 @@ impl Stripe {
         self.begin_on(caller, key, op, entry)
     }
 
+    /// The place of the next event.
+    fn next_place(&self) -> u32
+        ensures { result ≡ length self.now.history }
+    {
+        self.history.len() as u32
+    }
+
     /// What a first phase gives on a key that has this entry, and what it leaves.
+    #[inline(never)]
     fn begin_on(&mut self, caller: Caller, key: &Key, op: &Op, entry: Option<Value>) -> Begun
         requires begins { MayBegin self.old caller key.now }
         requires entry { entry ≡ entry_at self.old.cache key.now }
@@ -56,24 +84,33 @@ impl Stripe {
         }
     }
 
-    /// A `get` that finds its entry: the one look-up also makes the entry the most recently used. If the entry is missing, nothing
-    /// is done.
+    /// A `get` that finds its entry: the one look-up also makes the entry the most recently used, and the step is appended in a free
+    /// place. It gives the value. If the entry is missing, nothing is done.
     #[inline(never)]
-    fn hit(&mut self, caller: Caller, key: &Key) -> Option<StepDone>
+    fn find_and_use(&mut self, caller: Caller, key: &Key) -> Option<Value>
         requires room { has_room self.old caller.call HIT_PLACES ≡ true }
         requires begins { MayBegin self.old caller key.now }
         ensures { MatchOption result
             ((self.new ≡ self.old) × (entry_at self.old.cache key.now ≡ None))
-            (λ done. Begins self.old caller key.now Get (Done done) self.new) }
+            (λ value. Begins self.old caller key.now Get (Done (hit_done (length self.old.history) value)) self.new) }
     {
         let Some(value) = self.entries.get(key) else {
             return None;
         };
-        let _ = self.history.promise(HIT_PLACES);
-        let op = Op::Get;
-        let out = Out::nothing_said();
-        let group = touching_step(caller, key, value, &op, &out);
-        Some(append_group(&mut self.history, &self.joiners, None, &group, HIT_PLACES))
+        self.history.push_hit(&caller, key, &value);
+        Some(value)
+    }
+
+    /// A call that can be done at once, without a look at what is outside: a `get` that finds its entry.
+    pub(super) fn hit_at_once(&mut self, caller: Caller, key: &Key) -> Option<Value>
+        requires begins { MayBegin self.old caller key.now }
+        ensures none { IfNone result (self.new ≡ self.old) }
+        ensures some { IfSome result (λ value. Begins self.old caller key.now Get (Done (hit_done (length self.old.history) value)) self.new) }
+    {
+        if !self.has_room(caller.call, HIT_PLACES) {
+            return None;
+        }
+        self.find_and_use(caller, key)
     }
 
     /// Reserves a key, and keeps room in the history for its commit.

@@ -37,7 +37,7 @@ pub(super) fn caller(rt: &impl Abort, call: &str, session: &str) -> Caller {
     let session = session.strip_prefix('s').expect(rt, session);
     Caller {
         session: number(rt, session),
-        call: u64::from(number(rt, call)),
+        call: call.parse().ok().expect(rt, call),
     }
 }
 

@@ -14,7 +14,8 @@
 //! - `idle`, `clear CALL SESSION KEY`, `admits CALL SESSION KEY`, `outside OP KEY [VALUE]`, tests of the stripe: `yes` or `no`.
 //!
 //! `each N: LINE` is N lines, with the numbers from 1 in place of each `#`. A case is a comment with its rule, a line
-//! `open HISTORY [read] [write]` for a stripe with room for two entries, and lines. At its end no call is out.
+//! `open HISTORY [read] [write] [from NUMBER]` for a stripe with room for two entries, whose first reservation has this number or
+//! else 0, and lines. At its end no call is out.
 pub mod desk;
 pub mod words;
 
@@ -36,6 +37,14 @@ fn shape(rt: &impl Abort, line: &str) -> Config {
         history: number(rt, history) as usize,
         read_through: options.contains("read"),
         write_through: options.contains("write"),
+    }
+}
+
+/// The number of the first reservation, as `open` says it.
+fn first_reservation(rt: &impl Abort, line: &str) -> u64 {
+    match line.split_once(" from ") {
+        Some((_shape, word)) => word.parse().ok().expect(rt, word),
+        None => 0,
     }
 }
 
@@ -109,7 +118,8 @@ fn play_all(rt: &impl Abort, alloc: Global, desk: &mut Desk, lines: &str) {
 fn play_case(rt: &impl Abort, alloc: Global, case: &str) {
     let (_rule, case) = case.split_once('\n').expect(rt, "a rule");
     let (opened, lines) = case.split_once('\n').expect(rt, "a shape");
-    let mut desk = Desk::new(rt, alloc, &shape(rt, opened));
+    let next = first_reservation(rt, opened);
+    let mut desk = Desk::new_from(rt, alloc, &shape(rt, opened), next);
     play_all(rt, alloc, &mut desk, lines);
     desk.close(rt);
 }
@@ -231,6 +241,37 @@ each 64: begin # s# get a = joins 70
 begin 71 s71 get a = refused TooManyJoiners
 drop 70 = dropped
 each 64: take # = again
+idle = yes
+==
+# No reservation has the last number. Once it is the next one, every first phase is refused, also one that needs no reservation.
+open 100 read write from 18446744073709551614
+begin 1 s1 put a 1 = asks write 1
+begin 1 s2 get b = refused HistoryFull
+commit 1 apply = ok at 0
+begin 2 s1 put a 2 = refused HistoryFull
+begin 2 s1 get a = refused HistoryFull
+begin 2 s1 get b = refused HistoryFull
+begin 2 s1 contains b = refused HistoryFull
+begin 2 s1 invoke a = refused HistoryFull
+idle = yes
+==
+# A number that was given back isn't used again.
+open 100 write from 18446744073709551614
+begin 1 s1 put a 1 = asks write 1
+drop 1 = dropped
+begin 1 s1 contains a = refused HistoryFull
+idle = yes
+==
+# So it is at once if the first reservation is to have the last number.
+open 100 write from 18446744073709551615
+begin 1 s1 contains a = refused HistoryFull
+idle = yes
+==
+# No call has the last number of its session.
+open 100 from 18446744073709551613
+begin 18446744073709551614 s1 put a 1 = ok at 0
+begin 18446744073709551615 s1 get a = refused HistoryFull
+begin 1 s2 get a = 1 at 1
 idle = yes
 ";
 

@@ -137,9 +137,15 @@ fn commit_run(
 impl Desk {
     /// An empty stripe of this shape.
     pub fn new(rt: &impl Abort, alloc: Global, config: &Config) -> Self {
+        Desk::new_from(rt, alloc, config, 0)
+    }
+
+    /// An empty stripe of this shape, whose first reservation has this number.
+    pub fn new_from(rt: &impl Abort, alloc: Global, config: &Config, next: u64) -> Self {
         config.check().expect(rt, "a shape");
+        let stripe = Stripe::new_from(alloc, config, 0, Origin::Played, next);
         Desk {
-            stripe: Stripe::new(alloc, config, 0, Origin::Played).expect(rt, "memory"),
+            stripe: stripe.expect(rt, "memory"),
             tickets: Vec::new(alloc),
             joins: Vec::new(alloc),
         }

@@ -1,0 +1,49 @@
+use Rattle.jc_types.specs.declared.limits.TheConstants.{STEP_PLACES, HIT_PLACES}
+use Rattle.jc_types.specs.Limits.{check}
+use Rattle.std.proofs.Common.{◌≡◌, [], Ok, refl, ap, ◌∙◌, sym, length, count_by, ◌*◌, ◌+◌, arith}
+use Rattle.std.specs.FinMap.{from_entries}
+use Rattle.jc_model.specs.Cache.{key_cmp}
+use Rattle.jc_entries.specs.ByUse.{ByUse}
+use Rattle.jc_history.specs.Past.{Past}
+use Rattle.jc_reserve.specs.Table.{Table}
+use Rattle.jc_stripe.specs.declared.stripe.Stripe.TheInside.{Inside}
+use Rattle.jc_stripe.specs.declared.ticket.Reservation.{Reservation}
+use Rattle.jc_stripe.specs.Inside.{state_of}
+use Rattle.jc_stripe.specs.OrderOfUse.{by_use}
+use Rattle.jc_stripe.specs.Reached.{IsReached}
+use Rattle.jc_stripe.specs.State.{waits}
+use Rattle.jc_stripe.proofs.Tables.{reached_start}
+use Rattle.jc_stripe.proofs.stripe.Stripe.new_from.Goals as goal
+
+-- a stripe with nothing in it, whatever number its next reservation has
+fresh : (s : Inside) → check s.config ≡ Ok tt → s.entries.list ≡ [] → s.reservations.held ≡ [] → s.joiners ≡ [] → s.history.events ≡ [] → IsReached (state_of s)
+fresh s fits entries reservations joiners history =
+    reached_start (state_of s) (record {
+      config_fits = fits;
+      once = refl;
+      own = refl;
+      few = omega arith;
+      cache = ap (from_entries {R = key_cmp}) entries;
+      reservations = reservations;
+      joiners = joiners;
+      history = history;
+    })
+
+pub invariant_of-result : goal.invariant_of-result
+invariant_of-result c =
+    let entries = c.in_ok-entries.ensures in
+    let table = c.new_from-reservations.ensures in
+    let joiners = c.new-joiners.ensures in
+    let history = c.in_ok-history.ensures in
+    record {
+      capacity = ap (λ (e : ByUse). e.capacity) entries;
+      limit = ap (λ (h : Past). h.limit) history;
+      by_use = ap (λ (e : ByUse). e.list) entries ∙ ap (λ (h : Past). by_use [] h.events) (sym history);
+      promised = ap (λ (h : Past). h.promised) history ∙ sym (λ i. STEP_PLACES * length (table i).held + HIT_PLACES * count_by waits (joiners i));
+      state = fresh (record { config = c.args.config.now; number = c.args.number; origin = c.args.origin; entries = c.in_ok-entries.entries; reservations = c.new_from-reservations.result; joiners = c.new-joiners.result; history = c.in_ok-history.history }) c.requires (ap (λ (e : ByUse). e.list) entries) (ap (λ (t : Table Reservation). t.held) table) joiners (ap (λ (h : Past). h.events) history);
+    }
+
+pub returns-clause-reached : goal.returns-clause-reached
+returns-clause-reached c =
+    fresh (record { config = c.args.config.now; number = c.args.number; origin = c.args.origin; entries = c.in_ok-entries.entries; reservations = c.new_from-reservations.result; joiners = c.new-joiners.result; history = c.in_ok-history.history }) c.requires (ap (λ (e : ByUse). e.list) c.in_ok-entries.ensures) (ap (λ (t : Table Reservation). t.held) c.new_from-reservations.ensures) c.new-joiners.ensures
+    (ap (λ (h : Past). h.events) c.in_ok-history.ensures)
