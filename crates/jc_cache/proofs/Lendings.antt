@@ -7,7 +7,7 @@
 --     rests_seen                           lendings in which nothing was done: the seat has seen them
 --     kept, added                          a phase that leaves the own steps, and one that adds its step
 --     HasGrown, gained                     one that gains an own step, whose place in the history is known alone
-use Rattle.std.proofs.Common.{◌≡◌, ◌≤◌, ℕ, false, inl, Option, Some, List, [], ◌∷◌, length, slice_get, refl, sym, ap, subst, ◌∙◌, arith}
+use Rattle.std.proofs.Common.{◌≡◌, ◌≤◌, ℕ, false, inl, Option, Some, List, [], ◌∷◌, length, slice_get, refl, sym, ap, subst, ◌∙◌, arith, le_refl}
 use Rattle.std.proofs.lemmas.List.{length-append}
 use mathlib.Core.List.{IsPrefix}
 use Rattle.jc_model.specs.declared.event.Event.{Event}
@@ -62,7 +62,7 @@ lent_by law session v a b mine finds reached one = let u = law session a b reach
       own = finds.own session mine;
       one = one;
       uniform = u;
-      seat = record { session = refl; next_session = refl; spent = refl; free = refl; same = same_on v.noted a b finds.same u.grows.same };
+      seat = record { session = refl; next_session = refl; spent = refl; free = refl; same = same_on v.noted a b finds.same u.grows.same; next = (let one = finds.next in let two = u.next in omega arith) };
       noted = refl;
       front_is = refl;
       own_is = own_at v.session session b mine;
@@ -72,7 +72,7 @@ lent_by law session v a b mine finds reached one = let u = law session a b reach
 
 pub seen_itself : (v : View) → v.holds ≡ false → HasSeen v v
 seen_itself v free = record {
-  seat = record { session = refl; next_session = refl; spent = refl; free = free; same = same_itself v.noted };
+  seat = record { session = refl; next_session = refl; spent = refl; free = free; same = same_itself v.noted; next = le_refl v.noted.next };
   front = prefix-refl v.front;
   own = refl;
 }
@@ -84,6 +84,7 @@ seat_on u v w p q = record {
   spent = q.spent ∙ p.spent;
   free = q.free;
   same = same_on u.noted v.noted w.noted p.same q.same;
+  next = (let one = p.next in let two = q.next in omega arith);
 }
 
 pub seen_on : (u v w : View) → HasSeen u v → HasSeen v w → HasSeen u w

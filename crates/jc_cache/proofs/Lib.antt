@@ -8,3 +8,5 @@ pub mod NewSessions
 pub mod ClosingSeats
 pub mod ClosedCache
 pub mod SessionPhases
+pub mod Meetings
+pub mod Skipped

@@ -1,6 +1,6 @@
 -- What a call leaves of its session's view of the key's stripe. The view's front is what the session has seen of the stripe's history:
 -- a prefix of it, for ever. Its own steps are the session's steps there, without those whose answer it has not picked up.
---     IsSameSeat     the same session's seat at the same stripe, which has not taken it
+--     IsSameSeat     the same session's seat at the same stripe, which has not taken it; the next reservation's number hasn't fallen
 --     HasSeen        the front may be longer; the own steps are the former ones
 --     HasMade        the front is a legal history, which begins with the former one; this step is in it behind that, and it is one own
 --                    step more
@@ -38,6 +38,7 @@ pub record IsSameSeat (before after : View) : Type 0 where
   pub spent : after.spent ≡ before.spent
   pub free : after.holds ≡ false
   pub same : IsSameStripe before.noted after.noted
+  pub next : before.noted.next ≤ after.noted.next
 
 pub record HasSeen (before after : View) : Type 0 where
   pub seat : IsSameSeat before after

@@ -3,6 +3,7 @@ pub mod Fronts
 pub mod Sessions
 pub mod Calls
 pub mod PhaseCalls
+pub mod Meeting
 pub mod Closing
 pub mod ClosingInside
 pub mod CacheInside

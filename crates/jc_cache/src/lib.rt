@@ -9,9 +9,11 @@
 mod cache;
 mod calls;
 mod closing;
+mod meeting;
 mod owner;
 mod phase_calls;
 mod session;
+mod skipping;
 mod trying;
 
 pub use cache::Cache;

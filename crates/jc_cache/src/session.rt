@@ -155,6 +155,8 @@ impl Session {
             × LoadsAllOnce (boxed loads_all) (boxed load_state)
             self.old.agent.hands.outside.loader batch.items said self.new.agent.hands.outside.loader
             × (done.new.items ≡ done.old.items ++ loads_done (λ (ask : Claim). ask.reservation.key) said asks.items) }
+        ensures loader_type { KeepsType self.old.agent.hands.outside.loader self.new.agent.hands.outside.loader }
+        ensures room { vec_capacity done.new ≡ vec_capacity done.old }
         ensures writer { self.new.agent.hands.outside.writer ≡ self.old.agent.hands.outside.writer }
         ensures rest { self.new
             ≡ record self.old { agent = record self.old.agent { hands = self.new.agent.hands } } }
@@ -187,6 +189,8 @@ impl Session {
             × WritesAllOnce (boxed writes_all) (boxed deletes_all) (boxed write_state)
             self.old.agent.hands.outside.writer batch result said self.new.agent.hands.outside.writer
             × (done.new.items ≡ done.old.items ++ writes_done (λ (ask : Claim). ask.reservation.key) said asks.items) }
+        ensures writer_type { KeepsType self.old.agent.hands.outside.writer self.new.agent.hands.outside.writer }
+        ensures room { vec_capacity done.new ≡ vec_capacity done.old }
         ensures loader { self.new.agent.hands.outside.loader ≡ self.old.agent.hands.outside.loader }
         ensures rest { self.new
             ≡ record self.old { agent = record self.old.agent { hands = self.new.agent.hands } } }

@@ -1,5 +1,5 @@
 //! Agents.
-ghost use Rattle.std.specs.Prelude.{◌≡◌, ℕ, true, is_some, IsSome, IfSome, IfNone};
+ghost use Rattle.std.specs.Prelude.{◌≡◌, ℕ, max, true, is_some, IsSome, IfSome, IfNone};
 ghost use Rattle.jc_model.specs.Table.{is_load_given, is_write_given, is_process_given};
 ghost use Rattle.jc_outside.specs.declared.done.Origin.TheVariants.{Live};
 ghost use Rattle.jc_outside.specs.Calling.{KeepsType, LoadsOnce, WritesOnce};
@@ -9,7 +9,7 @@ ghost use Rattle.jc_stripe.specs.Tickets.{asks_loader, asks_processor, entry_see
 ghost use Rattle.jc_stripe.specs.Reached.{IsReached};
 ghost use Rattle.jc_gate.specs.Lending.{ComesAfter};
 ghost use Rattle.jc_session.specs.Boxed.{boxed};
-ghost use Rattle.jc_session.specs.Counting.{one_more, counts_after, IsCounted};
+ghost use Rattle.jc_session.specs.Counting.{one_more, call_before, counts_after, IsCounted};
 
 mod calls_all;
 
@@ -67,6 +67,15 @@ impl Agent {
     {
         self.caller.call = one_more(self.caller.call);
         self.caller
+    }
+
+    /// Has the next call begin by the number `n`, if its number is below that. Else nothing changes: numbers never fall.
+    pub fn skip_to(&mut self, n: u64)
+        ensures next { one_more self.new.caller.call ≡ max (one_more self.old.caller.call) n }
+        ensures call { self.new
+            ≡ record self.old { caller = record self.old.caller { call = call_before self.old.caller.call n } } }
+    {
+        self.caller.call = self.caller.call.max(n.saturating_sub(1));
     }
 
     /// Who makes the call that was begun last: the session's number, and the call's.

@@ -1,4 +1,4 @@
-use Rattle.std.proofs.Common.{rules, ◌≡◌, subst, sym, IsSome}
+use Rattle.std.proofs.Common.{rules, subst, sym, IsSome}
 use Rattle.jc_cache.proofs.Seats.{keeps_some}
 use Rattle.jc_cache.proofs.SessionPhases.{of_asked}
 use Rattle.jc_cache.proofs.session.Session.ask_writer_all.Goals as goal

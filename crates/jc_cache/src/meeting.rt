@@ -1,0 +1,55 @@
+//! Two sessions meet: one tells the other what it has seen.
+ghost use Rattle.std.specs.Prelude.{◌≡◌};
+ghost use Rattle.jc_cache.specs.Meeting.{TellsAt, TellEach, Meets, IsSessionSeat, AreSessionSeats, KeepRow};
+ghost use Rattle.jc_cache.specs.Sessions.{MayCall};
+
+use crate::cache::Cache;
+use crate::session::Session;
+use jc_lock::{HistLock, Seat};
+use std::sync::Wait;
+
+impl Cache {
+    /// Two sessions meet: after it the hearer knows all that the teller knows of the cache. Of each stripe in order, the teller's
+    /// front is brought up to date, and is a prefix of the hearer's from then on. It is for those who hand work on: what the teller
+    /// has seen, the hearer's next calls come behind.
+    ///
+    /// It may wait for a stripe while a phase is made there. It appends nothing to a history and takes no memory: the own steps of
+    /// both sessions, their counts and their numbers stay.
+    ///
+    /// Conditions: both sessions may call the cache.
+    pub fn meet<R: Wait>(&self, rt: &R, teller: &mut Session, hearer: &mut Session)
+        requires teller { MayCall self.now teller.old }
+        requires hearer { MayCall self.now hearer.old }
+        ensures teller { MayCall self.now teller.new }
+        ensures hearer { MayCall self.now hearer.new }
+        ensures met { Meets teller.old hearer.old teller.new hearer.new }
+    {
+        tell_each(rt, &self.locks, &mut teller.seats, &mut hearer.seats);
+    }
+}
+
+/// At each of these locks the seat of the first row is brought up to date, and tells the seat of the second row what it has seen.
+fn tell_each<R: Wait>(rt: &R, locks: &[HistLock], tellers: &mut Vec<Seat>, hearers: &mut Vec<Seat>)
+    requires tellers { AreSessionSeats locks.now tellers.old.items }
+    requires hearers { AreSessionSeats locks.now hearers.old.items }
+    ensures tellers { KeepRow tellers.old.items tellers.new.items }
+    ensures hearers { KeepRow hearers.old.items hearers.new.items }
+    ensures told { TellEach
+        tellers.old.items hearers.old.items tellers.new.items hearers.new.items }
+{
+    for i in 0..locks.len() {
+        tell_at(rt, &locks[i], &mut tellers[i], &mut hearers[i]);
+    }
+}
+
+/// The teller's seat takes the stripe and gives it back, and tells the hearer's what it has seen.
+fn tell_at<R: Wait>(rt: &R, lock: &HistLock, teller: &mut Seat, hearer: &mut Seat)
+    requires teller { IsSessionSeat lock.now teller.old }
+    requires hearer { IsSessionSeat lock.now hearer.old }
+    ensures locks { (teller.new.0 ≡ teller.old.0) × (hearer.new.0 ≡ hearer.old.0) }
+    ensures told { TellsAt teller.old.1 hearer.old.1 teller.new.1 hearer.new.1 }
+{
+    let stripe = lock.take(rt, teller);
+    lock.give(teller, stripe);
+    lock.tell(teller, hearer);
+}
