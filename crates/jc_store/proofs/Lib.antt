@@ -1,1 +1,2 @@
 mod Batches
+pub mod Scheduled

@@ -1,3 +1,4 @@
 pub mod Store
 pub mod Shared
 pub mod Counts
+pub mod Schedules
