@@ -4,12 +4,12 @@
 --     target_asks      each key of a call asks as the call does
 --     in_head          the first of what is out fits some key
 --     ticket_asks      a reservation of the call asks as the call does
---     new_key          a key that waits isn't among those that are reserved
+--     new_key          a key that isn't reserved isn't among those that are
 --     fits_begun       what a first phase has reserved is one more of the calls
 --     has_one          if something is reserved, there is the one whom it asks
 --     asked_on         the call under way, once a round has called outside
 --     all_said         each of the round's keys was asked for
-use Rattle.std.proofs.Common.{◌≡◌, ◌==◌, ◌&&◌, ◌||◌, ◌⊎◌, ⊎_elim, inl, inr, ◌<◌, ◌+◌, ◌++◌, ℕ, zero, suc, List, [], ◌∷◌, map, length, slice_get, Bool, true, false, true≢false, MatchBool, not, cond, Option, None, Some, IsSome, is_none, refl, sym, ap, ◌∙◌, subst, arith}
+use Rattle.std.proofs.Common.{◌≡◌, ◌==◌, ◌&&◌, ◌||◌, inl, inr, ◌++◌, ℕ, zero, suc, List, [], ◌∷◌, map, length, slice_get, Bool, true, false, true≢false, MatchBool, cond, Option, None, Some, is_none, refl, sym, ap, ◌∙◌, subst, arith}
 use Rattle.std.proofs.lemmas.Cmp.{nat_list_eq_equiv}
 use Rattle.std.proofs.lemmas.Map.Keys.{IsDistinct-head, IsDistinct-tail}
 use Rattle.std.proofs.lemmas.Option.{same_Some}
@@ -22,14 +22,13 @@ use Rattle.jc_model.specs.declared.event.Change.{Change}
 use Rattle.jc_model.specs.declared.event.Change.TheVariants as change
 use Rattle.jc_model.specs.declared.event.Op.{Op}
 use Rattle.jc_model.specs.declared.event.Op.TheVariants.{Get, Put, Remove, Clear, LoadAll}
-use Rattle.jc_model.specs.declared.event.Out.{Out}
 use Rattle.jc_model.specs.Batches.{is_among}
 use Rattle.jc_model.specs.Cache.{Bytes}
 use Rattle.jc_model.specs.Table.{always_if}
 use Rattle.jc_stripe.specs.declared.begun.Begun.{Begun}
 use Rattle.jc_stripe.specs.declared.begun.Begun.TheVariants as begun
 use Rattle.jc_stripe.specs.declared.ticket.First.{First}
-use Rattle.jc_stripe.specs.declared.ticket.First.TheVariants.{Loader, Writer}
+use Rattle.jc_stripe.specs.declared.ticket.First.TheVariants.{Writer}
 use Rattle.jc_stripe.specs.declared.ticket.Reservation.{Reservation}
 use Rattle.jc_stripe.specs.Refusals.{first_asked, first_by, reserves}
 use Rattle.jc_stripe.specs.Tickets.{JoinClaim, asks_loader, change_asked}
@@ -48,7 +47,7 @@ use Rattle.jc_bulk.specs.Keys.{HasBegun, IsTicketFor}
 use Rattle.jc_bulk.specs.Rounds.{IsSaid, LoadAll as LoadsAll, Round, WriteAll, answer_to, keys_asked}
 use Rattle.jc_bulk.specs.SoFar.{AreIn, IsSoFar, IsUnderway}
 use Rattle.jc_bulk.specs.Targets.{AsksAs, kind_for, ops_of}
-use Rattle.jc_bulk.proofs.Out.{is_no, is_yes}
+use Rattle.jc_bulk.proofs.Out.{is_no}
 use Rattle.jc_bulk.proofs.SeatPhases.{Seated}
 use Rattle.jc_bulk.proofs.SoFar.{among_last, key_at, more_rounds, or_true}
 
@@ -112,7 +111,7 @@ ticket_asks t place key op caller config r at is = asked_first config op is.entr
 
 -- 3. A key that is reserved is a new one.
 
-none_of : (caller : Caller) (config : Config) (key : Bytes) (ts : List (Bytes × Op)) (ps : List Progress) (xs : List Reservation) → AllByRecursion (λ k. pointwise ◌==◌ key k ≡ false) (keys_of ts) → AreIn is_reserved (IsTicketFor caller config) ts ps xs
+pub none_of : (caller : Caller) (config : Config) (key : Bytes) (ts : List (Bytes × Op)) (ps : List Progress) (xs : List Reservation) → AllByRecursion (λ k. pointwise ◌==◌ key k ≡ false) (keys_of ts) → AreIn is_reserved (IsTicketFor caller config) ts ps xs
     → is_among (reserved_keys xs) key ≡ false
 none_of caller config key [] ps xs apart are = ap (λ ys. is_among (reserved_keys ys) key) are
 none_of caller config key (t ∷ ts) [] xs apart are = ap (λ ys. is_among (reserved_keys ys) key) are
@@ -125,18 +124,18 @@ none_of caller config key (t ∷ ts) (p ∷ ps) (x ∷ xs) apart are = by (is_re
     by true here f h = (λ i. (ap (pointwise ◌==◌ key) here.0.key_is ∙ apart.0) i || f here.1 i)
     by false later f h = h later
 
-pub new_key : (caller : Caller) (config : Config) (ts : List (Bytes × Op)) (ps : List Progress) (xs : List Reservation) (place : ℕ) (key : Bytes) (op : Op) → IsDistinct (pointwise ◌==◌) (keys_of ts) → slice_get ts place ≡ Some (key, op) → slice_get ps place ≡ Some Waiting
+pub new_key : (caller : Caller) (config : Config) (ts : List (Bytes × Op)) (ps : List Progress) (xs : List Reservation) (place : ℕ) (key : Bytes) (op : Op) (q : Progress) → IsDistinct (pointwise ◌==◌) (keys_of ts) → slice_get ts place ≡ Some (key, op) → slice_get ps place ≡ Some q → is_reserved q ≡ false
     → AreIn is_reserved (IsTicketFor caller config) ts ps xs → is_among (reserved_keys xs) key ≡ false
-new_key caller config [] ps xs place key op d at waits are = cc
-new_key caller config (t ∷ ts) [] xs place key op d at waits are = cc
-new_key caller config (t ∷ ts) (p ∷ ps) [] place key op d at waits are = refl
-new_key caller config (t ∷ ts) (p ∷ ps) (x ∷ xs) zero key op d at waits are =
-    let later = is_no (is_reserved p) _ _ (ap is_reserved (same_Some p Waiting waits)) are in
+new_key caller config [] ps xs place key op q d at there isnt are = cc
+new_key caller config (t ∷ ts) [] xs place key op q d at there isnt are = cc
+new_key caller config (t ∷ ts) (p ∷ ps) [] place key op q d at there isnt are = refl
+new_key caller config (t ∷ ts) (p ∷ ps) (x ∷ xs) zero key op q d at there isnt are =
+    let later = is_no (is_reserved p) _ _ (ap is_reserved (same_Some p q there) ∙ isnt) are in
     let apart = IsDistinct-head (pointwise ◌==◌) t.0 (keys_of ts) d in
     subst (λ k. is_among (reserved_keys (x ∷ xs)) k ≡ false) (ap (λ (u : Bytes × Op). u.0) (same_Some t (key, op) at)) (none_of caller config t.0 ts ps (x ∷ xs) apart later)
-new_key caller config (t ∷ ts) (p ∷ ps) (x ∷ xs) (suc place) key op d at waits are =
-    by (is_reserved p) are (λ rest. new_key caller config ts ps xs place key op (IsDistinct-tail (pointwise ◌==◌) t.0 (keys_of ts) d) at waits rest)
-    (λ rest. new_key caller config ts ps (x ∷ xs) place key op (IsDistinct-tail (pointwise ◌==◌) t.0 (keys_of ts) d) at waits rest)
+new_key caller config (t ∷ ts) (p ∷ ps) (x ∷ xs) (suc place) key op q d at there isnt are =
+    by (is_reserved p) are (λ rest. new_key caller config ts ps xs place key op q (IsDistinct-tail (pointwise ◌==◌) t.0 (keys_of ts) d) at there isnt rest)
+    (λ rest. new_key caller config ts ps (x ∷ xs) place key op q (IsDistinct-tail (pointwise ◌==◌) t.0 (keys_of ts) d) at there isnt rest)
   where
     apart : pointwise ◌==◌ t.0 key ≡ false
     apart = at_place (λ k. pointwise ◌==◌ t.0 k ≡ false) (keys_of ts) place key (IsDistinct-head (pointwise ◌==◌) t.0 (keys_of ts) d) (key_at ts place key op at)
@@ -152,7 +151,7 @@ pub fits_begun : (caller : Caller) (config : Config) (t : Targets) (ps : List Pr
 fits_begun caller config t ps calls place key op v w (begun.Asks ticket) d at waits kind are has = (
   has.1,
   ap (λ k. asks_as k ticket.reservation.first) kind ∙ (ticket_asks t place key op caller config ticket.reservation at has.2).0,
-  ap (is_among (reserved_keys calls.items)) has.2.key_is ∙ new_key caller config (ops_of t) ps calls.items place key op d at waits are,
+  ap (is_among (reserved_keys calls.items)) has.2.key_is ∙ new_key caller config (ops_of t) ps calls.items place key op Waiting d at waits refl are,
 )
 fits_begun caller config t ps calls place key op v w (begun.Done done) d at waits kind are has = tt
 fits_begun caller config t ps calls place key op v w (begun.Refused refusal) d at waits kind are has = tt
@@ -189,7 +188,7 @@ firsts : (calls : List Reservation) → map (λ (c : Bytes × Option Change). c.
 firsts [] = refl
 firsts (r ∷ rs) = ap (λ ks. r.key ∷ ks) (firsts rs)
 
-keys_are : (kind : CallKind) (calls : List Reservation) (round : Round) → IsAskedOf kind calls round → keys_asked round ≡ reserved_keys calls
+pub keys_are : (kind : CallKind) (calls : List Reservation) (round : Round) → IsAskedOf kind calls round → keys_asked round ≡ reserved_keys calls
 keys_are Load calls (LoadsAll r) asked = asked
 keys_are Load calls (WriteAll r) asked = absurd asked
 keys_are (Write deletes) calls (LoadsAll r) asked = absurd asked
@@ -200,7 +199,7 @@ said_each : (rounds : List Round) (round : Round) (keys : List Bytes) (calls : L
 said_each rounds round keys [] is all = tt
 said_each rounds round keys (r ∷ rs) is all = (inr (round, among_last rounds round, ap (λ ks. is_among ks r.key) is ∙ all.0, refl), said_each rounds round keys rs is all.1)
 
-all_map : {X : Type 0} (P Q : X → Type 0) (xs : List X) → ((x : X) → P x → Q x) → AllByRecursion P xs → AllByRecursion Q xs
+pub all_map : {X : Type 0} (P Q : X → Type 0) (xs : List X) → ((x : X) → P x → Q x) → AllByRecursion P xs → AllByRecursion Q xs
 all_map P Q [] f all = tt
 all_map P Q (x ∷ xs) f all = (f x all.0, all_map P Q xs f all.1)
 

@@ -6,7 +6,7 @@
 --     others-gained, former-gained, before-gained    it leaves the steps at other keys, those of former calls, and the numbers
 --     may-come-all                     a step of the call may come at a key at which it has none
 --     no-steps, still-before           before the call it has no step, and all steps are of former calls
-use Rattle.std.proofs.Common.{◌≡◌, ◌==◌, ◌&&◌, ◌||◌, ◌+◌, ◌<◌, ◌≤◌, ℕ, List, [], ◌∷◌, ◌++◌, filter, cond, Bool, true, false, not, Option, None, Some, nat_lt, if◌then◌else◌, refl, sym, ap, subst, ◌∙◌, arith}
+use Rattle.std.proofs.Common.{◌≡◌, ◌==◌, ◌&&◌, ◌||◌, ◌+◌, ℕ, List, [], ◌∷◌, ◌++◌, filter, cond, Bool, true, false, not, Option, nat_lt, if◌then◌else◌, refl, sym, ap, ◌∙◌, arith}
 use Rattle.std.proofs.lemmas.Bool.{and_parts}
 use Rattle.std.proofs.lemmas.Bool.Decides.{nat_tests}
 use Rattle.std.proofs.lemmas.Cmp.{nat_list_eq_equiv}

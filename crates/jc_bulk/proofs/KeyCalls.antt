@@ -4,7 +4,7 @@
 --     commit_told       a commit
 --     pick_over         a pick-up that isn't too early
 --     pick_told         a pick-up
-use Rattle.std.proofs.Common.{◌≡◌, ℕ, true, Some, List, [], slice_get, refl, sym, ap, subst, ◌∙◌}
+use Rattle.std.proofs.Common.{◌≡◌, ℕ, true, List, [], sym, ap, subst, ◌∙◌}
 use Rattle.jc_types.specs.Stripes.{stripe_of}
 use Rattle.jc_types.specs.declared.caller.Caller.{Caller}
 use Rattle.jc_model.specs.Cache.{Bytes}

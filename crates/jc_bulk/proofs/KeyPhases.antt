@@ -5,7 +5,7 @@
 --     key_committed      a commit
 --     key_picked         a pick-up that isn't too early
 --     start_may          the session's own steps let the call begin at a key at which it has none
-use Rattle.std.proofs.Common.{◌≡◌, ◌&&◌, ◌||◌, ◌⊎◌, inl, inr, ◌+◌, ◌≤◌, ℕ, List, [], ◌∷◌, ◌++◌, length, Bool, true, false, cond, not, Option, None, Some, nat_le, nat_lt, is_some, slice_get, append-nil, refl, sym, ap, subst, ◌∙◌, arith}
+use Rattle.std.proofs.Common.{◌≡◌, ◌&&◌, ◌⊎◌, inl, inr, ◌≤◌, ℕ, List, [], ◌∷◌, ◌++◌, length, Bool, true, false, cond, not, Option, None, Some, nat_lt, slice_get, append-nil, refl, sym, ap, subst, ◌∙◌, arith, le_refl}
 use Rattle.std.proofs.lemmas.Bool.{and_parts}
 use Rattle.std.proofs.lemmas.List.{length-append}
 use Rattle.std.proofs.lemmas.List.Folds.{list_all-append}
@@ -14,7 +14,6 @@ use Rattle.std.specs.List.{list_all}
 use mathlib.Core.List.{IsPrefix}
 use Rattle.jc_types.specs.declared.caller.Caller.{Caller}
 use Rattle.jc_types.specs.declared.config.Config.{Config}
-use Rattle.jc_types.specs.declared.limits.TheConstants.{RESERVATIONS_MAX, JOINERS_MAX}
 use Rattle.jc_types.specs.declared.refusal.Refusal.{Refusal}
 use Rattle.jc_types.specs.declared.refusal.Refusal.TheVariants.{HistoryFull, Busy, TooManyInFlight, TooManyJoiners}
 use Rattle.jc_types.specs.Refusals.{is_put_off}
@@ -27,12 +26,12 @@ use Rattle.jc_model.specs.declared.event.Op.{Op}
 use Rattle.jc_model.specs.declared.event.Op.TheVariants.{Get}
 use Rattle.jc_model.specs.declared.event.Out.{Out}
 use Rattle.jc_model.specs.declared.event.Reply.{Reply}
-use Rattle.jc_stripe.specs.State.{State, is_reserved}
-use Rattle.jc_stripe.specs.Laws.{IsSameStripe, ReachedIsLegal}
-use Rattle.jc_stripe.specs.OnePhase.{OnePhase, GainsOwn, own_steps}
-use Rattle.jc_stripe.specs.OwnSteps.{AddsOwn, OwnSteps, StepsBehind, may_come_all}
+use Rattle.jc_stripe.specs.State.{State}
+use Rattle.jc_stripe.specs.Laws.{ReachedIsLegal}
+use Rattle.jc_stripe.specs.OnePhase.{OnePhase, own_steps}
+use Rattle.jc_stripe.specs.OwnSteps.{AddsOwn, OwnSteps, StepsBehind}
 use Rattle.jc_stripe.specs.Phases.{Commits}
-use Rattle.jc_stripe.specs.Refusals.{first_asked, first_refusal, has_room, last_number, load_joined, may_join, needs_free_key, needs_reservation, places_needed}
+use Rattle.jc_stripe.specs.Refusals.{first_asked, first_refusal, last_number, may_join}
 use Rattle.jc_stripe.specs.Tickets.{TicketClaim, JoinClaim}
 use Rattle.jc_stripe.specs.declared.begun.Begun.{Begun}
 use Rattle.jc_stripe.specs.declared.begun.Begun.TheVariants as begun
@@ -44,7 +43,7 @@ use Rattle.jc_lock.specs.declared.view.View.{View}
 use Rattle.jc_lock.proofs.CallerLemmas.{prefix-refl, prefix-trans}
 use Rattle.jc_engine.specs.Needs.{PicksUpLate, StartsAt}
 use Rattle.jc_cache.specs.PhaseCalls.{SeatPhase}
-use Rattle.jc_bulk.specs.Keys.{HasBegun, HasPicked, HasStep, IsCommitted, IsEarly, IsJoinFor, IsTicketFor, WasFull}
+use Rattle.jc_bulk.specs.Keys.{HasBegun, HasPicked, IsCommitted, IsEarly, IsJoinFor}
 use Rattle.jc_bulk.specs.Recorded.{steps_of}
 use Rattle.jc_bulk.specs.Seats.{HasGrown}
 use Rattle.jc_bulk.proofs.CallSteps.{steps-gained}
@@ -125,21 +124,22 @@ module _ (law : OnePhase) (legal : ReachedIsLegal) (steps : OwnSteps) where
       let same = steps.refused x.found w.noted caller key op refusal x.made.begins in
       let own = seen_own law legal caller.session _ v w x same in
       let why : first_refusal w.noted caller key op ≡ Some refusal = ap (λ (s : State). first_refusal s caller key op) x.made.begins.1 ∙ x.made.begins.0 in
-      let grown = grown_phase law legal caller.session _ v w x in
-      (seen_phase law legal caller.session _ v w x caller key same, (ap (steps_of caller key) own ∙ none, by grown why (refused_as w.noted caller key op refusal why)))
-    where
-      by : HasGrown v w → first_refusal w.noted caller key op ≡ Some refusal → (is_put_off refusal ≡ true) ⊎ (refusal ≡ HistoryFull) → (is_put_off refusal ≡ true) ⊎ ((refusal ≡ HistoryFull) × WasFull caller v w key op)
-      by grown why (inl put_off) = inl put_off
-      by grown why (inr full) = inr (
-        full,
-        record {
-          seen = w.noted;
-          reached = (uniform law legal caller.session _ v w x).reached;
-          since = subst (IsPrefix v.front) x.front_is grown.front;
-          later = subst (IsPrefix w.noted.history) (sym x.front_is) (prefix-refl w.noted.history);
-          same = record { config = refl; stripe = refl; origin = refl; opening = refl };
-          why = why ∙ ap (λ (r : Refusal). Some r) full;
-        },
+      let grown = grown_phase law legal caller.session _ v w x in (
+        seen_phase law legal caller.session _ v w x caller key same,
+        (
+          ap (steps_of caller key) own ∙ none,
+          refused_as w.noted caller key op refusal why,
+          why,
+          record {
+            seen = w.noted;
+            reached = (uniform law legal caller.session _ v w x).reached;
+            since = subst (IsPrefix v.front) x.front_is grown.front;
+            later = subst (IsPrefix w.noted.history) (sym x.front_is) (prefix-refl w.noted.history);
+            next = le_refl w.noted.next;
+            same = record { config = refl; stripe = refl; origin = refl; opening = refl };
+            why = why;
+          },
+        ),
       )
   key_begun caller config key op (begun.Asks ticket) v w x shape none =
       let b = x.made.begins in
@@ -174,6 +174,15 @@ module _ (law : OnePhase) (legal : ReachedIsLegal) (steps : OwnSteps) where
             op_is = get_joins op (joins_by (may_join op) _ _ _ None join.load b.1);
             early = early_none x.found caller key op b.0;
             fresh = all_before (λ e. may_come e caller key) v.front x.found.history x.front x.made.may.behind;
+          },
+          record {
+            seen = x.found;
+            reached = x.reached;
+            since = x.front;
+            later = front_found law legal caller.session _ v w x;
+            same = (uniform law legal caller.session _ v w x).grows.same;
+            load = join.load;
+            why = b.1;
           },
         ),
       )

@@ -7,3 +7,17 @@ pub mod ManyAnswered
 pub mod Underway
 pub mod Asking
 pub mod KeyCalls
+pub mod Failures
+pub mod Places
+pub mod Asked
+pub mod Later
+pub mod Held
+pub mod Started
+pub mod OneRound
+pub mod KeyEnds
+pub mod Returning
+pub mod CarriedOut
+pub mod Looking
+pub mod Quiet
+pub mod Processes
+pub mod CallerLemmas

@@ -5,7 +5,7 @@
 --     view_set           the views after one seat was replaced
 --     view_there         the view of a seat that is there
 --     moves_all          what a phase leaves of all seats
-use Rattle.std.proofs.Common.{◌≡◌, ◌==◌, ◌&&◌, ◌⊎◌, ⊎_elim, inl, inr, ◌+◌, ◌≤◌, ℕ, zero, suc, List, [], ◌∷◌, ◌++◌, length, Bool, true, false, Option, None, Some, set, slice_get, slice_set, refl, sym, ap, subst, ◌∙◌, arith}
+use Rattle.std.proofs.Common.{◌≡◌, ◌==◌, ◌&&◌, ◌⊎◌, ⊎_elim, inl, inr, ℕ, zero, suc, List, [], ◌∷◌, ◌++◌, Bool, true, false, Option, Some, slice_get, slice_set, refl, sym, ap, subst, ◌∙◌, arith, le_refl}
 use Rattle.std.proofs.lemmas.Bool.Decides.{nat_tests}
 use Rattle.std.proofs.lemmas.Option.{same_Some}
 use Rattle.std.specs.Cmp.Lexicographic.{pointwise}
@@ -21,14 +21,14 @@ use Rattle.jc_model.specs.declared.event.Op.{Op}
 use Rattle.jc_model.specs.declared.event.Out.{Out}
 use Rattle.jc_model.specs.declared.event.Reply.{Reply}
 use Rattle.jc_stripe.specs.State.{State}
-use Rattle.jc_stripe.specs.Laws.{IsSameStripe, ReachedIsLegal}
+use Rattle.jc_stripe.specs.Laws.{ReachedIsLegal}
 use Rattle.jc_stripe.specs.OnePhase.{OnePhase, IsUniform, own_steps}
 use Rattle.jc_lock.specs.declared.view.View.{View}
 use Rattle.jc_lock.proofs.CallerLemmas.{prefix-refl, prefix-trans, same_itself, same_on}
 use Rattle.jc_cache.specs.PhaseCalls.{SeatPhase}
 use Rattle.jc_bulk.specs.Keys.{IsEarly}
 use Rattle.jc_bulk.specs.Recorded.{steps_of, former_steps, are_before}
-use Rattle.jc_bulk.specs.Seats.{HasGrown, Moves, is_at, view_at, view_of}
+use Rattle.jc_bulk.specs.Seats.{HasGrown, Moves, view_at}
 use Rattle.jc_bulk.proofs.CallSteps.{before-gained, former-gained, others-gained}
 
 abbrev pub Seated : Type 0
@@ -43,10 +43,10 @@ pub record MovesSeat (caller : Caller) (key : Bytes) (v w : View) : Type 0 where
   pub numbers : are_before caller v.own ≡ true → are_before caller w.own ≡ true
 
 pub grown_itself : (v : View) → HasGrown v v
-grown_itself v = record { front = prefix-refl v.front; same = same_itself v.noted; legal = λ l. l }
+grown_itself v = record { front = prefix-refl v.front; same = same_itself v.noted; next = le_refl v.noted.next; legal = λ l. l }
 
 pub grown_on : (u v w : View) → HasGrown u v → HasGrown v w → HasGrown u w
-grown_on u v w p q = record { front = prefix-trans u.front v.front w.front p.front q.front; same = same_on u.noted v.noted w.noted p.same q.same; legal = λ l. q.legal (p.legal l) }
+grown_on u v w p q = record { front = prefix-trans u.front v.front w.front p.front q.front; same = same_on u.noted v.noted w.noted p.same q.same; next = (let one = p.next in let two = q.next in omega arith); legal = λ l. q.legal (p.legal l) }
 
 module _ (law : OnePhase) (legal : ReachedIsLegal) (session : ℕ) (phase : State → State → Type 0) (v w : View) (x : SeatPhase session v phase w) where
   pub uniform : IsUniform session x.found w.noted
@@ -62,6 +62,7 @@ module _ (law : OnePhase) (legal : ReachedIsLegal) (session : ℕ) (phase : Stat
   grown_phase = record {
     front = prefix-trans v.front x.found.history w.front x.front front_found;
     same = x.seat.same;
+    next = x.seat.next;
     legal = λ l. legal_now;
   }
 

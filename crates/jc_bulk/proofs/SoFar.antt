@@ -9,7 +9,7 @@
 --     more_rounds      the call so far, when a round has called outside
 --     opens            before the first round
 --     at_place_of      what the call so far says of the key at a place
-use Rattle.std.proofs.Common.{◌≡◌, ◌==◌, ◌&&◌, ◌||◌, ◌⊎◌, ⊎_elim, inl, inr, ◌<◌, ◌≤◌, ◌+◌, ℕ, zero, suc, List, [], ◌∷◌, ◌++◌, length, length-set, set, Bool, true, false, None, Some, Ok, Err, Option, get_or, slice_get, refl, sym, ap, subst, ◌∙◌, arith}
+use Rattle.std.proofs.Common.{◌≡◌, ◌==◌, ◌&&◌, ◌||◌, ◌⊎◌, ⊎_elim, inl, inr, ◌≤◌, ℕ, zero, suc, List, [], ◌∷◌, ◌++◌, length, length-set, set, Bool, true, false, None, Some, Ok, Err, Option, slice_get, refl, sym, ap, subst, ◌∙◌, arith}
 use Rattle.std.proofs.lemmas.Cmp.{nat_list_eq_equiv}
 use Rattle.std.proofs.lemmas.List.{length-append}
 use Rattle.std.proofs.lemmas.Map.Keys.{IsDistinct-head, IsDistinct-tail}
@@ -20,6 +20,7 @@ use Rattle.std.specs.Cmp.Lexicographic.{pointwise, same_text}
 use mathlib.Core.List.{IsPrefix}
 use Rattle.jc_types.specs.Stripes.{stripe_of}
 use Rattle.jc_types.specs.declared.caller.Caller.{Caller}
+use Rattle.jc_types.specs.declared.refusal.Refusal.{Refusal}
 use Rattle.jc_model.specs.Batches.{is_among}
 use Rattle.jc_model.specs.Cache.{Bytes}
 use Rattle.jc_model.specs.declared.event.Event.{Event}
@@ -32,8 +33,8 @@ use Rattle.jc_lock.proofs.CallerLemmas.{prefix-trans, same_on}
 use Rattle.jc_bulk.specs.declared.progress.Progress.{Progress}
 use Rattle.jc_bulk.specs.declared.progress.Progress.TheVariants.{Waiting, Reserved, Joined, Ended}
 use Rattle.jc_bulk.specs.KeyProgress.{all_waiting}
-use Rattle.jc_bulk.specs.Keys.{HasEnded, HasStep, IsAt, WasFull}
-use Rattle.jc_bulk.specs.Recorded.{steps_of, former_steps}
+use Rattle.jc_bulk.specs.Keys.{IsAt, WasRefused}
+use Rattle.jc_bulk.specs.Recorded.{steps_of}
 use Rattle.jc_bulk.specs.Rounds.{IsSaid, Round}
 use Rattle.jc_bulk.specs.Seats.{HasGrown, Moves, is_at, view_at, view_of}
 use Rattle.jc_bulk.specs.SoFar.{IsSoFar, is_due}
@@ -58,7 +59,7 @@ said_more rounds more key (Some shared) out said = said
 
 -- 2. One key.
 
-longer : (xs ys : List Event) → IsPrefix xs ys → length xs ≤ length ys
+pub longer : (xs ys : List Event) → IsPrefix xs ys → length xs ≤ length ys
 longer xs ys p = let n = length-append xs p.0 in let e = ap length p.1 in omega arith
 
 slice_on : (xs zs : List Event) (place : ℕ) (e : Event) → slice_get xs place ≡ Some e → slice_get (xs ++ zs) place ≡ Some e
@@ -66,25 +67,27 @@ slice_on [] zs place e at = cc
 slice_on (x ∷ xs) zs zero e at = at
 slice_on (x ∷ xs) zs (suc place) e at = slice_on xs zs place e at
 
-there_on : (xs ys : List Event) (place : ℕ) (e : Event) → IsPrefix xs ys → slice_get xs place ≡ Some e → slice_get ys place ≡ Some e
+pub there_on : (xs ys : List Event) (place : ℕ) (e : Event) → IsPrefix xs ys → slice_get xs place ≡ Some e → slice_get ys place ≡ Some e
 there_on xs ys place e p at = subst (λ zs. slice_get zs place ≡ Some e) p.1 (slice_on xs p.0 place e at)
 
-full_later : (caller : Caller) (u v w : View) (key : Bytes) (op : Op) → HasGrown v w → WasFull caller u v key op → WasFull caller u w key op
-full_later caller u v w key op grown was = record {
+pub refused_later : (caller : Caller) (u v w : View) (key : Bytes) (op : Op) (refusal : Refusal) → HasGrown v w → WasRefused caller u v key op refusal → WasRefused caller u w key op refusal
+refused_later caller u v w key op refusal grown was = record {
   seen = was.seen;
   reached = was.reached;
   since = was.since;
   later = prefix-trans was.seen.history v.front w.front was.later grown.front;
+  next = (let one = was.next in let two = grown.next in omega arith);
   same = same_on was.seen v.noted w.noted was.same grown.same;
   why = was.why;
 }
 
-full_since : (caller : Caller) (u v w : View) (key : Bytes) (op : Op) → HasGrown u v → WasFull caller v w key op → WasFull caller u w key op
-full_since caller u v w key op grown was = record {
+pub refused_since : (caller : Caller) (u v w : View) (key : Bytes) (op : Op) (refusal : Refusal) → HasGrown u v → WasRefused caller v w key op refusal → WasRefused caller u w key op refusal
+refused_since caller u v w key op refusal grown was = record {
   seen = was.seen;
   reached = was.reached;
   since = prefix-trans u.front v.front was.seen.history grown.front was.since;
   later = was.later;
+  next = was.next;
   same = was.same;
   why = was.why;
 }
@@ -104,7 +107,7 @@ at_later caller rounds u v w key op (Ended (Ok reply)) grown same at = record {
   there = there_on v.front w.front at.place _ grown.front at.there;
   behind = at.behind;
 }
-at_later caller rounds u v w key op (Ended (Err refusal)) grown same at = (same ∙ at.0, ⊎_elim (λ memory. inl memory) (λ full. inr (full.0, full_later caller u v w key op grown full.1)) at.1)
+at_later caller rounds u v w key op (Ended (Err refusal)) grown same at = (same ∙ at.0, ⊎_elim (λ memory. inl memory) (λ full. inr (full.0, refused_later caller u v w key op refusal grown full.1)) at.1)
 
 pub at_since : (caller : Caller) (rounds : List Round) (u v w : View) (key : Bytes) (op : Op) (p : Progress) → HasGrown u v → IsAt caller rounds v w key op p → IsAt caller rounds u w key op p
 at_since caller rounds u v w key op Waiting grown at = at
@@ -120,7 +123,7 @@ at_since caller rounds u v w key op (Ended (Ok reply)) grown at = record {
   there = at.there;
   behind = (let one = longer u.front v.front grown.front in let two = at.behind in omega arith);
 }
-at_since caller rounds u v w key op (Ended (Err refusal)) grown at = (at.0, ⊎_elim (λ memory. inl memory) (λ full. inr (full.0, full_since caller u v w key op grown full.1)) at.1)
+at_since caller rounds u v w key op (Ended (Err refusal)) grown at = (at.0, ⊎_elim (λ memory. inl memory) (λ full. inr (full.0, refused_since caller u v w key op refusal grown full.1)) at.1)
 
 pub at_more : (caller : Caller) (rounds more : List Round) (u w : View) (key : Bytes) (op : Op) (p : Progress) → IsAt caller rounds u w key op p → IsAt caller (rounds ++ more) u w key op p
 at_more caller rounds more u w key op Waiting at = at
@@ -140,7 +143,7 @@ at_more caller rounds more u w key op (Ended (Err refusal)) at = at
 
 -- 3. All keys.
 
-or_parts : (a b : Bool) → (a || b) ≡ false → (a ≡ false) × (b ≡ false)
+pub or_parts : (a b : Bool) → (a || b) ≡ false → (a ≡ false) × (b ≡ false)
 or_parts true b h = cc
 or_parts false b h = (refl, h)
 
@@ -179,7 +182,7 @@ among_at (t ∷ targets) (suc i) key op at = or_true (pointwise ◌==◌ key t.0
 
 -- 4. The key at a place goes on.
 
-and_left : (a b : Bool) → a ≡ false → (a && b) ≡ false
+pub and_left : (a b : Bool) → a ≡ false → (a && b) ≡ false
 and_left a b is = ap (λ x. x && b) is
 
 and_right : (a b : Bool) → b ≡ false → (a && b) ≡ false
@@ -191,7 +194,7 @@ rest_false true b is h = h
 rest_false false b is h = cc
 
 -- a key of no place, or on another stripe, isn't at this one
-not_here : (targets : List (Bytes × Op)) (stripes place : ℕ) (key q : Bytes) (op : Op) (i : ℕ) (b : Bool) → pointwise ◌==◌ key q ≡ b → slice_get targets place ≡ Some (key, op) → is_due stripes targets q i ≡ false → is_at stripes key q i ≡ false
+pub not_here : (targets : List (Bytes × Op)) (stripes place : ℕ) (key q : Bytes) (op : Op) (i : ℕ) (b : Bool) → pointwise ◌==◌ key q ≡ b → slice_get targets place ≡ Some (key, op) → is_due stripes targets q i ≡ false → is_at stripes key q i ≡ false
 not_here targets stripes place key q op i false apart at none = and_left _ _ apart
 not_here targets stripes place key q op i true same at none =
     let is : key ≡ q = same_text key q (sym same) in
@@ -230,7 +233,7 @@ more_rounds caller stripes targets rounds more old new ps so = record {
 
 -- 5. Before the first round.
 
-waiting_many : (n : ℕ) → length (all_waiting n) ≡ n
+pub waiting_many : (n : ℕ) → length (all_waiting n) ≡ n
 waiting_many zero = refl
 waiting_many (suc n) = ap suc (waiting_many n)
 

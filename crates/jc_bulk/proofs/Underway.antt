@@ -9,10 +9,10 @@
 --     first_ticket, first_join    the first of what is out is of the first key that is so far
 --     stay_itself, stay_on, stay_set    keys that have ended stay so
 --     under_set, under_next, settled_set, settled_next    the keys before a place, and from it on
-use Rattle.std.proofs.Common.{◌≡◌, ◌==◌, ◌&&◌, ◌⊎◌, ⊎_elim, inl, inr, ◌<◌, ◌≤◌, ◌+◌, ◌-◌, ℕ, zero, suc, List, [], ◌∷◌, ◌++◌, length, length-set, set, reverse, map, Bool, true, false, None, Some, Result, Ok, Err, nat_lt, if◌then◌else◌, get_or, slice_get, refl, sym, ap, subst, ◌∙◌, arith}
+use Rattle.std.proofs.Common.{◌≡◌, ◌==◌, ◌⊎◌, ⊎_elim, inl, inr, ◌<◌, ◌≤◌, ◌+◌, ◌-◌, ℕ, zero, suc, List, [], ◌∷◌, ◌++◌, length, length-set, set, reverse, Bool, true, false, None, Some, Result, Ok, Err, nat_lt, if◌then◌else◌, get_or, slice_get, refl, sym, ap, subst, ◌∙◌, arith}
 use Rattle.std.proofs.lemmas.List.{length-append, reverse-append, reverse-reverse}
 use Rattle.std.proofs.lemmas.Option.{same_Some, slice_get-get_or}
-use Rattle.std.specs.List.{AllByRecursion, IsDistinct}
+use Rattle.std.specs.List.{IsDistinct}
 use Rattle.std.specs.Map.{keys_of}
 use Rattle.std.specs.Cmp.Lexicographic.{pointwise}
 use Rattle.jc_types.specs.Stripes.{stripe_of}
@@ -36,7 +36,6 @@ use Rattle.jc_stripe.specs.declared.ticket.Reservation.{Reservation}
 use Rattle.jc_lock.specs.declared.view.View.{View}
 use Rattle.jc_session.specs.Counting.{one_more, counts_after, counted_begun, counted_picked}
 use Rattle.jc_session.specs.declared.agent.Agent.{Agent}
-use Rattle.jc_session.specs.declared.counts.Counted.{Counted}
 use Rattle.jc_session.specs.declared.counts.Counted.TheVariants.{Committed}
 use Rattle.jc_session.specs.declared.counts.Counts.{Counts}
 use Rattle.jc_cache.specs.Caches.{CacheState}
@@ -46,11 +45,11 @@ use Rattle.jc_bulk.specs.declared.progress.Progress.{Progress}
 use Rattle.jc_bulk.specs.declared.progress.Progress.TheVariants.{Waiting, Reserved, Joined, Ended}
 use Rattle.jc_bulk.specs.Calls.{AnsweredState, with_answers}
 use Rattle.jc_bulk.specs.KeyProgress.{StayEnded, is_joined, is_reserved, is_settled, is_waiting}
-use Rattle.jc_bulk.specs.Keys.{HasBegun, HasPicked, IsAt, IsCommitted, IsJoinFor, IsTicketFor, WasFull}
+use Rattle.jc_bulk.specs.Keys.{HasBegun, HasPicked, IsAt, IsCommitted, IsJoinFor, IsTicketFor}
 use Rattle.jc_bulk.specs.Recorded.{steps_of}
 use Rattle.jc_bulk.specs.Rounds.{IsSaid, Round}
-use Rattle.jc_bulk.specs.Seats.{HasGrown, Moves, view_at, view_of}
-use Rattle.jc_bulk.specs.SoFar.{AreAnswered, AreIn, AreSettledFrom, AreUnder, IsKept, IsPicked, IsSoFar, IsUnderway}
+use Rattle.jc_bulk.specs.Seats.{HasGrown, Moves, view_of}
+use Rattle.jc_bulk.specs.SoFar.{AreAnswered, AreIn, AreSettledFrom, AreUnder, IsKept, IsPicked, IsUnderway}
 use Rattle.jc_bulk.proofs.KeyPhases.{all_before}
 use Rattle.jc_bulk.proofs.Out.{keep_in, none_in, nothing_out, pop_in, push_in}
 use Rattle.jc_bulk.proofs.SeatPhases.{Seated}
@@ -60,7 +59,7 @@ use Rattle.jc_bulk.proofs.SoFar.{at_more, at_since, goes_on}
 
 refused_at : (caller : Caller) (config : Config) (v w : View) (key : Bytes) (op : Op) (refusal : Refusal) (b : Bool) → is_put_off refusal ≡ b → HasBegun caller config v w key op (begun.Refused refusal) → IsAt caller [] v w key op (if b then Waiting else Ended (Err refusal))
 refused_at caller config v w key op refusal true is has = has.0
-refused_at caller config v w key op refusal false is has = (has.0, ⊎_elim (λ put_off. absurd (let bad : true ≡ false = sym put_off ∙ is in cc)) (λ full. inr full) has.1)
+refused_at caller config v w key op refusal false is has = (has.0, ⊎_elim (λ put_off. absurd (let bad : true ≡ false = sym put_off ∙ is in cc)) (λ full. inr (full, has.3)) has.1)
 
 pub kept_at : (caller : Caller) (config : Config) (v w : View) (key : Bytes) (op : Op) (b : Begun) (p : Progress) (calls calls' : List Reservation) (joins joins' : List JoinClaim) → HasBegun caller config v w key op b → IsKept b p calls calls' joins joins'
     → IsAt caller [] v w key op p
@@ -81,7 +80,7 @@ join_since caller u v key op join grown is = record {
 one_longer : {X : Type 0} (xs : List X) (x : X) → length (xs ++ x ∷ []) ≡ length xs + 1
 one_longer xs x = length-append xs (x ∷ [])
 
-one_less : {X : Type 0} (x : X) (xs : List X) → length (x ∷ xs) - 1 ≡ length xs
+pub one_less : {X : Type 0} (x : X) (xs : List X) → length (x ∷ xs) - 1 ≡ length xs
 one_less x xs = omega arith
 
 pub count_more : {X : Type 0} (xs : List X) (x : X) (n : ℕ) → n ≡ length xs → nat_lt (length xs) last_number ≡ true → one_more n ≡ length (xs ++ x ∷ [])
@@ -106,7 +105,7 @@ refused_is : (has : Progress → Bool) (refusal : Refusal) (b : Bool) → has Wa
 refused_is has refusal true w e = w
 refused_is has refusal false w e = e
 
-settled_not_reserved : (p : Progress) → is_settled p ≡ true → is_reserved p ≡ false
+pub settled_not_reserved : (p : Progress) → is_settled p ≡ true → is_reserved p ≡ false
 settled_not_reserved Waiting h = refl
 settled_not_reserved Reserved h = cc
 settled_not_reserved Joined h = refl
@@ -330,7 +329,7 @@ pub stay_set : (ps : List Progress) (i : ℕ) (q p : Progress) → slice_get ps 
 stay_set ps i q p at unended = record { many = length-set ps i p; ended = λ place e there. set_other ps i place q p e at (unended e) there }
 
 -- what is under a place, once the key there goes on
-set_get : (ps : List Progress) (i j : ℕ) (p r : Progress) → slice_get (set ps i p) j ≡ Some r → ((j ≡ i) × (r ≡ p)) ⊎ ((j ≡ i → ⊥) × (slice_get ps j ≡ Some r))
+pub set_get : (ps : List Progress) (i j : ℕ) (p r : Progress) → slice_get (set ps i p) j ≡ Some r → ((j ≡ i) × (r ≡ p)) ⊎ ((j ≡ i → ⊥) × (slice_get ps j ≡ Some r))
 set_get [] i j p r at = cc
 set_get (x ∷ ps) zero zero p r at = inl (refl, sym (same_Some p r at))
 set_get (x ∷ ps) zero (suc j) p r at = inr ((λ e. cc), at)
@@ -340,7 +339,7 @@ set_get (x ∷ ps) (suc i) (suc j) p r at = ⊎_elim (λ t. inl (ap suc t.0, t.1
 pub under_set : (has : Progress → Bool) (ps : List Progress) (i : ℕ) (p : Progress) → has p ≡ false → AreUnder has i ps → AreUnder has (i + 1) (set ps i p)
 under_set has ps i p isnt under j r less at = ⊎_elim (λ t. ap has t.1 ∙ isnt) (λ t. under j r (let apart = t.0 in omega arith) t.1) (set_get ps i j p r at)
 
-below_or : (j i : ℕ) → j < i + 1 → (j ≡ i) ⊎ (j < i)
+pub below_or : (j i : ℕ) → j < i + 1 → (j ≡ i) ⊎ (j < i)
 below_or zero zero less = inl refl
 below_or zero (suc i) less = inr (omega arith)
 below_or (suc j) zero less = absurd (omega arith)
@@ -367,12 +366,12 @@ picked_not_joined p q is = settled_not_joined q (picked_settled p q is)
 pub none_before : (has : Progress → Bool) (ps : List Progress) → AreUnder has 0 ps
 none_before has ps place p less at = absurd (omega arith)
 
-place_near : (ps : List Progress) (i : ℕ) (p : Progress) → slice_get ps i ≡ Some p → i < length ps
+pub place_near : (ps : List Progress) (i : ℕ) (p : Progress) → slice_get ps i ≡ Some p → i < length ps
 place_near [] i p at = cc
 place_near (q ∷ ps) zero p at = omega arith
 place_near (q ∷ ps) (suc i) p at = let near = place_near ps i p at in omega arith
 
-none_at_all : (has : Progress → Bool) (ps : List Progress) (end : ℕ) → length ps ≤ end → AreUnder has end ps → (i : ℕ) (p : Progress) → slice_get ps i ≡ Some p → has p ≡ false
+pub none_at_all : (has : Progress → Bool) (ps : List Progress) (end : ℕ) → length ps ≤ end → AreUnder has end ps → (i : ℕ) (p : Progress) → slice_get ps i ≡ Some p → has p ≡ false
 none_at_all has ps end past under i p at = under i p (let near = place_near ps i p at in omega arith) at
 
 module _ {I J : Type 0} {D : I → Type 0} {E : J → Type 0} where

@@ -10,10 +10,11 @@
 --     CallsState       reservations of one kind, and for how many more there is room
 --     no_calls         none, with room for so many
 --     with_call        the same with one more
+--     FillsUp          there are more of these calls later, and they took the room that others had
 --     is_delete        whether a batch is one of deletes
 --     Fits             if a first phase has reserved its key, that wasn't asked yet, and is one more of these
 --     IsAskedOf        the call outside is of this kind, and asked for exactly these
-use Rattle.std.specs.Prelude.{◌≡◌, ◌-◌, ℕ, List, [], ◌∷◌, ◌++◌, map, Bool, true, false, not, Option, None, Some, IsSome}
+use Rattle.std.specs.Prelude.{◌≡◌, ◌≤◌, ◌+◌, ◌-◌, ℕ, List, [], ◌∷◌, ◌++◌, length, map, Bool, true, false, not, Option, None, Some, IsSome}
 use Rattle.jc_model.specs.Batches.{is_among}
 use Rattle.jc_model.specs.Cache.{Bytes}
 use Rattle.jc_model.specs.declared.event.Change.{Change}
@@ -73,6 +74,10 @@ no_calls kind room = record { kind = kind; items = []; room = room }
 
 abbrev pub with_call : CallsState → Reservation → CallsState
 with_call calls r = record calls { items = calls.items ++ r ∷ []; room = calls.room - 1 }
+
+pub record FillsUp (old new : CallsState) : Type 0 where
+  pub size : new.room + length new.items ≡ old.room + length old.items
+  pub room : new.room ≤ old.room
 
 -- 3. The call outside.
 

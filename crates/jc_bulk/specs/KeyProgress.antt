@@ -3,16 +3,18 @@
 --     is_reserved          the key is reserved
 --     is_joined            the key has joined a load
 --     is_settled           the key is neither reserved nor has it joined a load
+--     is_held_back         the key waits, or it has joined a load
 --     StillWaits           the key at this place waits
 --     all_waiting          so many keys, before the first round
 --     StayEnded            there are as many keys later, and those that have ended stay so
+--     OnlyEnd              each key is later as it was, or it has ended
 --     refusal_in           the fault or refusal that a key has ended in, if it did
 --     failure_at           that of a key that is so far
 --     failures             these, of all keys
 --     IsCauseIn            there is a cause exactly if there are such, and it is one of them
 --     IsNoted              a cause that was noted before stays; without one, there is one exactly if there are such, and it is one
 --     refused_if_waiting   a key that waits is refused, since the allocation of a later round failed; any other is as it was
-use Rattle.std.specs.Prelude.{◌≡◌, ℕ, zero, suc, List, [], ◌∷◌, length, Bool, true, false, Option, None, Some, Result, Ok, Err, slice_get}
+use Rattle.std.specs.Prelude.{◌≡◌, ◌⊎◌, ℕ, zero, suc, List, [], ◌∷◌, length, Bool, true, false, Option, None, Some, Result, Ok, Err, slice_get}
 use Rattle.std.specs.List.{IsAmong, filter_map}
 use Rattle.jc_types.specs.declared.refusal.Refusal.{Refusal}
 use Rattle.jc_types.specs.declared.refusal.Refusal.TheVariants.{OutOfMemory}
@@ -45,6 +47,12 @@ is_settled Reserved = false
 is_settled Joined = false
 is_settled (Ended ended) = true
 
+abbrev pub is_held_back : Progress → Bool
+is_held_back Waiting = true
+is_held_back Reserved = false
+is_held_back Joined = true
+is_held_back (Ended ended) = false
+
 abbrev pub StillWaits : List Progress → ℕ → Type 0
 StillWaits progress place = slice_get progress place ≡ Some Waiting
 
@@ -61,6 +69,10 @@ refused_if_waiting (Ended ended) = Ended ended
 pub record StayEnded (progress later : List Progress) : Type 0 where
   pub many : length later ≡ length progress
   pub ended : (place : ℕ) (e : Result Reply Refusal) → slice_get progress place ≡ Some (Ended e) → slice_get later place ≡ Some (Ended e)
+
+abbrev pub OnlyEnd : List Progress → List Progress → Type 0
+OnlyEnd progress later = (place : ℕ) (p : Progress) → slice_get progress place ≡ Some p
+    → (slice_get later place ≡ Some p) ⊎ ((ended : Result Reply Refusal) × (slice_get later place ≡ Some (Ended ended)))
 
 -- 2. What failed.
 

@@ -2,15 +2,18 @@
 --     HasStep        of the call's steps at this key there is exactly one, with this operation and reply; it is in the front, which is legal,
 --                    behind the former front; what it says of the loader and the writer is what a round of the call was told, or another
 --                    call whose load it shares
---     WasFull        the history was full, or a number at its end: the stripe was in a state, between the former front and the present
---                    one, in which this is the first refusal of the call at this key
+--     WasRefused     the stripe was in a state, between the former front and the present one, in which this is the first refusal of the
+--                    call at this key
 --     HasEnded       the key's end: the call has made its one step there; or it was refused, and has none
 --     IsAt           the key is so far: it has no step of the call yet, or has ended
 --     IsEarly        the call's number isn't the last one
 --     IsTicketFor    a reservation of the call for this key, which asks whom the operation asks first, in a cache of this shape
 --     IsJoinFor      a join of the call, a `Get`, at this key: a step of the call at the key may come after the former front
---     HasBegun       how far a first phase leaves the key
+--     HasJoined      the stripe was in a state, between these views, in which the call joins another call's load of the key
+--     IsHeldBack     between these views the key was put off, or has joined a load
+--     HasBegun       how far a first phase leaves the key; a refusal is that of the state that the view keeps
 --     IsCommitted    what a commit leaves: the call's one step at the key of its reservation, with this answer of the loader or the writer
+--     counted_start  what is counted of a first phase that reserves its key or is refused
 --     IsOver         a pick-up that wasn't too early
 --     HasPicked      how far a pick-up leaves the key
 use Rattle.std.specs.Prelude.{◌≡◌, ◌≤◌, ◌⊎◌, ℕ, List, [], ◌∷◌, length, true, false, Option, None, Some, Result, Ok, Err, slice_get, nat_lt}
@@ -30,15 +33,17 @@ use Rattle.jc_model.specs.declared.event.Reply.{Reply}
 use Rattle.jc_stripe.specs.State.{State}
 use Rattle.jc_stripe.specs.Laws.{IsSameStripe}
 use Rattle.jc_stripe.specs.Reached.{IsReached}
-use Rattle.jc_stripe.specs.Refusals.{first_asked, first_refusal, last_number, reserves}
+use Rattle.jc_stripe.specs.Refusals.{first_asked, first_refusal, last_number, load_joined, reserves}
 use Rattle.jc_stripe.specs.OwnSteps.{may_come_all}
-use Rattle.jc_stripe.specs.Tickets.{TicketClaim, JoinClaim}
+use Rattle.jc_stripe.specs.Tickets.{JoinClaim}
 use Rattle.jc_stripe.specs.declared.ticket.Reservation.{Reservation}
 use Rattle.jc_stripe.specs.declared.begun.Begun.{Begun}
 use Rattle.jc_stripe.specs.declared.begun.Begun.TheVariants as begun
 use Rattle.jc_stripe.specs.declared.begun.Picked.{Picked}
 use Rattle.jc_stripe.specs.declared.begun.Picked.TheVariants as picked
 use Rattle.jc_lock.specs.declared.view.View.{View}
+use Rattle.jc_session.specs.declared.counts.Counted.{Counted}
+use Rattle.jc_session.specs.declared.counts.Counted.TheVariants as counted
 use Rattle.jc_bulk.specs.declared.progress.Progress.{Progress}
 use Rattle.jc_bulk.specs.declared.progress.Progress.TheVariants.{Waiting, Reserved, Joined, Ended}
 use Rattle.jc_bulk.specs.Recorded.{steps_of}
@@ -56,18 +61,19 @@ pub record HasStep (caller : Caller) (rounds : List Round) (before after : View)
   pub there : slice_get after.front place ≡ Some (Step caller op key out shared_with reply)
   pub behind : length before.front ≤ place
 
-pub record WasFull (caller : Caller) (before after : View) (key : Bytes) (op : Op) : Type 0 where
+pub record WasRefused (caller : Caller) (before after : View) (key : Bytes) (op : Op) (refusal : Refusal) : Type 0 where
   pub seen : State
   pub reached : IsReached seen
   pub since : IsPrefix before.front seen.history
   pub later : IsPrefix seen.history after.front
+  pub next : seen.next ≤ after.noted.next
   pub same : IsSameStripe seen after.noted
-  pub why : first_refusal seen caller key op ≡ Some HistoryFull
+  pub why : first_refusal seen caller key op ≡ Some refusal
 
 abbrev pub HasEnded : Caller → List Round → View → View → Bytes → Op → Result Reply Refusal → Type 0
 HasEnded caller rounds before after key op (Ok reply) = HasStep caller rounds before after key op reply
 HasEnded caller rounds before after key op (Err refusal) =
-    (steps_of caller key after.own ≡ []) × ((refusal ≡ OutOfMemory) ⊎ ((refusal ≡ HistoryFull) × WasFull caller before after key op))
+    (steps_of caller key after.own ≡ []) × ((refusal ≡ OutOfMemory) ⊎ ((refusal ≡ HistoryFull) × WasRefused caller before after key op refusal))
 
 -- 2. On the way.
 
@@ -96,15 +102,32 @@ pub record IsJoinFor (caller : Caller) (before : View) (key : Bytes) (op : Op) (
   pub early : IsEarly caller
   pub fresh : may_come_all before.front caller key ≡ true
 
+pub record HasJoined (before after : View) (key : Bytes) (op : Op) : Type 0 where
+  pub seen : State
+  pub reached : IsReached seen
+  pub since : IsPrefix before.front seen.history
+  pub later : IsPrefix seen.history after.front
+  pub same : IsSameStripe seen after.noted
+  pub load : ℕ
+  pub why : load_joined seen key op ≡ Some load
+
+abbrev pub IsHeldBack : Caller → View → View → Bytes → Op → Type 0
+IsHeldBack caller before after key op = ((refusal : Refusal) × (is_put_off refusal ≡ true) × WasRefused caller before after key op refusal) ⊎ HasJoined before after key op
+
 -- 3. Phases. `before` is the view from before the phase.
 
 abbrev pub HasBegun : Caller → Config → View → View → Bytes → Op → Begun → Type 0
 HasBegun caller config before after key op (begun.Done done) = HasStep caller [] before after key op done.reply
 HasBegun caller config before after key op (begun.Refused refusal) =
-    (steps_of caller key after.own ≡ []) × ((is_put_off refusal ≡ true) ⊎ ((refusal ≡ HistoryFull) × WasFull caller before after key op))
+    (steps_of caller key after.own ≡ []) × ((is_put_off refusal ≡ true) ⊎ (refusal ≡ HistoryFull))
+    × (first_refusal after.noted caller key op ≡ Some refusal) × WasRefused caller before after key op refusal
 HasBegun caller config before after key op (begun.Asks ticket) =
     (steps_of caller key after.own ≡ []) × (ticket.asked ≡ false) × IsTicketFor caller config key op ticket.reservation
-HasBegun caller config before after key op (begun.Joined join) = (steps_of caller key after.own ≡ []) × IsJoinFor caller before key op join
+HasBegun caller config before after key op (begun.Joined join) = (steps_of caller key after.own ≡ []) × IsJoinFor caller before key op join × HasJoined before after key op
+
+abbrev pub counted_start : {T : Type 0} → Result T Refusal → Counted
+counted_start (Ok ticket) = counted.Reserved
+counted_start (Err refusal) = counted.Nothing
 
 -- the step of a commit, with what was answered outside
 pub record IsCommitted (caller : Caller) (r : Reservation) (out : Out) (before after : View) (reply : Reply) : Type 0 where

@@ -7,3 +7,7 @@ pub mod SoFar
 pub mod Calls
 pub mod CallsInside
 pub mod Targets
+pub mod Ends
+pub mod Bulk
+pub mod Starting
+pub mod Carrying

@@ -1,12 +1,13 @@
 -- What a session has seen of each stripe, in a call with many keys.
 --     view_at      the view of the session's seat at the stripe with this number; one of a seat that is gone, if there is no such stripe
 --     view_of      that of the key's stripe, of so many stripes
---     HasGrown     the front begins with the former one, the stripe is the same, and a legal front stays one
+--     HasGrown     the front begins with the former one, the stripe is the same, its next reservation's number hasn't fallen, and a legal
+--                  front stays one
 --     is_at        this is the key, and it is of the stripe with this number
 --     Moves        one phase of the call at this key: every front may have grown; what is said of any other key stays, and so do the steps
 --                  of former calls
 --     AreBefore    the steps that the session has made are all of this call or of former ones
-use Rattle.std.specs.Prelude.{◌≡◌, ◌==◌, ◌&&◌, ℕ, zero, suc, List, [], ◌∷◌, Bool, true, false}
+use Rattle.std.specs.Prelude.{◌≡◌, ◌≤◌, ◌==◌, ◌&&◌, ℕ, zero, suc, List, [], ◌∷◌, Bool, true, false}
 use Rattle.std.specs.Cmp.Lexicographic.{pointwise}
 use mathlib.Core.List.{IsPrefix}
 use Rattle.atomic_table.specs.Seated.{TableId}
@@ -30,6 +31,7 @@ view_of stripes seats key = view_at seats (stripe_of key stripes)
 pub record HasGrown (before after : View) : Type 0 where
   pub front : IsPrefix before.front after.front
   pub same : IsSameStripe before.noted after.noted
+  pub next : before.noted.next ≤ after.noted.next
   pub legal : Legal before.noted.config before.noted.opening before.front → Legal after.noted.config after.noted.opening after.front
 
 abbrev pub is_at : ℕ → Bytes → Bytes → ℕ → Bool

@@ -7,9 +7,13 @@
 --     IsKept        what a first phase gave is kept: how far the key is, and what is out
 --     AreAnswered   calls that were answered in some round: these reservations, each with what was said of its key
 --     IsPicked      how far a pick-up leaves a key
+--     GoesOn        phases of the call: what has ended stays so, every front may have grown, and no other key is held back than was before
+--     HasFewJoins   there are more keys than there is room for joins, and there is no room for any, or a key may join
+--     IsHeldAt, AreHeldBack    a key that is held back, at this place, or at each before it, was put off between these views or has joined a
+--                   load; or it is as this says
 --     AreSettledFrom, AreUnder    no key from a place on is reserved or has joined a load; no key before a place is such
-use Rattle.std.specs.Prelude.{◌≡◌, ◌==◌, ◌&&◌, ◌≤◌, ◌<◌, ◌++◌, ℕ, List, [], ◌∷◌, length, Bool, true, false, None, Some, Ok, Err, slice_get, MatchBool, if◌then◌else◌}
-use Rattle.std.specs.List.{AllByRecursion}
+use Rattle.std.specs.Prelude.{◌≡◌, ◌⊎◌, ◌==◌, ◌&&◌, ◌≤◌, ◌<◌, ◌++◌, ℕ, List, [], ◌∷◌, length, Bool, true, false, None, Some, Ok, Err, slice_get, MatchBool, if◌then◌else◌}
+use Rattle.std.specs.List.{AllByRecursion, IsAmong}
 use Rattle.std.specs.Map.{keys_of}
 use Rattle.atomic_table.specs.Seated.{TableId}
 use Rattle.jc_types.specs.Stripes.{stripe_of}
@@ -18,6 +22,7 @@ use Rattle.jc_types.specs.declared.caller.Caller.{Caller}
 use Rattle.jc_model.specs.Batches.{is_among}
 use Rattle.jc_model.specs.Cache.{Bytes}
 use Rattle.jc_model.specs.declared.event.Op.{Op}
+use Rattle.jc_model.specs.declared.event.Op.TheVariants.{Get}
 use Rattle.jc_model.specs.declared.event.Out.{Out}
 use Rattle.jc_stripe.specs.Tickets.{JoinClaim}
 use Rattle.jc_stripe.specs.declared.ticket.Reservation.{Reservation}
@@ -32,8 +37,8 @@ use Rattle.jc_cache.specs.declared.session.Session.{Session}
 use Rattle.jc_bulk.specs.declared.progress.Progress.{Progress}
 use Rattle.jc_bulk.specs.declared.progress.Progress.TheVariants.{Waiting, Reserved, Joined, Ended}
 use Rattle.jc_bulk.specs.Calls.{AnsweredState, with_answers}
-use Rattle.jc_bulk.specs.KeyProgress.{is_joined, is_reserved, is_settled}
-use Rattle.jc_bulk.specs.Keys.{IsAt, IsJoinFor, IsTicketFor}
+use Rattle.jc_bulk.specs.KeyProgress.{StayEnded, is_held_back, is_joined, is_reserved, is_settled}
+use Rattle.jc_bulk.specs.Keys.{IsAt, IsHeldBack, IsJoinFor, IsTicketFor}
 use Rattle.jc_bulk.specs.Recorded.{former_steps, steps_of}
 use Rattle.jc_bulk.specs.Rounds.{IsSaid, Round}
 use Rattle.jc_bulk.specs.Seats.{AreBefore, HasGrown, view_at, view_of}
@@ -92,3 +97,19 @@ AreSettledFrom from progress = (place : ℕ) (p : Progress) → from ≤ place �
 
 abbrev pub AreUnder : (Progress → Bool) → ℕ → List Progress → Type 0
 AreUnder has end progress = (place : ℕ) (p : Progress) → place < end → slice_get progress place ≡ Some p → has p ≡ false
+
+pub record GoesOn (old new : List (TableId × View)) (progress later : List Progress) : Type 0 where
+  pub stay : StayEnded progress later
+  pub grown : (i : ℕ) → HasGrown (view_at old i) (view_at new i)
+  pub held : (place : ℕ) (p : Progress) → slice_get later place ≡ Some p → is_held_back p ≡ true
+      → (q : Progress) × (slice_get progress place ≡ Some q) × (is_held_back q ≡ true)
+
+abbrev pub HasFewJoins : ℕ → List (Bytes × Op) → Type 0
+HasFewJoins joins_room targets = (joins_room < length targets) × ((joins_room ≡ 0) ⊎ ((key : Bytes) × IsAmong targets (key, Get)))
+
+abbrev pub IsHeldAt : Type 0 → ℕ → Caller → ℕ → List (Bytes × Op) → List (TableId × View) → List (TableId × View) → List Progress → Type 0
+IsHeldAt full place caller stripes targets old new progress = (key : Bytes) (op : Op) (p : Progress) → slice_get targets place ≡ Some (key, op) → slice_get progress place ≡ Some p → is_held_back p ≡ true
+    → full ⊎ IsHeldBack caller (view_of stripes old key) (view_of stripes new key) key op
+
+abbrev pub AreHeldBack : Type 0 → ℕ → Caller → ℕ → List (Bytes × Op) → List (TableId × View) → List (TableId × View) → List Progress → Type 0
+AreHeldBack full end caller stripes targets old new progress = (place : ℕ) → place < end → IsHeldAt full place caller stripes targets old new progress

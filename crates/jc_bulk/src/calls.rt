@@ -6,6 +6,7 @@ ghost use Rattle.jc_session.specs.Boxed.{boxed};
 ghost use Rattle.jc_bulk.specs.Calls.{Load, Write, HasOneToAsk, IsAskedOf, asks_as, is_change_of, is_delete, no_calls};
 ghost use Rattle.jc_bulk.specs.Calls.{reserved_keys, with_answers, with_call};
 ghost use Rattle.jc_stripe.specs.Refusals.{last_number};
+ghost use Rattle.jc_engine.specs.Asking.{KeepsTypes};
 ghost use Rattle.jc_cache.specs.Caches.{CacheState};
 ghost use Rattle.jc_cache.specs.Sessions.{IsOf};
 ghost use Rattle.jc_bulk.specs.CallsInside.{IsAnswered, batch_room, out_of};
@@ -158,6 +159,7 @@ impl Calls {
             session.new.agent.hands.outside.loader session.new.agent.hands.outside.writer
             × (result.0 ≡ with_answers (answer_to round) self.items)
             × (result.1 ≡ round_returned round) }
+        ensures types { KeepsTypes session.old.agent session.new.agent }
         ensures rest { session.new
             ≡ record session.old { agent = record session.old.agent { hands = session.new.agent.hands } } }
     {
@@ -328,7 +330,7 @@ impl ToAsk {
 }
 
 /// Adds a change to a batch of its kind.
-fn insert_change(batch: &mut Batch, key: Key, change: Change)
+pub fn insert_change(batch: &mut Batch, key: Key, change: Change)
     requires room { 0 < batch_room batch.old }
     requires kind { is_change_of (is_delete batch.old) (Some change) ≡ true }
     requires new { is_among (map (λ c. c.0) (changes_of batch.old)) key ≡ false }

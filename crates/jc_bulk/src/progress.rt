@@ -19,7 +19,7 @@ pub enum Progress {
 }
 
 /// The key waits for a round.
-pub(crate) fn is_waiting(progress: &Progress) -> bool
+pub fn is_waiting(progress: &Progress) -> bool
     ensures { result ≡ is_waiting progress.now }
 {
     match progress {
@@ -29,7 +29,7 @@ pub(crate) fn is_waiting(progress: &Progress) -> bool
 }
 
 /// The key is reserved.
-pub(crate) fn is_reserved(progress: &Progress) -> bool
+pub fn is_reserved(progress: &Progress) -> bool
     ensures { result ≡ is_reserved progress.now }
 {
     match progress {

@@ -1,7 +1,8 @@
 //! One round of a call with many keys: first phases, one call outside, and last phases.
-ghost use Rattle.std.specs.Prelude.{◌≡◌, ◌==◌, ◌<◌, ◌≤◌, ◌+◌, ◌++◌, [], List, ℕ, true, false, ◌∷◌, None, Some, Ok, length, reverse, nat_lt, slice_get, slice_set, vec_capacity};
+ghost use Rattle.std.specs.Prelude.{◌≡◌, ◌⊎◌, ◌==◌, ◌<◌, ◌≤◌, ◌+◌, ◌++◌, [], List, ℕ, true, false, ◌∷◌, None, Some, Ok, length, reverse, nat_lt, slice_get, slice_set, vec_capacity};
 ghost use Rattle.std.specs.List.{IsDistinct, cons_option};
 ghost use Rattle.std.specs.Map.{keys_of};
+ghost use Rattle.std.specs.Option.{option_or};
 ghost use Rattle.std.specs.Cmp.Lexicographic.{pointwise};
 ghost use Rattle.atomic_table.specs.Seated.{TableId};
 ghost use Rattle.jc_types.specs.declared.caller.Caller.{Caller};
@@ -15,21 +16,25 @@ ghost use Rattle.jc_lock.specs.declared.view.View.{View};
 ghost use Rattle.jc_session.specs.Boxed.{boxed};
 ghost use Rattle.jc_session.specs.Counting.{counts_after, counted_picked};
 ghost use Rattle.jc_session.specs.declared.counts.Counted.TheVariants.{Committed};
+ghost use Rattle.jc_engine.specs.Asking.{KeepsTypes};
 ghost use Rattle.jc_cache.specs.Sessions.{IsOf};
 ghost use Rattle.jc_bulk.specs.declared.progress.Progress.{Progress as ProgressState};
 ghost use Rattle.jc_bulk.specs.declared.progress.Progress.TheVariants.{Ended, Joined, Reserved, Waiting};
-ghost use Rattle.jc_bulk.specs.Calls.{Fits};
-ghost use Rattle.jc_bulk.specs.KeyProgress.{StayEnded, is_joined, is_reserved};
+ghost use Rattle.jc_bulk.specs.Calls.{FillsUp, Fits, reserved_keys};
+ghost use Rattle.jc_bulk.specs.Bulk.{HasAsked, asked_in};
+ghost use Rattle.jc_bulk.specs.KeyProgress.{IsNoted, OnlyEnd, failures, is_joined, is_reserved};
 ghost use Rattle.jc_bulk.specs.Keys.{HasBegun, HasPicked, IsCommitted, IsEarly, IsJoinFor};
 ghost use Rattle.jc_bulk.specs.Recorded.{steps_of};
 ghost use Rattle.jc_bulk.specs.Rounds.{CallsInRounds, IsSaid, Round, fault_of, faults_in};
-ghost use Rattle.jc_bulk.specs.Seats.{HasGrown, Moves, view_of};
-ghost use Rattle.jc_bulk.specs.SoFar.{AreAnswered, AreSettledFrom, AreUnder, IsKept, IsPicked, IsUnderway};
+ghost use Rattle.jc_bulk.specs.Seats.{HasGrown, Moves, view_at, view_of};
+ghost use Rattle.jc_bulk.specs.SoFar.{AreAnswered, AreHeldBack, AreSettledFrom, AreUnder, GoesOn, HasFewJoins, IsHeldAt, IsKept, IsPicked, IsUnderway};
+ghost use Rattle.jc_bulk.specs.Starting.{StartsAll};
 ghost use Rattle.jc_bulk.specs.Targets.{kind_for, ops_of};
 
 use crate::calls::{Answered, AnsweredCall, AnsweredCalls, Calls};
 use crate::key::{commit_loaded, commit_written, pick_key, start_key};
 use crate::progress::{Progress, is_joined, is_reserved, is_waiting};
+use crate::results::note_first;
 use crate::targets::Targets;
 use jc_cache::{Cache, Session};
 use jc_model::Reply;
@@ -55,10 +60,14 @@ pub(crate) fn start_round<R: Wait>(
     requires underway { (caller : Caller) × (rounds : List Round) × (first : List (TableId × View))
         × IsUnderway cache.now caller (ops_of targets.now) rounds first
         session.old progress.old calls.old.items joins.old.items }
-    ensures stay { StayEnded progress.old progress.new }
+    ensures goes { GoesOn session.old.seats.items session.new.seats.items progress.old progress.new }
     ensures agent { session.new.agent ≡ record session.old.agent { counts = session.new.agent.counts } }
     ensures kind { calls.new.kind ≡ calls.old.kind }
     ensures room { vec_capacity joins.new ≡ vec_capacity joins.old }
+    ensures fills { FillsUp calls.old calls.new }
+    ensures held { AreHeldBack ((calls.new.room ≡ 0) ⊎ HasFewJoins (vec_capacity joins.old) (ops_of targets.now))
+        (length (ops_of targets.now)) session.old.agent.caller cache.now.config.stripes (ops_of targets.now)
+        session.old.seats.items session.new.seats.items progress.new }
     ensures underway { (caller : Caller) (rounds : List Round) (first : List (TableId × View))
         → IsUnderway cache.now caller (ops_of targets.now) rounds first
         session.old progress.old calls.old.items joins.old.items
@@ -89,11 +98,15 @@ fn start_at<R: Wait>(
     requires underway { (caller : Caller) × (rounds : List Round) × (first : List (TableId × View))
         × IsUnderway cache.now caller (ops_of targets.now) rounds first
         session.old progress.old calls.old.items joins.old.items }
-    ensures stay { StayEnded progress.old progress.new }
+    ensures goes { GoesOn session.old.seats.items session.new.seats.items progress.old progress.new }
     ensures agent { session.new.agent ≡ record session.old.agent { counts = session.new.agent.counts } }
     ensures settled { AreSettledFrom (place + 1) progress.new }
     ensures kind { calls.new.kind ≡ calls.old.kind }
     ensures room { vec_capacity joins.new ≡ vec_capacity joins.old }
+    ensures fills { FillsUp calls.old calls.new }
+    ensures held { IsHeldAt ((calls.new.room ≡ 0) ⊎ HasFewJoins (vec_capacity joins.old) (ops_of targets.now))
+        place session.old.agent.caller cache.now.config.stripes (ops_of targets.now)
+        session.old.seats.items session.new.seats.items progress.new }
     ensures underway { (caller : Caller) (rounds : List Round) (first : List (TableId × View))
         → IsUnderway cache.now caller (ops_of targets.now) rounds first
         session.old progress.old calls.old.items joins.old.items
@@ -134,6 +147,10 @@ fn start_waiting<R: Wait>(
     ensures agent { session.new.agent ≡ record session.old.agent { counts = session.new.agent.counts } }
     ensures kind { calls.new.kind ≡ calls.old.kind }
     ensures room { vec_capacity joins.new ≡ vec_capacity joins.old }
+    ensures grown { (i : ℕ) → HasGrown (view_at session.old.seats.items i) (view_at session.new.seats.items i) }
+    ensures fills { FillsUp calls.old calls.new }
+    ensures held { IsHeldAt ⊥ place session.old.agent.caller cache.now.config.stripes (ops_of targets.now)
+        session.old.seats.items session.new.seats.items progress.new }
     ensures underway { (caller : Caller) (rounds : List Round) (first : List (TableId × View))
         → IsUnderway cache.now caller (ops_of targets.now) rounds first
         session.old progress.old calls.old.items joins.old.items
@@ -148,6 +165,7 @@ fn start_waiting<R: Wait>(
 
 /// Whether one more call may be begun: if it reserves its key, or joins a load, there is room for that.
 fn has_room(calls: &Calls, joins: &Vec<Join>) -> bool
+    ensures full { result ≡ false → (calls.now.room ≡ 0) ⊎ (vec_capacity joins.now ≤ length joins.now.items) }
     ensures calls { result ≡ true → (calls.now.room == 0) ≡ false }
     ensures few { result ≡ true → nat_lt (length calls.now.items) last_number ≡ true }
     ensures joins { result ≡ true → length joins.now.items < vec_capacity joins.now }
@@ -162,6 +180,7 @@ fn keep(begun: Begun, calls: &mut Calls, joins: &mut Vec<Join>) -> Progress
     requires joins { length joins.old.items < vec_capacity joins.old }
     requires fits { Fits calls.old begun }
     ensures kept { IsKept begun result calls.old.items calls.new.items joins.old.items joins.new.items }
+    ensures fills { FillsUp calls.old calls.new }
     ensures kind { calls.new.kind ≡ calls.old.kind }
     ensures room { vec_capacity joins.new ≡ vec_capacity joins.old }
 {
@@ -200,7 +219,8 @@ fn commit_round<R: Wait>(
     requires underway { (caller : Caller) × (rounds : List Round) × (first : List (TableId × View)) × (out : List Reservation) × (joins : List JoinClaim)
         × AreAnswered rounds calls out
         × IsUnderway cache.now caller (ops_of targets.now) rounds first session.old progress.old out joins }
-    ensures stay { StayEnded progress.old progress.new }
+    ensures goes { GoesOn session.old.seats.items session.new.seats.items progress.old progress.new }
+    ensures ends { OnlyEnd progress.old progress.new }
     ensures agent { session.new.agent ≡ record session.old.agent { counts = session.new.agent.counts } }
     ensures underway { (caller : Caller) (rounds : List Round) (first : List (TableId × View)) (out : List Reservation) (joins : List JoinClaim)
         → AreAnswered rounds calls out
@@ -231,7 +251,8 @@ fn commit_at<R: Wait>(
     requires underway { (caller : Caller) × (rounds : List Round) × (first : List (TableId × View)) × (out : List Reservation) × (joins : List JoinClaim)
         × AreAnswered rounds calls.old out
         × IsUnderway cache.now caller (ops_of targets.now) rounds first session.old progress.old out joins }
-    ensures stay { StayEnded progress.old progress.new }
+    ensures goes { GoesOn session.old.seats.items session.new.seats.items progress.old progress.new }
+    ensures ends { OnlyEnd progress.old progress.new }
     ensures agent { session.new.agent ≡ record session.old.agent { counts = session.new.agent.counts } }
     ensures before { AreUnder is_reserved (place + 1) progress.new }
     ensures underway { (caller : Caller) (rounds : List Round) (first : List (TableId × View)) (out : List Reservation) (joins : List JoinClaim)
@@ -268,6 +289,7 @@ fn commit_next<R: Wait>(
         session.old progress.old (call.reservation ∷ rest) joins }
     ensures progress { (reply : ReplyState) × (progress.new ≡ slice_set progress.old place (Ended (Ok reply))) }
     ensures agent { session.new.agent ≡ record session.old.agent { counts = session.new.agent.counts } }
+    ensures grown { (i : ℕ) → HasGrown (view_at session.old.seats.items i) (view_at session.new.seats.items i) }
     ensures underway { (caller : Caller) (rounds : List Round) (first : List (TableId × View)) (rest : List Reservation) (joins : List JoinClaim)
         → IsSaid rounds call.reservation.key None call.answer
         → IsUnderway cache.now caller (ops_of targets.now) rounds first
@@ -318,7 +340,7 @@ fn pick_round<R: Wait>(
     requires distinct { IsDistinct (pointwise ◌==◌) (keys_of (ops_of targets.now)) }
     requires underway { (caller : Caller) × (rounds : List Round) × (first : List (TableId × View)) × (calls : List Reservation)
         × IsUnderway cache.now caller (ops_of targets.now) rounds first session.old progress.old calls joins.old.items }
-    ensures stay { StayEnded progress.old progress.new }
+    ensures goes { GoesOn session.old.seats.items session.new.seats.items progress.old progress.new }
     ensures agent { session.new.agent ≡ record session.old.agent { counts = session.new.agent.counts } }
     ensures room { vec_capacity joins.new ≡ vec_capacity joins.old }
     ensures none { joins.new.items ≡ [] }
@@ -348,7 +370,7 @@ fn pick_at<R: Wait>(
     requires before { AreUnder is_joined place progress.old }
     requires underway { (caller : Caller) × (rounds : List Round) × (first : List (TableId × View)) × (calls : List Reservation)
         × IsUnderway cache.now caller (ops_of targets.now) rounds first session.old progress.old calls (reverse joins.old.items) }
-    ensures stay { StayEnded progress.old progress.new }
+    ensures goes { GoesOn session.old.seats.items session.new.seats.items progress.old progress.new }
     ensures agent { session.new.agent ≡ record session.old.agent { counts = session.new.agent.counts } }
     ensures room { vec_capacity joins.new ≡ vec_capacity joins.old }
     ensures before { AreUnder is_joined (place + 1) progress.new }
@@ -383,6 +405,7 @@ fn pick_next<R: Wait>(
         × IsUnderway cache.now caller (ops_of targets.now) rounds first session.old progress.old calls (join ∷ rest) }
     ensures progress { (p : ProgressState) × (is_joined p ≡ false) × (progress.new ≡ slice_set progress.old place p) }
     ensures agent { session.new.agent ≡ record session.old.agent { counts = session.new.agent.counts } }
+    ensures grown { (i : ℕ) → HasGrown (view_at session.old.seats.items i) (view_at session.new.seats.items i) }
     ensures underway { (caller : Caller) (rounds : List Round) (first : List (TableId × View)) (calls : List Reservation) (rest : List JoinClaim)
         → IsUnderway cache.now caller (ops_of targets.now) rounds first session.old progress.old calls (join ∷ rest)
         → IsUnderway cache.now caller (ops_of targets.now) rounds first session.new progress.new calls rest }
@@ -416,5 +439,119 @@ fn pick<R: Wait>(rt: &R, cache: &Cache, session: &mut Session, join: Join) -> Pr
         } => Progress::Ended(Ok(reply)),
         Picked::Again => Progress::Waiting,
         Picked::NotYet(_join) => unreachable!(),
+    }
+}
+
+// 4. The round.
+
+/// One call of the loader or the writer for all keys that a round has reserved, if there are any, and their last phases. It returns
+/// the fault that the writer has returned, if it failed.
+fn end_calls<R: Wait>(
+    rt: &R,
+    cache: &Cache,
+    session: &mut Session,
+    targets: &Targets<'_>,
+    progress: &mut [Progress],
+    calls: Calls,
+) -> Option<Refusal>
+    requires distinct { IsDistinct (pointwise ◌==◌) (keys_of (ops_of targets.now)) }
+    requires kind { calls.kind ≡ kind_for targets.now }
+    requires underway { (caller : Caller) × (rounds : List Round) × (first : List (TableId × View)) × (joins : List JoinClaim)
+        × IsUnderway cache.now caller (ops_of targets.now) rounds first session.old progress.old calls.items joins }
+    ensures goes { GoesOn session.old.seats.items session.new.seats.items progress.old progress.new }
+    ensures ends { OnlyEnd progress.old progress.new }
+    ensures types { KeepsTypes session.old.agent session.new.agent }
+    ensures agent { session.new.agent ≡ record session.old.agent {
+      counts = session.new.agent.counts;
+      hands = session.new.agent.hands;
+    } }
+    ensures underway { (caller : Caller) (rounds : List Round) (first : List (TableId × View)) (joins : List JoinClaim)
+        → IsUnderway cache.now caller (ops_of targets.now) rounds first session.old progress.old calls.items joins
+        → HasAsked cache.now.config (ops_of targets.now) rounds progress.old
+        → (more : List Round) × (length more ≤ 1)
+        × CallsInRounds (boxed loads_all) (boxed load_state) (boxed writes_all) (boxed deletes_all) (boxed write_state)
+        session.old.agent.hands.outside.loader session.old.agent.hands.outside.writer more
+        session.new.agent.hands.outside.loader session.new.agent.hands.outside.writer
+        × (faults_in more ≡ cons_option result [])
+        × HasAsked cache.now.config (ops_of targets.now) (rounds ++ more) progress.new
+        × (asked_in more ≡ reserved_keys calls.items)
+        × IsUnderway cache.now caller (ops_of targets.now) (rounds ++ more) first session.new progress.new [] joins }
+{
+    let _types: Option<&(Reply, Value)> = None;
+    if calls.len() == 0 {
+        calls.end();
+        None
+    } else {
+        let (answered, returned) = calls.ask(rt, session);
+        commit_round(rt, cache, session, targets, progress, answered);
+        writer_fault(returned)
+    }
+}
+
+/// The fault that a call of the writer has returned, if it failed.
+fn writer_fault(returned: Result<(), u32>) -> Option<Refusal>
+    ensures { result ≡ fault_of returned }
+{
+    match returned {
+        Ok(()) => None,
+        Err(code) => Some(Refusal::WriterFailed(code)),
+    }
+}
+
+/// One round of a call that has nothing out: each key that can is begun, and what follows of them. The first fault or refusal of the
+/// call is noted as soon as it is met.
+pub(crate) fn run_round<R: Wait>(
+    rt: &R,
+    cache: &Cache,
+    session: &mut Session,
+    targets: &Targets<'_>,
+    progress: &mut [Progress],
+    calls: Calls,
+    joins: &mut Vec<Join>,
+    cause: &mut Option<Refusal>,
+)
+    requires distinct { IsDistinct (pointwise ◌==◌) (keys_of (ops_of targets.now)) }
+    requires kind { calls.kind ≡ kind_for targets.now }
+    requires none { (calls.items ≡ []) × (joins.old.items ≡ []) }
+    requires underway { (caller : Caller) × (rounds : List Round) × (first : List (TableId × View))
+        × HasAsked cache.now.config (ops_of targets.now) rounds progress.old
+        × IsUnderway cache.now caller (ops_of targets.now) rounds first session.old progress.old [] [] }
+    ensures goes { GoesOn session.old.seats.items session.new.seats.items progress.old progress.new }
+    ensures types { KeepsTypes session.old.agent session.new.agent }
+    ensures agent { session.new.agent ≡ record session.old.agent {
+      counts = session.new.agent.counts;
+      hands = session.new.agent.hands;
+    } }
+    ensures none { joins.new.items ≡ [] }
+    ensures room { vec_capacity joins.new ≡ vec_capacity joins.old }
+    ensures underway { (caller : Caller) (rounds : List Round) (first : List (TableId × View))
+        → IsUnderway cache.now caller (ops_of targets.now) rounds first session.old progress.old [] []
+        → HasAsked cache.now.config (ops_of targets.now) rounds progress.old
+        → (more : List Round)
+        × CallsInRounds (boxed loads_all) (boxed load_state) (boxed writes_all) (boxed deletes_all) (boxed write_state)
+        session.old.agent.hands.outside.loader session.old.agent.hands.outside.writer more
+        session.new.agent.hands.outside.loader session.new.agent.hands.outside.writer
+        × IsNoted cause.old (failures progress.new ++ faults_in more) cause.new
+        × HasAsked cache.now.config (ops_of targets.now) (rounds ++ more) progress.new
+        × IsUnderway cache.now caller (ops_of targets.now) (rounds ++ more) first session.new progress.new [] []
+        × StartsAll caller cache.now.config.stripes calls.room (vec_capacity joins.old) (ops_of targets.now)
+        session.old.seats.items session.new.seats.items progress.old progress.new more }
+{
+    let _types: Option<&(Reply, Value)> = None;
+    let mut calls = calls;
+    start_round(rt, cache, session, targets, progress, &mut calls, joins);
+    note_first(cause, progress);
+    let fault = end_calls(rt, cache, session, targets, progress, calls);
+    note_fault(cause, fault);
+    pick_round(rt, cache, session, targets, progress, joins);
+    note_first(cause, progress);
+}
+
+/// Notes the fault that the writer has returned, unless a cause was noted before.
+fn note_fault(cause: &mut Option<Refusal>, returned: Option<Refusal>)
+    ensures { cause.new ≡ option_or cause.old returned }
+{
+    if cause.is_none() {
+        *cause = returned;
     }
 }

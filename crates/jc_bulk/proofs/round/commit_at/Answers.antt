@@ -1,10 +1,12 @@
-use Rattle.std.proofs.Common.{◌≡◌, ◌+◌, Ok, refl, sym, ap, subst, ◌∙◌}
+use Rattle.std.proofs.Common.{◌+◌, Ok, refl, sym, subst, ◌∙◌}
 use Rattle.std.proofs.lemmas.Option.{slice_get-get_or}
 use Rattle.jc_bulk.specs.declared.progress.Progress.TheVariants.{Ended, Reserved}
-use Rattle.jc_bulk.specs.KeyProgress.{StayEnded, is_reserved}
-use Rattle.jc_bulk.specs.SoFar.{AreAnswered, AreUnder, IsUnderway}
+use Rattle.jc_bulk.specs.KeyProgress.{OnlyEnd, is_reserved}
+use Rattle.jc_bulk.specs.SoFar.{AreAnswered, AreUnder, GoesOn, IsUnderway}
 use Rattle.jc_bulk.specs.Targets.{ops_of}
-use Rattle.jc_bulk.proofs.Underway.{head_answered, none_answered, reserved_at, stay_set, under_next, under_set}
+use Rattle.jc_bulk.proofs.Asked.{only_itself, only_set}
+use Rattle.jc_bulk.proofs.Held.{goes_itself, goes_set}
+use Rattle.jc_bulk.proofs.Underway.{head_answered, none_answered, reserved_at, under_next, under_set}
 use Rattle.jc_bulk.proofs.round.commit_at.Goals as goal
 
 pub commit_next-requires-clause-there : goal.commit_next-requires-clause-there
@@ -22,10 +24,21 @@ unreachable-requires g c =
     none_answered c.args.cache.now r.0 (ops_of c.args.targets.now) r.1 r.2 c.args.session.now c.args.progress.now c.args.calls.now r.3 r.4 c.args.place c.in-None.ensures.none.0
     (reserved_at c.args.progress.now c.args.place c.index-progress-place.result c.requires.place (sym c.is_reserved.ensures ∙ c.if-is_reserved.true)) r.5 r.6
 
-pub returns-in-Some-clause-stay : goal.returns-in-Some-clause-stay
-returns-in-Some-clause-stay g c =
+pub returns-in-Some-clause-goes : goal.returns-in-Some-clause-goes
+returns-in-Some-clause-goes g c =
     let there = reserved_at c.args.progress.now c.args.place c.index-progress-place.result c.requires.place (sym c.is_reserved.ensures ∙ c.if-is_reserved.true) in
-    subst (StayEnded c.args.progress.now) (sym c.commit_next.ensures.progress.1) (stay_set c.args.progress.now c.args.place Reserved (Ended (Ok c.commit_next.ensures.progress.0)) there (λ e bad. cc))
+    subst (GoesOn c.args.session.now.seats.items c.commit_next.new.session.seats.items c.args.progress.now) (sym c.commit_next.ensures.progress.1)
+    (goes_set c.args.session.now.seats.items c.commit_next.new.session.seats.items c.args.progress.now c.args.place Reserved (Ended (Ok c.commit_next.ensures.progress.0)) c.commit_next.ensures.grown there (λ e bad. cc) (λ is. is))
+
+pub returns-else-is_reserved-clause-goes : goal.returns-else-is_reserved-clause-goes
+returns-else-is_reserved-clause-goes g c = goes_itself c.args.session.now.seats.items c.args.progress.now
+
+pub returns-in-Some-clause-ends : goal.returns-in-Some-clause-ends
+returns-in-Some-clause-ends g c =
+    subst (OnlyEnd c.args.progress.now) (sym c.commit_next.ensures.progress.1) (only_set c.args.progress.now c.args.place (Ok c.commit_next.ensures.progress.0))
+
+pub returns-else-is_reserved-clause-ends : goal.returns-else-is_reserved-clause-ends
+returns-else-is_reserved-clause-ends g c = only_itself c.args.progress.now
 
 pub returns-in-Some-clause-before : goal.returns-in-Some-clause-before
 returns-in-Some-clause-before g c =

@@ -1,4 +1,4 @@
-use Rattle.std.proofs.Common.{◌≡◌, Ok, refl, sym, ap, subst, ◌∙◌}
+use Rattle.std.proofs.Common.{Ok, refl, sym, ap, subst, ◌∙◌}
 use Rattle.jc_types.specs.declared.caller.Caller.{Caller}
 use Rattle.jc_bulk.specs.declared.progress.Progress.TheVariants.{Ended}
 use Rattle.jc_bulk.specs.Keys.{IsEarly}
@@ -35,3 +35,6 @@ pub returns-clause-underway : goal.returns-clause-underway
 returns-clause-underway g c caller rounds first rest joins said u =
     committed_on c.args.cache.now caller _ rounds first c.args.session.now c.commit-reply.new.session c.args.progress.now c.args.call rest joins c.args.place c.commit-reply.result c.requires.distinct c.requires.there c.requires.before said
     c.commit-reply.ensures.own c.commit-reply.ensures.agent c.commit-reply.ensures.moves c.commit-reply.ensures.step u
+
+pub returns-clause-grown : goal.returns-clause-grown
+returns-clause-grown g c = c.commit-reply.ensures.moves.grown

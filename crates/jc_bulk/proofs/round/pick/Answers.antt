@@ -1,4 +1,4 @@
-use Rattle.std.proofs.Common.{◌≡◌, subst}
+use Rattle.std.proofs.Common.{subst}
 use Rattle.jc_bulk.specs.Keys.{IsOver}
 use Rattle.jc_bulk.proofs.round.pick.Goals as goal
 

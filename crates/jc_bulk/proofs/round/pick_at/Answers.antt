@@ -1,11 +1,12 @@
-use Rattle.std.proofs.Common.{◌≡◌, ◌+◌, reverse, refl, sym, ap, subst, ◌∙◌}
+use Rattle.std.proofs.Common.{◌+◌, reverse, refl, sym, ap, subst, ◌∙◌}
 use Rattle.std.proofs.lemmas.Option.{slice_get-get_or}
 use Rattle.jc_bulk.specs.declared.progress.Progress.TheVariants.{Joined}
-use Rattle.jc_bulk.specs.KeyProgress.{StayEnded, is_joined}
-use Rattle.jc_bulk.specs.SoFar.{AreUnder, IsUnderway}
+use Rattle.jc_bulk.specs.KeyProgress.{is_joined}
+use Rattle.jc_bulk.specs.SoFar.{AreUnder, GoesOn, IsUnderway}
 use Rattle.jc_bulk.specs.Targets.{ops_of}
 use Rattle.jc_bulk.proofs.Asking.{none_long}
-use Rattle.jc_bulk.proofs.Underway.{joined_at, last_first, none_joined, stay_set, under_next, under_set}
+use Rattle.jc_bulk.proofs.Held.{goes_itself, goes_set}
+use Rattle.jc_bulk.proofs.Underway.{joined_at, last_first, none_joined, under_next, under_set}
 use Rattle.jc_bulk.proofs.round.pick_at.Goals as goal
 
 pub pick_next-requires-clause-there : goal.pick_next-requires-clause-there
@@ -22,10 +23,14 @@ unreachable-requires g c =
     none_joined c.args.cache.now r.0 (ops_of c.args.targets.now) r.1 r.2 c.args.session.now c.args.progress.now r.3 (reverse c.args.joins.now.items) c.args.place (ap reverse (none_long c.args.joins.now.items (sym c.args.joins.now.ok.0 ∙ c.in-None.ensures.cases.0)))
     (joined_at c.args.progress.now c.args.place c.index-progress-place.result c.requires.place (sym c.is_joined.ensures ∙ c.if-is_joined.true)) r.4
 
-pub returns-in-Some-clause-stay : goal.returns-in-Some-clause-stay
-returns-in-Some-clause-stay g c =
+pub returns-in-Some-clause-goes : goal.returns-in-Some-clause-goes
+returns-in-Some-clause-goes g c =
     let there = joined_at c.args.progress.now c.args.place c.index-progress-place.result c.requires.place (sym c.is_joined.ensures ∙ c.if-is_joined.true) in
-    subst (StayEnded c.args.progress.now) (sym c.pick_next.ensures.progress.2) (stay_set c.args.progress.now c.args.place Joined c.pick_next.ensures.progress.0 there (λ e bad. cc))
+    subst (GoesOn c.args.session.now.seats.items c.pick_next.new.session.seats.items c.args.progress.now) (sym c.pick_next.ensures.progress.2)
+    (goes_set c.args.session.now.seats.items c.pick_next.new.session.seats.items c.args.progress.now c.args.place Joined c.pick_next.ensures.progress.0 c.pick_next.ensures.grown there (λ e bad. cc) (λ is. refl))
+
+pub returns-else-is_joined-clause-goes : goal.returns-else-is_joined-clause-goes
+returns-else-is_joined-clause-goes g c = goes_itself c.args.session.now.seats.items c.args.progress.now
 
 pub returns-in-Some-clause-before : goal.returns-in-Some-clause-before
 returns-in-Some-clause-before g c =

@@ -1,4 +1,4 @@
-use Rattle.std.proofs.Common.{◌≡◌, refl, sym, ap, subst, ◌∙◌}
+use Rattle.std.proofs.Common.{refl, sym, ap, subst, ◌∙◌}
 use Rattle.jc_types.specs.declared.caller.Caller.{Caller}
 use Rattle.jc_bulk.specs.declared.progress.Progress.TheVariants.{Waiting}
 use Rattle.jc_bulk.specs.Keys.{IsEarly}
@@ -38,3 +38,6 @@ pub returns-clause-underway : goal.returns-clause-underway
 returns-clause-underway g c caller rounds first calls rest u =
     picked_on c.args.cache.now caller _ rounds first c.args.session.now c.pick.new.session c.args.progress.now calls c.args.join rest c.args.place c.pick.ensures.picked.0 c.pick.result c.requires.distinct c.requires.there c.requires.before
     c.pick.ensures.own c.pick.ensures.picked.2 c.pick.ensures.moves c.pick.ensures.picked.3 c.pick.ensures.picked.1 u
+
+pub returns-clause-grown : goal.returns-clause-grown
+returns-clause-grown g c = c.pick.ensures.moves.grown

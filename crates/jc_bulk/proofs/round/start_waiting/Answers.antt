@@ -1,9 +1,11 @@
-use Rattle.std.proofs.Common.{◌≡◌, length, refl, sym, ap, subst, ◌∙◌, arith}
+use Rattle.std.proofs.Common.{set, sym, ap, subst, ◌∙◌, arith}
 use Rattle.jc_types.specs.declared.caller.Caller.{Caller}
 use Rattle.jc_bulk.specs.Keys.{HasBegun}
 use Rattle.jc_bulk.specs.Recorded.{steps_of}
 use Rattle.jc_bulk.specs.Seats.{AreBefore, view_of}
+use Rattle.jc_bulk.specs.Targets.{ops_of}
 use Rattle.jc_bulk.proofs.Asking.{fits_begun}
+use Rattle.jc_bulk.proofs.Held.{held_at, kept_held, set_there}
 use Rattle.jc_bulk.proofs.Underway.{started_on}
 use Rattle.jc_bulk.proofs.round.start_waiting.Goals as goal
 
@@ -38,3 +40,15 @@ returns-clause-underway g c caller rounds first u =
     started_on c.args.cache.now caller _ rounds first c.args.session.now c.start_key-begun.new.session c.args.progress.now c.args.calls.now.items c.keep.new.calls.items c.args.joins.now.items c.keep.new.joins.items c.args.place
     c.at-target.result.0 c.at-target.result.1 c.start_key-begun.result c.keep.result c.requires.distinct c.at-target.ensures c.requires.place c.requires.waits c.requires.settled c.start_key-begun.ensures.own c.start_key-begun.ensures.agent
     c.start_key-begun.ensures.moves c.start_key-begun.ensures.begun c.requires.few.0 c.requires.few.1 c.keep.ensures.kept u
+
+pub returns-clause-grown : goal.returns-clause-grown
+returns-clause-grown g c = c.start_key-begun.ensures.moves.grown
+
+pub returns-clause-held : goal.returns-clause-held
+returns-clause-held g c =
+    let n = c.args.cache.now.config.stripes in
+    let key = c.at-target.result.0 in
+    held_at c.args.session.now.agent.caller n (ops_of c.args.targets.now) c.args.session.now.seats.items c.start_key-begun.new.session.seats.items (set c.args.progress.now c.args.place c.keep.result) c.args.place c.at-target.result c.keep.result
+    c.at-target.ensures (set_there c.args.progress.now c.args.place c.keep.result c.requires.place)
+    (kept_held c.args.session.now.agent.caller c.args.cache.now.config (view_of n c.args.session.now.seats.items key) (view_of n c.start_key-begun.new.session.seats.items key) key c.at-target.result.1 c.start_key-begun.result c.keep.result
+    c.args.calls.now.items c.keep.new.calls.items c.args.joins.now.items c.keep.new.joins.items c.start_key-begun.ensures.begun c.keep.ensures.kept)

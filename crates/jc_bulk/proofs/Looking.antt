@@ -1,0 +1,287 @@
+-- A session that looks at the stripes, one after the other.
+--     looks_itself, looks_on    no look, and looks after looks
+--     may_still                 the session may still begin its next call
+--     look_told                 a look at one stripe
+--     looked_none, looked_next, looked_on    no stripe, one stripe more, and what the session sees later
+--     apart_next                the keys still differ, and are of the stripes that were looked at
+--     since_looked              a call that is carried out for these keys is since before the looks
+--     sweep_ok, sweep_err       and what it returns
+use Rattle.std.proofs.Common.{◌≡◌, ◌==◌, ◌&&◌, ◌⊎◌, ⊎_elim, inl, inr, ◌<◌, ◌≤◌, ◌+◌, ◌++◌, ℕ, zero, suc, List, [], ◌∷◌, All, length, Bool, true, false, nat_lt, Option, None, Some, Result, slice_get, slice_set, refl, sym, ap, subst, ◌∙◌, arith}
+use Rattle.std.proofs.lemmas.Bool.{and_parts}
+use Rattle.std.proofs.lemmas.Bool.Decides.{nat_tests}
+use Rattle.std.proofs.lemmas.List.{append-nil, append_assoc, length-append}
+use Rattle.std.proofs.lemmas.List.Elements.{All-weaker}
+use Rattle.std.proofs.lemmas.List.Folds.{list_all-append}
+use Rattle.std.proofs.lemmas.Map.Keys.{IsDistinct-cons, IsDistinct-head, IsDistinct-tail}
+use Rattle.std.proofs.lemmas.Option.{same_Some}
+use Rattle.std.specs.List.{AllByRecursion, IsDistinct, flat_map, list_all}
+use Rattle.std.specs.Cmp.Lexicographic.{pointwise, same_text}
+use Rattle.atomic_table.specs.Seated.{TableId}
+use Rattle.jc_types.proofs.CallerLemmas.{all_imply}
+use Rattle.jc_types.specs.Stripes.{stripe_of}
+use Rattle.jc_types.specs.declared.config.Config.{Config}
+use Rattle.jc_types.specs.declared.refusal.Refusal.{Refusal}
+use Rattle.jc_model.specs.Cache.{Bytes}
+use Rattle.jc_model.specs.declared.event.Op.{Op}
+use Rattle.jc_outside.specs.CallingAll.{LoadAllRelation, WriteAllRelation, DeleteAllRelation}
+use Rattle.jc_stripe.proofs.CallerLemmas.{keys_once, keys_own, none_twice}
+use Rattle.jc_stripe.specs.Keys.{AreKeys, Looks}
+use Rattle.jc_stripe.specs.Laws.{IsSameStripe, ReachedIsLegal}
+use Rattle.jc_stripe.specs.OnePhase.{OnePhase, own_steps}
+use Rattle.jc_stripe.specs.OwnSteps.{is_before_call}
+use Rattle.jc_stripe.specs.Reached.{IsReached}
+use Rattle.jc_stripe.specs.State.{State, is_of}
+use Rattle.jc_lock.proofs.CallerLemmas.{prefix-trans, same_itself, same_on}
+use Rattle.jc_lock.specs.declared.view.View.{View}
+use Rattle.jc_session.specs.Counting.{one_more}
+use Rattle.jc_session.specs.declared.counts.Counted.TheVariants.{Nothing}
+use Rattle.jc_cache.specs.Caches.{CacheState}
+use Rattle.jc_cache.specs.Calls.{next_call}
+use Rattle.jc_cache.specs.PhaseCalls.{PhaseAt}
+use Rattle.jc_cache.specs.Sessions.{IsOf, MayCall}
+use Rattle.jc_cache.specs.declared.session.Session.{Session}
+use Rattle.jc_bulk.specs.declared.progress.Progress.TheVariants.{Ended}
+use Rattle.jc_bulk.specs.Bulk.{FailsInPart, HasLooked, IsCarriedOut, IsLookedAt, IsOutOfMemory, IsSweepRefused, OnlyLooks, Succeeds}
+use Rattle.jc_bulk.specs.Ends.{KeyEnd}
+use Rattle.jc_bulk.specs.Keys.{HasEnded}
+use Rattle.jc_bulk.specs.Recorded.{former_steps}
+use Rattle.jc_bulk.specs.Rounds.{Round}
+use Rattle.jc_bulk.specs.Seats.{HasGrown, view_at, view_of}
+use Rattle.jc_bulk.proofs.CarriedOut.{all_early}
+use Rattle.jc_bulk.proofs.SeatPhases.{Seated, front_found, grown_itself, grown_on, grown_phase, seen_own, view_set, view_there}
+use Rattle.jc_bulk.proofs.SoFar.{at_since}
+
+-- 1. Keys of one stripe, behind those of lower stripes.
+
+lower : (m i : ℕ) → nat_lt m i ≡ true → (m == i) ≡ false
+lower m i lt = grind (arith, nat_tests)
+
+differ : (n i : ℕ) (x y : Bytes) → nat_lt (stripe_of x n) i ≡ true → (stripe_of y n == i) ≡ true → pointwise ◌==◌ x y ≡ false
+differ n i x y lt is = by (pointwise ◌==◌ x y) refl
+  where
+    by : (b : Bool) → pointwise ◌==◌ x y ≡ b → b ≡ false
+    by true e = sym (sym (lower (stripe_of x n) i lt) ∙ ap (λ (k : Bytes). stripe_of k n == i) (same_text x y (sym e)) ∙ is)
+    by false e = refl
+
+differ_all : (n i : ℕ) (x : Bytes) (ys : List Bytes) → nat_lt (stripe_of x n) i ≡ true → list_all (λ k. stripe_of k n == i) ys ≡ true → AllByRecursion (λ y. pointwise ◌==◌ x y ≡ false) ys
+differ_all n i x [] lt here = tt
+differ_all n i x (y ∷ ys) lt here =
+    let parts = and_parts (stripe_of y n == i) (list_all (λ k. stripe_of k n == i) ys) here in
+    (differ n i x y lt parts.0, differ_all n i x ys lt parts.1)
+
+both : (P : Bytes → Type 0) (xs ys : List Bytes) → AllByRecursion P xs → AllByRecursion P ys → AllByRecursion P (xs ++ ys)
+both P [] ys a b = b
+both P (x ∷ xs) ys a b = (a.0, both P xs ys a.1 b)
+
+apart_push : (n i : ℕ) (xs ys : List Bytes) → list_all (λ k. nat_lt (stripe_of k n) i) xs ≡ true → list_all (λ k. stripe_of k n == i) ys ≡ true
+    → IsDistinct (pointwise ◌==◌) xs → IsDistinct (pointwise ◌==◌) ys → IsDistinct (pointwise ◌==◌) (xs ++ ys)
+apart_push n i [] ys below here a b = b
+apart_push n i (x ∷ xs) ys below here a b =
+    let parts = and_parts (nat_lt (stripe_of x n) i) (list_all (λ k. nat_lt (stripe_of k n) i) xs) below in
+    IsDistinct-cons (pointwise ◌==◌) x (xs ++ ys)
+    (both (λ y. pointwise ◌==◌ x y ≡ false) xs ys (IsDistinct-head (pointwise ◌==◌) x xs a) (differ_all n i x ys parts.0 here))
+    (apart_push n i xs ys parts.1 here (IsDistinct-tail (pointwise ◌==◌) x xs a) b)
+
+later : (m i : ℕ) → nat_lt m i ≡ true → nat_lt m (i + 1) ≡ true
+later m i lt = grind (arith, nat_tests)
+
+just : (m i : ℕ) → (m == i) ≡ true → nat_lt m (i + 1) ≡ true
+just m i is = grind (arith, nat_tests)
+
+below_push : (n i : ℕ) (xs ys : List Bytes) → list_all (λ k. nat_lt (stripe_of k n) i) xs ≡ true → list_all (λ k. stripe_of k n == i) ys ≡ true → list_all (λ k. nat_lt (stripe_of k n) (i + 1)) (xs ++ ys) ≡ true
+below_push n i xs ys below here =
+    list_all-append (λ k. nat_lt (stripe_of k n) (i + 1)) xs ys
+    ∙ (λ j. all_imply (λ k. nat_lt (stripe_of k n) i) (λ k. nat_lt (stripe_of k n) (i + 1)) xs (λ k. later (stripe_of k n) i) below j
+    && all_imply (λ k. stripe_of k n == i) (λ k. nat_lt (stripe_of k n) (i + 1)) ys (λ k. just (stripe_of k n) i) here j)
+
+pub apart_next : (n i : ℕ) (xs ys zs : List Bytes) → zs ≡ xs ++ ys → list_all (λ k. nat_lt (stripe_of k n) i) xs ≡ true → list_all (λ k. stripe_of k n == i) ys ≡ true
+    → IsDistinct (pointwise ◌==◌) xs → IsDistinct (pointwise ◌==◌) ys → IsDistinct (pointwise ◌==◌) zs × (list_all (λ k. nat_lt (stripe_of k n) (i + 1)) zs ≡ true)
+apart_next n i xs ys zs is below here a b =
+    (subst (IsDistinct (pointwise ◌==◌)) (sym is) (apart_push n i xs ys below here a b), ap (list_all (λ k. nat_lt (stripe_of k n) (i + 1))) is ∙ below_push n i xs ys below here)
+
+-- 2. What was looked at.
+
+pub looked_later : (u v w : View) (keys : List Bytes) → HasGrown v w → IsLookedAt u v keys → IsLookedAt u w keys
+looked_later u v w keys grown at = record {
+  seen = at.seen;
+  reached = at.reached;
+  same = same_on at.seen v.noted w.noted at.same grown.same;
+  since = at.since;
+  later = prefix-trans at.seen.history v.front w.front at.later grown.front;
+  keys_are = at.keys_are;
+}
+
+looked_since : (u v w : View) (keys : List Bytes) → HasGrown u v → IsLookedAt v w keys → IsLookedAt u w keys
+looked_since u v w keys grown at = record {
+  seen = at.seen;
+  reached = at.reached;
+  same = at.same;
+  since = prefix-trans u.front v.front at.seen.history grown.front at.since;
+  later = at.later;
+  keys_are = at.keys_are;
+}
+
+pub looked_on : (n : ℕ) (old mid new : List Seated) (keys : List Bytes) → ((i : ℕ) → HasGrown (view_at mid i) (view_at new i)) → HasLooked n old mid keys → HasLooked n old new keys
+looked_on n old mid new keys grown looked = record {
+  found = looked.found;
+  count = looked.count;
+  each = λ i some there. looked_later (view_at old i) (view_at mid i) (view_at new i) some (grown i) (looked.each i some there);
+  keys_are = looked.keys_are;
+}
+
+pub looked_none : (old new : List Seated) (keys : List Bytes) → keys ≡ [] → HasLooked 0 old new keys
+looked_none old new keys none = record { found = []; count = refl; each = λ i some there. cc; keys_are = none }
+
+-- the keys at a place of a list with one more
+at_or : {X : Type 0} (xs : List X) (x y : X) (i : ℕ) → slice_get (xs ++ x ∷ []) i ≡ Some y → (slice_get xs i ≡ Some y) ⊎ ((i ≡ length xs) × (y ≡ x))
+at_or [] x y zero there = inr (refl, sym (same_Some x y there))
+at_or [] x y (suc i) there = let bad : None ≡ Some y = there in cc
+at_or (z ∷ xs) x y zero there = inl there
+at_or (z ∷ xs) x y (suc i) there = ⊎_elim (λ at. inl at) (λ last. inr (ap suc last.0, last.1)) (at_or xs x y i there)
+
+abbrev all_in : List (List Bytes) → List Bytes
+all_in xs = flat_map (λ (ys : List Bytes). ys) xs
+
+all_push : (xs : List (List Bytes)) (x : List Bytes) → all_in (xs ++ x ∷ []) ≡ all_in xs ++ x
+all_push [] x = append-nil x
+all_push (y ∷ xs) x = ap (λ (zs : List Bytes). y ++ zs) (all_push xs x) ∙ sym (append_assoc y (all_in xs) x)
+
+pub looked_next : (n : ℕ) (old mid new : List Seated) (keys keys' found : List Bytes) → ((i : ℕ) → HasGrown (view_at old i) (view_at mid i)) → ((i : ℕ) → HasGrown (view_at mid i) (view_at new i))
+    → HasLooked n old mid keys → IsLookedAt (view_at mid n) (view_at new n) found → keys' ≡ keys ++ found → HasLooked (n + 1) old new keys'
+looked_next n old mid new keys keys' found before after looked at is = record {
+  found = looked.found ++ found ∷ [];
+  count = length-append looked.found (found ∷ []) ∙ ap (λ m. m + 1) looked.count;
+  each = λ i some there. ⊎_elim
+      (λ here. looked_later (view_at old i) (view_at mid i) (view_at new i) some (after i) (looked.each i some here))
+      (λ last. subst (IsLookedAt (view_at old i) (view_at new i)) (sym last.1)
+      (looked_since (view_at old i) (view_at mid i) (view_at new i) found (before i) (subst (λ m. IsLookedAt (view_at mid m) (view_at new m) found) (sym (last.0 ∙ looked.count)) at)))
+      (at_or looked.found found some i there);
+  keys_are = is ∙ ap (λ ks. ks ++ found) looked.keys_are ∙ sym (all_push looked.found found);
+}
+
+-- 3. The session.
+
+module _ {I J : Type 0} {D : I → Type 0} {E : J → Type 0} where
+  pub looks_itself : (session : Session I J D E) → OnlyLooks session session
+  looks_itself session = record { grown = λ i. grown_itself (view_at session.seats.items i); own = λ i. refl; agent = refl }
+
+  pub looks_on : (a b c : Session I J D E) → OnlyLooks a b → OnlyLooks b c → OnlyLooks a c
+  looks_on a b c p q = record {
+    grown = λ i. grown_on (view_at a.seats.items i) (view_at b.seats.items i) (view_at c.seats.items i) (p.grown i) (q.grown i);
+    own = λ i. q.own i ∙ p.own i;
+    agent = q.agent ∙ p.agent;
+  }
+
+  pub may_still : (cache : CacheState) (old new : Session I J D E) → MayCall cache old → IsOf cache new → OnlyLooks old new → MayCall cache new
+  may_still cache old new may own looks = record {
+    own = own;
+    reservations = ap (λ a. a.counts.reservations) looks.agent ∙ may.reservations;
+    joins = ap (λ a. a.counts.joins) looks.agent ∙ may.joins;
+    numbers = λ i seat there.
+        subst (λ a. list_all (is_before_call a.caller.session (one_more a.caller.call)) seat.1.own ≡ true) (sym looks.agent)
+        (subst (λ es. list_all (is_before_call old.agent.caller.session (one_more old.agent.caller.call)) es ≡ true) (sym (looks.own i) ∙ ap (λ (v : View). v.own) (view_there new.seats.items i seat there)) (all_early cache old may i));
+  }
+
+  module _ (law : OnePhase) (legal : ReachedIsLegal) (cache : CacheState) (old new : Session I J D E) (own : IsOf cache old) (number : ℕ) (out out' : List Bytes) (x : PhaseAt number old (λ a b. (b ≡ a) × Looks a out out') Nothing new) where
+    same_phase : State → State → Type 0
+    same_phase a b = (b ≡ a) × Looks a out out'
+
+    seats_on : (P : View → View → Type 0) → ((u : View) → P u u) → P x.before x.after → (i : ℕ) → P (view_at old.seats.items i) (view_at new.seats.items i)
+    seats_on P stays moves i = ⊎_elim
+        (λ t. subst (λ (u : View). P u (view_at new.seats.items i)) (sym (ap (view_at old.seats.items) t.0 ∙ view_there old.seats.items number (x.lock, x.before) x.was))
+        (subst (P x.before) (sym (ap (λ (xs : List Seated). view_at xs i) x.now ∙ t.1)) moves))
+        (λ t. subst (P (view_at old.seats.items i)) (sym (ap (λ (xs : List Seated). view_at xs i) x.now ∙ t.1)) (stays (view_at old.seats.items i)))
+        (view_set old.seats.items number i (x.lock, x.before) (x.lock, x.after) x.was)
+
+    pub looks_at : OnlyLooks old new
+    looks_at = record {
+      grown = seats_on HasGrown grown_itself (grown_phase law legal old.agent.caller.session _ x.before x.after x.seat);
+      own = seats_on (λ u v. v.own ≡ u.own) (λ u. refl) (seen_own law legal old.agent.caller.session _ x.before x.after x.seat (ap (own_steps old.agent.caller.session) x.seat.made.0));
+      agent = x.left;
+    }
+
+    here : list_all (λ k. stripe_of k cache.config.stripes == number) x.seat.made.1.0 ≡ true
+    here =
+        let seat = own.seats number (x.lock, x.before) x.was in
+        let s = x.seat.found in
+        let config : s.config ≡ cache.config = x.seat.same.config ∙ seat.config_is in
+        let stripe : s.stripe ≡ number = x.seat.same.stripe ∙ seat.stripe_is in
+        sym (λ j. list_all (λ k. stripe_of k (config j).stripes == stripe j) x.seat.made.1.0) ∙ keys_own s x.seat.made.1.0 x.seat.reached x.seat.made.1.2
+
+    pub look_told : (found : List Bytes) × (out' ≡ out ++ found) × IsLookedAt (view_at old.seats.items number) (view_at new.seats.items number) found
+        × IsDistinct (pointwise ◌==◌) found × (list_all (λ k. stripe_of k cache.config.stripes == number) found ≡ true)
+    look_told =
+        let s = x.seat.found in
+        let found = x.seat.made.1.0 in
+        let at : IsLookedAt x.before x.after found = record {
+          seen = s;
+          reached = x.seat.reached;
+          same = subst (IsSameStripe s) (sym x.seat.made.0) (same_itself s);
+          since = x.seat.front;
+          later = front_found law legal old.agent.caller.session _ x.before x.after x.seat;
+          keys_are = x.seat.made.1.2;
+        } in
+        let was : view_at old.seats.items number ≡ x.before = view_there old.seats.items number (x.lock, x.before) x.was in
+        let now : view_at new.seats.items number ≡ x.after =
+        ap (λ (xs : List Seated). view_at xs number) x.now ∙ ⊎_elim (λ t. t.1) (λ t. absurd (t.0 refl)) (view_set old.seats.items number number (x.lock, x.before) (x.lock, x.after) x.was) in (
+          found,
+          x.seat.made.1.1,
+          subst (λ (u : View). IsLookedAt u (view_at new.seats.items number) found) (sym was) (subst (λ (w : View). IsLookedAt x.before w found) (sym now) at),
+          keys_once s found x.seat.reached x.seat.made.1.2,
+          here,
+        )
+
+-- 4. The call.
+
+module _ {I J : Type 0} {D : I → Type 0} {E : J → Type 0} (loads_all : LoadAllRelation ((i : I) × D i)) (load_state : (i : I) × D i → List ℕ) (writes_all : WriteAllRelation ((j : J) × E j)) (deletes_all : DeleteAllRelation ((j : J) × E j)) (write_state : (j : J) × E j → List ℕ) where
+  pub since_looked : (cache : CacheState) (old mid new : Session I J D E) (targets : List (Bytes × Op)) (ends : List KeyEnd) (rounds : List Round) → OnlyLooks old mid
+      → IsCarriedOut loads_all load_state writes_all deletes_all write_state cache mid targets ends rounds new → IsCarriedOut loads_all load_state writes_all deletes_all write_state cache old targets ends rounds new
+  since_looked cache old mid new targets ends rounds looks carried =
+      let caller = (next_call old).agent.caller in
+      let n = cache.config.stripes in
+      let from : Session I J D E = record old { seats = mid.seats } in
+      let same : mid ≡ from = λ i. record mid { agent = looks.agent i } in
+      let c : IsCarriedOut loads_all load_state writes_all deletes_all write_state cache from targets ends rounds new =
+      subst (λ s. IsCarriedOut loads_all load_state writes_all deletes_all write_state cache s targets ends rounds new) same carried in
+      record {
+        targets_are = c.targets_are;
+        grown = λ i. grown_on (view_at old.seats.items i) (view_at mid.seats.items i) (view_at new.seats.items i) (looks.grown i) (c.grown i);
+        each = All-weaker
+            (λ (e : KeyEnd). HasEnded caller rounds (view_of n mid.seats.items e.key) (view_of n new.seats.items e.key) e.key e.op e.ended)
+            (λ (e : KeyEnd). HasEnded caller rounds (view_of n old.seats.items e.key) (view_of n new.seats.items e.key) e.key e.op e.ended)
+            (λ e ended. at_since caller rounds (view_of n old.seats.items e.key) (view_of n mid.seats.items e.key) (view_of n new.seats.items e.key) e.key e.op (Ended e.ended) (looks.grown (stripe_of e.key n)) ended)
+            ends c.each;
+        refused = c.refused;
+        others = c.others;
+        former = λ i. c.former i ∙ ap (former_steps caller) (looks.own i);
+        asked = c.asked;
+        calls = c.calls;
+        types = c.types;
+        left = c.left;
+      }
+
+  pub sweep_ok : (cache : CacheState) (old mid new : Session I J D E) (ops : List Bytes → List (Bytes × Op)) (list keys : List Bytes) → OnlyLooks old mid → HasLooked cache.config.stripes old.seats.items mid.seats.items keys → list ≡ keys
+      → Succeeds loads_all load_state writes_all deletes_all write_state cache mid (ops list) new
+      → (found : List Bytes) × HasLooked cache.config.stripes old.seats.items new.seats.items found × Succeeds loads_all load_state writes_all deletes_all write_state cache old (ops found) new
+  sweep_ok cache old mid new ops list keys looks looked is r =
+      let c = since_looked cache old mid new (ops list) r.0 r.1 looks r.2 in (
+        keys,
+        looked_on cache.config.stripes old.seats.items mid.seats.items new.seats.items keys r.2.grown looked,
+        subst (λ ks. Succeeds loads_all load_state writes_all deletes_all write_state cache old (ops ks) new) is (r.0, r.1, c, r.3),
+      )
+
+  pub sweep_err : (cache : CacheState) (old mid new : Session I J D E) (ops : List Bytes → List (Bytes × Op)) (list keys : List Bytes) (cause : Refusal) (failed : List (Bytes × Refusal)) (found : List (Bytes × Bytes))
+      → OnlyLooks old mid → HasLooked cache.config.stripes old.seats.items mid.seats.items keys → list ≡ keys
+      → FailsInPart loads_all load_state writes_all deletes_all write_state cache mid (ops list) cause failed new × (found ≡ []) ⊎ IsOutOfMemory mid cause failed found new
+      → ((ks : List Bytes) × HasLooked cache.config.stripes old.seats.items new.seats.items ks × FailsInPart loads_all load_state writes_all deletes_all write_state cache old (ops ks) cause failed new × (found ≡ []))
+      ⊎ IsSweepRefused old cause failed found new
+  sweep_err cache old mid new ops list keys cause failed found looks looked is (inl r) =
+      let f = r.0 in
+      let c = since_looked cache old mid new (ops list) f.0 f.1 looks f.2 in
+      inl (
+        keys,
+        looked_on cache.config.stripes old.seats.items mid.seats.items new.seats.items keys f.2.grown looked,
+        subst (λ ks. FailsInPart loads_all load_state writes_all deletes_all write_state cache old (ops ks) cause failed new) is (f.0, f.1, c, f.3, f.4),
+        r.1,
+      )
+  sweep_err cache old mid new ops list keys cause failed found looks looked is (inr r) = inr (r.0, r.1, r.2, subst (OnlyLooks old) (sym r.3) looks)

@@ -1,0 +1,12 @@
+use Rattle.std.proofs.Common.{◌≡◌, ◌≤◌, ◌+◌, length, take}
+use Rattle.indexmap.specs.IndexMap.{spare}
+use Rattle.jc_bulk.specs.Ends.{found_entries, key_ends}
+use Rattle.jc_bulk.specs.Targets.{ops_of}
+use Rattle.jc_bulk.proofs.getting.add_found.Given as goal
+
+-- the keys before this place were added
+abbrev pub invariant-loop-place : goal.invariant-loop-place
+invariant-loop-place l = record {
+  found : l.found.entries ≡ found_entries (key_ends (take l.place (ops_of l.targets)) (take l.place l.progress));
+  room : length (ops_of l.targets) ≤ spare l.found + l.place;
+}

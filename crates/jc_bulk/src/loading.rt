@@ -1,0 +1,53 @@
+//! `loadAll` of one session: many keys are loaded.
+ghost use Rattle.std.specs.Prelude.{◌≡◌, ◌≤◌, ◌⊎◌, [], length, IfOk, IfErr};
+ghost use Rattle.jc_types.specs.declared.limits.TheConstants.{BULK_KEYS_MAX};
+ghost use Rattle.jc_cache.specs.Sessions.{MayCall};
+ghost use Rattle.jc_bulk.specs.Bulk.{FailsInPart, IsRefusedWhole, Succeeds};
+ghost use Rattle.jc_bulk.specs.Targets.{load_ops};
+
+use crate::carrying::call_all;
+use crate::fault::BulkFault;
+use crate::targets::Targets;
+use indexmap::IndexSet;
+use jc_cache::{Cache, Session};
+use jc_types::{BULK_KEYS_MAX, Key, Refusal};
+use std::alloc::Global;
+use std::sync::Wait;
+
+/// Loads many keys by the session's loader, as its next call (JSR 107, `javax.cache.Cache.loadAll`, for the keys that one session
+/// loads), whether or not the cache reads through. A key that has an entry is loaded only if it is to be replaced. A value that is
+/// loaded is cached, and not written through; a key for which nothing is found keeps what it has. A session without a loader loads
+/// nothing.
+///
+/// The call works in rounds, asks the loader (`loadAll`), fails and waits as [`get_all`](crate::get_all) does, but for that no key
+/// joins a load.
+///
+/// An `Err` names each key that failed, with its fault (`LoaderFailed`) or its refusal; every other key is loaded, if it was to be.
+///
+/// Condition: the session may call the cache.
+pub fn load_keys<R: Wait>(
+    alloc: Global,
+    rt: &R,
+    cache: &Cache,
+    session: &mut Session,
+    keys: &IndexSet<Key>,
+    replace: bool,
+) -> Result<(), BulkFault>
+    requires may { MayCall cache.now session.old }
+    ensures may { MayCall cache.now session.new }
+    ensures ok { IfOk result (λ done. (length keys.now.keys ≤ BULK_KEYS_MAX)
+        × Succeeds loads_all load_state writes_all deletes_all write_state
+        cache.now session.old (load_ops replace keys.now.keys) session.new) }
+    ensures err { IfErr result (λ fault. ((length keys.now.keys ≤ BULK_KEYS_MAX)
+        × FailsInPart loads_all load_state writes_all deletes_all write_state
+        cache.now session.old (load_ops replace keys.now.keys) fault.cause fault.failed.entries session.new
+        × (fault.found.entries ≡ []))
+        ⊎ IsRefusedWhole session.old (length keys.now.keys)
+        fault.cause fault.failed.entries fault.found.entries session.new) }
+{
+    if keys.len() > BULK_KEYS_MAX {
+        return Err(BulkFault::of_whole_call(alloc, Refusal::TooManyKeys));
+    }
+    let targets = Targets::Loads(keys.as_slice(), replace);
+    call_all(alloc, rt, cache, session, &targets)
+}

@@ -1,0 +1,91 @@
+//! `putAll` and `removeAll`: many keys are written or deleted.
+ghost use Rattle.std.specs.Prelude.{◌≡◌, ◌≤◌, ◌⊎◌, [], length, IfOk, IfErr};
+ghost use Rattle.jc_types.specs.declared.limits.TheConstants.{BULK_KEYS_MAX};
+ghost use Rattle.jc_cache.specs.Sessions.{MayCall};
+ghost use Rattle.jc_bulk.specs.Bulk.{FailsInPart, IsRefusedWhole, Succeeds};
+ghost use Rattle.jc_bulk.specs.Targets.{put_ops, remove_ops};
+
+use crate::carrying::call_all;
+use crate::fault::BulkFault;
+use crate::targets::Targets;
+use indexmap::{IndexMap, IndexSet};
+use jc_cache::{Cache, Session};
+use jc_types::{BULK_KEYS_MAX, Key, Refusal, Value};
+use std::alloc::Global;
+use std::sync::Wait;
+
+/// Puts many entries, as the session's next call (JSR 107, `javax.cache.Cache.putAll`). Each entry is put on its own, and the whole
+/// isn't atomic.
+///
+/// The call works in rounds. A round begins each key that it can, in their order and without waiting; one that is reserved, or whose
+/// stripe has as many reservations as may be, is put off to a later round. Without write-through a key is over at once. With it,
+/// the writer is then called once (`writeAll`), for all keys that the round has reserved; a key that it leaves in the collection
+/// failed, and every other one is committed. Each key is one step of its stripe, with the number of this one call, and no change
+/// is asked for twice. Between two rounds the call waits for a change, with no reservation out.
+///
+/// An `Err` names each key that failed, with its fault (`WriterFailed`) or its refusal; every other key is put. A key is refused with
+/// `HistoryFull` if its stripe's history is near full or a number is at its end, and with `OutOfMemory` if the memory of a later
+/// round could not be taken. The cause is the first fault or refusal that the call met; a writer that failed and left no key gives
+/// an `Err` that names none. Or the call is refused whole, and nothing changes: there are more than
+/// [`BULK_KEYS_MAX`] keys (`TooManyKeys`), or the memory for the first round and the results could not be
+/// taken (`OutOfMemory`).
+///
+/// It may wait, as long as the writer does and for other calls' reservations, and holds no stripe meanwhile.
+///
+/// Condition: the session may call the cache.
+pub fn put_all<R: Wait>(
+    alloc: Global,
+    rt: &R,
+    cache: &Cache,
+    session: &mut Session,
+    entries: &IndexMap<Key, Value>,
+) -> Result<(), BulkFault>
+    requires may { MayCall cache.now session.old }
+    ensures may { MayCall cache.now session.new }
+    ensures ok { IfOk result (λ done. (length entries.now.entries ≤ BULK_KEYS_MAX)
+        × Succeeds loads_all load_state writes_all deletes_all write_state
+        cache.now session.old (put_ops entries.now.entries) session.new) }
+    ensures err { IfErr result (λ fault. ((length entries.now.entries ≤ BULK_KEYS_MAX)
+        × FailsInPart loads_all load_state writes_all deletes_all write_state
+        cache.now session.old (put_ops entries.now.entries) fault.cause fault.failed.entries session.new
+        × (fault.found.entries ≡ []))
+        ⊎ IsRefusedWhole session.old (length entries.now.entries)
+        fault.cause fault.failed.entries fault.found.entries session.new) }
+{
+    if entries.len() > BULK_KEYS_MAX {
+        return Err(BulkFault::of_whole_call(alloc, Refusal::TooManyKeys));
+    }
+    call_all(alloc, rt, cache, session, &Targets::Puts(entries))
+}
+
+/// Removes many keys, as the session's next call (JSR 107, `javax.cache.Cache.removeAll`). Each key is removed on its own, and the
+/// whole isn't atomic.
+///
+/// The call works in rounds, asks the writer (`deleteAll`), fails and waits as [`put_all`] does.
+///
+/// Condition: the session may call the cache.
+pub fn remove_all<R: Wait>(
+    alloc: Global,
+    rt: &R,
+    cache: &Cache,
+    session: &mut Session,
+    keys: &IndexSet<Key>,
+) -> Result<(), BulkFault>
+    requires may { MayCall cache.now session.old }
+    ensures may { MayCall cache.now session.new }
+    ensures ok { IfOk result (λ done. (length keys.now.keys ≤ BULK_KEYS_MAX)
+        × Succeeds loads_all load_state writes_all deletes_all write_state
+        cache.now session.old (remove_ops keys.now.keys) session.new) }
+    ensures err { IfErr result (λ fault. ((length keys.now.keys ≤ BULK_KEYS_MAX)
+        × FailsInPart loads_all load_state writes_all deletes_all write_state
+        cache.now session.old (remove_ops keys.now.keys) fault.cause fault.failed.entries session.new
+        × (fault.found.entries ≡ []))
+        ⊎ IsRefusedWhole session.old (length keys.now.keys)
+        fault.cause fault.failed.entries fault.found.entries session.new) }
+{
+    if keys.len() > BULK_KEYS_MAX {
+        return Err(BulkFault::of_whole_call(alloc, Refusal::TooManyKeys));
+    }
+    let targets = Targets::Removes(keys.as_slice());
+    call_all(alloc, rt, cache, session, &targets)
+}
