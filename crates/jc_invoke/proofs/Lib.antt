@@ -1,0 +1,6 @@
+mod SoFar
+mod Underway
+mod Runs
+mod Once
+mod KeyResults
+mod Whole

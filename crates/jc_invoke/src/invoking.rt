@@ -1,0 +1,193 @@
+//! `invoke` and `invokeAll`: entry processors on a cache.
+ghost use Rattle.std.specs.Prelude.{◌≡◌, ◌==◌, ◌≤◌, List, length, Result, IfOk, IfErr};
+ghost use Rattle.std.specs.List.{IsDistinct};
+ghost use Rattle.std.specs.Cmp.Lexicographic.{pointwise};
+ghost use Rattle.jc_types.specs.declared.limits.TheConstants.{BULK_KEYS_MAX};
+ghost use Rattle.jc_types.specs.declared.refusal.Refusal.{Refusal};
+ghost use Rattle.jc_model.specs.declared.event.Reply.{Reply};
+ghost use Rattle.jc_cache.specs.Calls.{Invoked, value_in};
+ghost use Rattle.jc_cache.specs.Sessions.{MayCall};
+ghost use Rattle.jc_bulk.specs.Ends.{KeyEnd, key_ends};
+ghost use Rattle.jc_bulk.specs.KeyProgress.{all_waiting};
+ghost use Rattle.jc_invoke.specs.Invoke.{IsInvokedAll, IsRefusedWhole, result_entries};
+ghost use Rattle.jc_invoke.specs.Keys.{invoke_ops};
+ghost use Rattle.jc_invoke.specs.RoundRooms.{IsMemoryFor, IsRoomFor};
+ghost use Rattle.jc_invoke.specs.Runs.{InvokeRound};
+
+use crate::results::fill_results;
+use crate::room::RoundRoom;
+use crate::rounds::run_rounds;
+use indexmap::{IndexMap, IndexSet};
+use jc_bulk::{Progress, all_waiting};
+use jc_cache::{Cache, Session};
+use jc_mutentry::EntryProcessor;
+use jc_types::{BULK_KEYS_MAX, Key, Refusal, Value};
+use std::alloc::{AllocError, Global};
+use std::sync::Wait;
+
+/// Runs a processor on one key, as the session's next call (JSR 107, `javax.cache.Cache.invoke`). It gives the processor's result, or
+/// none. An `Err` is the first fault of the loader, the processor and the writer, which leaves the entry as it was; or it is
+/// `HistoryFull`, and then nobody was asked and nothing changes.
+///
+/// It may wait, as long as the processor, the loader and the writer do, and for other calls; it holds no stripe meanwhile. No other
+/// call changes the entry between the moment at which the processor is shown it and the processor's net effect.
+///
+/// Condition: the session may call the cache.
+pub fn invoke<R: Wait>(
+    rt: &R,
+    cache: &Cache,
+    session: &mut Session,
+    key: &Key,
+    processor: &mut Box<dyn EntryProcessor + Send + Drop>,
+    args: &[Value],
+) -> Result<Option<Value>, Refusal>
+    requires may { MayCall cache.now session.old }
+    ensures may { MayCall cache.now session.new }
+    ensures call { (ended : Result Reply Refusal) × Invoked loads load_state writes write_state processes process_state
+        cache.now session.old key.now args.now processor.old ended session.new processor.new
+        × (result ≡ value_in ended) }
+{
+    cache.invoke(rt, session, key, processor, args)
+}
+
+/// Runs a processor on many keys, as the session's next call (JSR 107, `javax.cache.Cache.invokeAll`). The map that it returns has
+/// each key's result, in the order of the keys: the value that the processor gave, the first fault of the loader, the processor and
+/// the writer, which leaves the key's entry as it was, or the key's refusal. A key whose processor gave none isn't in it.
+///
+/// The call works in rounds. A round reserves each key that it can, in their order and without waiting; one that is reserved, or
+/// whose stripe has as many reservations as may be, is put off to a later round. The processor is then run on each key that the
+/// round has reserved, in order; each run may call the loader, for its key alone, if that is missing and read-through is on. With
+/// write-through the writer is then called at most twice: once (`writeAll`) for the keys whose net effect is a value, and once
+/// (`deleteAll`) for those with a remove, the second also if the first failed. A key that the writer leaves in a collection failed; a
+/// fault that leaves none is dropped. Then the keys are committed, in order. Each key is one step of its stripe, with the number of
+/// this one call. Between two rounds the call waits for a change, with no reservation out. In all rounds together the processor is run
+/// on keys of the call alone, and on none of them twice.
+///
+/// A key is refused with `HistoryFull` if its stripe's history is near full or a number is at its end, and with `OutOfMemory` if the
+/// memory of a later round could not be taken. An `Err` says that the call is refused whole, and nothing changes: there are more than
+/// [`BULK_KEYS_MAX`](jc_types::BULK_KEYS_MAX) keys (`TooManyKeys`), or the memory for the first round and the results could not be
+/// taken (`OutOfMemory`).
+///
+/// It may wait, as long as the processor, the loader and the writer do and for other calls' reservations, and holds no stripe
+/// meanwhile.
+///
+/// Condition: the session may call the cache.
+pub fn invoke_all<R: Wait>(
+    alloc: Global,
+    rt: &R,
+    cache: &Cache,
+    session: &mut Session,
+    keys: &IndexSet<Key>,
+    processor: &mut Box<dyn EntryProcessor + Send + Drop>,
+    args: &[Value],
+) -> Result<IndexMap<Key, Result<Value, Refusal>>, Refusal>
+    requires may { MayCall cache.now session.old }
+    ensures may { MayCall cache.now session.new }
+    ensures ok { IfOk result (λ results. (length keys.now.keys ≤ BULK_KEYS_MAX)
+        × (ends : List KeyEnd) × (rounds : List InvokeRound)
+        × IsInvokedAll loads load_state writes_all deletes_all write_state processes process_state
+        cache.now session.old keys.now.keys args.now processor.old ends rounds session.new processor.new
+        × (results.entries ≡ result_entries ends)) }
+    ensures err { IfErr result (λ refusal. IsRefusedWhole session.old processor.old (length keys.now.keys)
+        refusal session.new processor.new) }
+{
+    if keys.len() > BULK_KEYS_MAX {
+        return Err(Refusal::TooManyKeys);
+    }
+    match memory_for(alloc, keys.len()) {
+        Ok(memory) => Ok(carry_out(alloc, rt, cache, session, keys, memory, processor, args)),
+        Err(_failed) => Err(Refusal::OutOfMemory),
+    }
+}
+
+/// Carries out the session's next call, for these keys. It returns their results.
+fn carry_out<R: Wait>(
+    alloc: Global,
+    rt: &R,
+    cache: &Cache,
+    session: &mut Session,
+    keys: &IndexSet<Key>,
+    memory: Memory,
+    processor: &mut Box<dyn EntryProcessor + Send + Drop>,
+    args: &[Value],
+) -> IndexMap<Key, Result<Value, Refusal>>
+    requires may { MayCall cache.now session.old }
+    requires memory { IsMemoryFor (length keys.now.keys) memory }
+    ensures may { MayCall cache.now session.new }
+    ensures invoked { (ends : List KeyEnd) × (rounds : List InvokeRound)
+        × IsInvokedAll loads load_state writes_all deletes_all write_state processes process_state
+        cache.now session.old keys.now.keys args.now processor.old ends rounds session.new processor.new
+        × (result.entries ≡ result_entries ends) }
+{
+    let Memory {
+        results,
+        progress,
+        room,
+    } = memory;
+    let slice = keys.as_slice();
+    let mut results = results;
+    let mut progress = progress;
+    begin_and_run(
+        alloc,
+        rt,
+        cache,
+        session,
+        slice,
+        progress.as_mut_slice(),
+        room,
+        processor,
+        args,
+    );
+    fill_results(&mut results, slice, progress.as_slice());
+    results
+}
+
+/// Begins the session's next call, and runs its rounds: `progress` says how each key ended.
+fn begin_and_run<R: Wait>(
+    alloc: Global,
+    rt: &R,
+    cache: &Cache,
+    session: &mut Session,
+    keys: &[Key],
+    progress: &mut [Progress],
+    room: RoundRoom,
+    processor: &mut Box<dyn EntryProcessor + Send + Drop>,
+    args: &[Value],
+)
+    requires may { MayCall cache.now session.old }
+    requires distinct { IsDistinct (pointwise ◌==◌) keys.now }
+    requires new { progress.old ≡ all_waiting (length keys.now) }
+    requires room { IsRoomFor (length keys.now) room }
+    ensures may { MayCall cache.now session.new }
+    ensures whole { length progress.new ≡ length keys.now }
+    ensures invoked { (rounds : List InvokeRound)
+        × IsInvokedAll loads load_state writes_all deletes_all write_state processes process_state
+        cache.now session.old keys.now args.now processor.old
+        (key_ends (invoke_ops keys.now) progress.new) rounds session.new processor.new }
+{
+    session.next_call();
+    run_rounds(
+        alloc, rt, cache, session, keys, progress, room, processor, args,
+    );
+}
+
+/// What a call takes in memory before its first phase. It can't be dropped.
+struct Memory {
+    results: IndexMap<Key, Result<Value, Refusal>>,
+    progress: Vec<Progress>,
+    room: RoundRoom,
+}
+
+/// The memory for so many keys, none of which was begun. An `Err` says that an allocation failed.
+fn memory_for(alloc: Global, keys: usize) -> Result<Memory, AllocError>
+    ensures { IfOk result (λ memory. IsMemoryFor keys memory) }
+{
+    let results = IndexMap::with_capacity(alloc, keys)?;
+    let progress = all_waiting(alloc, keys)?;
+    let room = RoundRoom::new(alloc, keys)?;
+    Ok(Memory {
+        results,
+        progress,
+        room,
+    })
+}

@@ -1,0 +1,72 @@
+//! What a call of many keys, each with a processor, returns of them.
+ghost use Rattle.std.specs.Prelude.{◌≡◌, ◌==◌, ◌≤◌, ◌<◌, ◌+◌, ◌++◌, [], false, length, option_map};
+ghost use Rattle.std.specs.List.{IsDistinct, cons_option, list_any};
+ghost use Rattle.std.specs.Map.{keys_of};
+ghost use Rattle.std.specs.Cmp.Lexicographic.{pointwise};
+ghost use Rattle.indexmap.specs.IndexMap.{spare};
+ghost use Rattle.jc_bulk.specs.Ends.{key_ends};
+ghost use Rattle.jc_invoke.specs.Invoke.{result_at, result_entries, result_of};
+ghost use Rattle.jc_invoke.specs.Keys.{invoke_ops};
+
+use indexmap::IndexMap;
+use jc_batch::insert_new;
+use jc_bulk::Progress;
+use jc_model::Reply;
+use jc_types::{Key, Refusal, Value};
+
+/// A key's result, by how it ended. A processor that gives none has no result.
+fn result_of(ended: &Result<Reply, Refusal>) -> Option<Result<Value, Refusal>>
+    ensures { result ≡ result_of ended.now }
+{
+    match ended {
+        Err(refusal) => Some(Err(*refusal)),
+        Ok(Reply::Fault(fault)) => Some(Err(*fault)),
+        Ok(Reply::Value(Some(value))) => Some(Ok(*value)),
+        Ok(Reply::Value(None)) | Ok(Reply::Flag(_)) | Ok(Reply::Unit) => None,
+    }
+}
+
+/// The result of a key that is so far, if it has one.
+fn result_at(progress: &Progress) -> Option<Result<Value, Refusal>>
+    ensures { result ≡ result_at progress.now }
+{
+    match progress {
+        Progress::Waiting | Progress::Reserved | Progress::Joined => None,
+        Progress::Ended(ended) => result_of(ended),
+    }
+}
+
+/// Fills in the result of each key that has one, in the order of the keys. It takes no memory.
+pub(crate) fn fill_results(
+    results: &mut IndexMap<Key, Result<Value, Refusal>>,
+    keys: &[Key],
+    progress: &[Progress],
+)
+    requires distinct { IsDistinct (pointwise ◌==◌) keys.now }
+    requires none { results.old.entries ≡ [] }
+    requires many { length progress.now ≡ length keys.now }
+    requires room { length keys.now ≤ spare results.old }
+    ensures { results.new.entries ≡ result_entries (key_ends (invoke_ops keys.now) progress.now) }
+{
+    for place in 0..progress.len() {
+        insert_result(results, &keys[place], &progress[place]);
+    }
+}
+
+/// Adds a key's result, if it has one. It takes no memory.
+fn insert_result(
+    results: &mut IndexMap<Key, Result<Value, Refusal>>,
+    key: &Key,
+    progress: &Progress,
+)
+    requires new { list_any (pointwise ◌==◌ key.now) (keys_of results.old.entries) ≡ false }
+    requires room { 0 < spare results.old }
+    ensures entries { results.new.entries ≡ results.old.entries
+        ++ cons_option (option_map (λ r. (key.now, r)) (result_at progress.now)) [] }
+    ensures room { spare results.old ≤ spare results.new + 1 }
+{
+    match result_at(progress) {
+        Some(result) => insert_new(results, key, result),
+        None => {}
+    }
+}
