@@ -2,6 +2,7 @@
 --     next-snoc                     the next number after a list, and after the list with a larger number behind it
 --     rises-snoc                    a rising list with a larger number behind it rises
 --     shares-append                 the shares of the first workers, and then those of the others
+--     leads-snoc                    one piece more leads further
 --     zip_at, length-zip            each worker with its tool
 --     first_of_all, rest_of_all     what all can do, the first ones can, and the others
 --     alone_can, one_ended          one worker by itself
@@ -16,7 +17,7 @@ use Rattle.std.specs.List.Sorted.{IsStrictlyIncreasing}
 use Rattle.atomic_table.specs.Seated.{TableId}
 use Rattle.jc_pool.specs.declared.view.Plan.{Plan}
 use Rattle.jc_pool.specs.declared.view.Claims.{Claims}
-use Rattle.jc_pool.specs.Shares.{CanDoAll, DoesShare, DoShares, DoesEachOnce}
+use Rattle.jc_pool.specs.Shares.{CanDoAll, LeadsTo, DoesShare, DoShares, DoesEachOnce}
 use Rattle.jc_pool.specs.Views.{next_after, ended_claims, after_join}
 use Rattle.jc_pool.specs.Teams.{HasEnded, HaveEnded}
 use Rattle.jc_pool.proofs.Steps.{next_after-append}
@@ -41,12 +42,16 @@ rises-snoc xs n rises le k within =
     let lt = below_next xs k first in omega arith)
     (cases_lt (k + 1) (length xs))
 
-module _ {W J : Type 0} (did : W → List ℕ) (job : W → J) (can_do : W → ℕ → Type 0) (pieces : ℕ) where
-  share_is : (a b : W) (s : List ℕ) (a' b' : W) (s' : List ℕ) → a ≡ a' → b ≡ b' → s ≡ s' → DoesShare did job can_do pieces a' b' s' → DoesShare did job can_do pieces a b s
-  share_is a b s a' b' s' old new share = subst (λ (z : W × W × List ℕ). DoesShare did job can_do pieces z.0 z.1 z.2) (λ i. (sym old i, sym new i, sym share i))
+pub leads-snoc : {W : Type 0} (does : W → ℕ → W → Type 0) (a b c : W) (s : List ℕ) (piece : ℕ) → LeadsTo does a s b → does b piece c → LeadsTo does a (s ++ piece ∷ []) c
+leads-snoc does a b c [] piece led last = (c, subst (λ w. does w piece c) led last, refl)
+leads-snoc does a b c (p ∷ s) piece led last = (led.0, led.1, leads-snoc does led.0 b c s piece led.2 last)
 
-  pub shares-append : (xs xs' : List W) (ss : List (List ℕ)) (ys ys' : List W) (ts : List (List ℕ)) → DoShares did job can_do pieces xs xs' ss → DoShares did job can_do pieces ys ys' ts
-      → DoShares did job can_do pieces (xs ++ ys) (xs' ++ ys') (ss ++ ts)
+module _ {W J : Type 0} (did : W → List ℕ) (job : W → J) (can_do : W → ℕ → Type 0) (does : W → ℕ → W → Type 0) (pieces : ℕ) where
+  share_is : (a b : W) (s : List ℕ) (a' b' : W) (s' : List ℕ) → a ≡ a' → b ≡ b' → s ≡ s' → DoesShare did job can_do does pieces a' b' s' → DoesShare did job can_do does pieces a b s
+  share_is a b s a' b' s' old new share = subst (λ (z : W × W × List ℕ). DoesShare did job can_do does pieces z.0 z.1 z.2) (λ i. (sym old i, sym new i, sym share i))
+
+  pub shares-append : (xs xs' : List W) (ss : List (List ℕ)) (ys ys' : List W) (ts : List (List ℕ)) → DoShares did job can_do does pieces xs xs' ss → DoShares did job can_do does pieces ys ys' ts
+      → DoShares did job can_do does pieces (xs ++ ys) (xs' ++ ys') (ss ++ ts)
   shares-append xs xs' ss ys ys' ts p q =
       let len = length-append xs ys in let len' = length-append xs' ys' in let lens = length-append ss ts in
       let n : ℕ = length xs in
@@ -99,14 +104,14 @@ module _ {W T : Type 0} (P : W × T → Type 0) (ws first rest : List W) (ts fir
   pub rest_of_all : ws ≡ first ++ rest → ts ≡ first_tools ++ rest_tools → length first_tools ≡ length first → All P (zip ws ts) → All P (zip rest rest_tools)
   rest_of_all w t len all = All-back P (zip first first_tools) (zip rest rest_tools) (subst (All P) (split-zip w t len) all)
 
-module _ {W T J : Type 0} (did : W × T → List ℕ) (job : W × T → J) (can_do : W × T → ℕ → Type 0) (counter : TableId × Plan) where
+module _ {W T J : Type 0} (did : W × T → List ℕ) (job : W × T → J) (can_do : W × T → ℕ → Type 0) (does : W × T → ℕ → W × T → Type 0) (counter : TableId × Plan) where
   pub alone_can : (ws : List W) (w : W) (ts : List T) (t : T) (n : ℕ) → length ws ≡ 1 → length ts ≡ length ws → All (CanDoAll can_do n) (zip ws ts) → CanDoAll can_do n (get_or ws 0 w, get_or ts 0 t)
   alone_can [] w ts t n one each all = absurd (omega arith)
   alone_can (x ∷ ws) w [] t n one each all = absurd (omega arith)
   alone_can (x ∷ ws) w (u ∷ ts) t n one each all = all 0 (x, u) (omega arith)
 
   pub one_ended : (claimer : TableId × Claims) (ws : List W) (w v : W) (ts : List T) (t u : T) → length ws ≡ 1 → length ts ≡ length ws
-      → HasEnded did job can_do counter claimer (get_or ws 0 w, get_or ts 0 t) (v, u) → HaveEnded did job can_do counter claimer ws ts (set ws 0 v) (set ts 0 u)
+      → HasEnded did job can_do does counter claimer (get_or ws 0 w, get_or ts 0 t) (v, u) → HaveEnded did job can_do does counter claimer ws ts (set ws 0 v) (set ts 0 u)
   one_ended claimer [] w v ts t u one each ended = absurd (omega arith)
   one_ended claimer (x ∷ y ∷ ws) w v ts t u one each ended = absurd (omega arith)
   one_ended claimer (x ∷ []) w v [] t u one each ended = absurd (omega arith)
@@ -121,13 +126,13 @@ module _ {W T J : Type 0} (did : W × T → List ℕ) (job : W × T → J) (can_
   }
     where
       alone : (k : ℕ) → k < 1 → (d : W × T)
-          → DoesShare did job can_do counter.1.pieces (get_or ((x, r) ∷ []) k d) (get_or ((v, u) ∷ []) k d) (get_or (claimer.1.claimed ∷ []) k [])
+          → DoesShare did job can_do does counter.1.pieces (get_or ((x, r) ∷ []) k d) (get_or ((v, u) ∷ []) k d) (get_or (claimer.1.claimed ∷ []) k [])
       alone zero l d = ended.share
       alone (suc k) l d = absurd (omega arith)
 
   pub both_ended : (a b joined : TableId × Claims) (xs xs' ys ys' : List W) (us us' vs vs' : List T) → length us ≡ length xs
-      → HaveEnded did job can_do counter a xs us xs' us' → HaveEnded did job can_do counter b ys vs ys' vs'
-      → joined.0 ≡ counter.0 → joined.1 ≡ after_join a.1 b.1 → HaveEnded did job can_do counter joined (xs ++ ys) (us ++ vs) (xs' ++ ys') (us' ++ vs')
+      → HaveEnded did job can_do does counter a xs us xs' us' → HaveEnded did job can_do does counter b ys vs ys' vs'
+      → joined.0 ≡ counter.0 → joined.1 ≡ after_join a.1 b.1 → HaveEnded did job can_do does counter joined (xs ++ ys) (us ++ vs) (xs' ++ ys') (us' ++ vs')
   both_ended a b joined xs xs' ys ys' us us' vs vs' tool_each p q counter_is is =
       let front : length xs' ≡ length xs = p.workers in let front_tools : length us' ≡ length us = p.tools in
       let back : length ys' ≡ length ys = q.workers in let back_tools : length vs' ≡ length vs = q.tools in
@@ -139,9 +144,9 @@ module _ {W T J : Type 0} (did : W × T → List ℕ) (job : W × T → J) (can_
             ∙ (λ i. record { plan = counter.1; claimed = sym (concat-append p.shares q.shares) i; working = 0; ended = sym (length-append xs ys) i });
         workers = omega arith;
         tools = omega arith;
-        each = subst (λ (z : List (W × T) × List (W × T)). DoShares did job can_do counter.1.pieces z.0 z.1 (p.shares ++ q.shares))
+        each = subst (λ (z : List (W × T) × List (W × T)). DoShares did job can_do does counter.1.pieces z.0 z.1 (p.shares ++ q.shares))
             (λ i. (sym (zip-append xs ys us vs tool_each) i, sym (zip-append xs' ys' us' vs' (omega arith)) i))
-            (shares-append did job can_do counter.1.pieces (zip xs us) (zip xs' us') p.shares (zip ys vs) (zip ys' vs') q.shares p.each q.each);
+            (shares-append did job can_do does counter.1.pieces (zip xs us) (zip xs' us') p.shares (zip ys vs) (zip ys' vs') q.shares p.each q.each);
       }
 
 -- a worker can do with any tool what it can do without
@@ -151,10 +156,14 @@ all_with_tools {W} {T} can_do pieces ws ts each all k d within =
     let len = length-zip ws ts each in let l : k < length ws = omega arith in
     subst (λ (both : W × T). CanDoAll can_do pieces both.0) (sym (zip_at ws ts each k d.0 d.1 l)) (all k d.0 l)
 
+led_alone : {W : Type 0} (does : W → ℕ → W → Type 0) (a b : W × Unit {0}) (s : List ℕ) → LeadsTo (λ (old : W × Unit {0}) piece new. does old.0 piece new.0) a s b → LeadsTo does a.0 s b.0
+led_alone does a b [] led = ap (λ both. both.0) led
+led_alone does a b (piece ∷ s) led = (led.0.0, led.1, led_alone does led.0 b s led.2)
+
 -- workers whose tool is nothing
-module _ {W J : Type 0} (did : W → List ℕ) (job : W → J) (can_do : W → ℕ → Type 0) (pieces : ℕ) where
+module _ {W J : Type 0} (did : W → List ℕ) (job : W → J) (can_do : W → ℕ → Type 0) (does : W → ℕ → W → Type 0) (pieces : ℕ) where
   pub without_units : (ws ws' : List W) (us us' : List (Unit {0})) → length us ≡ length ws → length ws' ≡ length ws → length us' ≡ length us
-      → DoesEachOnce (λ (both : W × Unit {0}). did both.0) (λ both. job both.0) (λ both. can_do both.0) pieces (zip ws us) (zip ws' us') → DoesEachOnce did job can_do pieces ws ws'
+      → DoesEachOnce (λ (both : W × Unit {0}). did both.0) (λ both. job both.0) (λ both. can_do both.0) (λ old piece new. does old.0 piece new.0) pieces (zip ws us) (zip ws' us') → DoesEachOnce did job can_do does pieces ws ws'
   without_units ws ws' us us' each len tool_len done =
       let zipped = length-zip ws us each in let shares : length done.shares ≡ length (zip ws us) = done.each_worker.share_each in
       record {
@@ -172,6 +181,6 @@ module _ {W J : Type 0} (did : W → List ℕ) (job : W → J) (can_do : W → �
       }
     where
       plain : (a b : W × Unit {0}) (v w : W) (s : List ℕ) → a.0 ≡ v → b.0 ≡ w
-          → DoesShare (λ (both : W × Unit {0}). did both.0) (λ both. job both.0) (λ both. can_do both.0) pieces a b s → DoesShare did job can_do pieces v w s
-      plain a b v w s old new share = subst (λ (z : W × W). DoesShare did job can_do pieces z.0 z.1 s) (λ i. (old i, new i))
-          record { did_share = share.did_share; rises = share.rises; same_job = share.same_job; beyond = share.beyond }
+          → DoesShare (λ (both : W × Unit {0}). did both.0) (λ both. job both.0) (λ both. can_do both.0) (λ old piece new. does old.0 piece new.0) pieces a b s → DoesShare did job can_do does pieces v w s
+      plain a b v w s old new share = subst (λ (z : W × W). DoesShare did job can_do does pieces z.0 z.1 s) (λ i. (old i, new i))
+          record { did_share = share.did_share; rises = share.rises; led = led_alone does a b s share.led; same_job = share.same_job; beyond = share.beyond }

@@ -2,11 +2,12 @@
 --     times          how often a number is in a list
 --     once_below     1 for a number below n, and else 0
 --     CanDoAll       a worker can do each piece below `pieces`
---     DoesShare      a worker did its share, in rising order, and no other piece; its job stayed, and of the pieces from `pieces` on it can
---                    still do those that it could do before
+--     LeadsTo        one piece after another led from what a worker was to what it is
+--     DoesShare      a worker did its share, in rising order, and no other piece; its pieces led from what it was to what it is; its job
+--                    stayed, and of the pieces from `pieces` on it can still do those that it could do before
 --     DoShares       each worker did its share
 --     DoesEachOnce   the workers did the pieces below `pieces`: each of these is in one share, once, and no other number is
-use Rattle.std.specs.Prelude.{◌≡◌, ℕ, ◌<◌, ◌≤◌, ◌==◌, List, [], ◌++◌, length, cond, nat_lt, count_by, slice_index_or}
+use Rattle.std.specs.Prelude.{◌≡◌, ℕ, ◌<◌, ◌≤◌, ◌==◌, List, [], ◌∷◌, ◌++◌, length, cond, nat_lt, count_by, slice_index_or}
 use Rattle.std.specs.List.{concat}
 use Rattle.std.specs.List.Sorted.{IsStrictlyIncreasing}
 
@@ -19,10 +20,15 @@ once_below x n = cond (nat_lt x n) 1 0
 abbrev pub CanDoAll : {W : Type 0} → (W → ℕ → Type 0) → ℕ → W → Type 0
 CanDoAll can_do pieces worker = (piece : ℕ) → piece < pieces → can_do worker piece
 
-module _ {W J : Type 0} (did : W → List ℕ) (job : W → J) (can_do : W → ℕ → Type 0) (pieces : ℕ) where
+abbrev pub LeadsTo : {W : Type 0} → (W → ℕ → W → Type 0) → W → List ℕ → W → Type 0
+LeadsTo does old [] new = new ≡ old
+LeadsTo {W} does old (piece ∷ pieces) new = (next : W) × does old piece next × LeadsTo does next pieces new
+
+module _ {W J : Type 0} (did : W → List ℕ) (job : W → J) (can_do : W → ℕ → Type 0) (does : W → ℕ → W → Type 0) (pieces : ℕ) where
   pub record DoesShare (old new : W) (share : List ℕ) : Type 0 where
     pub did_share : did new ≡ did old ++ share
     pub rises : IsStrictlyIncreasing share
+    pub led : LeadsTo does old share new
     pub same_job : job new ≡ job old
     pub beyond : (piece : ℕ) → pieces ≤ piece → can_do old piece → can_do new piece
 

@@ -18,11 +18,12 @@ pub record CanBegin {W T : Type 0} (can_do : W × T → ℕ → Type 0) (counter
   pub tool_each : length tools ≡ length workers
   pub able : All (CanDoAll can_do counter.1.pieces) (zip workers tools)
 
-module _ {W T J : Type 0} (did : W × T → List ℕ) (job : W × T → J) (can_do : W × T → ℕ → Type 0) (counter : TableId × Plan) (claimer : TableId × Claims) where
+module _ {W T J : Type 0} (did : W × T → List ℕ) (job : W × T → J) (can_do : W × T → ℕ → Type 0) (does : W × T → ℕ → W × T → Type 0)
+    (counter : TableId × Plan) (claimer : TableId × Claims) where
   pub record HasEnded (old new : W × T) : Type 0 where
     pub counter_is : claimer.0 ≡ counter.0
     pub claims : claimer.1 ≡ ended_claims counter.1 1 claimer.1.claimed
-    pub share : DoesShare did job can_do counter.1.pieces old new claimer.1.claimed
+    pub share : DoesShare did job can_do does counter.1.pieces old new claimer.1.claimed
 
   pub record HaveEnded (old : List W) (old_tools : List T) (new : List W) (new_tools : List T) : Type 0 where
     pub counter_is : claimer.0 ≡ counter.0
@@ -30,4 +31,4 @@ module _ {W T J : Type 0} (did : W × T → List ℕ) (job : W × T → J) (can_
     pub claims : claimer.1 ≡ ended_claims counter.1 (length old) (concat shares)
     pub workers : length new ≡ length old
     pub tools : length new_tools ≡ length old_tools
-    pub each : DoShares did job can_do counter.1.pieces (zip old old_tools) (zip new new_tools) shares
+    pub each : DoShares did job can_do does counter.1.pieces (zip old old_tools) (zip new new_tools) shares

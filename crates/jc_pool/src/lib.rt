@@ -14,6 +14,8 @@
 //!
 //! - every number below the number of pieces is in just one share, and once there; no other number is in any;
 //! - each worker did the pieces of its share, in rising order, and no others;
+//! - these pieces, one after another, led from what the worker (and its tool) was to what it is: what one piece does, a worker's type
+//!   says by `does`;
 //! - each worker has the job that it had, and can still do what it could do beyond these pieces.
 //!
 //! After an `Err` no piece was done, and the workers are as they were. All memory is taken before the first piece. The stack grows as

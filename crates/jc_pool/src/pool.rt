@@ -31,7 +31,7 @@ pub fn run_pieces<W: Work + Send, R: Threads + Sync>(
     requires some { 0 < length workers.old }
     requires fits { pieces + length workers.old < 2 ^ 64 }
     requires able { All (CanDoAll W.can_do pieces) workers.old }
-    ensures done { OnOk result (DoesEachOnce W.did W.job W.can_do pieces workers.old workers.new) }
+    ensures done { OnOk result (DoesEachOnce W.did W.job W.can_do W.does pieces workers.old workers.new) }
     ensures err { OnErr result (workers.new ≡ workers.old) }
 {
     let mut tools = vec![in alloc; (); workers.len()]?;
@@ -55,7 +55,7 @@ pub fn run_pieces_with<T: Send, W: WorkWith<T> + Send, R: Threads + Sync>(
     requires tools { length tools.old ≡ length workers.old }
     requires fits { pieces + length workers.old < 2 ^ 64 }
     requires able { All (CanDoAll W.can_do pieces) (zip workers.old tools.old) }
-    ensures done { OnOk result (DoesEachOnce W.did W.job W.can_do pieces (zip workers.old tools.old) (zip workers.new tools.new)) }
+    ensures done { OnOk result (DoesEachOnce W.did W.job W.can_do W.does pieces (zip workers.old tools.old) (zip workers.new tools.new)) }
     ensures len { (length workers.new ≡ length workers.old) × (length tools.new ≡ length tools.old) }
     ensures err { OnErr result ((workers.new ≡ workers.old) × (tools.new ≡ tools.old)) }
 {
@@ -83,7 +83,7 @@ fn work_side_by_side<T: Send, W: WorkWith<T> + Send, R: Threads + Sync>(
     tools: &mut [T],
 )
     requires { CanBegin W.can_do counter.now claimer.old workers.old tools.old }
-    ensures { HaveEnded W.did W.job W.can_do counter.now claimer.new workers.old tools.old workers.new tools.new }
+    ensures { HaveEnded W.did W.job W.can_do W.does counter.now claimer.new workers.old tools.old workers.new tools.new }
 {
     if workers.len() == 1 {
         work(counter, claimer, &mut workers[0], &mut tools[0]);
@@ -120,16 +120,16 @@ fn work_in_halves<T: Send, W: WorkWith<T> + Send, R: Threads + Sync>(
 )
     requires first { CanBegin W.can_do counter.now claimer.old first.old first_tools.old }
     requires rest { CanBegin W.can_do counter.now other.old rest.old rest_tools.old }
-    ensures first { HaveEnded W.did W.job W.can_do counter.now claimer.new first.old first_tools.old first.new first_tools.new }
-    ensures rest { HaveEnded W.did W.job W.can_do counter.now other.new rest.old rest_tools.old rest.new rest_tools.new }
+    ensures first { HaveEnded W.did W.job W.can_do W.does counter.now claimer.new first.old first_tools.old first.new first_tools.new }
+    ensures rest { HaveEnded W.did W.job W.can_do W.does counter.now other.new rest.old rest_tools.old rest.new rest_tools.new }
 {
     let mut here = ||
         requires { IsSync R.row × IsSend W.row × IsSend T.row × CanBegin W.can_do counter.now claimer.now first.now first_tools.now }
-        ensures { HaveEnded W.did W.job W.can_do counter.entry.now claimer.exit.now first.entry.now first_tools.entry.now first.exit.now first_tools.exit.now }
+        ensures { HaveEnded W.did W.job W.can_do W.does counter.entry.now claimer.exit.now first.entry.now first_tools.entry.now first.exit.now first_tools.exit.now }
     { work_side_by_side(rt, counter, claimer, first, first_tools) };
     let mut there = ||
         requires { IsSync R.row × IsSend W.row × IsSend T.row × CanBegin W.can_do counter.now other.now rest.now rest_tools.now }
-        ensures { HaveEnded W.did W.job W.can_do counter.entry.now other.exit.now rest.entry.now rest_tools.entry.now rest.exit.now rest_tools.exit.now }
+        ensures { HaveEnded W.did W.job W.can_do W.does counter.entry.now other.exit.now rest.entry.now rest_tools.entry.now rest.exit.now rest_tools.exit.now }
     { work_side_by_side(rt, counter, other, rest, rest_tools) };
     join_mut(rt, &mut there, &mut here);
 }
@@ -140,7 +140,7 @@ fn work_in_halves<T: Send, W: WorkWith<T> + Send, R: Threads + Sync>(
 fn work<T, W: WorkWith<T>>(counter: &Counter, claimer: &mut Claimer, worker: &mut W, tool: &mut T)
     requires claimer { (claimer.old.0 ≡ counter.now.0) × (claimer.old.1 ≡ fresh_claims counter.now.1 1) }
     requires able { CanDoAll W.can_do counter.now.1.pieces (worker.old, tool.old) }
-    ensures { HasEnded W.did W.job W.can_do counter.now claimer.new (worker.old, tool.old) (worker.new, tool.new) }
+    ensures { HasEnded W.did W.job W.can_do W.does counter.now claimer.new (worker.old, tool.old) (worker.new, tool.new) }
 {
     while let Some(piece) = counter.claim(claimer) {
         worker.piece_with(tool, piece);

@@ -1,5 +1,5 @@
 //! Workers on threads.
-ghost use Rattle.std.specs.Prelude.{◌≡◌, ℕ, ◌+◌, ◌^◌, ◌<◌, ◌≤◌, All, vec_len, vec_capacity};
+ghost use Rattle.std.specs.Prelude.{◌≡◌, ℕ, ◌+◌, ◌^◌, ◌<◌, ◌≤◌, ◌++◌, [], ◌∷◌, All, vec_len, vec_capacity};
 ghost use Rattle.jc_pool.specs.Shares.{CanDoAll};
 
 use crate::{Work, WorkWith, run_pieces, run_pieces_with};
@@ -23,6 +23,8 @@ impl Work for Tally {
 
     ghost can_do = { λ t piece. (vec_len t.done ≤ piece) × (piece < vec_capacity t.done) };
 
+    ghost does = { λ old piece new. new.done.items ≡ old.done.items ++ piece ∷ [] };
+
     fn piece(&mut self, piece: usize) {
         self.done.push_reserved(piece);
     }
@@ -37,6 +39,8 @@ impl WorkWith<u64> for Tally {
     ghost job = { λ _. tt };
 
     ghost can_do = { λ both piece. (vec_len both.0.done ≤ piece) × (piece < vec_capacity both.0.done) };
+
+    ghost does = { λ old piece new. new.0.done.items ≡ old.0.done.items ++ piece ∷ [] };
 
     fn piece_with(&mut self, turns: &mut u64, piece: usize) {
         *turns = turns.saturating_add(1);

@@ -15,6 +15,9 @@ pub trait Work {
     /// It can do the piece with this number: it has what that piece needs, and room to note that it did it.
     ghost can_do: { Self → ℕ → Type 0 };
 
+    /// What one piece does: the worker before, the piece's number, and the worker afterwards.
+    ghost does: { Self → ℕ → Self → Type 0 };
+
     /// Does one piece, and notes that it did it. It may wait.
     ///
     /// A later piece that it could do before it can do afterwards.
@@ -24,6 +27,7 @@ pub trait Work {
         requires { can_do self.old piece }
         ensures did { did self.new ≡ did self.old ++ piece ∷ [] }
         ensures job { job self.new ≡ job self.old }
+        ensures does { does self.old piece self.new }
         ensures later { (later : ℕ) → piece < later → can_do self.old later → can_do self.new later };
 }
 
@@ -42,6 +46,9 @@ pub trait WorkWith<T> {
     /// It can do the piece with this number: it has what that piece needs, and room to note that it did it.
     ghost can_do: { Self × T → ℕ → Type 0 };
 
+    /// What one piece does: worker and tool before, the piece's number, and both afterwards.
+    ghost does: { Self × T → ℕ → Self × T → Type 0 };
+
     /// Does one piece, and notes that it did it. It may wait.
     ///
     /// A later piece that it could do before it can do afterwards.
@@ -51,6 +58,7 @@ pub trait WorkWith<T> {
         requires { can_do (self.old, tool.old) piece }
         ensures did { did (self.new, tool.new) ≡ did (self.old, tool.old) ++ piece ∷ [] }
         ensures job { job (self.new, tool.new) ≡ job (self.old, tool.old) }
+        ensures does { does (self.old, tool.old) piece (self.new, tool.new) }
         ensures later { (later : ℕ) → piece < later → can_do (self.old, tool.old) later → can_do (self.new, tool.new) later };
 }
 
@@ -62,6 +70,8 @@ impl<W: Work> WorkWith<()> for W {
     ghost job = { λ both. W.job both.0 };
 
     ghost can_do = { λ both. W.can_do both.0 };
+
+    ghost does = { λ old piece new. W.does old.0 piece new.0 };
 
     fn piece_with(&mut self, _tool: &mut (), piece: usize) {
         self.piece(piece)

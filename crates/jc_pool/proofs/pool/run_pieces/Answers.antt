@@ -9,6 +9,6 @@ run_pieces_with-requires-clause-able g c κs within =
 
 pub returns-clause-done : goal.returns-clause-done
 returns-clause-done g c =
-    let plain = without_units g.W.Work.did g.W.Work.job g.W.Work.can_do c.args.pieces c.args.workers.now c.run_pieces_with.new.workers c.as_mut_slice.result.now c.run_pieces_with.new.tools
+    let plain = without_units g.W.Work.did g.W.Work.job g.W.Work.can_do g.W.Work.does c.args.pieces c.args.workers.now c.run_pieces_with.new.workers c.as_mut_slice.result.now c.run_pieces_with.new.tools
     (search rules) c.run_pieces_with.ensures.len.0 c.run_pieces_with.ensures.len.1 in
     on_ok_weaker _ plain c.run_pieces_with.ensures.done

@@ -1,7 +1,8 @@
 use Rattle.std.proofs.Common.{◌≡◌, ◌+◌, ◌-◌, ◌<◌, ◌≤◌, [], ◌∷◌, ◌++◌, ap, sym, subst, ◌∙◌, append_assoc, arith}
 use Rattle.std.specs.List.Sorted.{IsStrictlyIncreasing}
+use Rattle.jc_pool.specs.Shares.{LeadsTo}
 use Rattle.jc_pool.specs.Views.{next_after}
-use Rattle.jc_pool.proofs.Shares.{next-snoc, rises-snoc}
+use Rattle.jc_pool.proofs.Shares.{leads-snoc, next-snoc, rises-snoc}
 use Rattle.jc_pool.proofs.pool.work.Goals as goal
 use Rattle.jc_pool.proofs.pool.work.Goals.{After-piece_with}
 
@@ -31,6 +32,7 @@ loop-piece-preserved g c =
       subst IsStrictlyIncreasing (sym (claimed g c)) (rises-snoc old.claimed piece before.3 later),
       c.piece_with.ensures.did ∙ ap (λ l. l ++ piece ∷ []) before.4 ∙ append_assoc _ old.claimed (piece ∷ []) ∙ ap (λ l. g.W.WorkWith.did (c.args.worker.now, c.args.tool.now) ++ l) (sym (claimed g c)),
       c.piece_with.ensures.job ∙ before.5,
+      subst (λ s. LeadsTo g.W.WorkWith.does (c.args.worker.now, c.args.tool.now) s (c.piece_with.new.self, c.piece_with.new.tool)) (sym (claimed g c)) (leads-snoc g.W.WorkWith.does _ (c.loop-piece.worker, c.loop-piece.tool) _ old.claimed piece before.6 c.piece_with.ensures.does),
       (let past : next_after c.claim.new.claimer.1.claimed ≤ c.args.counter.now.1.pieces = omega arith in past),
-      λ p above able. c.piece_with.ensures.later p (omega arith) (before.7 p (omega arith) able),
+      λ p above able. c.piece_with.ensures.later p (omega arith) (before.8 p (omega arith) able),
     )

@@ -1,5 +1,6 @@
 use Rattle.std.proofs.Common.{◌≡◌, ℕ, ◌-◌, ◌≤◌, ◌++◌}
 use Rattle.std.specs.List.Sorted.{IsStrictlyIncreasing}
+use Rattle.jc_pool.specs.Shares.{LeadsTo}
 use Rattle.jc_pool.specs.Views.{next_after, IsOf}
 use Rattle.jc_pool.proofs.pool.work.Given as goal
 
@@ -11,6 +12,7 @@ invariant-loop-piece g l =
     × IsStrictlyIncreasing l.claimer.1.claimed
     × (g.W.WorkWith.did (l.worker, l.tool) ≡ g.W.WorkWith.did (l.initial.worker, l.initial.tool) ++ l.claimer.1.claimed)
     × (g.W.WorkWith.job (l.worker, l.tool) ≡ g.W.WorkWith.job (l.initial.worker, l.initial.tool))
+    × LeadsTo g.W.WorkWith.does (l.initial.worker, l.initial.tool) l.claimer.1.claimed (l.worker, l.tool)
     × (next_after l.claimer.1.claimed ≤ l.counter.1.pieces)
     × ((piece : ℕ) → next_after l.claimer.1.claimed ≤ piece → g.W.WorkWith.can_do (l.initial.worker, l.initial.tool) piece → g.W.WorkWith.can_do (l.worker, l.tool) piece)
 

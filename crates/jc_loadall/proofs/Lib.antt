@@ -1,0 +1,7 @@
+pub mod PieceKeys
+pub mod Noting
+pub mod JoinedNotes
+pub mod Gathered
+pub mod TeamWork
+pub mod SessionWork
+pub mod LoadedPieces

@@ -1,0 +1,175 @@
+-- What is noted of a piece, and how its keys ended.
+--     piece_end    a call that loads the keys of a piece tells how it ended, and what is noted of it tells the same
+use Rattle.std.proofs.Common.{◌≡◌, ◌==◌, ◌<◌, ◌≤◌, ◌++◌, ◌⊎◌, inl, inr, ⊎_elim, ℕ, zero, suc, List, [], ◌∷◌, Bool, false, cond, length, map, Option, None, Some, Result, Ok, Err, option_map, IfOk, IfErr, refl, sym, ap, subst, ◌∙◌, arith}
+use Rattle.std.proofs.lemmas.Cmp.{nat_list_eq_equiv}
+use Rattle.std.proofs.lemmas.Map.Keys.{IsDistinct-head, IsDistinct-tail}
+use Rattle.std.specs.List.{AllByRecursion, IsAmong, IsDistinct, cons_option, filter_map}
+use Rattle.std.specs.Cmp.Lexicographic.{pointwise}
+use Rattle.std.specs.Map.{lookup}
+use Rattle.jc_types.specs.declared.limits.TheConstants.{BULK_KEYS_MAX}
+use Rattle.jc_types.specs.declared.refusal.Refusal.{Refusal}
+use Rattle.jc_types.specs.declared.refusal.Refusal.TheVariants.{OutOfMemory, TooManyKeys, WriterFailed}
+use Rattle.jc_model.specs.Cache.{Bytes}
+use Rattle.jc_model.specs.declared.event.Op.{Op}
+use Rattle.jc_outside.specs.CallingAll.{LoadAllRelation, WriteAllRelation, DeleteAllRelation}
+use Rattle.jc_cache.specs.Caches.{CacheState}
+use Rattle.jc_cache.specs.declared.session.Session.{Session}
+use Rattle.jc_bulk.specs.declared.fault.BulkFault.{BulkFault}
+use Rattle.jc_bulk.specs.Bulk.{FailsInPart, IsRefusedWhole, Succeeds}
+use Rattle.jc_bulk.specs.Ends.{KeyEnd, failed_entries, key_ops}
+use Rattle.jc_bulk.specs.KeyProgress.{refusal_in}
+use Rattle.jc_bulk.specs.Rounds.{LoadAll, Round, WriteAll, fault_of, faults_in, round_fault}
+use Rattle.jc_bulk.specs.Targets.{load_ops}
+use Rattle.jc_loadall.specs.declared.limits.TheConstants.{PIECE_KEYS}
+use Rattle.jc_loadall.specs.declared.notes.PieceResult.{PieceResult}
+use Rattle.jc_loadall.specs.declared.notes.PieceResult.TheVariants.{Loaded, Refused}
+use Rattle.jc_loadall.specs.Loading.{LoadsPiece, PieceEnd, out_of_memory}
+use Rattle.jc_loadall.specs.Notes.{IsNoteOf, IsResultOf, entries_noted}
+
+-- 1. The keys that failed, looked up one by one.
+
+-- the entry of a key, if it has one
+abbrev pick : List (Bytes × Refusal) → Bytes → Option (Bytes × Refusal)
+pick all key = option_map (λ (r : Refusal). (key, r)) (lookup (pointwise ◌==◌ key) all)
+
+skip : (key : Bytes) (r : Refusal) (rest : List (Bytes × Refusal)) (keys : List Bytes) → AllByRecursion (λ y. pointwise ◌==◌ key y ≡ false) keys
+    → filter_map (pick ((key, r) ∷ rest)) keys ≡ filter_map (pick rest) keys
+skip key r rest [] all = refl
+skip key r rest (k ∷ keys) all =
+    let apart : pointwise ◌==◌ k key ≡ false = nat_list_eq_equiv.symm k key ∙ all.0 in
+    let here : pick ((key, r) ∷ rest) k ≡ pick rest k = ap (λ b. option_map (λ (q : Refusal). (k, q)) (cond b (Some r) (lookup (pointwise ◌==◌ k) rest))) apart in
+    λ i. cons_option (here i) (skip key r rest keys all.1 i)
+
+absent_step : (key : Bytes) (e : KeyEnd) (rest : List (Bytes × Refusal)) (o : Option Refusal) → pointwise ◌==◌ key e.key ≡ false → lookup (pointwise ◌==◌ key) rest ≡ None
+    → lookup (pointwise ◌==◌ key) (cons_option (option_map (λ (r : Refusal). (e.key, r)) o) rest) ≡ None
+absent_step key e rest None apart none = none
+absent_step key e rest (Some r) apart none = ap (λ b. cond b (Some r) (lookup (pointwise ◌==◌ key) rest)) apart ∙ none
+
+absent : (key : Bytes) (es : List KeyEnd) → AllByRecursion (λ y. pointwise ◌==◌ key y ≡ false) (map (λ (e : KeyEnd). e.key) es) → lookup (pointwise ◌==◌ key) (failed_entries es) ≡ None
+absent key [] all = refl
+absent key (e ∷ es) all = absent_step key e (failed_entries es) (refusal_in e.ended) all.0 (absent key es all.1)
+
+looked_up_step : (e : KeyEnd) (rest : List (Bytes × Refusal)) (keys : List Bytes) (o : Option Refusal) → AllByRecursion (λ y. pointwise ◌==◌ e.key y ≡ false) keys
+    → lookup (pointwise ◌==◌ e.key) rest ≡ None → filter_map (pick rest) keys ≡ rest
+    → filter_map (pick (cons_option (option_map (λ (r : Refusal). (e.key, r)) o) rest)) (e.key ∷ keys) ≡ cons_option (option_map (λ (r : Refusal). (e.key, r)) o) rest
+looked_up_step e rest keys None apart none ih =
+    let here : pick rest e.key ≡ None = ap (λ (o : Option Refusal). option_map (λ (r : Refusal). (e.key, r)) o) none in
+    λ i. cons_option (here i) (ih i)
+looked_up_step e rest keys (Some r) apart none ih =
+    let here : pick ((e.key, r) ∷ rest) e.key ≡ Some (e.key, r) =
+    ap (λ b. option_map (λ (q : Refusal). (e.key, q)) (cond b (Some r) (lookup (pointwise ◌==◌ e.key) rest))) (nat_list_eq_equiv.refl e.key) in
+    let later = skip e.key r rest keys apart ∙ ih in
+    λ i. cons_option (here i) (later i)
+
+looked_up : (es : List KeyEnd) → IsDistinct (pointwise ◌==◌) (map (λ (e : KeyEnd). e.key) es) → filter_map (pick (failed_entries es)) (map (λ (e : KeyEnd). e.key) es) ≡ failed_entries es
+looked_up [] d = refl
+looked_up (e ∷ es) d =
+    let keys : List Bytes = map (λ (x : KeyEnd). x.key) es in
+    let apart = IsDistinct-head (pointwise ◌==◌) e.key (map (λ (x : KeyEnd). x.key) es) d in
+    looked_up_step e (failed_entries es) (map (λ (x : KeyEnd). x.key) es) (refusal_in e.ended) apart (absent e.key es apart)
+    (looked_up es (IsDistinct-tail (pointwise ◌==◌) e.key (map (λ (x : KeyEnd). x.key) es) d))
+
+abbrev first_key : List (Bytes × Op) → Bytes
+first_key [] = []
+first_key (t ∷ ts) = t.0
+
+abbrev others : List (Bytes × Op) → List (Bytes × Op)
+others [] = []
+others (t ∷ ts) = ts
+
+keys_ended : (replace : Bool) (es : List KeyEnd) (keys : List Bytes) → key_ops es ≡ load_ops replace keys → map (λ (e : KeyEnd). e.key) es ≡ keys
+keys_ended replace [] [] is = refl
+keys_ended replace [] (k ∷ keys) is = cc
+keys_ended replace (e ∷ es) [] is = cc
+keys_ended replace (e ∷ es) (k ∷ keys) is =
+    let key : e.key ≡ k = ap first_key is in
+    let rest : key_ops es ≡ load_ops replace keys = ap others is in
+    λ i. key i ∷ keys_ended replace es keys rest i
+
+-- 2. What is noted.
+
+nothing_noted : (keys : List Bytes) → entries_noted Loaded keys ≡ []
+nothing_noted [] = refl
+nothing_noted (k ∷ keys) = nothing_noted keys
+
+all_refused : (replace : Bool) (keys : List Bytes) → entries_noted Refused keys ≡ failed_entries (out_of_memory (load_ops replace keys))
+all_refused replace [] = refl
+all_refused replace (k ∷ keys) = ap (λ l. (k, OutOfMemory) ∷ l) (all_refused replace keys)
+
+none_failed : (failed : List (Bytes × Refusal)) (faults : List Refusal) → map (λ (e : Bytes × Refusal). e.1) failed ++ faults ≡ [] → failed ≡ []
+none_failed [] faults is = refl
+none_failed (e ∷ failed) faults is = cc
+
+-- no call outside fails with OutOfMemory
+among_cons : (o : Option Refusal) (rs : List Refusal) (r : Refusal) → IsAmong (cons_option o rs) r → (o ≡ Some r) ⊎ IsAmong rs r
+among_cons None rs r h = inr h
+among_cons (Some x) rs r (zero, (lt, is)) = inl (ap Some (sym is))
+among_cons (Some x) rs r (suc i, (lt, is)) = inr (i, (omega (arith, lt), is))
+
+code_only : (returned : Result (Unit {0}) ℕ) → fault_of returned ≡ Some OutOfMemory → ⊥
+code_only (Ok done) is = cc
+code_only (Err code) is = let same : WriterFailed code ≡ OutOfMemory = cc in cc
+
+no_memory_fault : (rounds : List Round) → IsAmong (faults_in rounds) OutOfMemory → ⊥
+no_memory_fault [] h = omega (arith, h.1.0)
+no_memory_fault (LoadAll r ∷ rounds) h = no_memory_fault rounds h
+no_memory_fault (WriteAll r ∷ rounds) h = ⊎_elim (code_only r.returned) (no_memory_fault rounds) (among_cons (round_fault (WriteAll r)) (faults_in rounds) OutOfMemory h)
+
+-- 3. How a piece ended.
+
+module _ {I J : Type 0} {D : I → Type 0} {E : J → Type 0}
+    (loads_all : LoadAllRelation ((i : I) × D i)) (load_state : (i : I) × D i → List ℕ)
+    (writes_all : WriteAllRelation ((j : J) × E j)) (deletes_all : DeleteAllRelation ((j : J) × E j)) (write_state : (j : J) × E j → List ℕ)
+    (cache : CacheState) (replace : Bool) (keys : List Bytes) (few : length keys ≤ PIECE_KEYS) (distinct : IsDistinct (pointwise ◌==◌) keys)
+    (old new : Session I J D E) where
+  abbrev pub Ends : PieceResult → Type 0
+  Ends result = (end : PieceEnd) × LoadsPiece loads_all load_state writes_all deletes_all write_state cache (load_ops replace keys) end old new × IsNoteOf keys result end
+
+  loaded : (result : PieceResult) → result ≡ Loaded → Succeeds loads_all load_state writes_all deletes_all write_state cache old (load_ops replace keys) new → Ends result
+  loaded result is h = (
+    record { ends = h.0; cause = None },
+    inl (h.1, h.2, h.3),
+    subst (λ r. IsNoteOf keys r (record { ends = h.0; cause = None })) (sym is) record { cause = refl; failed = nothing_noted keys ∙ sym (none_failed (failed_entries h.0) (faults_in h.1) h.3) },
+  )
+
+  failed : (fault : BulkFault) (result : PieceResult) → IsResultOf fault result
+      → FailsInPart loads_all load_state writes_all deletes_all write_state cache old (load_ops replace keys) fault.cause fault.failed.entries new → Ends result
+  failed fault result (inl whole) h =
+      let none : failed_entries h.0 ≡ [] = sym h.4 ∙ whole.0 in
+      let met : IsAmong (faults_in h.1) OutOfMemory = subst (IsAmong (faults_in h.1)) whole.1 (subst (λ (es : List (Bytes × Refusal)). IsAmong (map (λ (e : Bytes × Refusal). e.1) es ++ faults_in h.1) fault.cause) none h.3) in
+      absurd (no_memory_fault h.1 met)
+  failed fault result (inr part) h = (
+    record { ends = h.0; cause = Some fault.cause },
+    inl (h.1, h.2, h.3),
+    subst (λ r. IsNoteOf keys r (record { ends = h.0; cause = Some fault.cause })) (sym part.1) record {
+      cause = refl;
+      failed = (λ i. filter_map (pick (h.4 i)) (sym ended i)) ∙ looked_up h.0 (subst (IsDistinct (pointwise ◌==◌)) (sym ended) distinct);
+    },
+  )
+    where
+      ended : map (λ (e : KeyEnd). e.key) h.0 ≡ keys
+      ended = keys_ended replace h.0 keys h.2.targets_are
+
+  refused : (fault : BulkFault) (result : PieceResult) → IsResultOf fault result
+      → IsRefusedWhole old (length keys) fault.cause fault.failed.entries fault.found.entries new → Ends result
+  refused fault result (inl whole) h = (
+    record { ends = out_of_memory (load_ops replace keys); cause = Some OutOfMemory },
+    inr (refl, refl, h.3),
+    subst (λ r. IsNoteOf keys r (record { ends = out_of_memory (load_ops replace keys); cause = Some OutOfMemory })) (sym whole.2) record { cause = refl; failed = all_refused replace keys },
+  )
+  refused fault result (inr part) h =
+      ⊎_elim
+      (λ (many : (fault.cause ≡ TooManyKeys) × (BULK_KEYS_MAX < length keys)). let lt : BULK_KEYS_MAX < length keys = many.1 in absurd (omega arith))
+      (λ (memory : (fault.cause ≡ OutOfMemory) × (length keys ≤ BULK_KEYS_MAX)). absurd (part.0 h.1 memory.0))
+      h.0
+
+  pub piece_end : (returned : Result (Unit {0}) BulkFault) (result : PieceResult)
+      → IfOk returned (λ done. (length keys ≤ BULK_KEYS_MAX) × Succeeds loads_all load_state writes_all deletes_all write_state cache old (load_ops replace keys) new)
+      → IfErr returned (λ fault. ((length keys ≤ BULK_KEYS_MAX)
+      × FailsInPart loads_all load_state writes_all deletes_all write_state cache old (load_ops replace keys) fault.cause fault.failed.entries new
+      × (fault.found.entries ≡ []))
+      ⊎ IsRefusedWhole old (length keys) fault.cause fault.failed.entries fault.found.entries new)
+      → IfOk returned (λ done. result ≡ Loaded) → IfErr returned (λ fault. IsResultOf fault result)
+      → Ends result
+  piece_end (Ok done) result ok err is-ok is-err = loaded result is-ok ok.1
+  piece_end (Err fault) result ok err is-ok is-err = ⊎_elim (λ h. failed fault result is-err h.1) (refused fault result is-err) err

@@ -1,0 +1,122 @@
+-- Sessions that load pieces, by what is known of each call.
+--     sessions_loaded    what is known of the pieces and of their results tells how each ended
+--     causes_are, failed_are    the first cause, and what failed, by the results and by the ends
+--     none_noted         without a cause nothing failed
+use Rattle.std.proofs.Common.{◌≡◌, ◌<◌, ◌≤◌, ◌++◌, ℕ, zero, suc, List, [], ◌∷◌, Bool, length, get_or, None, Some, Option, refl, sym, ap, subst, ◌∙◌, arith, cond, nat_lt, true, false}
+use Rattle.std.proofs.lemmas.Bool.{lt-ltb}
+use Rattle.std.proofs.lemmas.List.Elements.{filter_map-append}
+use Rattle.std.specs.Option.{option_or}
+use Rattle.std.specs.List.{concat}
+use denote.Ref.{Bor, MutBor}
+use denote.Param.Members.{Shared}
+use Rattle.indexmap.specs.IndexSet.{IndexSet}
+use Rattle.jc_types.specs.declared.refusal.Refusal.{Refusal}
+use Rattle.jc_model.specs.Cache.{Bytes}
+use Rattle.jc_outside.specs.CallingAll.{LoadAllRelation, WriteAllRelation, DeleteAllRelation}
+use Rattle.jc_cache.specs.Caches.{CacheState}
+use Rattle.jc_cache.specs.Sessions.{MayCall}
+use Rattle.jc_cache.specs.declared.session.Session.{Session}
+use Rattle.jc_bulk.specs.Ends.{failed_entries}
+use Rattle.jc_bulk.specs.Targets.{load_ops}
+use Rattle.jc_pool.specs.Shares.{LeadsTo, once_below, times}
+use Rattle.jc_loadall.specs.declared.notes.PieceResult.{PieceResult}
+use Rattle.jc_loadall.specs.declared.notes.PieceResult.TheVariants.{Loaded, Failed, Refused}
+use Rattle.jc_loadall.specs.Loading.{LoadsInPieces, LoadsPiece, PieceEnd, all_ends, first_cause}
+use Rattle.jc_loadall.specs.Notes.{IsNoteOf, all_noted, cause_noted, entries_noted, first_noted}
+use Rattle.jc_loadall.specs.Pieces.{piece_at, piece_count}
+use Rattle.jc_loadall.specs.Working.{AreLoadedBy, LoadsBy}
+use Rattle.jc_loadall.proofs.JoinedNotes.{nothing_noted}
+use Rattle.jc_loadall.proofs.Gathered.{Gathering, SomeStep, agrees_all, counted, every, fact_at, fits_at, gathered, joined, led_back, seen, seen_shares}
+
+-- 1. What the results say.
+
+module _ (keys : List Bytes) (results : ℕ → PieceResult) (ends : ℕ → PieceEnd) where
+  pub causes_are : (n : ℕ) → ((p : ℕ) → p < n → IsNoteOf (piece_at keys p) (results p) (ends p)) → first_noted results n ≡ first_cause ends n
+  causes_are zero fits = refl
+  causes_are (suc n) fits = λ i. option_or (causes_are n (λ p lt. fits p (omega arith)) i) ((fits n (omega arith)).cause i)
+
+  pub failed_are : (n : ℕ) → ((p : ℕ) → p < n → IsNoteOf (piece_at keys p) (results p) (ends p)) → all_noted results keys n ≡ failed_entries (all_ends ends n)
+  failed_are zero fits = refl
+  failed_are (suc n) fits =
+      (λ i. failed_are n (λ p lt. fits p (omega arith)) i ++ (fits n (omega arith)).failed i) ∙ sym (filter_map-append _ (all_ends ends n) (ends n).ends)
+
+no_cause : (result : PieceResult) (keys : List Bytes) → cause_noted result ≡ None → entries_noted result keys ≡ []
+no_cause Loaded keys is = nothing_noted keys
+no_cause (Failed fault) keys is = cc
+no_cause Refused keys is = cc
+
+neither : (a b : Option Refusal) → option_or a b ≡ None → (a ≡ None) × (b ≡ None)
+neither None b is = (refl, is)
+neither (Some r) b is = cc
+
+pub none_noted : (keys : List Bytes) (results : ℕ → PieceResult) (n : ℕ) → first_noted results n ≡ None → all_noted results keys n ≡ []
+none_noted keys results zero is = refl
+none_noted keys results (suc n) is =
+    let both = neither (first_noted results n) (cause_noted (results n)) is in
+    λ i. none_noted keys results n both.0 i ++ no_cause (results n) (piece_at keys n) both.1 i
+
+once_at_most : (p n : ℕ) → once_below p n ≤ 1
+once_at_most p n = elim (nat_lt p n) as (λ b. cond b 1 0 ≤ 1) [ true ↦ omega arith | false ↦ omega arith ]
+
+once_is : (p n : ℕ) → p < n → once_below p n ≡ 1
+once_is p n lt = let yes : nat_lt p n ≡ true = lt-ltb p n lt in counted (nat_lt p n) yes
+
+-- 2. The sessions.
+
+module _ {I J F S : Type 0} {D : I → Type 0} {E : J → Type 0}
+    (loads_all : LoadAllRelation ((i : I) × D i)) (load_state : (i : I) × D i → List ℕ)
+    (writes_all : WriteAllRelation ((j : J) × E j)) (deletes_all : DeleteAllRelation ((j : J) × E j)) (write_state : (j : J) × E j → List ℕ)
+    (cache : CacheState) (replace : Bool)
+    (g : Shared F (Bor (IndexSet Bytes S) × (MutBor (Session I J D E) × Unit {0})) (PieceResult × (MutBor (Session I J D E) × Unit {0}))) (load : F) (keys : List Bytes) (results : ℕ → PieceResult)
+    (says : (ks : List Bytes) (old : Session I J D E) (result : PieceResult) (new : Session I J D E) → LoadsBy g load ks old result new
+    → MayCall cache new × ((end : PieceEnd) × LoadsPiece loads_all load_state writes_all deletes_all write_state cache (load_ops replace ks) end old new × IsNoteOf ks result end)) where
+  abbrev Step : Session I J D E → ℕ → PieceEnd → Session I J D E → Type 0
+  Step old p end new =
+      LoadsPiece loads_all load_state writes_all deletes_all write_state cache (load_ops replace (piece_at keys p)) end old new × IsNoteOf (piece_at keys p) (results p) end × MayCall cache new
+
+  told : (old new : Session I J D E) (share : List ℕ) → LeadsTo (λ o p n. LoadsBy g load (piece_at keys p) o (results p) n) old share new → LeadsTo (SomeStep Step) old share new
+  told old new [] led = led
+  told old new (p ∷ share) led =
+      let said = says (piece_at keys p) old (results p) led.0 led.1 in
+      (led.0, (said.1.0, (said.1.1, said.1.2, said.0)), told led.0 new share led.2)
+
+  only : (old new : Session I J D E) (share : List ℕ) (f : ℕ → PieceEnd) → LeadsTo (λ o p n. Step o p (f p) n) old share new
+      → LeadsTo (λ o p n. LoadsPiece loads_all load_state writes_all deletes_all write_state cache (load_ops replace (piece_at keys p)) (f p) o n) old share new
+  only old new [] f led = led
+  only old new (p ∷ share) f led = (led.0, led.1.0, only led.0 new share f led.2)
+
+  abbrev pub Told : List (Session I J D E) → List (Session I J D E) → Type 0
+  Told olds news =
+      (ends : ℕ → PieceEnd) × LoadsInPieces loads_all load_state writes_all deletes_all write_state cache keys replace ends olds news
+      × ((p : ℕ) → p < piece_count (length keys) → IsNoteOf (piece_at keys p) (results p) (ends p))
+
+  pub sessions_loaded : (olds news : List (Session I J D E)) → AreLoadedBy g load keys results olds news → Told olds news
+  sessions_loaded olds news loaded = (
+    fact_at (joined team.dss) nothing,
+    record {
+      shares = loaded.shares;
+      share_each = loaded.share_each;
+      sessions = loaded.tools;
+      each = λ k d lt. only (get_or olds k d) (get_or news k d) (get_or loaded.shares k []) (fact_at (joined team.dss) nothing)
+          (subst (λ (ss : List (List ℕ)). LeadsTo (λ o p n. Step o p (fact_at (joined team.dss) nothing p) n) (get_or olds k d) (get_or ss k []) (get_or news k d)) team.numbers
+          (led_back Step (fact_at (joined team.dss) nothing) olds news team.dss (agrees_all (joined team.dss) nothing few) team.chains k d lt));
+      once = loaded.once;
+    },
+    λ p lt. fits_at (λ e. IsNoteOf (piece_at keys e.0) (results e.0) e.1) (joined team.dss) nothing p
+        (every Step (λ e. IsNoteOf (piece_at keys e.0) (results e.0) e.1) (λ o p x n step. step.1) olds news team.dss team.chains) (there p lt),
+  )
+    where
+      nothing : PieceEnd
+      nothing = record { ends = []; cause = None }
+
+      team : Gathering Step olds news loaded.shares
+      team = gathered Step olds news loaded.shares loaded.tools loaded.share_each (λ k d lt. told (get_or olds k d) (get_or news k d) (get_or loaded.shares k []) (loaded.each k d lt))
+
+      often : (p : ℕ) → seen p (joined team.dss) ≡ once_below p (piece_count (length keys))
+      often p = seen_shares p team.dss ∙ ap (λ ss. times p (concat ss)) team.numbers ∙ loaded.once p
+
+      few : (p : ℕ) → seen p (joined team.dss) ≤ 1
+      few p = let a = often p in let b = once_at_most p (piece_count (length keys)) in omega arith
+
+      there : (p : ℕ) → p < piece_count (length keys) → 0 < seen p (joined team.dss)
+      there p lt = let a = often p in let b = once_is p (piece_count (length keys)) lt in omega arith

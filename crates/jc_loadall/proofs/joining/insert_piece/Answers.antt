@@ -1,0 +1,34 @@
+use Rattle.std.proofs.Common.{◌*◌, ◌+◌, ◌-◌, ◌++◌, [], take, drop, option_map, sym, ap, subst, ◌∙◌, append_assoc, arith}
+use Rattle.std.specs.List.{cons_option}
+use Rattle.jc_loadall.specs.Notes.{AreWithin, entries_noted, refusal_noted}
+use Rattle.jc_loadall.specs.declared.limits.TheConstants.{PIECE_KEYS}
+use Rattle.jc_loadall.proofs.JoinedNotes.{entries_more, fresh_place, wider, within_more}
+use Rattle.jc_loadall.proofs.PieceKeys.{one_more, whole_piece}
+use Rattle.jc_loadall.proofs.joining.insert_piece.Goals as goal
+
+pub insert_if_failed-requires-clause-new : goal.insert_if_failed-requires-clause-new
+insert_if_failed-requires-clause-new c =
+    fresh_place c.args.keys.now c.loop-place.place c.index-keys-place.result c.loop-place.failed.entries c.requires.distinct (omega arith) c.index-keys-place.is c.loop-place.invariant.within
+
+pub loop-place-preserved : goal.loop-place-preserved
+loop-place-preserved c =
+    let key = c.index-keys-place.result in
+    let before = take (c.loop-place.place - PIECE_KEYS * c.args.piece) (drop (PIECE_KEYS * c.args.piece) c.args.keys.now) in
+    let more = one_more c.args.keys.now (PIECE_KEYS * c.args.piece) c.loop-place.place c.index-keys-place.result (omega arith) (omega arith) c.index-keys-place.is in
+    let noted = ap (entries_noted c.args.noted.now) more ∙ entries_more c.args.noted.now before c.index-keys-place.result in
+    let added = c.insert_if_failed.ensures.entries ∙ ap (λ o. c.loop-place.failed.entries ++ cons_option (option_map (λ r. (c.index-keys-place.result, r)) o) []) c.refusal_at.ensures in
+    record {
+      entries = added ∙ ap (λ es. es ++ cons_option (option_map (λ r. (c.index-keys-place.result, r)) (refusal_noted c.args.noted.now c.index-keys-place.result)) []) c.loop-place.invariant.entries
+          ∙ append_assoc c.args.failed.now.entries (entries_noted c.args.noted.now before) _ ∙ ap (λ es. c.args.failed.now.entries ++ es) (sym noted);
+      within = subst (AreWithin c.args.keys.now (c.loop-place.place + 1)) (sym c.insert_if_failed.ensures.entries)
+          (within_more c.args.keys.now c.loop-place.place c.index-keys-place.result c.loop-place.failed.entries c.refusal_at.result (omega arith) c.index-keys-place.is c.loop-place.invariant.within);
+      room = omega arith;
+    }
+
+pub returns-clause-entries : goal.returns-clause-entries
+returns-clause-entries c =
+    c.loop-place.invariant.entries
+    ∙ ap (λ ks. c.args.failed.now.entries ++ entries_noted c.args.noted.now ks) (whole_piece c.args.keys.now c.args.piece c.loop-place.place (omega arith) (omega arith))
+
+pub returns-clause-within : goal.returns-clause-within
+returns-clause-within c = wider c.args.keys.now c.loop-place.place (PIECE_KEYS * c.args.piece + PIECE_KEYS) c.loop-place.failed.entries (omega arith) c.loop-place.invariant.within

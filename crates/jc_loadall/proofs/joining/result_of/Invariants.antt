@@ -1,0 +1,8 @@
+use Rattle.std.proofs.Common.{◌≡◌, drop}
+use Rattle.std.specs.List.{flat_map}
+use Rattle.jc_loadall.specs.Notes.{find_note}
+use Rattle.jc_loadall.proofs.joining.result_of.Given as goal
+
+abbrev pub invariant-loop-worker : goal.invariant-loop-worker
+invariant-loop-worker g l =
+    find_note l.piece (flat_map (λ w. w.notes.items) (drop l.worker-index l.workers)) ≡ find_note l.piece (flat_map (λ w. w.notes.items) l.workers)

@@ -1,0 +1,10 @@
+use Rattle.std.proofs.Common.{◌≡◌, ◌-◌, ◌*◌, ◌+◌, ◌≤◌, length, take, drop}
+use Rattle.indexmap.specs.IndexSet.{spare}
+use Rattle.jc_loadall.specs.declared.limits.TheConstants.{PIECE_KEYS}
+use Rattle.jc_loadall.proofs.pieces.fill.Given as goal
+
+abbrev pub invariant-loop-place : goal.invariant-loop-place
+invariant-loop-place l = record {
+  keys : l.set.keys ≡ take (l.place - PIECE_KEYS * l.piece) (drop (PIECE_KEYS * l.piece) l.keys);
+  room : PIECE_KEYS ≤ length l.set.keys + spare l.set;
+}

@@ -1,0 +1,21 @@
+use Rattle.std.proofs.Common.{◌≡◌, ◌≤◌, [], ◌∷◌, ◌++◌, All, vec_len, vec_capacity, sym, subst, rules}
+use Rattle.std.proofs.lemmas.List.Elements.{All-push}
+use Rattle.jc_loadall.specs.Working.{IsIdle}
+use Rattle.jc_loadall.proofs.team.hire.Goals as goal
+
+pub hiring-preserved : goal.hiring-preserved
+hiring-preserved g c =
+    let pushed : c.push_reserved.new.self.items ≡ c.hiring.team.items ++ c.in_ok-new.field-0 ∷ [] = search rules in
+    let few : vec_len c.push_reserved.new.self ≤ c.args.workers = search rules in
+    let room : c.args.workers ≤ vec_capacity c.push_reserved.new.self = search rules in
+    record {
+      few = few;
+      room = room;
+      idle = subst (All (IsIdle c.args.load.now c.args.keys.now c.args.pieces)) (sym pushed) (All-push (IsIdle c.args.load.now c.args.keys.now c.args.pieces) c.hiring.team.items c.in_ok-new.field-0 c.hiring.invariant.idle record {
+        load_is = c.in_ok-new.ensures.load;
+        keys_are = c.in_ok-new.ensures.keys;
+        room_for_keys = c.in_ok-new.ensures.room_for_keys;
+        room_to_note = c.in_ok-new.ensures.room_to_note;
+        none = c.in_ok-new.ensures.none;
+      });
+    }

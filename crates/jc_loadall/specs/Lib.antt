@@ -1,0 +1,4 @@
+pub mod Pieces
+pub mod Loading
+pub mod Notes
+pub mod Working

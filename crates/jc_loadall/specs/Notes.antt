@@ -1,0 +1,72 @@
+-- What a worker notes of a piece, and what a call makes of the notes of all workers.
+--     IsResultOf      what is noted of a piece whose call returned this fault: a call that names no key, and whose cause is that an
+--                     allocation failed, was refused whole
+--     cause_noted     the cause of a piece that failed
+--     refusal_noted   the fault or refusal that a key of a piece ended in, if it did
+--     entries_noted   each of these keys that ended in one, with it, in their order
+--     IsNoteOf        what was noted of a piece with these keys tells how it ended
+--     find_note       what is noted of a piece, if it is
+--     result_in       the same, of a piece of which something is noted
+--     first_noted     the first cause that is noted of so many pieces, by what is noted of each
+--     AreWithin       the keys of these entries are among the first so many of these
+--     all_noted       each key of so many pieces that ended in a fault or a refusal, with it, in the order of the keys
+use Rattle.std.specs.Prelude.{◌≡◌, ◌==◌, ◌⊎◌, ◌++◌, ℕ, zero, suc, List, [], ◌∷◌, true, Option, None, Some, option_map, take, unwrap_or, if◌then◌else◌}
+use Rattle.std.specs.Option.{option_or}
+use Rattle.std.specs.List.{AllByRecursion, filter_map}
+use Rattle.std.specs.Cmp.Lexicographic.{pointwise}
+use Rattle.indexmap.specs.IndexMap.{get}
+use Rattle.jc_types.specs.declared.refusal.Refusal.{Refusal}
+use Rattle.jc_types.specs.declared.refusal.Refusal.TheVariants.{OutOfMemory}
+use Rattle.jc_model.specs.Batches.{is_among}
+use Rattle.jc_model.specs.Cache.{Bytes}
+use Rattle.jc_bulk.specs.declared.fault.BulkFault.{BulkFault}
+use Rattle.jc_bulk.specs.Ends.{failed_entries}
+use Rattle.jc_loadall.specs.declared.notes.Note.{Note}
+use Rattle.jc_loadall.specs.declared.notes.PieceResult.{PieceResult}
+use Rattle.jc_loadall.specs.declared.notes.PieceResult.TheVariants.{Loaded, Failed, Refused}
+use Rattle.jc_loadall.specs.Loading.{PieceEnd}
+use Rattle.jc_loadall.specs.Pieces.{piece_at}
+
+-- 1. One piece.
+
+abbrev pub IsResultOf : BulkFault → PieceResult → Type 0
+IsResultOf fault result =
+    ((fault.failed.entries ≡ []) × (fault.cause ≡ OutOfMemory) × (result ≡ Refused))
+    ⊎ ((fault.failed.entries ≡ [] → fault.cause ≡ OutOfMemory → ⊥) × (result ≡ Failed fault))
+
+abbrev pub cause_noted : PieceResult → Option Refusal
+cause_noted Loaded = None
+cause_noted (Failed fault) = Some fault.cause
+cause_noted Refused = Some OutOfMemory
+
+abbrev pub refusal_noted : PieceResult → Bytes → Option Refusal
+refusal_noted Loaded key = None
+refusal_noted (Failed fault) key = get (pointwise ◌==◌) fault.failed key
+refusal_noted Refused key = Some OutOfMemory
+
+abbrev pub entries_noted : PieceResult → List Bytes → List (Bytes × Refusal)
+entries_noted result keys = filter_map (λ (key : Bytes). option_map (λ (r : Refusal). (key, r)) (refusal_noted result key)) keys
+
+pub record IsNoteOf (keys : List Bytes) (result : PieceResult) (end : PieceEnd) : Type 0 where
+  pub cause : cause_noted result ≡ end.cause
+  pub failed : entries_noted result keys ≡ failed_entries end.ends
+
+-- 2. All pieces.
+
+abbrev pub find_note : ℕ → List Note → Option PieceResult
+find_note piece [] = None
+find_note piece (note ∷ notes) = if note.piece == piece then Some note.result else find_note piece notes
+
+abbrev pub result_in : List Note → ℕ → PieceResult
+result_in notes piece = unwrap_or (find_note piece notes) Loaded
+
+abbrev pub first_noted : (ℕ → PieceResult) → ℕ → Option Refusal
+first_noted results zero = None
+first_noted results (suc n) = option_or (first_noted results n) (cause_noted (results n))
+
+abbrev pub all_noted : (ℕ → PieceResult) → List Bytes → ℕ → List (Bytes × Refusal)
+all_noted results keys zero = []
+all_noted results keys (suc n) = all_noted results keys n ++ entries_noted (results n) (piece_at keys n)
+
+abbrev pub AreWithin : List Bytes → ℕ → List (Bytes × Refusal) → Type 0
+AreWithin keys n entries = AllByRecursion (λ (e : Bytes × Refusal). is_among (take n keys) e.0 ≡ true) entries

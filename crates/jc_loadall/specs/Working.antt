@@ -1,0 +1,72 @@
+-- Workers, each of whom loads pieces by a tool, with a function that loads one piece.
+--     CanLoadBy    the function may be called with the keys of a piece and this tool
+--     LoadsBy      a call of the function with these keys: what it returns, and the tool before and after
+--     Keeps        each call of the function leaves a tool with which it may be called again
+--     CanLoad      a worker can load the piece with this number: there is such a piece; there is room for its keys, and to note how it
+--                  ended; and the function may be called with the tool
+--     DoesPiece    a piece was loaded with the tool, and the worker noted how it ended
+--     AreLoadedBy  each piece of these keys was loaded once, with this result: there is a share of the pieces for each tool, with which
+--                  they were loaded one after another
+--     IsIdle       a worker has loaded nothing, and has room for so many notes
+use Rattle.std.specs.Prelude.{◌≡◌, ◌==◌, ◌<◌, ◌≤◌, ◌+◌, ◌++◌, ℕ, List, [], ◌∷◌, length, slice_index_or, vec_capacity}
+use Rattle.std.specs.List.{IsDistinct, concat}
+use Rattle.std.specs.Cmp.Lexicographic.{pointwise}
+use denote.Ref.{Bor, MutBor}
+use denote.Param.Members.{Shared}
+use Rattle.indexmap.specs.IndexSet.{IndexSet, spare}
+use Rattle.jc_model.specs.Cache.{Bytes}
+use Rattle.jc_pool.specs.Shares.{LeadsTo, once_below, times}
+use Rattle.jc_loadall.specs.declared.limits.TheConstants.{PIECE_KEYS}
+use Rattle.jc_loadall.specs.declared.notes.Note.{Note}
+use Rattle.jc_loadall.specs.declared.notes.PieceResult.{PieceResult}
+use Rattle.jc_loadall.specs.declared.worker.Worker.{Worker}
+use Rattle.jc_loadall.specs.Pieces.{piece_at, piece_count}
+
+module _ {F S T : Type 0} (g : Shared F (Bor (IndexSet Bytes S) × (MutBor T × Unit {0})) (PieceResult × (MutBor T × Unit {0}))) (f : F) where
+  abbrev pub CanLoadBy : T → Type 0
+  CanLoadBy tool =
+      (shown : Bor (IndexSet Bytes S)) (lent : MutBor T) → lent.now ≡ tool → length shown.now.keys ≤ PIECE_KEYS → IsDistinct (pointwise ◌==◌) shown.now.keys
+      → g.pre f (shown, (lent, tt))
+
+  pub record LoadsBy (keys : List Bytes) (old : T) (result : PieceResult) (new : T) : Type 0 where
+    pub shown : Bor (IndexSet Bytes S)
+    pub keys_are : shown.now.keys ≡ keys
+    pub lent : MutBor T
+    pub before : lent.now ≡ old
+    pub back : MutBor T
+    pub after : back.now ≡ new
+    pub call : g.post f (shown, (lent, tt)) (result, (back, tt))
+
+  abbrev pub Keeps : Type 0
+  Keeps = (keys : List Bytes) (old : T) (result : PieceResult) (new : T) → LoadsBy keys old result new → CanLoadBy new
+
+  -- `noted` pieces are noted, there is room for `notes` notes, and for `room` keys
+  pub record CanLoad (keys : List Bytes) (tool : T) (room noted notes piece : ℕ) : Type 0 where
+    pub there : piece < piece_count (length keys)
+    pub distinct : IsDistinct (pointwise ◌==◌) keys
+    pub room_for_keys : PIECE_KEYS ≤ room
+    pub noted_before : noted ≤ piece
+    pub room_to_note : piece < notes
+    pub may : CanLoadBy tool
+    pub keeps : Keeps
+
+  pub record DoesPiece (keys : List Bytes) (notes : List Note) (old : T) (piece : ℕ) (notes' : List Note) (new : T) : Type 0 where
+    pub result : PieceResult
+    pub noted : notes' ≡ notes ++ record { piece = piece; result = result } ∷ []
+    pub loads : LoadsBy (piece_at keys piece) old result new
+
+  -- `old` and `new` are the tools before and after
+  pub record AreLoadedBy (keys : List Bytes) (results : ℕ → PieceResult) (old new : List T) : Type 0 where
+    pub shares : List (List ℕ)
+    pub share_each : length shares ≡ length old
+    pub tools : length new ≡ length old
+    pub each : (k : ℕ) (d : T) → k < length old
+        → LeadsTo (λ before piece after. LoadsBy (piece_at keys piece) before (results piece) after) (slice_index_or old k d) (slice_index_or shares k []) (slice_index_or new k d)
+    pub once : (piece : ℕ) → times piece (concat shares) ≡ once_below piece (piece_count (length keys))
+
+pub record IsIdle {F : Type 0} (load : F) (keys : List Bytes) (pieces : ℕ) (worker : Worker F) : Type 0 where
+  pub load_is : worker.load.now ≡ load
+  pub keys_are : worker.keys.now ≡ keys
+  pub room_for_keys : PIECE_KEYS ≤ length worker.piece_keys.keys + spare worker.piece_keys
+  pub room_to_note : pieces ≤ vec_capacity worker.notes
+  pub none : worker.notes.items ≡ []

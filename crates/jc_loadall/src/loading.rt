@@ -1,0 +1,179 @@
+//! `loadAll` by many sessions.
+ghost use Rattle.std.specs.Prelude.{◌≡◌, ◌==◌, ◌≤◌, ◌<◌, ◌⊎◌, [], All, Err, IfErr, IfNone, IfOk, IfSome, OnErr, Ok, length};
+ghost use Rattle.std.specs.List.{IsDistinct};
+ghost use Rattle.std.specs.Cmp.Lexicographic.{pointwise};
+ghost use Rattle.jc_types.specs.declared.limits.TheConstants.{BULK_KEYS_MAX};
+ghost use Rattle.jc_cache.specs.Sessions.{MayCall};
+ghost use Rattle.jc_bulk.specs.Bulk.{IsRefusedWhole};
+ghost use Rattle.jc_bulk.specs.Targets.{load_ops};
+ghost use Rattle.jc_loadall.specs.Loading.{FailsInPieces, LoadsPiece, PieceEnd, SucceedsInPieces};
+ghost use Rattle.jc_loadall.specs.Notes.{IsNoteOf};
+ghost use Rattle.jc_loadall.specs.declared.limits.TheConstants.{PIECE_KEYS};
+
+use crate::notes::PieceResult;
+use crate::team::load_by_team;
+use indexmap::{IndexMap, IndexSet};
+use jc_bulk::{BulkFault, load_keys};
+use jc_cache::{Cache, Session};
+use jc_outside::CompletionListener;
+use jc_types::{BULK_KEYS_MAX, Key, Refusal};
+use std::alloc::{AllocError, Global};
+use std::sync::Wait;
+use std::thread::Threads;
+
+/// Loads many keys by many sessions side by side (JSR 107, `javax.cache.Cache.loadAll`), whether or not the cache reads through. A
+/// key that has an entry is loaded only if it is to be replaced. A value that is loaded is cached, and not written through; a key for
+/// which nothing is found keeps what it has. A session without a loader loads nothing.
+///
+/// The keys are cut into pieces of [`PIECE_KEYS`](crate::PIECE_KEYS), in their order. Each session loads one piece after another, each
+/// by a call of its own ([`load_keys`]), until none is left: the first session on the calling thread, each other one on a thread of
+/// its own. A session for which no thread can be started leaves its share to the others. It returns once all have ended.
+///
+/// An `Err` names each key that ended in a fault (`LoaderFailed`) or was refused, in the order of the keys; every other key is loaded,
+/// if it was to be. A piece whose call was refused whole, since an allocation failed, has each of its keys refused with
+/// `OutOfMemory`. The cause is that of the first piece that has one. Or the whole is refused, and nothing changes: there are more than
+/// [`BULK_KEYS_MAX`] keys (`TooManyKeys`), or an allocation before the first piece failed (`OutOfMemory`).
+///
+/// The listener is told once how the call ended, before it returns: of success, or of the cause.
+///
+/// Conditions: there is at least one session, and each may call the cache.
+pub fn load_all<R: Wait + Threads + Sync>(
+    alloc: Global,
+    rt: &R,
+    cache: &Cache,
+    sessions: &mut [Session],
+    keys: &IndexSet<Key>,
+    replace: bool,
+    listener: &mut Box<dyn CompletionListener + Send + Drop>,
+) -> Result<(), BulkFault>
+    requires some { 0 < length sessions.old }
+    requires may { All (λ s. MayCall cache.now s) sessions.old }
+    ensures may { All (λ s. MayCall cache.now s) sessions.new }
+    ensures ok { IfOk result (λ done. (length keys.now.keys ≤ BULK_KEYS_MAX)
+        × SucceedsInPieces loads_all load_state writes_all deletes_all write_state
+        cache.now keys.now.keys replace sessions.old sessions.new) }
+    ensures err { IfErr result (λ fault. ((length keys.now.keys ≤ BULK_KEYS_MAX)
+        × FailsInPieces loads_all load_state writes_all deletes_all write_state
+        cache.now keys.now.keys replace fault.cause fault.failed.entries sessions.old sessions.new
+        × (fault.found.entries ≡ []))
+        ⊎ IsRefusedWhole sessions.old (length keys.now.keys)
+        fault.cause fault.failed.entries fault.found.entries sessions.new) }
+    ensures told_ok { IfOk result (λ done. hears listener.old (Ok done) (listener_state listener.new)) }
+    ensures told_err { IfErr result (λ fault. hears listener.old (Err fault.cause) (listener_state listener.new)) }
+    ensures listener_type { listener.new.vtable ≡ listener.old.vtable }
+{
+    let ended = load_or_refuse(alloc, rt, cache, sessions, keys, replace);
+    tell(listener, &ended);
+    ended
+}
+
+/// Tells the listener, once, how a call ended.
+fn tell(listener: &mut Box<dyn CompletionListener + Send + Drop>, ended: &Result<(), BulkFault>)
+    ensures ok { IfOk ended.now (λ done. hears listener.old (Ok done) (listener_state listener.new)) }
+    ensures err { IfErr ended.now (λ fault. hears listener.old (Err fault.cause) (listener_state listener.new)) }
+    ensures listener_type { listener.new.vtable ≡ listener.old.vtable }
+{
+    match ended {
+        Ok(()) => listener.on_completion(),
+        Err(fault) => listener.on_exception(fault.cause),
+    }
+}
+
+/// Loads many keys, as [`load_all`] does, and tells nobody.
+fn load_or_refuse<R: Wait + Threads + Sync>(
+    alloc: Global,
+    rt: &R,
+    cache: &Cache,
+    sessions: &mut [Session],
+    keys: &IndexSet<Key>,
+    replace: bool,
+) -> Result<(), BulkFault>
+    requires some { 0 < length sessions.old }
+    requires may { All (λ s. MayCall cache.now s) sessions.old }
+    ensures may { All (λ s. MayCall cache.now s) sessions.new }
+    ensures ok { IfOk result (λ done. (length keys.now.keys ≤ BULK_KEYS_MAX)
+        × SucceedsInPieces loads_all load_state writes_all deletes_all write_state
+        cache.now keys.now.keys replace sessions.old sessions.new) }
+    ensures err { IfErr result (λ fault. ((length keys.now.keys ≤ BULK_KEYS_MAX)
+        × FailsInPieces loads_all load_state writes_all deletes_all write_state
+        cache.now keys.now.keys replace fault.cause fault.failed.entries sessions.old sessions.new
+        × (fault.found.entries ≡ []))
+        ⊎ IsRefusedWhole sessions.old (length keys.now.keys)
+        fault.cause fault.failed.entries fault.found.entries sessions.new) }
+{
+    if keys.len() > BULK_KEYS_MAX {
+        return Err(refused_whole(alloc, Refusal::TooManyKeys));
+    }
+    match load_in_pieces(alloc, rt, cache, sessions, keys, replace) {
+        Ok(None) => Ok(()),
+        Ok(Some(fault)) => Err(fault),
+        Err(AllocError) => Err(refused_whole(alloc, Refusal::OutOfMemory)),
+    }
+}
+
+/// What a call returns that is refused whole, and so names no key.
+fn refused_whole(alloc: Global, cause: Refusal) -> BulkFault
+    ensures cause { result.cause ≡ cause }
+    ensures failed { result.failed.entries ≡ [] }
+    ensures found { result.found.entries ≡ [] }
+{
+    BulkFault {
+        cause,
+        failed: IndexMap::new(alloc),
+        found: IndexMap::new(alloc),
+    }
+}
+
+/// Loads the pieces of these keys: what failed, if a key did. An `Err` says that an allocation before the first piece failed.
+///
+/// Conditions: those of [`load_all`].
+fn load_in_pieces<R: Wait + Threads + Sync>(
+    alloc: Global,
+    rt: &R,
+    cache: &Cache,
+    sessions: &mut [Session],
+    keys: &IndexSet<Key>,
+    replace: bool,
+) -> Result<Option<BulkFault>, AllocError>
+    requires some { 0 < length sessions.old }
+    requires may { All (λ s. MayCall cache.now s) sessions.old }
+    ensures may { All (λ s. MayCall cache.now s) sessions.new }
+    ensures none { IfOk result (λ fault. IfNone fault (SucceedsInPieces loads_all load_state writes_all deletes_all write_state
+        cache.now keys.now.keys replace sessions.old sessions.new)) }
+    ensures some { IfOk result (λ fault. IfSome fault (λ f. FailsInPieces loads_all load_state writes_all deletes_all write_state
+        cache.now keys.now.keys replace f.cause f.failed.entries sessions.old sessions.new
+        × (f.found.entries ≡ []))) }
+    ensures err { OnErr result (sessions.new ≡ sessions.old) }
+{
+    let load = |piece_keys: &IndexSet<Key>, session: &mut Session| -> PieceResult
+        requires { MayCall cache.now session.now × (length piece_keys.now.keys ≤ PIECE_KEYS) × IsDistinct (pointwise ◌==◌) piece_keys.now.keys }
+        ensures { MayCall cache.entry.now session.exit.now
+            × ((end : PieceEnd) × LoadsPiece loads_all load_state writes_all deletes_all write_state
+            cache.entry.now (load_ops replace piece_keys.now.keys) end session.entry.now session.exit.now
+            × IsNoteOf piece_keys.now.keys result end) }
+    { load_piece(alloc, rt, cache, session, piece_keys, replace) };
+    load_by_team(alloc, rt, &load, sessions, keys)
+}
+
+/// Loads the keys of a piece, as the session's next call.
+///
+/// Conditions: the session may call the cache; the keys are no more than those of a piece, and they all differ.
+fn load_piece<R: Wait>(
+    alloc: Global,
+    rt: &R,
+    cache: &Cache,
+    session: &mut Session,
+    keys: &IndexSet<Key>,
+    replace: bool,
+) -> PieceResult
+    requires may { MayCall cache.now session.old }
+    requires few { length keys.now.keys ≤ PIECE_KEYS }
+    requires distinct { IsDistinct (pointwise ◌==◌) keys.now.keys }
+    ensures may { MayCall cache.now session.new }
+    ensures loads { (end : PieceEnd)
+        × LoadsPiece loads_all load_state writes_all deletes_all write_state
+        cache.now (load_ops replace keys.now.keys) end session.old session.new
+        × IsNoteOf keys.now.keys result end }
+{
+    PieceResult::of(load_keys(alloc, rt, cache, session, keys, replace))
+}
