@@ -24,19 +24,27 @@ macro_rules! enter {
 }
 
 mod answers;
+mod asking;
+mod asking_all;
 mod before_store;
+mod beside;
+mod bytes;
 mod calls;
 mod closing;
 mod desk;
+mod held;
 mod histories;
 mod invoking;
 mod limits;
 mod lines;
+mod meeting;
+mod mutexed;
 mod outside;
 mod random;
 mod scripted;
 mod signals;
 mod stage;
+mod stores;
 mod trying;
 
 use answers::{Answer, answer_of, called, first_word, key, value};

@@ -49,6 +49,47 @@ fn play_at<R: Abort + Wait>(
     desk.play(rt, alloc, cache, &mut sessions[at], line);
 }
 
+/// Plays texts beside each other, each by a session of its own on a thread of its own.
+fn play_beside<R: Abort + Wait + Threads + Sync>(
+    rt: &R,
+    alloc: Global,
+    desk: &Desk,
+    cache: &Cache,
+    sessions: &mut Vec<Session>,
+    texts: &[&str],
+)
+    requires { All (MayCall cache.now) sessions.old.items }
+    ensures { All (MayCall cache.now) sessions.new.items }
+{
+    let threads = sessions.len();
+    assert!(rt; threads > 0, "no session");
+    thread::for_each_mut(
+        rt,
+        sessions.as_mut_slice(),
+        threads,
+        &|i, session: &mut Session|
+            requires { MayCall cache.now session.old }
+            ensures { MayCall cache.entry.now session.new }
+        {
+            let text = texts.get(i).copied().unwrap_or("");
+            desk.plays(rt, alloc, cache, session, text);
+        },
+    );
+}
+
+/// The first session tells the last one what it has seen.
+fn tell_last<R: Abort + Wait>(rt: &R, cache: &Cache, sessions: &mut Vec<Session>)
+    requires { All (MayCall cache.now) sessions.old.items }
+    ensures { All (MayCall cache.now) sessions.new.items }
+{
+    let Some(mut last) = sessions.pop() else {
+        panic!(rt; "no session");
+    };
+    assert!(rt; 0 < sessions.len(), "one session alone");
+    cache.meet(rt, &mut sessions[0], &mut last);
+    push(rt, sessions, last);
+}
+
 /// Random calls of all sessions beside each other, each on a thread of its own.
 fn call_beside<R: Abort + Wait + Threads + Sync>(rt: &R, cache: &Cache, sessions: &mut Vec<Session>)
     requires { All (MayCall cache.now) sessions.old.items }
@@ -116,6 +157,29 @@ impl Stage {
         for line in text.split_terminator('\n') {
             self.play(rt, alloc, desk, line);
         }
+    }
+
+    /// Plays texts beside each other, each by a session of its own on a thread of its own.
+    pub fn plays_beside<R: Abort + Wait + Threads + Sync>(
+        &mut self,
+        rt: &R,
+        alloc: Global,
+        desk: &Desk,
+        texts: &[&str],
+    )
+        requires { All (MayCall self.old.owner.cache) self.old.sessions.items }
+        ensures { All (MayCall self.new.owner.cache) self.new.sessions.items }
+    {
+        let sessions = &mut self.sessions;
+        play_beside(rt, alloc, desk, self.owner.cache(), sessions, texts);
+    }
+
+    /// The first session tells the last one what it has seen.
+    pub fn first_tells_last<R: Abort + Wait>(&mut self, rt: &R)
+        requires { All (MayCall self.old.owner.cache) self.old.sessions.items }
+        ensures { All (MayCall self.new.owner.cache) self.new.sessions.items }
+    {
+        tell_last(rt, self.owner.cache(), &mut self.sessions);
     }
 
     /// Random calls of all sessions beside each other, each on a thread of its own.

@@ -1,0 +1,5 @@
+//! Tests of calls with many keys, before a store whose calls are counted. The crate has nothing but tests.
+#![tactic(auto)]
+
+#[cfg(test)]
+mod tests;

@@ -1,0 +1,145 @@
+//! Lines of a session: calls, and lines that say what there is by then. A line that begins with `# ` is a comment.
+//!
+//!     stored a=1                  what is in the store
+//!     counts 0 1 0 1 0 0          calls of the loader for one key and for many, of the writer to write and to delete so
+//!     own 2                       how many steps the session has made
+ghost use Rattle.jc_cache.specs.Sessions.{MayCall};
+
+use super::outside::Outside;
+use super::results::{ended, got, invoked};
+use super::words::{first_word, key, keys_of, pairs_of, value};
+use super::*;
+use jc_bulk::{BulkFault, clear, get_all, load_keys, put_all, remove_all, remove_every};
+use jc_invoke::invoke_all;
+
+/// Makes a call that has no result but its faults.
+fn called<R: Abort + Wait>(
+    rt: &R,
+    alloc: Global,
+    cache: &Cache,
+    session: &mut Session,
+    word: &str,
+    words: &str,
+) -> Result<(), BulkFault>
+    requires { MayCall cache.now session.old }
+    ensures { MayCall cache.now session.new }
+{
+    match word {
+        "putall" => put_all(alloc, rt, cache, session, &pairs_of(rt, alloc, words)),
+        "removeall" => remove_all(alloc, rt, cache, session, &keys_of(rt, alloc, words)),
+        "removeevery" => remove_every(alloc, rt, cache, session),
+        "clear" => clear(alloc, rt, cache, session),
+        "keep" => load_keys(alloc, rt, cache, session, &keys_of(rt, alloc, words), false),
+        "replace" => load_keys(alloc, rt, cache, session, &keys_of(rt, alloc, words), true),
+        _ => panic!(rt; "no call {word}"),
+    }
+}
+
+/// Makes a call of one key, `get K` or `put K V`.
+fn called_at_key<R: Abort + Wait>(
+    rt: &R,
+    cache: &Cache,
+    session: &mut Session,
+    word: &str,
+    words: &str,
+) -> Option<Value>
+    requires { MayCall cache.now session.old }
+    ensures { MayCall cache.now session.new }
+{
+    let (at, rest) = first_word(words);
+    if word == "put" {
+        cache
+            .put(rt, session, &key(rt, at), &value(rt, rest))
+            .ok()
+            .expect(rt, "a put");
+        return None;
+    }
+    cache
+        .get(rt, session, &key(rt, at))
+        .ok()
+        .expect(rt, "a get")
+}
+
+/// Makes the call that a line says. It is to return what the line says.
+fn call<R: Abort + Wait>(
+    rt: &R,
+    alloc: Global,
+    cache: &Cache,
+    session: &mut Session,
+    processor: &mut Processor,
+    line: &str,
+)
+    requires { MayCall cache.now session.old }
+    ensures { MayCall cache.now session.new }
+{
+    let (called_words, wanted) = line.split_once(" = ").expect(rt, line);
+    let (word, words) = first_word(called_words);
+    match word {
+        "get" | "put" => {
+            let found = called_at_key(rt, cache, session, word, words);
+            is(
+                rt,
+                found,
+                if wanted == "-" {
+                    None
+                } else {
+                    Some(value(rt, wanted))
+                },
+            );
+        }
+        "getall" => {
+            let found = get_all(alloc, rt, cache, session, &keys_of(rt, alloc, words));
+            got(rt, found, wanted);
+        }
+        "invokeall" => {
+            let keys = keys_of(rt, alloc, words);
+            invoked(
+                rt,
+                invoke_all(alloc, rt, cache, session, &keys, processor, &[]),
+                wanted,
+            );
+        }
+        _ => ended(rt, called(rt, alloc, cache, session, word, words), wanted),
+    }
+}
+
+/// Does what a line says.
+fn play<R: Abort + Wait>(
+    rt: &R,
+    alloc: Global,
+    outside: &Outside,
+    cache: &Cache,
+    session: &mut Session,
+    processor: &mut Processor,
+    line: &str,
+)
+    requires { MayCall cache.now session.old }
+    ensures { MayCall cache.now session.new }
+{
+    let (word, rest) = first_word(line);
+    match word {
+        "#" => {}
+        "stored" => outside.holds(rt, alloc, rest),
+        "counts" => outside.counted(rt, rest),
+        "own" => is(rt, Some(session.own()), rest.parse().ok()),
+        _ => call(rt, alloc, cache, session, processor, line),
+    }
+}
+
+/// Does what each line of a text says.
+pub fn plays<R: Abort + Wait>(
+    rt: &R,
+    alloc: Global,
+    outside: &Outside,
+    cache: &Cache,
+    session: &mut Session,
+    processor: &mut Processor,
+    text: &str,
+)
+    requires { MayCall cache.now session.old }
+    ensures { MayCall cache.now session.new }
+{
+    for line in text.split_terminator('\n') {
+        play(rt, alloc, outside, cache, session, processor, line);
+    }
+}

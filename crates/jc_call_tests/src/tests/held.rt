@@ -1,0 +1,80 @@
+//! Calls that wait for nobody, while somebody else holds the stripe.
+ghost use Rattle.std.specs.Prelude.{◌≡◌, [], false, Some};
+ghost use Rattle.jc_outside.specs.declared.done.Origin.TheVariants.{Live};
+ghost use Rattle.jc_lock.specs.Views.{after_split};
+
+use super::*;
+use jc_engine::try_call;
+use jc_lock::{HistLock, Seat};
+use jc_model::{Op, Reply};
+use jc_session::Agent;
+use jc_stripe::{Origin, Stripe};
+
+/// A lock round a new stripe, and its first seat, which gives seats out.
+fn locked(rt: &impl Abort, alloc: Global) -> (HistLock, Seat)
+    ensures lock { result.1.0 ≡ result.0 }
+    ensures free { result.1.1.holds ≡ false }
+    ensures none { result.1.1.session ≡ None }
+    ensures gives { result.1.1.next_session ≡ Some 0 }
+    ensures live { result.1.1.noted.origin ≡ Live }
+{
+    let config = config(100, false, false);
+    config.check().expect(rt, "a shape");
+    let stripe = Stripe::new(alloc, &config, 0, Origin::Live).expect(rt, "memory");
+    let stripe = Box::new(alloc, stripe).expect(rt, "memory");
+    HistLock::new(alloc, stripe).expect(rt, "memory")
+}
+
+/// What the first call of a session is answered, if it waits for nobody.
+fn tried(
+    lock: &HistLock,
+    seat: &mut Seat,
+    agent: &mut Agent,
+    key: &Key,
+    op: &Op,
+) -> Result<Reply, Refusal>
+    requires lock { seat.old.0 ≡ lock.now }
+    requires free { seat.old.1.holds ≡ false }
+    requires session { seat.old.1.session ≡ Some agent.old.caller.session }
+    requires new { seat.old.1.own ≡ [] }
+    requires live { seat.old.1.noted.origin ≡ Live }
+    requires held { agent.old.hands.held ≡ 0 }
+{
+    let mut gate = lock;
+    try_call(&mut gate, seat, agent, key, op)
+}
+
+/// The first call of the next session, if it waits for nobody, is answered so.
+fn is_tried(rt: &impl Abort, lock: &HistLock, first: &mut Seat, session: u32, op: &Op, want: Answer)
+    requires lock { first.old.0 ≡ lock.now }
+    requires gives { first.old.1.next_session ≡ Some session }
+    requires live { first.old.1.noted.origin ≡ Live }
+    ensures lock { first.new.0 ≡ lock.now }
+    ensures seat { first.new.1 ≡ after_split first.old.1 }
+{
+    let mut seat = lock.split(first);
+    let mut agent = Agent::new(session, None, None);
+    agent.next_call();
+    let found = tried(lock, &mut seat, &mut agent, &key(rt, "a"), op);
+    is_at(rt, "a call that waits for nobody", found, want);
+}
+
+/// Each call that waits for nobody is refused as `Busy` while somebody else holds the stripe, and is done once it is given back.
+#[test]
+fn nobody_waits_for_a_stripe_that_is_held(rt: HostRuntime) {
+    let (lock, mut first) = locked(&rt, rt.alloc());
+    let stripe = lock.try_take(&mut first).expect(&rt, "a free stripe");
+    let put = Op::Put(value(&rt, "1"));
+    is_tried(&rt, &lock, &mut first, 0, &put, Err(Refusal::Busy));
+    is_tried(&rt, &lock, &mut first, 1, &Op::Get, Err(Refusal::Busy));
+    is_tried(
+        &rt,
+        &lock,
+        &mut first,
+        2,
+        &Op::ContainsKey,
+        Err(Refusal::Busy),
+    );
+    lock.give(&mut first, stripe);
+    is_tried(&rt, &lock, &mut first, 3, &put, Ok(Reply::Unit));
+}
