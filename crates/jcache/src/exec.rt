@@ -30,6 +30,14 @@ const MEMORY: u8 = 4;
 /// What was counted on threads isn't what the plan says.
 const MISCOUNTED: u8 = 5;
 
+/// Says that an allocation failed, before there was anything to carry out, and answers the status.
+pub fn end_without_memory<E: Write>(err: &mut E) -> u8
+    ensures { result ≡ 4 }
+{
+    complain(err, "jcache: out of memory\n");
+    MEMORY
+}
+
 /// Says what failed. Nobody is left to hear of it if that fails, too.
 fn complain<E: Write>(err: &mut E, text: &str) {
     let _ = err.write_all(text.as_bytes());

@@ -23,20 +23,37 @@ fn outfits_for(words: &[String]) -> u32 {
     }
 }
 
-fn main(rt: HostRuntime) -> io::Result<ExitCode> {
+/// What was made. If an allocation failed meanwhile, the program ends here, and says so.
+macro_rules! or_end {
+    ($rt:expr, $made:expr) => {
+        match $made {
+            Ok(made) => made,
+            Err(_) => return ExitCode::from(exec::end_without_memory(&mut $rt.stderr())),
+        }
+    };
+}
+
+fn main(rt: HostRuntime) -> ExitCode {
     let alloc = rt.alloc();
-    let words: Vec<String> = std::env::args(&rt)?.collect(alloc)?;
-    let store = SharedStore::new(alloc, Store::new(alloc))?;
+    let args = or_end!(rt, std::env::args(&rt));
+    let words: Vec<String> = or_end!(rt, args.collect(alloc));
+    let store = or_end!(rt, SharedStore::new(alloc, Store::new(alloc)));
     let mut outfits = Vec::new(alloc);
     for _ in 0..outfits_for(&words) {
-        let loader: Box<dyn CacheLoader + Send + Drop> = Box::new(alloc, store.loader(rt)?)?;
-        let writer: Box<dyn CacheWriter + Send + Drop> = Box::new(alloc, store.writer(rt)?)?;
-        let increment: Box<dyn EntryProcessor + Send + Drop> = Box::new(alloc, Increment)?;
-        outfits.push(Outfit {
+        let loader = or_end!(rt, store.loader(rt));
+        let loader: Box<dyn CacheLoader + Send + Drop> = or_end!(rt, Box::new(alloc, loader));
+        let writer = or_end!(rt, store.writer(rt));
+        let writer: Box<dyn CacheWriter + Send + Drop> = or_end!(rt, Box::new(alloc, writer));
+        let increment: Box<dyn EntryProcessor + Send + Drop> = or_end!(
+            rt,
+            Box::new(alloc, Increment)
+        );
+        let outfit = Outfit {
             loader,
             writer,
             increment,
-        })?;
+        };
+        or_end!(rt, outfits.push(outfit));
     }
     let status = exec::exec(
         &rt,
@@ -48,5 +65,5 @@ fn main(rt: HostRuntime) -> io::Result<ExitCode> {
         &mut Noted::new(io::writer(&rt)),
         &mut rt.stderr(),
     );
-    Ok(ExitCode::from(status))
+    ExitCode::from(status)
 }

@@ -1,5 +1,6 @@
 //! Faults of lines, and streams that fail.
 mod faults;
+mod streams;
 
 use jc_script::run::run;
 use jc_script::{Noted, RunEnd, RunFault};
