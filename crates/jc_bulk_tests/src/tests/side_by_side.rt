@@ -146,7 +146,45 @@ fn push(rt: &impl Abort, sessions: &mut Vec<Session>, session: Session)
     }
 }
 
-/// Loads so many keys by two sessions, and says how many steps they have made together.
+/// Two sessions, with these loaders.
+fn two_sessions(
+    rt: &impl Abort,
+    alloc: Global,
+    owner: &mut CacheOwner,
+    first: Loader,
+    second: Loader,
+) -> Vec<Session>
+    ensures { All (MayCall owner.new.cache) result.items }
+{
+    let mut sessions = Vec::new(alloc);
+    enter(rt, alloc, owner, &mut sessions, first);
+    enter(rt, alloc, owner, &mut sessions, second);
+    sessions
+}
+
+/// Loads these keys by these sessions, and says how many steps they have made together.
+fn load<R: Abort + Wait + Threads + Sync>(
+    rt: &R,
+    alloc: Global,
+    cache: &Cache,
+    sessions: &mut Vec<Session>,
+    listener: &mut Box<dyn CompletionListener + Send + Drop>,
+    keys: &IndexSet<Key>,
+) -> u64
+    requires { All (MayCall cache.now) sessions.old.items }
+{
+    assert!(rt; sessions.len() > 0, "no session");
+    let all = sessions.as_mut_slice();
+    let loaded = load_all(alloc, rt, cache, all, keys, false, listener);
+    results::ended(rt, loaded, "ok");
+    let mut own = 0u64;
+    for session in sessions.iter() {
+        own = own.saturating_add(session.own());
+    }
+    own
+}
+
+/// Loads these keys by two sessions with these loaders.
 fn load_by_two<R: Abort + Wait + Threads + Sync>(
     rt: &R,
     alloc: Global,
@@ -163,25 +201,8 @@ fn load_by_two<R: Abort + Wait + Threads + Sync>(
         write_through: false,
     };
     let mut owner = CacheOwner::new(alloc, &config).ok().expect(rt, "a cache");
-    let mut sessions = Vec::new(alloc);
-    enter(rt, alloc, &mut owner, &mut sessions, first);
-    enter(rt, alloc, &mut owner, &mut sessions, second);
-    assert!(rt; sessions.len() > 0, "no session");
-    let loaded = load_all(
-        alloc,
-        rt,
-        owner.cache(),
-        sessions.as_mut_slice(),
-        keys,
-        false,
-        listener,
-    );
-    results::ended(rt, loaded, "ok");
-    let mut own = 0u64;
-    for session in &sessions {
-        own = own.saturating_add(session.own());
-    }
-    own
+    let mut sessions = two_sessions(rt, alloc, &mut owner, first, second);
+    load(rt, alloc, owner.cache(), &mut sessions, listener, keys)
 }
 
 #[test]

@@ -1,4 +1,6 @@
 //! Calls with many keys, whole: before a store, and before writers that do their work in part.
+ghost use Rattle.jc_cache.specs.Sessions.{MayCall};
+
 use super::lines::plays;
 use super::outside::Outside;
 use super::words::{key, many, value};
@@ -181,6 +183,25 @@ fn get_many<R: Abort + Wait>(
     rt: &R,
     alloc: Global,
     outside: &Outside,
+    cache: &Cache,
+    session: &mut Session,
+)
+    requires { MayCall cache.now session.old }
+{
+    let refused = get_all(alloc, rt, cache, session, &many(rt, alloc, 1_025));
+    results::got(rt, refused, "TooManyKeys");
+    is(rt, session.own(), 0);
+    let found = get_all(alloc, rt, cache, session, &many(rt, alloc, 1_024));
+    results::got(rt, found, "");
+    is(rt, session.own(), 1_024);
+    outside.counted(rt, "0 16 0 0 0 0");
+}
+
+/// Gets them by one session of a cache.
+fn get_by_one<R: Abort + Wait>(
+    rt: &R,
+    alloc: Global,
+    outside: &Outside,
     loader: Loader,
     writer: Writer,
 ) {
@@ -190,25 +211,7 @@ fn get_many<R: Abort + Wait>(
     match owner.session(alloc, Some(loader), Some(writer)) {
         Ok(session) => {
             let mut session = session;
-            let refused = get_all(
-                alloc,
-                rt,
-                owner.cache(),
-                &mut session,
-                &many(rt, alloc, 1_025),
-            );
-            results::got(rt, refused, "TooManyKeys");
-            is(rt, session.own(), 0);
-            let found = get_all(
-                alloc,
-                rt,
-                owner.cache(),
-                &mut session,
-                &many(rt, alloc, 1_024),
-            );
-            results::got(rt, found, "");
-            is(rt, session.own(), 1_024);
-            outside.counted(rt, "0 16 0 0 0 0");
+            get_many(rt, alloc, outside, owner.cache(), &mut session);
         }
         Err(_fault) => panic!(rt; "no session"),
     }
@@ -220,5 +223,5 @@ fn gets_many_keys(rt: HostRuntime) {
     let outside = Outside::new(&rt, rt.alloc(), &[]);
     let loader = boxed!(rt, Loader, outside.loader(rt));
     let writer = boxed!(rt, Writer, outside.writer(rt, 0, none));
-    get_many(&rt, rt.alloc(), &outside, loader, writer);
+    get_by_one(&rt, rt.alloc(), &outside, loader, writer);
 }
