@@ -4,7 +4,7 @@
 pub const KEY_MAX: usize = 32;
 
 /// The most bytes that a value has. A value may have none.
-pub const VALUE_MAX: usize = 64;
+pub const VALUE_MAX: usize = 256;
 
 /// The most stripes that a cache has. The fewest are 1.
 pub const STRIPES_MAX: usize = 64;

@@ -36,7 +36,7 @@ pub struct Value {
 }
 
 // The smallest number that counts to `VALUE_MAX`.
-type Len = u8;
+type Len = u16;
 
 impl Model for Value {
     ghost use Rattle.std.specs.Prelude.{List, ℕ, length, take};

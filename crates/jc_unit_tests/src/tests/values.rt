@@ -4,24 +4,26 @@ use jc_types::{Value, ValueFault};
 use std::cmp::Ordering;
 use std::test::Fail;
 
-// Texts of 64 bytes that differ in the last one.
-const LONG: &str = "0123456789abcdef0123456789abcdef0123456789abcdef0123456789abcde1";
+// Texts of 256 bytes that differ in the last one.
+const LONG: &str =
+    "0123456789abcdef0123456789abcdef0123456789abcdef0123456789abcdef0123456789abcdef0123456789abcdef0123456789abcdef0123456789abcdef0123456789abcdef0123456789abcdef0123456789abcdef0123456789abcdef0123456789abcdef0123456789abcdef0123456789abcdef0123456789abcde1";
 
-const OTHER: &str = "0123456789abcdef0123456789abcdef0123456789abcdef0123456789abcde0";
+const OTHER: &str =
+    "0123456789abcdef0123456789abcdef0123456789abcdef0123456789abcdef0123456789abcdef0123456789abcdef0123456789abcdef0123456789abcdef0123456789abcdef0123456789abcdef0123456789abcdef0123456789abcdef0123456789abcdef0123456789abcdef0123456789abcdef0123456789abcde0";
 
-// Texts of 0, 1, 64 and 65 bytes, and why they make no value.
+// Texts of 0, 1, 256 and 257 bytes, and why they make no value.
 const TEXTS: [(&str, Option<ValueFault>); 4] = [
     ("", None),
     ("v", None),
     (LONG, None),
     (
-        "0123456789abcdef0123456789abcdef0123456789abcdef0123456789abcdefv",
+        "0123456789abcdef0123456789abcdef0123456789abcdef0123456789abcdef0123456789abcdef0123456789abcdef0123456789abcdef0123456789abcdef0123456789abcdef0123456789abcdef0123456789abcdef0123456789abcdef0123456789abcdef0123456789abcdef0123456789abcdef0123456789abcdefv",
         Some(ValueFault::TooLong),
     ),
 ];
 
 #[test]
-fn takes_0_to_64_bytes(rt: HostRuntime) {
+fn takes_0_to_256_bytes(rt: HostRuntime) {
     for (text, fault) in TEXTS {
         match Value::new(text.as_bytes()) {
             Ok(made) => {
@@ -54,7 +56,7 @@ fn compares_all_bytes(rt: HostRuntime) {
 #[test]
 fn says_why(rt: HostRuntime) -> Result<(), Fail> {
     let text = format!(in rt.alloc(); "{}", ValueFault::TooLong)?;
-    let want = "a value has at most 64 bytes";
+    let want = "a value has at most 256 bytes";
     is(&rt, want, text.as_str(), want);
     Ok(())
 }
