@@ -12,15 +12,18 @@
 
 mod calls;
 mod carrying;
+mod committing;
 mod fault;
 mod getting;
 mod key;
 mod key_process;
 mod loading;
+mod picking;
 mod progress;
 mod results;
 mod round;
 mod rounds;
+mod starting;
 mod sweeping;
 mod targets;
 mod writing;

@@ -7,7 +7,7 @@ use Rattle.jc_bulk.specs.Targets.{ops_of}
 use Rattle.jc_bulk.proofs.Asking.{fits_begun}
 use Rattle.jc_bulk.proofs.Held.{held_at, kept_held, set_there}
 use Rattle.jc_bulk.proofs.Underway.{started_on}
-use Rattle.jc_bulk.proofs.round.start_waiting.Goals as goal
+use Rattle.jc_bulk.proofs.starting.start_waiting.Goals as goal
 
 pub at-target-requires : goal.at-target-requires
 at-target-requires g c = let many = c.requires.underway.3.so_far.many in let near = c.requires.place in omega arith

@@ -2,7 +2,7 @@ use Rattle.std.proofs.Common.{rules, ◌≡◌, ◌⊎◌, ⊎_elim, inl, inr, v
 use Rattle.jc_bulk.specs.SoFar.{HasFewJoins, IsHeldAt}
 use Rattle.jc_bulk.specs.Targets.{ops_of}
 use Rattle.jc_bulk.proofs.Held.{fills_both, fills_itself, goes_both, goes_itself, held_next}
-use Rattle.jc_bulk.proofs.round.start_round.Goals as goal
+use Rattle.jc_bulk.proofs.starting.start_round.Goals as goal
 
 pub loop-place-init : goal.loop-place-init
 loop-place-init g c = (refl, refl, refl, goes_itself c.args.session.now.seats.items c.args.progress.now, c.requires.settled, (λ caller rounds first u. u), fills_itself c.args.calls.now, λ place less. absurd (omega arith))

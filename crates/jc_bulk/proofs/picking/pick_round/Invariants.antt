@@ -7,7 +7,7 @@ use Rattle.jc_bulk.specs.KeyProgress.{is_joined}
 use Rattle.jc_bulk.specs.Rounds.{Round}
 use Rattle.jc_bulk.specs.SoFar.{AreUnder, GoesOn, IsUnderway}
 use Rattle.jc_bulk.specs.Targets.{ops_of}
-use Rattle.jc_bulk.proofs.round.pick_round.Given as goal
+use Rattle.jc_bulk.proofs.picking.pick_round.Given as goal
 
 abbrev pub invariant-loop-place : goal.invariant-loop-place
 invariant-loop-place g l =

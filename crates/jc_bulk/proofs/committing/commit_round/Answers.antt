@@ -3,7 +3,7 @@ use Rattle.jc_bulk.specs.Targets.{ops_of}
 use Rattle.jc_bulk.proofs.Asked.{only_itself, only_on}
 use Rattle.jc_bulk.proofs.Held.{goes_both, goes_itself}
 use Rattle.jc_bulk.proofs.Underway.{all_committed, none_before}
-use Rattle.jc_bulk.proofs.round.commit_round.Goals as goal
+use Rattle.jc_bulk.proofs.committing.commit_round.Goals as goal
 
 pub loop-place-init : goal.loop-place-init
 loop-place-init g c = (refl, goes_itself c.args.session.now.seats.items c.args.progress.now, none_before _ _, (λ caller rounds first out joins answered u. (out, answered, u)), only_itself c.args.progress.now)

@@ -6,7 +6,7 @@ use Rattle.jc_bulk.specs.Recorded.{steps_of}
 use Rattle.jc_bulk.specs.Seats.{view_of}
 use Rattle.jc_model.specs.declared.event.Reply.TheVariants.{Unit as UnitReply}
 use Rattle.jc_bulk.proofs.Underway.{committed_on, first_ticket}
-use Rattle.jc_bulk.proofs.round.commit_next.Goals as goal
+use Rattle.jc_bulk.proofs.committing.commit_next.Goals as goal
 
 pub commit-reply-requires-clause-own : goal.commit-reply-requires-clause-own
 commit-reply-requires-clause-own g c = c.requires.underway.5.own

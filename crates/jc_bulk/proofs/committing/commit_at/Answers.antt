@@ -7,7 +7,7 @@ use Rattle.jc_bulk.specs.Targets.{ops_of}
 use Rattle.jc_bulk.proofs.Asked.{only_itself, only_set}
 use Rattle.jc_bulk.proofs.Held.{goes_itself, goes_set}
 use Rattle.jc_bulk.proofs.Underway.{head_answered, none_answered, reserved_at, under_next, under_set}
-use Rattle.jc_bulk.proofs.round.commit_at.Goals as goal
+use Rattle.jc_bulk.proofs.committing.commit_at.Goals as goal
 
 pub commit_next-requires-clause-there : goal.commit_next-requires-clause-there
 commit_next-requires-clause-there g c = reserved_at c.args.progress.now c.args.place c.index-progress-place.result c.requires.place (sym c.is_reserved.ensures ∙ c.if-is_reserved.true)

@@ -7,7 +7,7 @@ use Rattle.jc_bulk.specs.Targets.{ops_of}
 use Rattle.jc_bulk.proofs.Asking.{none_long}
 use Rattle.jc_bulk.proofs.Held.{goes_itself, goes_set}
 use Rattle.jc_bulk.proofs.Underway.{joined_at, last_first, none_joined, under_next, under_set}
-use Rattle.jc_bulk.proofs.round.pick_at.Goals as goal
+use Rattle.jc_bulk.proofs.picking.pick_at.Goals as goal
 
 pub pick_next-requires-clause-there : goal.pick_next-requires-clause-there
 pick_next-requires-clause-there g c = joined_at c.args.progress.now c.args.place c.index-progress-place.result c.requires.place (sym c.is_joined.ensures ∙ c.if-is_joined.true)

@@ -4,7 +4,7 @@ use Rattle.jc_bulk.specs.SoFar.{IsUnderway}
 use Rattle.jc_bulk.specs.Targets.{ops_of}
 use Rattle.jc_bulk.proofs.Held.{goes_both, goes_itself}
 use Rattle.jc_bulk.proofs.Underway.{all_picked, none_before}
-use Rattle.jc_bulk.proofs.round.pick_round.Goals as goal
+use Rattle.jc_bulk.proofs.picking.pick_round.Goals as goal
 
 pub loop-place-init : goal.loop-place-init
 loop-place-init g c = (

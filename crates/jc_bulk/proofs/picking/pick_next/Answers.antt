@@ -5,7 +5,7 @@ use Rattle.jc_bulk.specs.Keys.{IsEarly}
 use Rattle.jc_bulk.specs.Recorded.{steps_of}
 use Rattle.jc_bulk.specs.Seats.{view_of}
 use Rattle.jc_bulk.proofs.Underway.{first_join, picked_not_joined, picked_on}
-use Rattle.jc_bulk.proofs.round.pick_next.Goals as goal
+use Rattle.jc_bulk.proofs.picking.pick_next.Goals as goal
 
 pub pick-requires-clause-own : goal.pick-requires-clause-own
 pick-requires-clause-own g c = c.requires.underway.5.own

@@ -8,7 +8,7 @@ use Rattle.jc_bulk.specs.KeyProgress.{OnlyEnd, is_reserved}
 use Rattle.jc_bulk.specs.Rounds.{Round}
 use Rattle.jc_bulk.specs.SoFar.{AreAnswered, AreUnder, GoesOn, IsUnderway}
 use Rattle.jc_bulk.specs.Targets.{ops_of}
-use Rattle.jc_bulk.proofs.round.commit_round.Given as goal
+use Rattle.jc_bulk.proofs.committing.commit_round.Given as goal
 
 abbrev pub invariant-loop-place : goal.invariant-loop-place
 invariant-loop-place g l =

@@ -8,7 +8,7 @@ use Rattle.jc_bulk.specs.SoFar.{GoesOn}
 use Rattle.jc_bulk.specs.Targets.{ops_of}
 use Rattle.jc_bulk.proofs.Held.{few_joins, fewer_out, fills_itself, goes_itself, goes_set, not_held}
 use Rattle.jc_bulk.proofs.Underway.{waits_at}
-use Rattle.jc_bulk.proofs.round.start_at.Goals as goal
+use Rattle.jc_bulk.proofs.starting.start_at.Goals as goal
 
 pub start_waiting-requires-clause-waits : goal.start_waiting-requires-clause-waits
 start_waiting-requires-clause-waits g c = waits_at c.args.progress.now c.args.place c.index-progress-place.result c.requires.place (sym c.is_waiting.ensures ∙ c.if-is_waiting.true)

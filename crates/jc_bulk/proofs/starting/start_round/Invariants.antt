@@ -6,7 +6,7 @@ use Rattle.jc_bulk.specs.Calls.{FillsUp}
 use Rattle.jc_bulk.specs.Rounds.{Round}
 use Rattle.jc_bulk.specs.SoFar.{AreHeldBack, AreSettledFrom, GoesOn, HasFewJoins, IsUnderway}
 use Rattle.jc_bulk.specs.Targets.{ops_of}
-use Rattle.jc_bulk.proofs.round.start_round.Given as goal
+use Rattle.jc_bulk.proofs.starting.start_round.Given as goal
 
 abbrev pub invariant-loop-place : goal.invariant-loop-place
 invariant-loop-place g l =
