@@ -144,7 +144,7 @@ place_among [] v is = absurd (let near = is.1.0 in omega arith)
 place_among (x ∷ xs) v (zero, (lt, is)) = (zero, omega arith, ap Some (sym is))
 place_among (x ∷ xs) v (suc i, (lt, is)) = let rest = place_among xs v (i, (omega (arith, lt), is)) in (suc rest.0, (let near = rest.1 in omega arith), rest.2)
 
-all_mapped : {X Y : Type 0} (f : X → Y) (P : Y → Type 0) (xs : List X) → AllByRecursion (λ x. P (f x)) xs → All P (map f xs)
+pub all_mapped : {X Y : Type 0} (f : X → Y) (P : Y → Type 0) (xs : List X) → AllByRecursion (λ x. P (f x)) xs → All P (map f xs)
 all_mapped f P [] all = All-nil P
 all_mapped f P (x ∷ xs) all = All-cons P (f x) (map f xs) all.0 (all_mapped f P xs all.1)
 
@@ -190,7 +190,7 @@ some_there (u ∷ ts) [] place t many at = absurd (omega arith)
 some_there (u ∷ ts) (p ∷ ps) zero t many at = (p, refl)
 some_there (u ∷ ts) (p ∷ ps) (suc place) t many at = some_there ts ps place t (omega arith) at
 
-by_cases : (b : Bool) → (b ≡ true) ⊎ (b ≡ false)
+pub by_cases : (b : Bool) → (b ≡ true) ⊎ (b ≡ false)
 by_cases true = inl refl
 by_cases false = inr refl
 
@@ -198,7 +198,7 @@ no_keys : (calls : List Reservation) → reserved_keys calls ≡ [] → calls �
 no_keys [] is = refl
 no_keys (r ∷ rs) is = cc
 
-mapped_by : {X Y : Type 0} (f : X → Y) (P : Y → Type 0) (xs : List X) → AllByRecursion (λ x. P (f x)) xs → AllByRecursion P (map f xs)
+pub mapped_by : {X Y : Type 0} (f : X → Y) (P : Y → Type 0) (xs : List X) → AllByRecursion (λ x. P (f x)) xs → AllByRecursion P (map f xs)
 mapped_by f P [] all = tt
 mapped_by f P (x ∷ xs) all = (all.0, mapped_by f P xs all.1)
 

@@ -123,7 +123,7 @@ module _ (P : Bytes → Op → Result Reply Refusal → Type 0) where
   all_ended (t ∷ targets) (Ended ended ∷ ps) each =
       All-cons (λ (e : KeyEnd). P e.key e.op e.ended) (record { key = t.0; op = t.1; ended = ended }) (key_ends targets ps) (each zero t.0 t.1 ended refl refl) (all_ended targets ps (λ i. each (suc i)))
 
-ops_are : (targets : List (Bytes × Op)) (ps : List Progress) → length ps ≡ length targets → ((i : ℕ) (p : Progress) → slice_get ps i ≡ Some p → (ended : Result Reply Refusal) × (p ≡ Ended ended)) → key_ops (key_ends targets ps) ≡ targets
+pub ops_are : (targets : List (Bytes × Op)) (ps : List Progress) → length ps ≡ length targets → ((i : ℕ) (p : Progress) → slice_get ps i ≡ Some p → (ended : Result Reply Refusal) × (p ≡ Ended ended)) → key_ops (key_ends targets ps) ≡ targets
 ops_are [] ps many over = refl
 ops_are (t ∷ targets) [] many over = cc
 ops_are (t ∷ targets) (p ∷ ps) many over =

@@ -2,7 +2,6 @@
 --     runs_then        one more run
 --     claims_then      what is to be asked for after one more
 --     new_claim        the next key isn't among those that are to be asked for
---     distinct_out     the keys of what is out differ
 --     changes_are      what is asked for, as changes of keys
 --     each_told        each run was told by its round
 use Rattle.std.proofs.Common.{◌≡◌, ◌==◌, ◌||◌, ◌++◌, ℕ, zero, suc, List, [], ◌∷◌, length, map, Bool, true, false, MatchBool, Option, None, Some, IsSome, Result, reverse, if◌then◌else◌, refl, sym, ap, subst, ◌∙◌, arith}
@@ -35,8 +34,9 @@ use Rattle.jc_bulk.specs.declared.progress.Progress.{Progress}
 use Rattle.jc_bulk.specs.KeyProgress.{is_reserved}
 use Rattle.jc_bulk.specs.Keys.{IsTicketFor}
 use Rattle.jc_bulk.specs.SoFar.{AreIn}
-use Rattle.jc_bulk.proofs.CallerLemmas.{among_last, none_of}
-use Rattle.jc_invoke.specs.Room.{AreReported, RunState, asked_keys, claim_after, claims_after, key_run, keys_out, processed_out, reports, reservations_of, wanted}
+use Rattle.jc_bulk.specs.Calls.{reserved_keys}
+use Rattle.jc_bulk.proofs.CallerLemmas.{among_last}
+use Rattle.jc_invoke.specs.Room.{AreReported, RunState, asked_keys, claim_after, claims_after, key_run, processed_out, reports, reservations_of, wanted}
 use Rattle.jc_invoke.specs.Runs.{CallsRound, InvokeRound, IsRunOf, KeyRun, RunsEach, RunsOne, WritesBatch, batch_changes, change_of}
 
 -- 1. Runs.
@@ -72,7 +72,7 @@ claims_then through deletes [] more = refl
 claims_then through deletes (r ∷ runs) more =
     ap (cons_option (claim_after through deletes r)) (claims_then through deletes runs more) ∙ cons_on (claim_after through deletes r) (claims_after through deletes runs) (claims_after through deletes more)
 
-all_at : (P : Bytes → Type 0) (runs : List RunState) (r : Reservation) (rest : List Reservation) → AllByRecursion P (keys_out (reservations_of runs ++ r ∷ rest)) → P r.key
+all_at : (P : Bytes → Type 0) (runs : List RunState) (r : Reservation) (rest : List Reservation) → AllByRecursion P (reserved_keys (reservations_of runs ++ r ∷ rest)) → P r.key
 all_at P [] r rest all = all.0
 all_at P (x ∷ runs) r rest all = all_at P runs r rest all.1
 
@@ -81,41 +81,14 @@ among_head : (b : Bool) (key : Bytes) (x : Reservation) (ch : Option Change) (cl
 among_head true key x ch claims apart rest = λ i. apart i || rest i
 among_head false key x ch claims apart rest = rest
 
-pub new_claim : (through deletes : Bool) (runs : List RunState) (r : Reservation) (rest : List Reservation) → IsDistinct (pointwise ◌==◌) (keys_out (reservations_of runs ++ r ∷ rest)) → is_among (asked_keys (claims_after through deletes runs)) r.key ≡ false
+pub new_claim : (through deletes : Bool) (runs : List RunState) (r : Reservation) (rest : List Reservation) → IsDistinct (pointwise ◌==◌) (reserved_keys (reservations_of runs ++ r ∷ rest)) → is_among (asked_keys (claims_after through deletes runs)) r.key ≡ false
 new_claim through deletes [] r rest d = refl
 new_claim through deletes (x ∷ runs) r rest d =
-    let apart = all_at (λ k. pointwise ◌==◌ x.reservation.key k ≡ false) runs r rest (IsDistinct-head (pointwise ◌==◌) x.reservation.key (keys_out (reservations_of runs ++ r ∷ rest)) d) in
+    let apart = all_at (λ k. pointwise ◌==◌ x.reservation.key k ≡ false) runs r rest (IsDistinct-head (pointwise ◌==◌) x.reservation.key (reserved_keys (reservations_of runs ++ r ∷ rest)) d) in
     among_head (is_change_of deletes (change_of through (key_run x))) r.key x.reservation (change_of through (key_run x)) (claims_after through deletes runs) (nat_list_eq_equiv.symm r.key x.reservation.key ∙ apart)
-    (new_claim through deletes runs r rest (IsDistinct-tail (pointwise ◌==◌) x.reservation.key (keys_out (reservations_of runs ++ r ∷ rest)) d))
+    (new_claim through deletes runs r rest (IsDistinct-tail (pointwise ◌==◌) x.reservation.key (reserved_keys (reservations_of runs ++ r ∷ rest)) d))
 
--- 3. What is out.
-
-apart_all : (key : Bytes) (ks : List Bytes) → is_among ks key ≡ false → AllByRecursion (λ k. pointwise ◌==◌ key k ≡ false) ks
-apart_all key [] none = tt
-apart_all key (k ∷ ks) none = let parts = or_none (pointwise ◌==◌ key k) (is_among ks key) none in (parts.0, apart_all key ks parts.1)
-  where
-    or_none : (a b : Bool) → (a || b) ≡ false → (a ≡ false) × (b ≡ false)
-    or_none true b h = cc
-    or_none false b h = (refl, h)
-
-pub distinct_out : (caller : Caller) (config : Config) (ts : List (Bytes × Op)) (ps : List Progress) (xs : List Reservation) → IsDistinct (pointwise ◌==◌) (keys_of ts) → AreIn is_reserved (IsTicketFor caller config) ts ps xs
-    → IsDistinct (pointwise ◌==◌) (keys_out xs)
-unfolding IsDistinct
-distinct_out caller config [] ps xs d are = subst (λ ys. IsDistinct (pointwise ◌==◌) (keys_out ys)) (sym are) tt
-distinct_out caller config (t ∷ ts) [] xs d are = subst (λ ys. IsDistinct (pointwise ◌==◌) (keys_out ys)) (sym are) tt
-distinct_out caller config (t ∷ ts) (p ∷ ps) [] d are = tt
-distinct_out caller config (t ∷ ts) (p ∷ ps) (x ∷ xs) d are =
-    by (is_reserved p) are (λ rest. distinct_out caller config ts ps xs (IsDistinct-tail (pointwise ◌==◌) t.0 (keys_of ts) d) rest) (λ rest. distinct_out caller config ts ps (x ∷ xs) (IsDistinct-tail (pointwise ◌==◌) t.0 (keys_of ts) d) rest)
-  where
-    by : (b : Bool) → MatchBool b (IsTicketFor caller config t.0 t.1 x × AreIn is_reserved (IsTicketFor caller config) ts ps xs) (AreIn is_reserved (IsTicketFor caller config) ts ps (x ∷ xs))
-        → (AreIn is_reserved (IsTicketFor caller config) ts ps xs → IsDistinct (pointwise ◌==◌) (keys_out xs)) → (AreIn is_reserved (IsTicketFor caller config) ts ps (x ∷ xs) → IsDistinct (pointwise ◌==◌) (keys_out (x ∷ xs)))
-        → IsDistinct (pointwise ◌==◌) (keys_out (x ∷ xs))
-    by true here f h =
-        let none : is_among (keys_out xs) x.key ≡ false = subst (λ k. is_among (keys_out xs) k ≡ false) (sym here.0.key_is) (none_of caller config t.0 ts ps xs (IsDistinct-head (pointwise ◌==◌) t.0 (keys_of ts) d) here.1) in
-        IsDistinct-cons (pointwise ◌==◌) x.key (keys_out xs) (apart_all x.key (keys_out xs) none) (f here.1)
-    by false later f h = h later
-
--- 4. A round.
+-- 3. A round.
 
 changes_head : (b : Bool) (r : Reservation) (ch : Option Change) (claims : List Claim) (changes : List (Bytes × Option Change)) → wanted claims ≡ changes
     → wanted (cons_option (if b then Some (record { reservation = id_of r; change = ch }) else None) claims) ≡ cons_option (if b then Some (r.key, ch) else None) changes
@@ -150,7 +123,7 @@ pub each_told : (through : Bool) (rounds : List InvokeRound) (wrote removed : By
 each_told through rounds wrote removed runs =
     told_by through _ wrote removed (record { runs = map key_run runs; written = wrote; deleted = removed }) refl refl (among_last rounds (record { runs = map key_run runs; written = wrote; deleted = removed })) runs (λ run is. is)
 
--- 5. Lists.
+-- 4. Lists.
 
 -- a list that is as long as none
 pub none_long : {X : Type 0} (xs : List X) → length xs ≡ 0 → xs ≡ []
@@ -164,10 +137,10 @@ keys_wanted (a ∷ asks) = ap (λ ks. a.reservation.key ∷ ks) (keys_wanted ask
 -- 6. The loop over the tickets.
 
 pub next_new : (through deletes : Bool) (runs : List RunState) (ts rest : List TicketClaim) (t : TicketClaim) (all : List Reservation) (items : List Claim) → ts ≡ t ∷ rest → reservations_of runs ++ map reserved_by ts ≡ all
-    → IsDistinct (pointwise ◌==◌) (keys_out all) → items ≡ claims_after through deletes runs → is_among (asked_keys items) t.reservation.key ≡ false
+    → IsDistinct (pointwise ◌==◌) (reserved_keys all) → items ≡ claims_after through deletes runs → is_among (asked_keys items) t.reservation.key ≡ false
 next_new through deletes runs ts rest t all items is are d same =
     let split : reservations_of runs ++ t.reservation ∷ map reserved_by rest ≡ all = ap (λ xs. reservations_of runs ++ map reserved_by xs) (sym is) ∙ are in
-    ap (λ xs. is_among (asked_keys xs) t.reservation.key) same ∙ new_claim through deletes runs t.reservation (map reserved_by rest) (subst (λ xs. IsDistinct (pointwise ◌==◌) (keys_out xs)) (sym split) d)
+    ap (λ xs. is_among (asked_keys xs) t.reservation.key) same ∙ new_claim through deletes runs t.reservation (map reserved_by rest) (subst (λ xs. IsDistinct (pointwise ◌==◌) (reserved_keys xs)) (sym split) d)
 
 shift : (runs : List RunState) (run : RunState) (t : TicketClaim) (rest : List TicketClaim) → run.reservation ≡ t.reservation
     → reservations_of (runs ++ run ∷ []) ++ map reserved_by rest ≡ reservations_of runs ++ map reserved_by (t ∷ rest)

@@ -34,11 +34,11 @@ use Rattle.jc_bulk.specs.KeyProgress.{StillWaits, all_waiting, is_reserved}
 use Rattle.jc_bulk.specs.Keys.{IsTicketFor}
 use Rattle.jc_bulk.specs.Recorded.{are_before}
 use Rattle.jc_bulk.specs.Seats.{view_at, view_of}
-use Rattle.jc_bulk.proofs.CallerLemmas.{Seated, among_more, none_are, none_in, view_there, waiting_there}
+use Rattle.jc_bulk.proofs.CallerLemmas.{Seated, all_ended, among_more, none_are, none_in, ops_are, view_there, waiting_there}
 use Rattle.jc_invoke.specs.Invoke.{IsInvokedAll, result_entries}
 use Rattle.jc_invoke.specs.Keys.{HasEnded, HasRun, IsUnderway, invoke_ops}
 use Rattle.jc_invoke.specs.Runs.{CallsEach, CallsRound, InvokeRound, IsRunOf}
-use Rattle.jc_invoke.proofs.KeyResults.{all_ended, ops_are, refused_near}
+use Rattle.jc_invoke.proofs.KeyResults.{refused_near}
 use Rattle.jc_invoke.proofs.SoFar.{opens}
 use Rattle.jc_invoke.proofs.Underway.{target_of}
 

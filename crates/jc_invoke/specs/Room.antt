@@ -9,7 +9,6 @@
 --     are_fresh        these are all such
 --     claim_if         an ask of the writer for a change, if it is of the kind that a batch asks for
 --     IsKept           how far a first phase leaves a key, and what tickets there are
---     keys_out         the keys of these reservations
 --     RunState         a reservation, and what its processor did
 --     key_run          that as a run
 --     IsDone           the processor has answered the ticket's ask, in a running cache
@@ -80,9 +79,6 @@ are_fresh tickets = AllByRecursion IsFresh tickets
 abbrev pub IsKept : Result TicketClaim Refusal → Progress → List TicketClaim → List TicketClaim → Type 0
 IsKept (Ok ticket) p tickets tickets' = (p ≡ Reserved) × (tickets' ≡ tickets ++ ticket ∷ [])
 IsKept (Err refusal) p tickets tickets' = (p ≡ (if is_put_off refusal then Waiting else Ended (Err refusal))) × (tickets' ≡ tickets)
-
-abbrev pub keys_out : List Reservation → List Bytes
-keys_out calls = map (λ (r : Reservation). r.key) calls
 
 pub record RunState : Type 0 where
   pub reservation : Reservation

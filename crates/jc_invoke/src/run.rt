@@ -11,7 +11,8 @@ ghost use Rattle.jc_session.specs.Boxed.{boxed};
 ghost use Rattle.jc_cache.specs.Caches.{CacheState};
 ghost use Rattle.jc_cache.specs.Sessions.{IsOf};
 ghost use Rattle.jc_bulk.specs.CallsInside.{reserved_by};
-ghost use Rattle.jc_invoke.specs.Room.{IsDone, IsFresh, are_fresh, asked_keys, claims_after, key_run, keys_out, reservations_of};
+ghost use Rattle.jc_bulk.specs.Calls.{reserved_keys};
+ghost use Rattle.jc_invoke.specs.Room.{IsDone, IsFresh, are_fresh, asked_keys, claims_after, key_run, reservations_of};
 ghost use Rattle.jc_invoke.specs.Runs.{RunsEach, change_of};
 
 use crate::batch_call::BatchCall;
@@ -86,7 +87,7 @@ pub(crate) fn run_each<R: Wait>(
 )
     requires own { (cache : CacheState) × IsOf cache session.old }
     requires fresh { are_fresh tickets.items }
-    requires distinct { IsDistinct (pointwise ◌==◌) (keys_out (map reserved_by tickets.items)) }
+    requires distinct { IsDistinct (pointwise ◌==◌) (reserved_keys (map reserved_by tickets.items)) }
     requires none { (runs.old.items ≡ []) × (writes.old.items ≡ []) × (deletes.old.items ≡ []) }
     requires kinds { (writes.old.deletes ≡ false) × (deletes.old.deletes ≡ true) }
     requires room { vec_len tickets ≤ vec_capacity runs.old }

@@ -5,11 +5,10 @@ use Rattle.jc_stripe.specs.Effects.{report_answer}
 use Rattle.jc_bulk.specs.declared.progress.Progress.TheVariants.{Ended, Reserved}
 use Rattle.jc_bulk.specs.KeyProgress.{OnlyEnd, StayEnded, is_reserved}
 use Rattle.jc_bulk.specs.SoFar.{AreUnder}
-use Rattle.jc_bulk.proofs.CallerLemmas.{last_first, reserved_at, stay_set, under_next, under_set}
+use Rattle.jc_bulk.proofs.CallerLemmas.{last_first, only_itself, only_set, reserved_at, stay_set, under_next, under_set}
 use Rattle.jc_invoke.specs.Keys.{IsUnderway}
 use Rattle.jc_invoke.specs.Room.{AreReported, reservations_of}
 use Rattle.jc_invoke.specs.Runs.{IsRunOf}
-use Rattle.jc_invoke.proofs.Once.{only_itself, only_set}
 use Rattle.jc_invoke.proofs.Runs.{none_long}
 use Rattle.jc_invoke.proofs.Underway.{none_left}
 use Rattle.jc_invoke.proofs.round.commit_at.Goals as goal

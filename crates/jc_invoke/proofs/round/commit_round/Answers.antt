@@ -1,9 +1,8 @@
 use Rattle.std.proofs.Common.{rules, true, false, length, reverse, refl, sym, ap, ◌∙◌, arith}
 use Rattle.std.proofs.lemmas.List.{reverse-reverse}
-use Rattle.jc_bulk.proofs.CallerLemmas.{none_before, stay_itself, stay_on}
+use Rattle.jc_bulk.proofs.CallerLemmas.{none_before, only_itself, only_on, stay_itself, stay_on}
 use Rattle.jc_invoke.specs.Room.{reports}
 use Rattle.jc_invoke.specs.Runs.{IsRunOf}
-use Rattle.jc_invoke.proofs.Once.{only_itself, only_on}
 use Rattle.jc_invoke.proofs.Underway.{all_committed}
 use Rattle.jc_invoke.proofs.round.commit_round.Goals as goal
 

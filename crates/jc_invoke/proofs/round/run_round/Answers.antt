@@ -3,12 +3,12 @@ use Rattle.std.proofs.lemmas.List.{reverse-reverse}
 use Rattle.jc_bulk.specs.CallsInside.{reserved_by}
 use Rattle.jc_bulk.specs.KeyProgress.{is_reserved}
 use Rattle.jc_bulk.specs.Keys.{IsTicketFor}
-use Rattle.jc_bulk.proofs.CallerLemmas.{none_in, stay_on}
+use Rattle.jc_bulk.proofs.CallerLemmas.{distinct_reserved, none_in, stay_on}
 use Rattle.jc_invoke.specs.Keys.{IsUnderway, invoke_ops}
 use Rattle.jc_invoke.specs.Room.{reservations_of}
 use Rattle.jc_invoke.specs.Runs.{IsRunOf}
 use Rattle.jc_invoke.proofs.Once.{run_more, run_stay}
-use Rattle.jc_invoke.proofs.Runs.{calls_round, distinct_out, has_writer, reported, round_of}
+use Rattle.jc_invoke.proofs.Runs.{calls_round, has_writer, reported, round_of}
 use Rattle.jc_invoke.proofs.Underway.{asked_on, keys_distinct, settled_all}
 use Rattle.jc_invoke.proofs.Whole.{said_more}
 use Rattle.jc_invoke.proofs.round.run_round.Goals as goal
@@ -25,7 +25,7 @@ run_each-requires-clause-own g c =
 pub run_each-requires-clause-distinct : goal.run_each-requires-clause-distinct
 run_each-requires-clause-distinct g c =
     let r = c.requires.underway in
-    distinct_out r.0 c.args.cache.now.config (invoke_ops c.args.keys.now) c.start_round.new.progress (map reserved_by c.start_round.new.tickets.items) (keys_distinct c.args.keys.now c.requires.distinct) (c.start_round.ensures.underway r.0 r.1 r.2 r.3).calls_are
+    distinct_reserved r.0 c.args.cache.now.config (invoke_ops c.args.keys.now) c.start_round.new.progress (map reserved_by c.start_round.new.tickets.items) (keys_distinct c.args.keys.now c.requires.distinct) (c.start_round.ensures.underway r.0 r.1 r.2 r.3).calls_are
 
 pub ask-written-requires-clause-held : goal.ask-written-requires-clause-held
 ask-written-requires-clause-held g c =
