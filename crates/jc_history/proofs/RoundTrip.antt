@@ -1,7 +1,8 @@
 -- An encoding decodes to what was encoded, whatever follows it.
-use Rattle.std.proofs.Common.{◌≡◌, ℕ, ◌<◌, ◌≤◌, ◌^◌, true, false, List, [], ◌∷◌, ◌++◌, length, leb, Option, Some, None, refl, ap, ◌∙◌, append_assoc, arith}
+use Rattle.std.proofs.Common.{◌≡◌, ℕ, ◌<◌, ◌≤◌, ◌^◌, true, false, List, [], ◌∷◌, ◌++◌, length, leb, Bool, cond, Option, Some, None, refl, sym, ap, ◌∙◌, append_assoc, arith}
 use Rattle.std.specs.Int.{w16, w32, w64, to_le_bytes}
 use Rattle.std.proofs.Math.Dec.{eqb-suc-zero}
+use Rattle.std.specs.Cmp.Lexicographic.{same_text}
 use Rattle.std.proofs.lemmas.Bool.{le-leb}
 use Rattle.std.proofs.lemmas.List.{take_at, drop_at, length-append}
 use Rattle.std.proofs.lemmas.Nat.{from_le_bytes-to_le_bytes_2, from_le_bytes-to_le_bytes_4, from_le_bytes-to_le_bytes_8}
@@ -26,6 +27,9 @@ use Rattle.jc_model.specs.declared.event.Reply.TheVariants as reply
 use Rattle.jc_model.specs.declared.event.Cause.TheVariants.{Full, Memory}
 use Rattle.jc_model.specs.declared.event.Event.{Event}
 use Rattle.jc_model.specs.declared.event.Event.TheVariants.{Step, Evict}
+use Rattle.jc_model.specs.Cache.{Bytes}
+use Rattle.jc_model.specs.Table.{holds}
+use Rattle.jc_history.specs.Values.{value_from_outside, repeats_outside}
 use Rattle.jc_history.specs.Encoding.{text_bytes, optional_bytes, caller_bytes, op_bytes, load_bytes, write_bytes, effect_bytes, process_bytes, out_bytes, refusal_bytes, reply_bytes, event_bytes}
 use Rattle.jc_history.specs.Encodable.{IsCode, IsKeyText, IsValueText, IsEncodableOptional, IsEncodableCaller, IsEncodableOp, IsEncodableLoad, IsEncodableWrite, IsEncodableEffect, IsEncodableProcess, IsEncodableOut, IsEncodableRefusal, IsEncodableReply, IsEncodable}
 use Rattle.jc_history.specs.Decoding.{Decoder, byte, number_2, number_4, number_8, decode_text, decode_value, decode_key, decode_optional, decode_caller, decode_op, decode_load, decode_write, decode_effect, decode_process, decode_out, decode_refusal, decode_reply, decode_step, decode_event}
@@ -141,14 +145,25 @@ decode_refusal-refusal_bytes NoWriter rest h = refl
 decode_refusal-refusal_bytes TooManySessions rest h = refl
 decode_refusal-refusal_bytes StillReserved rest h = refl
 
-decode_reply-reply_bytes : (answer : Reply) (rest : List ℕ) → IsEncodableReply answer → decode_reply (reply_bytes answer ++ rest) ≡ (answer, rest)
+-- a value that an entry holds is the entry
+holds-same : (found : Option Bytes) (value : Bytes) → holds found value ≡ true → found ≡ Some value
+holds-same None value h = cc
+holds-same (Some held) value h = ap (λ (v : Bytes). Some v) (same_text held value (sym h))
+
+decode_reply-value : (out : Out) (value rest : List ℕ) (b : Bool) → repeats_outside out value ≡ b → IsValueText value
+    → decode_reply out (cond b (6 ∷ []) (4 ∷ text_bytes value) ++ rest) ≡ (reply.Value (Some value), rest)
 unfolding decode_reply byte
-decode_reply-reply_bytes reply.Unit rest h = refl
-decode_reply-reply_bytes (reply.Flag false) rest h = refl
-decode_reply-reply_bytes (reply.Flag true) rest h = refl
-decode_reply-reply_bytes (reply.Value None) rest h = refl
-decode_reply-reply_bytes (reply.Value (Some value)) rest h = rw (decode_value-text_bytes value rest h) refl
-decode_reply-reply_bytes (reply.Fault refusal) rest h = rw (decode_refusal-refusal_bytes refusal rest h) refl
+decode_reply-value out value rest true same h = ap (λ (found : Option Bytes). (reply.Value found, rest)) (holds-same (value_from_outside out) value same)
+decode_reply-value out value rest false same h = rw (decode_value-text_bytes value rest h) refl
+
+decode_reply-reply_bytes : (out : Out) (answer : Reply) (rest : List ℕ) → IsEncodableReply answer → decode_reply out (reply_bytes out answer ++ rest) ≡ (answer, rest)
+unfolding decode_reply byte
+decode_reply-reply_bytes out reply.Unit rest h = refl
+decode_reply-reply_bytes out (reply.Flag false) rest h = refl
+decode_reply-reply_bytes out (reply.Flag true) rest h = refl
+decode_reply-reply_bytes out (reply.Value None) rest h = refl
+decode_reply-reply_bytes out (reply.Value (Some value)) rest h = decode_reply-value out value rest (repeats_outside out value) refl h
+decode_reply-reply_bytes out (reply.Fault refusal) rest h = rw (decode_refusal-refusal_bytes refusal rest h) refl
 
 regroup : (a b c d e f rest : List ℕ) → (a ++ (b ++ (c ++ (d ++ (e ++ f))))) ++ rest ≡ a ++ (b ++ (c ++ (d ++ (e ++ (f ++ rest)))))
 regroup a b c d e f rest = simp append_assoc
@@ -157,18 +172,18 @@ regroup a b c d e f rest = simp append_assoc
 pub decode_event-event_bytes : (event : Event) (rest : List ℕ) → IsEncodable event → decode_event (event_bytes event ++ rest) ≡ (event, rest)
 unfolding decode_event decode_step byte
 decode_event-event_bytes (Step caller op key out shared_with answer) rest h =
-    let after_out : List ℕ = optional_bytes (to_le_bytes w32) shared_with ++ rest in
-    let after_op : List ℕ = out_bytes out ++ after_out in
+    let after_op : List ℕ = optional_bytes (to_le_bytes w32) shared_with ++ rest in
     let after_key : List ℕ = op_bytes op ++ after_op in
     let after_caller : List ℕ = text_bytes key ++ after_key in
     let after_reply : List ℕ = caller_bytes caller ++ after_caller in
-    let regrouped = regroup (reply_bytes answer) (caller_bytes caller) (text_bytes key) (op_bytes op) (out_bytes out) (optional_bytes (to_le_bytes w32) shared_with) rest in
+    let after_out : List ℕ = reply_bytes out answer ++ after_reply in
+    let regrouped = regroup (out_bytes out) (reply_bytes out answer) (caller_bytes caller) (text_bytes key) (op_bytes op) (optional_bytes (to_le_bytes w32) shared_with) rest in
     ap (λ (bytes : List ℕ). decode_event (0 ∷ bytes)) regrouped ∙ rw (
-      decode_reply-reply_bytes answer after_reply h.reply_is,
+      decode_out-out_bytes out after_out h.out_is,
+      decode_reply-reply_bytes out answer after_reply h.reply_is,
       decode_caller-caller_bytes caller after_caller h.caller_is,
       decode_key-text_bytes key after_key h.key_is,
       decode_op-op_bytes op after_op h.op_is,
-      decode_out-out_bytes out after_out h.out_is,
       decode_optional-optional_bytes (to_le_bytes w32) number_4 IsCode number_4-to_le_bytes shared_with rest h.shared_with_is,
     ) refl
 decode_event-event_bytes (Evict key Full) rest h = rw (decode_key-text_bytes key rest h) refl

@@ -4,7 +4,7 @@ use Rattle.std.proofs.lemmas.List.{drop_at, length-append, append-nil, map-appen
 use Rattle.std.proofs.lemmas.List.Elements.{All-head, All-tail, All-push, All-weaker}
 use Rattle.std.specs.Global.{Vec}
 use Rattle.jc_model.specs.declared.event.Event.{Event}
-use Rattle.jc_history.specs.declared.encoding.TheConstants.{EVENT_ROOM}
+use Rattle.jc_history.specs.declared.room.TheConstants.{EVENT_ROOM}
 use Rattle.jc_history.specs.Appending.{Appends}
 use Rattle.jc_history.specs.Encoding.{event_bytes}
 use Rattle.jc_history.specs.Encodable.{IsEncodable}

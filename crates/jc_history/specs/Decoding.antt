@@ -21,7 +21,7 @@
 --     decode_process     an answer of a processor
 --     decode_out         all answers from outside
 --     decode_refusal     a refusal
---     decode_reply       a reply
+--     decode_reply       a reply, after these answers from outside
 --     decode_step        a step, after its tag
 --     decode_event       an event
 use Rattle.std.specs.Prelude.{ℕ, ◌==◌, ◌&&◌, nat_le, true, false, List, [], ◌∷◌, length, take, drop, Option, None, Some, if◌then◌else◌}
@@ -47,6 +47,7 @@ use Rattle.jc_model.specs.declared.event.Reply.TheVariants as reply
 use Rattle.jc_model.specs.declared.event.Cause.TheVariants.{Full, Memory}
 use Rattle.jc_model.specs.declared.event.Event.{Event}
 use Rattle.jc_model.specs.declared.event.Event.TheVariants.{Step, Evict}
+use Rattle.jc_history.specs.Values.{value_from_outside}
 
 -- what decodes an X gives it and the bytes after it
 abbrev pub Decoder : Type 0 → Type 0
@@ -186,23 +187,24 @@ decode_refusal = do
       else if tag == 14 then give TooManySessions
       else give StillReserved
 
-unfoldable pub decode_reply : Decoder Reply
-decode_reply = do
+unfoldable pub decode_reply : Out → Decoder Reply
+decode_reply out = do
   tag ← byte
   if tag == 0 then give reply.Unit
       else if tag == 1 then give (reply.Flag false)
       else if tag == 2 then give (reply.Flag true)
       else if tag == 3 then give (reply.Value None)
       else if tag == 4 then with_value (λ value. reply.Value (Some value))
-      else (decode_refusal >>= λ refusal. give (reply.Fault refusal))
+      else if tag == 5 then (decode_refusal >>= λ refusal. give (reply.Fault refusal))
+      else give (reply.Value (value_from_outside out))
 
 unfoldable pub decode_step : Decoder Event
 decode_step = do
-  answer ← decode_reply
+  out ← decode_out
+  answer ← decode_reply out
   caller ← decode_caller
   key ← decode_key
   op ← decode_op
-  out ← decode_out
   shared_with ← decode_optional number_4
   give (Step caller op key out shared_with answer)
 

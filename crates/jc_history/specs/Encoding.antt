@@ -9,9 +9,9 @@
 --     process_bytes     the bytes of what a processor answered
 --     out_bytes         the bytes of all answers from outside
 --     refusal_bytes     the bytes of a refusal
---     reply_bytes       the bytes of a reply
---     event_bytes       the bytes of an event, a step's reply first
-use Rattle.std.specs.Prelude.{ℕ, true, false, List, [], ◌∷◌, ◌++◌, length, Option, None, Some}
+--     reply_bytes       the bytes of a reply to a step with these answers from outside: a value that it repeats isn't stored again
+--     event_bytes       the bytes of an event: of a step first what came from outside and the reply
+use Rattle.std.specs.Prelude.{ℕ, true, false, List, [], ◌∷◌, ◌++◌, length, Option, None, Some, if◌then◌else◌}
 use Rattle.std.specs.Int.{w16, w32, w64, to_le_bytes}
 use Rattle.jc_types.specs.declared.caller.Caller.{Caller}
 use Rattle.jc_types.specs.declared.refusal.Refusal.{Refusal}
@@ -33,6 +33,7 @@ use Rattle.jc_model.specs.declared.event.Reply.TheVariants as reply
 use Rattle.jc_model.specs.declared.event.Cause.TheVariants.{Full, Memory}
 use Rattle.jc_model.specs.declared.event.Event.{Event}
 use Rattle.jc_model.specs.declared.event.Event.TheVariants.{Step, Evict}
+use Rattle.jc_history.specs.Values.{repeats_outside}
 
 -- the length of a text in two bytes, and then the text
 abbrev pub text_bytes : List ℕ → List ℕ
@@ -105,17 +106,18 @@ refusal_bytes NoWriter = 13 ∷ []
 refusal_bytes TooManySessions = 14 ∷ []
 refusal_bytes StillReserved = 15 ∷ []
 
-abbrev pub reply_bytes : Reply → List ℕ
-reply_bytes reply.Unit = 0 ∷ []
-reply_bytes (reply.Flag false) = 1 ∷ []
-reply_bytes (reply.Flag true) = 2 ∷ []
-reply_bytes (reply.Value None) = 3 ∷ []
-reply_bytes (reply.Value (Some value)) = 4 ∷ text_bytes value
-reply_bytes (reply.Fault refusal) = 5 ∷ refusal_bytes refusal
+-- a value that came from outside is in the event already
+abbrev pub reply_bytes : Out → Reply → List ℕ
+reply_bytes out reply.Unit = 0 ∷ []
+reply_bytes out (reply.Flag false) = 1 ∷ []
+reply_bytes out (reply.Flag true) = 2 ∷ []
+reply_bytes out (reply.Value None) = 3 ∷ []
+reply_bytes out (reply.Value (Some value)) = if repeats_outside out value then 6 ∷ [] else (4 ∷ text_bytes value)
+reply_bytes out (reply.Fault refusal) = 5 ∷ refusal_bytes refusal
 
 abbrev pub event_bytes : Event → List ℕ
 event_bytes (Step caller op key out shared_with reply) =
-    0 ∷ (reply_bytes reply ++ (caller_bytes caller ++ (text_bytes key ++ (op_bytes op
-    ++ (out_bytes out ++ optional_bytes (to_le_bytes w32) shared_with)))))
+    0 ∷ (out_bytes out ++ (reply_bytes out reply ++ (caller_bytes caller ++ (text_bytes key ++ (op_bytes op
+    ++ optional_bytes (to_le_bytes w32) shared_with)))))
 event_bytes (Evict key Full) = 1 ∷ text_bytes key
 event_bytes (Evict key Memory) = 2 ∷ text_bytes key

@@ -6,7 +6,7 @@
 use Rattle.std.specs.Prelude.{◌≡◌, ℕ, ◌≤◌, ◌<◌, ◌+◌, ◌*◌, ◌^◌, ◌++◌, ◌∷◌, [], All, length, vec_len, vec_capacity}
 use Rattle.std.specs.Global.{Vec}
 use Rattle.jc_model.specs.declared.event.Event.{Event}
-use Rattle.jc_history.specs.declared.encoding.TheConstants.{EVENT_ROOM}
+use Rattle.jc_history.specs.declared.room.TheConstants.{EVENT_ROOM}
 use Rattle.jc_history.specs.declared.history.History.TheInside.{Inside}
 use Rattle.jc_history.specs.Past.{Past, IsWithinLimit}
 use Rattle.jc_history.specs.Stored.{events_at, IsComplete}

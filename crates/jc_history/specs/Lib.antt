@@ -1,4 +1,5 @@
 pub mod Past
+pub mod Values
 pub mod Encoding
 pub mod Encodable
 pub mod Appending

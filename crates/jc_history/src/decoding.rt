@@ -4,6 +4,7 @@
 //! that no event was encoded as give some event, too.
 ghost use Rattle.std.specs.Prelude.{◌≡◌, ◌≤◌, length, Some};
 ghost use Rattle.jc_history.specs.Past.{reply_in};
+ghost use Rattle.jc_history.specs.Values.{value_from_outside};
 ghost use Rattle.jc_history.specs.Decoding.{byte, number_2, number_4, number_8, decode_text, decode_value, decode_key};
 ghost use Rattle.jc_history.specs.Decoding.{decode_optional, decode_caller, decode_op, decode_load, decode_write};
 ghost use Rattle.jc_history.specs.Decoding.{decode_effect, decode_process, decode_out, decode_refusal, decode_reply};
@@ -253,9 +254,30 @@ fn decode_refusal(input: &mut Input) -> Refusal
     }
 }
 
+/// The value that a reply may repeat: what the processor answered, or else what the loader found.
+fn value_from_outside(out: &Out) -> Option<Value>
+    ensures { result ≡ value_from_outside out.now }
+{
+    match out.process {
+        ProcessAnswer::Ended {
+            effect: _,
+            outcome: Some(outcome),
+        } => Some(outcome),
+        ProcessAnswer::NotAsked
+        | ProcessAnswer::Ended {
+            effect: _,
+            outcome: None,
+        }
+        | ProcessAnswer::Failed(_) => match out.load {
+            LoadAnswer::Found(found) => Some(found),
+            LoadAnswer::NotAsked | LoadAnswer::Nothing | LoadAnswer::Failed(_) => None,
+        },
+    }
+}
+
 #[tactic(auto, unfolding(crate::specs::Decoding::decode_reply))]
-fn decode_reply(input: &mut Input) -> Reply
-    ensures { (result, input.new.bytes.now) ≡ decode_reply input.old.bytes.now }
+fn decode_reply(input: &mut Input, out: &Out) -> Reply
+    ensures { (result, input.new.bytes.now) ≡ decode_reply out.now input.old.bytes.now }
 {
     match byte(input) {
         0 => Reply::Unit,
@@ -263,7 +285,8 @@ fn decode_reply(input: &mut Input) -> Reply
         2 => Reply::Flag(true),
         3 => Reply::Value(None),
         4 => Reply::Value(Some(decode_value(input))),
-        _ => Reply::Fault(decode_refusal(input)),
+        5 => Reply::Fault(decode_refusal(input)),
+        _ => Reply::Value(value_from_outside(out)),
     }
 }
 
@@ -271,11 +294,11 @@ fn decode_reply(input: &mut Input) -> Reply
 fn decode_step(input: &mut Input) -> Event
     ensures { (result, input.new.bytes.now) ≡ decode_step input.old.bytes.now }
 {
-    let reply = decode_reply(input);
+    let out = decode_out(input);
+    let reply = decode_reply(input, &out);
     let caller = decode_caller(input);
     let key = decode_key(input);
     let op = decode_op(input);
-    let out = decode_out(input);
     let shared_with = decode_shared_with(input);
     Event::Step {
         caller,
@@ -308,14 +331,18 @@ pub(crate) fn decode_event(bytes: &[u8]) -> Event
     }
 }
 
-/// The reply of the event that the bytes begin with, if it is a step. No other part of the event is read.
+/// The reply of the event that the bytes begin with, if it is a step. Of the event no more is read than what came from outside and
+/// the reply.
 #[tactic(auto, unfolding(crate::specs::Decoding::decode_event, crate::specs::Decoding::decode_step))]
 pub(crate) fn decode_reply_of_step(bytes: &[u8]) -> Option<Reply>
     ensures { result ≡ reply_in (Some (decode_event bytes.now).0) }
 {
     let mut input = Input { bytes };
     match byte(&mut input) {
-        0 => Some(decode_reply(&mut input)),
+        0 => {
+            let out = decode_out(&mut input);
+            Some(decode_reply(&mut input, &out))
+        }
         _ => None,
     }
 }

@@ -1,8 +1,11 @@
 //! Encodes events as bytes.
 //!
-//! Each function appends to a vector that has room for the longest thing of its kind, so it takes no
-//! memory. Beside the bytes it ensures that they can be decoded again.
+//! Each function appends to a vector that has room for the longest thing of its kind with as many values,
+//! so it takes no memory. Beside the bytes it ensures that they can be decoded again.
 ghost use Rattle.std.specs.Prelude.{◌≡◌, ◌+◌, ◌*◌, ◌<◌, ◌≤◌, ◌^◌, ◌∷◌, ◌++◌, length, vec_len, vec_capacity};
+ghost use Rattle.std.specs.Prelude.{Some};
+ghost use Rattle.std.specs.Option.{option_len};
+ghost use Rattle.jc_model.specs.declared.event.Reply.TheVariants as reply;
 ghost use Rattle.std.specs.Int.{w16, w32, to_le_bytes};
 ghost use Rattle.jc_history.specs.Appending.{Appends};
 ghost use Rattle.jc_history.specs.Encoding.{text_bytes, optional_bytes, caller_bytes, op_bytes, load_bytes, write_bytes};
@@ -12,49 +15,16 @@ ghost use Rattle.jc_history.specs.Encodable.{IsEncodableOp, IsEncodableLoad, IsE
 ghost use Rattle.jc_history.specs.Encodable.{IsEncodableProcess, IsEncodableOut, IsEncodableRefusal, IsEncodableReply};
 ghost use Rattle.jc_history.specs.Encodable.{IsEncodable};
 ghost use Rattle.jc_history.specs.Past.{hit_event};
+ghost use Rattle.jc_history.specs.Values.{repeats_outside, values_in_op, values_in_load, values_in_effect};
+ghost use Rattle.jc_history.specs.Values.{values_in_process, values_in_out, values_in_reply, IsStorable};
 
 use crate::lent::LentStep;
+use crate::room::{
+    CALLER_ROOM, EVENT_ROOM, KEY_ROOM, LENGTH_ROOM, OUT_ROOM, REPLY_ROOM, TAG_ROOM,
+    TAGGED_CODE_ROOM, TAGGED_VALUE_ROOM, VALUE_ROOM,
+};
 use jc_model::{Cause, Effect, Event, LoadAnswer, Op, Out, ProcessAnswer, Reply, WriteAnswer};
-use jc_types::{Caller, Field, KEY_MAX, Key, Refusal, VALUE_MAX, Value};
-
-// The most bytes of each part.
-
-const TAG_ROOM: usize = 1;
-
-const CODE_ROOM: usize = 4;
-
-const CALLER_ROOM: usize = 4 + 8;
-
-// The length of a text stands before it.
-const LENGTH_ROOM: usize = 2;
-
-const KEY_ROOM: usize = LENGTH_ROOM + KEY_MAX;
-
-const VALUE_ROOM: usize = LENGTH_ROOM + VALUE_MAX;
-
-const TAGGED_CODE_ROOM: usize = TAG_ROOM + CODE_ROOM;
-
-const TAGGED_VALUE_ROOM: usize = TAG_ROOM + VALUE_ROOM;
-
-// `ReplaceIf` has two values.
-const OP_ROOM: usize = TAG_ROOM + 2 * VALUE_ROOM;
-
-const PROCESS_ROOM: usize = TAG_ROOM + 2 * TAGGED_VALUE_ROOM;
-
-const OUT_ROOM: usize = TAGGED_VALUE_ROOM + TAGGED_CODE_ROOM + PROCESS_ROOM;
-
-const STEP_ROOM: usize = TAGGED_VALUE_ROOM
-    + CALLER_ROOM
-    + KEY_ROOM
-    + OP_ROOM
-    + OUT_ROOM
-    + TAGGED_CODE_ROOM;
-
-/// The most bytes of an event: those of a step with a key and six values of the greatest length. With the four of
-/// its index in `History::starts` it has at most 47 bytes beside its key and its values.
-pub(crate) const EVENT_ROOM: usize = TAG_ROOM + STEP_ROOM;
-
-const _: () = prove!(EVENT_ROOM == 43 + KEY_MAX + 6 * VALUE_MAX);
+use jc_types::{Caller, Field, Key, Refusal, Value};
 
 /// Appends bytes.
 fn append(out: &mut Vec<u8>, bytes: &[u8])
@@ -120,8 +90,8 @@ fn encode_caller(out: &mut Vec<u8>, caller: &Caller)
 }
 
 fn encode_op(out: &mut Vec<u8>, op: &Op)
-    requires { vec_len out.old + OP_ROOM ≤ vec_capacity out.old }
-    ensures appends { Appends out.old out.new (op_bytes op.now) OP_ROOM }
+    requires { vec_len out.old + (TAG_ROOM + values_in_op op.now * VALUE_ROOM) ≤ vec_capacity out.old }
+    ensures appends { Appends out.old out.new (op_bytes op.now) (TAG_ROOM + values_in_op op.now * VALUE_ROOM) }
     ensures encodable { IsEncodableOp op.now }
 {
     match op {
@@ -147,8 +117,8 @@ fn encode_op(out: &mut Vec<u8>, op: &Op)
 }
 
 fn encode_load(out: &mut Vec<u8>, answer: &LoadAnswer)
-    requires { vec_len out.old + TAGGED_VALUE_ROOM ≤ vec_capacity out.old }
-    ensures appends { Appends out.old out.new (load_bytes answer.now) TAGGED_VALUE_ROOM }
+    requires { vec_len out.old + (TAGGED_CODE_ROOM + values_in_load answer.now * VALUE_ROOM) ≤ vec_capacity out.old }
+    ensures appends { Appends out.old out.new (load_bytes answer.now) (TAGGED_CODE_ROOM + values_in_load answer.now * VALUE_ROOM) }
     ensures encodable { IsEncodableLoad answer.now }
 {
     match answer {
@@ -172,8 +142,8 @@ fn encode_write(out: &mut Vec<u8>, answer: &WriteAnswer)
 }
 
 fn encode_effect(out: &mut Vec<u8>, effect: &Effect)
-    requires { vec_len out.old + TAGGED_VALUE_ROOM ≤ vec_capacity out.old }
-    ensures appends { Appends out.old out.new (effect_bytes effect.now) TAGGED_VALUE_ROOM }
+    requires { vec_len out.old + (TAG_ROOM + values_in_effect effect.now * VALUE_ROOM) ≤ vec_capacity out.old }
+    ensures appends { Appends out.old out.new (effect_bytes effect.now) (TAG_ROOM + values_in_effect effect.now * VALUE_ROOM) }
     ensures encodable { IsEncodableEffect effect.now }
 {
     match effect {
@@ -184,8 +154,8 @@ fn encode_effect(out: &mut Vec<u8>, effect: &Effect)
 }
 
 fn encode_outcome(out: &mut Vec<u8>, outcome: &Option<Value>)
-    requires { vec_len out.old + TAGGED_VALUE_ROOM ≤ vec_capacity out.old }
-    ensures appends { Appends out.old out.new (optional_bytes text_bytes outcome.now) TAGGED_VALUE_ROOM }
+    requires { vec_len out.old + (TAG_ROOM + option_len outcome.now * VALUE_ROOM) ≤ vec_capacity out.old }
+    ensures appends { Appends out.old out.new (optional_bytes text_bytes outcome.now) (TAG_ROOM + option_len outcome.now * VALUE_ROOM) }
     ensures encodable { IsEncodableOptional IsValueText outcome.now }
 {
     match outcome {
@@ -195,8 +165,8 @@ fn encode_outcome(out: &mut Vec<u8>, outcome: &Option<Value>)
 }
 
 fn encode_process(out: &mut Vec<u8>, answer: &ProcessAnswer)
-    requires { vec_len out.old + PROCESS_ROOM ≤ vec_capacity out.old }
-    ensures appends { Appends out.old out.new (process_bytes answer.now) PROCESS_ROOM }
+    requires { vec_len out.old + (TAGGED_CODE_ROOM + values_in_process answer.now * VALUE_ROOM) ≤ vec_capacity out.old }
+    ensures appends { Appends out.old out.new (process_bytes answer.now) (TAGGED_CODE_ROOM + values_in_process answer.now * VALUE_ROOM) }
     ensures encodable { IsEncodableProcess answer.now }
 {
     match answer {
@@ -211,8 +181,8 @@ fn encode_process(out: &mut Vec<u8>, answer: &ProcessAnswer)
 }
 
 fn encode_out(out: &mut Vec<u8>, answers: &Out)
-    requires { vec_len out.old + OUT_ROOM ≤ vec_capacity out.old }
-    ensures appends { Appends out.old out.new (out_bytes answers.now) OUT_ROOM }
+    requires { vec_len out.old + (OUT_ROOM + values_in_out answers.now * VALUE_ROOM) ≤ vec_capacity out.old }
+    ensures appends { Appends out.old out.new (out_bytes answers.now) (OUT_ROOM + values_in_out answers.now * VALUE_ROOM) }
     ensures encodable { IsEncodableOut answers.now }
 {
     encode_load(out, &answers.load);
@@ -245,9 +215,47 @@ fn encode_refusal(out: &mut Vec<u8>, refusal: &Refusal)
     }
 }
 
-fn encode_reply(out: &mut Vec<u8>, reply: &Reply)
-    requires { vec_len out.old + TAGGED_VALUE_ROOM ≤ vec_capacity out.old }
-    ensures appends { Appends out.old out.new (reply_bytes reply.now) TAGGED_VALUE_ROOM }
+/// Whether a reply with a value of these bytes repeats one that came from outside.
+fn repeats_outside(answers: &Out, value: &[u8]) -> bool
+    ensures { result ≡ repeats_outside answers.now value.now }
+{
+    match &answers.process {
+        ProcessAnswer::Ended {
+            effect: _,
+            outcome: Some(outcome),
+        } => outcome.bytes() == value,
+        ProcessAnswer::NotAsked
+        | ProcessAnswer::Ended {
+            effect: _,
+            outcome: None,
+        }
+        | ProcessAnswer::Failed(_) => match &answers.load {
+            LoadAnswer::Found(found) => found.bytes() == value,
+            LoadAnswer::NotAsked | LoadAnswer::Nothing | LoadAnswer::Failed(_) => false,
+        },
+    }
+}
+
+/// Appends a reply that is a value. One that came from outside is in the event already, and isn't stored again.
+fn encode_value_reply(out: &mut Vec<u8>, answers: &Out, value: &Value)
+    requires { vec_len out.old + (TAG_ROOM + values_in_reply answers.now (reply.Value (Some value.now)) * VALUE_ROOM)
+        ≤ vec_capacity out.old }
+    ensures appends { Appends out.old out.new (reply_bytes answers.now (reply.Value (Some value.now)))
+        (TAG_ROOM + values_in_reply answers.now (reply.Value (Some value.now)) * VALUE_ROOM) }
+    ensures encodable { IsValueText value.now }
+{
+    if repeats_outside(answers, value.bytes()) {
+        out.push_reserved(6);
+    } else {
+        encode_tagged_value(out, 4, value);
+    }
+}
+
+/// Appends a reply, of a step with these answers from outside.
+fn encode_reply(out: &mut Vec<u8>, answers: &Out, reply: &Reply)
+    requires { vec_len out.old + (REPLY_ROOM + values_in_reply answers.now reply.now * VALUE_ROOM) ≤ vec_capacity out.old }
+    ensures appends { Appends out.old out.new (reply_bytes answers.now reply.now)
+        (REPLY_ROOM + values_in_reply answers.now reply.now * VALUE_ROOM) }
     ensures encodable { IsEncodableReply reply.now }
 {
     match reply {
@@ -255,7 +263,7 @@ fn encode_reply(out: &mut Vec<u8>, reply: &Reply)
         Reply::Flag(false) => out.push_reserved(1),
         Reply::Flag(true) => out.push_reserved(2),
         Reply::Value(None) => out.push_reserved(3),
-        Reply::Value(Some(value)) => encode_tagged_value(out, 4, value),
+        Reply::Value(Some(value)) => encode_value_reply(out, answers, value),
         Reply::Fault(refusal) => {
             out.push_reserved(5);
             encode_refusal(out, refusal);
@@ -276,26 +284,28 @@ fn encode_shared_with(out: &mut Vec<u8>, place: &Option<u32>)
 
 /// Appends the bytes of a step, at most [`EVENT_ROOM`] of them.
 pub(crate) fn encode_step(out: &mut Vec<u8>, step: &LentStep)
-    requires { vec_len out.old + EVENT_ROOM ≤ vec_capacity out.old }
+    requires storable { IsStorable step.now }
+    requires room { vec_len out.old + EVENT_ROOM ≤ vec_capacity out.old }
     ensures appends { Appends out.old out.new (event_bytes step.now) EVENT_ROOM }
     ensures encodable { IsEncodable step.now }
 {
     out.push_reserved(0);
-    encode_reply(out, step.reply);
+    encode_out(out, step.out);
+    encode_reply(out, step.out, step.reply);
     encode_caller(out, step.caller);
     encode_key(out, step.key);
     encode_op(out, step.op);
-    encode_out(out, step.out);
     encode_shared_with(out, step.shared_with);
 }
 
-/// Appends the length of a value and the tags before it: those of a step, and of a reply with a value.
+/// Appends the length of a value and the tags before it: those of a step, of nothing said by the loader, the writer or a processor,
+/// and of a reply with a value.
 fn encode_hit_start(out: &mut Vec<u8>, length: u16)
-    requires { vec_len out.old + (2 * TAG_ROOM + LENGTH_ROOM) ≤ vec_capacity out.old }
-    ensures { Appends out.old out.new (0 ∷ 4 ∷ to_le_bytes w16 length) (2 * TAG_ROOM + LENGTH_ROOM) }
+    requires { vec_len out.old + (5 * TAG_ROOM + LENGTH_ROOM) ≤ vec_capacity out.old }
+    ensures { Appends out.old out.new (0 ∷ 0 ∷ 0 ∷ 0 ∷ 4 ∷ to_le_bytes w16 length) (5 * TAG_ROOM + LENGTH_ROOM) }
 {
     let [a, b] = length.to_le_bytes();
-    append(out, &[0, 4, a, b]);
+    append(out, &[0, 0, 0, 0, 4, a, b]);
 }
 
 /// Appends a caller, and the length of the key behind it.
@@ -323,13 +333,14 @@ pub(crate) fn encode_hit(out: &mut Vec<u8>, caller: &Caller, key: &Key, value: &
     append(out, value);
     encode_hit_caller(out, caller, key.len() as u16);
     append(out, key);
-    // `Get`, nothing said by the loader, the writer or a processor, and no load shared.
-    append(out, &[0, 0, 0, 0, 0]);
+    // `Get`, and no load shared.
+    append(out, &[0, 0]);
 }
 
 /// Appends the bytes of an event, at most [`EVENT_ROOM`] of them.
 pub(crate) fn encode_event(out: &mut Vec<u8>, event: &Event)
-    requires { vec_len out.old + EVENT_ROOM ≤ vec_capacity out.old }
+    requires storable { IsStorable event.now }
+    requires room { vec_len out.old + EVENT_ROOM ≤ vec_capacity out.old }
     ensures appends { Appends out.old out.new (event_bytes event.now) EVENT_ROOM }
     ensures encodable { IsEncodable event.now }
 {

@@ -6,12 +6,14 @@
 ghost use Rattle.std.specs.Prelude.{◌≡◌, ◌+◌, ◌<◌, ◌≤◌, ◌^◌, ◌↔◌, [], length, vec_len, vec_capacity, ◌∷◌, ◌++◌, Some, IsTrue};
 ghost use Rattle.std.specs.Prelude.{IfOk, OnOk, OnErr, All, if◌then◌else◌, slice_get, slice_range};
 ghost use Rattle.jc_history.specs.Past.{places_used, IsWithinLimit, promise, unpromise, push, hit_event, reply_in};
+ghost use Rattle.jc_history.specs.Values.{IsStorable};
 ghost use Rattle.jc_history.specs.Stored.{events_at, IsComplete};
 ghost use Rattle.jc_history.specs.HistoryInside.{CanAppend, AppendsEvent};
 
 use crate::decoding::{decode_event, decode_reply_of_step};
-use crate::encoding::{EVENT_ROOM, encode_event, encode_hit, encode_step};
+use crate::encoding::{encode_event, encode_hit, encode_step};
 use crate::lent::LentStep;
+use crate::room::EVENT_ROOM;
 use jc_model::{Event, Reply};
 use jc_types::{Caller, HISTORY_MAX, Key, Value};
 use std::alloc::{AllocError, Global};
@@ -24,7 +26,8 @@ use std::marker::Model;
 /// stays. No method but [`new`](History::new) and [`append_to`](History::append_to) takes memory.
 ///
 /// An event is stored as bytes. Beside its key and its values a hit takes 27 of them, and the largest
-/// step 47.
+/// step at most 52. It has at most [`EVENT_VALUES`](crate::EVENT_VALUES) values. A value of the loader or the processor that
+/// the call is answered is stored once.
 #[derive(Drop)]
 pub struct History {
     // The events one after another, the earliest first.
@@ -50,10 +53,10 @@ impl Model for History {
 impl History {
     /// A history with no event and with room for `limit` events, at most [`HISTORY_MAX`].
     ///
-    /// The room is all taken here, as much as the largest events need: 463 bytes for each place, which
-    /// are 47 bytes, a key and six values of the greatest length. That makes 30 MB for [`HISTORY_MAX`]
-    /// places. Pages of it that no event has reached cost nothing if the system gives out a page when
-    /// it is first written. An `Err` says that an allocation failed.
+    /// The room is all taken here, as much as the largest events need: 884 bytes for each place, which
+    /// are 52 bytes, a key and [`EVENT_VALUES`](crate::EVENT_VALUES) values of the greatest length. That makes 58 MB for
+    /// [`HISTORY_MAX`] places. Pages of it that no event has reached cost nothing if the system gives
+    /// out a page when it is first written. An `Err` says that an allocation failed.
     pub fn new(alloc: Global, limit: usize) -> Result<Self, AllocError>
         requires { limit ≤ HISTORY_MAX }
         ensures { IfOk result (λ h. h ≡ record { limit = limit; events = []; promised = 0 }) }
@@ -101,7 +104,8 @@ impl History {
 
     /// Appends an event, in a place that was promised. It is never refused, and takes no memory.
     pub fn push(&mut self, event: &Event)
-        requires { 0 < self.old.promised }
+        requires promised { 0 < self.old.promised }
+        requires storable { IsStorable event.now }
         ensures after { self.new ≡ push event.now self.old }
         ensures within { IsWithinLimit self.new }
     {
@@ -112,7 +116,8 @@ impl History {
     /// Appends a step, in a place that was promised: what [`push`](History::push) appends of the same event, which so needn't be
     /// built. It is never refused, and takes no memory.
     pub fn push_step(&mut self, step: &LentStep)
-        requires { 0 < self.old.promised }
+        requires promised { 0 < self.old.promised }
+        requires storable { IsStorable step.now }
         ensures after { self.new ≡ push step.now self.old }
         ensures within { IsWithinLimit self.new }
     {
@@ -174,7 +179,8 @@ impl History {
 
 /// Appends the bytes of an event, and the index at which they start.
 fn append_event(bytes: &mut Vec<u8>, starts: &mut Vec<u32>, event: &Event)
-    requires { CanAppend bytes.old starts.old }
+    requires can { CanAppend bytes.old starts.old }
+    requires storable { IsStorable event.now }
     ensures { AppendsEvent bytes.old starts.old event.now bytes.new starts.new }
 {
     starts.push_reserved(bytes.len() as u32);
@@ -183,7 +189,8 @@ fn append_event(bytes: &mut Vec<u8>, starts: &mut Vec<u32>, event: &Event)
 
 /// Appends the bytes of a step, and the index at which they start.
 fn append_step(bytes: &mut Vec<u8>, starts: &mut Vec<u32>, step: &LentStep)
-    requires { CanAppend bytes.old starts.old }
+    requires can { CanAppend bytes.old starts.old }
+    requires storable { IsStorable step.now }
     ensures { AppendsEvent bytes.old starts.old step.now bytes.new starts.new }
 {
     starts.push_reserved(bytes.len() as u32);

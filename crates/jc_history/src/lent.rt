@@ -5,7 +5,7 @@ use std::marker::Model;
 
 /// A step of which each part is lent. Contracts see the event that it is.
 ///
-/// A step has up to six values inline, so to build an event only to store it costs time.
+/// A step has room for six values inline, so to build an event only to store it costs time.
 #[derive(Drop)]
 pub struct LentStep<'a> {
     /// Who called.

@@ -1,0 +1,88 @@
+-- How many values an event has. A reply may repeat a value that came from outside: then that value counts once. Nothing here says how
+-- events are stored.
+--     value_from_outside    the value that a reply may repeat: what the processor answered, or else what the loader found
+--     repeats_outside       a reply with this value repeats that one
+--     values_in_op          how many values an operation has
+--     values_in_load        how many the loader's answer has
+--     values_in_effect      how many a processor's effect has
+--     values_in_process     how many a processor's answer has: its effect's and its outcome's
+--     values_in_out         how many all answers from outside have
+--     values_in_reply       how many a reply has, beside those that came from outside
+--     values_in             how many an event has
+--     IsStorable            an event has no more values than an event may have
+use Rattle.std.specs.Prelude.{ℕ, ◌+◌, ◌≤◌, Bool, Option, None, Some, if◌then◌else◌}
+use Rattle.std.specs.Option.{option_len, option_or}
+use Rattle.jc_model.specs.declared.event.Op.{Op}
+use Rattle.jc_model.specs.declared.event.Op.TheVariants.{Get, ContainsKey, Put, GetAndPut, PutIfAbsent, Remove, RemoveIf, GetAndRemove, Replace, ReplaceIf, GetAndReplace, Clear, LoadAll, Invoke}
+use Rattle.jc_model.specs.declared.event.LoadAnswer.{LoadAnswer}
+use Rattle.jc_model.specs.declared.event.LoadAnswer.TheVariants as load
+use Rattle.jc_model.specs.declared.event.ProcessAnswer.{ProcessAnswer}
+use Rattle.jc_model.specs.declared.event.ProcessAnswer.TheVariants as process
+use Rattle.jc_model.specs.declared.event.Effect.{Effect}
+use Rattle.jc_model.specs.declared.event.Effect.TheVariants as effect
+use Rattle.jc_model.specs.declared.event.Out.{Out}
+use Rattle.jc_model.specs.declared.event.Reply.{Reply}
+use Rattle.jc_model.specs.declared.event.Reply.TheVariants as reply
+use Rattle.jc_model.specs.declared.event.Event.{Event}
+use Rattle.jc_model.specs.declared.event.Event.TheVariants.{Step, Evict}
+use Rattle.jc_model.specs.Cache.{Bytes}
+use Rattle.jc_model.specs.Table.{holds, outcome_of, value_after_load}
+use Rattle.jc_history.specs.declared.room.TheConstants.{EVENT_VALUES}
+
+-- the value that a reply may repeat: what the processor answered, or else what the loader found
+abbrev pub value_from_outside : Out → Option Bytes
+value_from_outside out = option_or (outcome_of out.process) (value_after_load out.load None)
+
+abbrev pub repeats_outside : Out → Bytes → Bool
+repeats_outside out value = holds (value_from_outside out) value
+
+abbrev pub values_in_op : Op → ℕ
+values_in_op Get = 0
+values_in_op ContainsKey = 0
+values_in_op (Put value) = 1
+values_in_op (GetAndPut value) = 1
+values_in_op (PutIfAbsent value) = 1
+values_in_op Remove = 0
+values_in_op (RemoveIf value) = 1
+values_in_op GetAndRemove = 0
+values_in_op (Replace value) = 1
+values_in_op (ReplaceIf old new) = 2
+values_in_op (GetAndReplace value) = 1
+values_in_op Clear = 0
+values_in_op (LoadAll replace) = 0
+values_in_op Invoke = 0
+
+abbrev pub values_in_load : LoadAnswer → ℕ
+values_in_load load.NotAsked = 0
+values_in_load (load.Found value) = 1
+values_in_load load.Nothing = 0
+values_in_load (load.Failed code) = 0
+
+abbrev pub values_in_effect : Effect → ℕ
+values_in_effect effect.Keep = 0
+values_in_effect (effect.Set value) = 1
+values_in_effect effect.Remove = 0
+
+abbrev pub values_in_process : ProcessAnswer → ℕ
+values_in_process process.NotAsked = 0
+values_in_process (process.Ended net outcome) = values_in_effect net + option_len outcome
+values_in_process (process.Failed code) = 0
+
+-- a writer answers no value
+abbrev pub values_in_out : Out → ℕ
+values_in_out out = values_in_load out.load + values_in_process out.process
+
+abbrev pub values_in_reply : Out → Reply → ℕ
+values_in_reply out reply.Unit = 0
+values_in_reply out (reply.Flag flag) = 0
+values_in_reply out (reply.Value None) = 0
+values_in_reply out (reply.Value (Some value)) = if repeats_outside out value then 0 else 1
+values_in_reply out (reply.Fault refusal) = 0
+
+abbrev pub values_in : Event → ℕ
+values_in (Step caller op key out shared_with reply) = values_in_op op + values_in_out out + values_in_reply out reply
+values_in (Evict key cause) = 0
+
+-- an event has no more values than an event may have
+abbrev pub IsStorable : Event → Type 0
+IsStorable event = values_in event ≤ EVENT_VALUES
