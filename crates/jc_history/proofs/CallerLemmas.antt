@@ -30,7 +30,7 @@ use Rattle.jc_history.specs.Values.{repeats_outside, values_in_op, values_in_loa
 
 -- 1. At most so many values.
 
-few_in_op : (op : Op) → values_in_op op ≤ 2
+pub few_in_op : (op : Op) → values_in_op op ≤ 2
 few_in_op Get = omega arith
 few_in_op ContainsKey = omega arith
 few_in_op (Put value) = omega arith
@@ -46,7 +46,7 @@ few_in_op Clear = omega arith
 few_in_op (LoadAll replace) = omega arith
 few_in_op Invoke = omega arith
 
-few_in_load : (answer : LoadAnswer) → values_in_load answer ≤ 1
+pub few_in_load : (answer : LoadAnswer) → values_in_load answer ≤ 1
 few_in_load load.NotAsked = omega arith
 few_in_load (load.Found value) = omega arith
 few_in_load load.Nothing = omega arith
@@ -57,7 +57,7 @@ few_in_effect effect.Keep = omega arith
 few_in_effect (effect.Set value) = omega arith
 few_in_effect effect.Remove = omega arith
 
-few_in_process : (answer : ProcessAnswer) → values_in_process answer ≤ 2
+pub few_in_process : (answer : ProcessAnswer) → values_in_process answer ≤ 2
 few_in_process process.NotAsked = omega arith
 few_in_process (process.Ended net None) = omega (arith, few_in_effect net)
 few_in_process (process.Ended net (Some value)) = omega (arith, few_in_effect net)
@@ -67,7 +67,7 @@ at_most_one : (repeats : Bool) → cond repeats 0 1 ≤ 1
 at_most_one true = omega arith
 at_most_one false = omega arith
 
-few_in_reply : (out : Out) (answer : Reply) → values_in_reply out answer ≤ 1
+pub few_in_reply : (out : Out) (answer : Reply) → values_in_reply out answer ≤ 1
 few_in_reply out reply.Unit = omega arith
 few_in_reply out (reply.Flag flag) = omega arith
 few_in_reply out (reply.Value None) = omega arith

@@ -2,11 +2,10 @@
 //!
 //! Each function appends to a vector that has room for the longest thing of its kind with as many values,
 //! so it takes no memory. Beside the bytes it ensures that they can be decoded again.
-ghost use Rattle.std.specs.Prelude.{◌≡◌, ◌+◌, ◌*◌, ◌<◌, ◌≤◌, ◌^◌, ◌∷◌, ◌++◌, length, vec_len, vec_capacity};
-ghost use Rattle.std.specs.Prelude.{Some};
+ghost use Rattle.std.specs.Prelude.{◌≡◌, ◌+◌, ◌*◌, ◌<◌, ◌≤◌, ◌^◌, ◌∷◌, ◌++◌, length, vec_len, vec_capacity, Some};
 ghost use Rattle.std.specs.Option.{option_len};
-ghost use Rattle.jc_model.specs.declared.event.Reply.TheVariants as reply;
 ghost use Rattle.std.specs.Int.{w16, w32, to_le_bytes};
+ghost use Rattle.jc_model.specs.declared.event.Reply.TheVariants as reply;
 ghost use Rattle.jc_history.specs.Appending.{Appends};
 ghost use Rattle.jc_history.specs.Encoding.{text_bytes, optional_bytes, caller_bytes, op_bytes, load_bytes, write_bytes};
 ghost use Rattle.jc_history.specs.Encoding.{effect_bytes, process_bytes, out_bytes, refusal_bytes, reply_bytes, event_bytes};

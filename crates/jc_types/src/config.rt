@@ -38,8 +38,9 @@ pub struct Config {
     /// the least recently used one that no call has reserved, and is not kept if calls have reserved all.
     pub capacity: usize,
     /// How many events the history of one stripe has room for, from [`HISTORY_MIN`] to
-    /// [`HISTORY_MAX`]. The room is taken when the cache is made: 463 bytes for each event and each
-    /// stripe, as much as the largest event needs, and 30 MB for a stripe of [`HISTORY_MAX`].
+    /// [`HISTORY_MAX`]. The room is taken when the cache is made: 884 bytes for each event and each
+    /// stripe, as much as the largest event needs. That is 58 MB for a stripe of [`HISTORY_MAX`], and
+    /// 3.7 GB for [`STRIPES_MAX`] of them.
     pub history: usize,
     /// Whether a missing entry is loaded (JSR 107, "Integration": read-through).
     pub read_through: bool,
