@@ -9,6 +9,7 @@ use Rattle.jc_model.specs.Table.{answers_fit}
 use Rattle.jc_model.specs.Group.{Group, events_of, nothing_said}
 use Rattle.jc_entries.specs.ByUse.{ByUse}
 use Rattle.jc_history.specs.Past.{Past, promise}
+use Rattle.jc_history.specs.Values.{IsStorable}
 use Rattle.jc_reserve.specs.Table.{Table}
 use Rattle.jc_reserve.specs.Reserving as reserving
 use Rattle.jc_inflight.specs.declared.joiner.Joiner.{Joiner}
@@ -20,14 +21,14 @@ use Rattle.jc_stripe.specs.State.{State, IsOut, without_key, waits}
 use Rattle.jc_stripe.specs.OrderOfUse.{by_use, pinned}
 use Rattle.jc_stripe.specs.Refusals.{first_refusal, first_asked, needs_free_key, places_needed}
 use Rattle.jc_stripe.specs.Phases.{MayBegin, Steps, new_group, after_commit}
-use Rattle.jc_stripe.specs.Appending.{NewGroup, AppliesStep, AnswersFirst, group_events, append_group}
+use Rattle.jc_stripe.specs.Appending.{NewGroup, new_step, AppliesStep, AnswersFirst, group_events, append_group}
 use Rattle.jc_stripe.specs.Inside.{IsStripe, state_of}
 use Rattle.jc_stripe.proofs.Lawfully.{MayShare}
-use Rattle.jc_stripe.proofs.Fitting.{said_fits, said_given}
+use Rattle.jc_stripe.proofs.Fitting.{said_fits, said_given, nobody_fits}
 use Rattle.jc_stripe.proofs.Settled.{shares_with, claim_asks}
 use Rattle.jc_inflight.proofs.CallerLemmas.{length-callers_of, waiting-answered_from}
 use Rattle.jc_types.specs.declared.limits.TheConstants.{STEP_PLACES}
-use Rattle.jc_stripe.proofs.Stepping.{AreEntries, IsMade, IsTold, group_is, steps_put, by_use_put, few_put}
+use Rattle.jc_stripe.proofs.Stepping.{AreEntries, IsMade, IsTold, storable_made, group_is, steps_put, by_use_put, few_put}
 use Rattle.jc_stripe.proofs.Refusing.{alone_passes, answering_keeps}
 use Rattle.jc_stripe.proofs.Stepped.{one_event}
 use Rattle.jc_stripe.proofs.Making.{one_exactly}
@@ -80,6 +81,10 @@ done_sound i caller key op entries promised_in history keys made done kept d non
       promised = let same : history.promised ≡ i.history.promised = omega arith in same ∙ d.sound.promised;
       state = begins_done m (state_of (done_at i entries history)) caller key op done d.sound.state may none nobody steps;
     }
+
+-- the step that it appends can be stored
+pub done_storable : (i : Inside) (caller : Caller) (key : Bytes) (op : Op) (made : NewGroup) → first_asked i.config op (entry_at (state_of i).cache key) ≡ Nobody → IsMade (state_of i) caller key op nothing_said made → IsStorable (new_step made)
+done_storable i caller key op made nobody is = storable_made (state_of i) caller key op nothing_said made (nobody_fits i.config op (entry_at (state_of i).cache key) nobody) is
 
 -- 2. A commit.
 
@@ -167,6 +172,11 @@ commit_few load js place waiting made w =
     let few = few_put place made (callers_of load js) in
     let n = length-callers_of load js in
     omega arith
+
+-- the step that it appends can be stored
+pub commit_storable : (i : Inside) (r : Reservation) (out : Out) (made : NewGroup) → IsStripe i → IsOut (state_of i) r → AnswersFirst i.config r.first out → IsMade (state_of i) r.caller r.key r.op out made → IsStorable (new_step made)
+commit_storable i r out made sound found said is =
+    storable_made (state_of i) r.caller r.key r.op out made (said_fits i.config r.op (entry_at (state_of i).cache r.key) r.first out (claim_asks (state_of i) r sound.state found) said) is
 
 -- 3. The places of a call that is done at once.
 

@@ -1,8 +1,10 @@
 -- A step that was made in the entries and appended is a step of the phase machine.
-use Rattle.std.proofs.Common.{◌≡◌, ◌≤◌, ◌+◌, ◌==◌, ◌&&◌, ◌++◌, ℕ, List, Option, length, cond, IsTrue, None, is_some, is_none, sym, ap, ◌∙◌}
+use Rattle.std.proofs.Common.{◌≡◌, ◌≤◌, ◌+◌, ◌==◌, ◌&&◌, ◌++◌, ℕ, List, Option, length, cond, IsTrue, None, is_some, is_none, sym, ap, subst, ◌∙◌}
 use Rattle.std.specs.FinMap.{len, from_entries}
 use Rattle.jc_model.specs.declared.event.Op.{Op}
 use Rattle.jc_model.specs.declared.event.Out.{Out}
+use Rattle.jc_model.specs.declared.event.Event.{Event}
+use Rattle.jc_model.specs.declared.event.Event.TheVariants.{Step}
 use Rattle.jc_stripe.specs.declared.begun.StepDone.{StepDone}
 use Rattle.jc_model.specs.Cache.{Bytes, key_cmp, entry_at}
 use Rattle.jc_model.specs.Listed.{has_distinct_keys}
@@ -10,11 +12,13 @@ use Rattle.jc_model.specs.Table.{answers_fit, entry_after, reply_after}
 use Rattle.jc_model.specs.Group.{Group, victim_events, events_of, step_place, cache_after_group}
 use Rattle.jc_model.proofs.CallerLemmas.{len-distinct}
 use Rattle.jc_entries.specs.ByUse.{ByUse, lru_victim}
+use Rattle.jc_history.specs.Values.{IsStorable}
+use Rattle.jc_history.proofs.CallerLemmas.{storable_step}
 use Rattle.jc_stripe.specs.State.{State}
 use Rattle.jc_stripe.specs.OrderOfUse.{by_use, pinned}
 use Rattle.jc_stripe.specs.Phases.{new_group, inserts_here, overflows, own_cause, own_eviction, Steps}
 use Rattle.jc_stripe.specs.Reached.{IsUsed}
-use Rattle.jc_stripe.specs.Appending.{NewGroup, AppliesStep, inserts_into, overflows_in, victim_in, group_events, entries_after, eviction_of}
+use Rattle.jc_stripe.specs.Appending.{NewGroup, new_step, AppliesStep, inserts_into, overflows_in, victim_in, group_events, entries_after, eviction_of}
 use Rattle.jc_stripe.proofs.Used.{find-entry, from-left}
 use Rattle.jc_stripe.proofs.Lawfully.{MayShare, made_lawful}
 use Rattle.jc_stripe.proofs.Stepped.{few_events, by_use_on}
@@ -80,6 +84,12 @@ made_is m caller key op out entry made is found =
       out_is = ap (λ (g : NewGroup). g.out) is;
       reply_is = ap (λ (g : NewGroup). g.reply) is ∙ ap (λ o. reply_after op o out) found;
     }
+
+-- if the answers are those that the tables ask for, it can be stored
+pub storable_made : (m : State) (caller : Caller) (key : Bytes) (op : Op) (out : Out) (made : NewGroup) → IsTrue (answers_fit m.config op (entry_at m.cache key) out) → IsMade m caller key op out made → IsStorable (new_step made)
+storable_made m caller key op out made fits is =
+    subst (λ (e : Event). IsStorable e) (λ i. Step (sym is.caller_is i) (sym is.op_is i) (sym is.key_is i) (sym is.out_is i) None (sym is.reply_is i))
+    (storable_step m.config caller op key (entry_at m.cache key) out None fits)
 
 -- its group is that of the phase machine
 pub group_is : (m : State) (entries next : ByUse) (keys : List Bytes) (caller : Caller) (key : Bytes) (op : Op) (out : Out) (callers : List Caller) (made : NewGroup) → AreEntries m entries keys → IsMade m caller key op out made

@@ -5,6 +5,7 @@
 --     overflows_in        it inserts into entries that are as many as may be
 --     victim_in           the victim before it, if there has to be one and can be
 --     callers_in          the callers that share a load, if there is one
+--     new_step            the event of the step
 --     group_events        the events of a step with all that belongs to it
 --     append_all          the past with more events, in reserved room
 --     append_group        the same, and what of the reserved room isn't used is given back
@@ -79,9 +80,13 @@ abbrev pub callers_in : Option ℕ → List Joiner → List Caller
 callers_in None joiners = []
 callers_in (Some load) joiners = callers_of load joiners
 
+-- it shares no load
+abbrev pub new_step : NewGroup → Event
+new_step new = Step new.caller new.op new.key new.out None new.reply
+
 abbrev pub group_events : ℕ → NewGroup → List Caller → List Event
 group_events place new callers =
-    victim_events new.victim ++ Step new.caller new.op new.key new.out None new.reply
+    victim_events new.victim ++ new_step new
     ∷ map (shared_event (place + length (victim_events new.victim)) new.key new.out.load) callers ++ evicted_events new.key new.evicted
 
 abbrev pub append_all : List Event → Past → Past

@@ -4,11 +4,12 @@ ghost use Rattle.std.specs.FinMap as finite;
 ghost use Rattle.jc_model.specs.Cache.{key_cmp};
 ghost use Rattle.jc_model.specs.Table.{reply_after, holds};
 ghost use Rattle.jc_model.specs.Group.{victim_events, shared_event, evicted_events};
-ghost use Rattle.jc_model.specs.declared.event.Event.TheVariants.{Step, Evict};
+ghost use Rattle.jc_model.specs.declared.event.Event.TheVariants.{Evict};
 ghost use Rattle.jc_history.specs.Past.{push};
+ghost use Rattle.jc_history.specs.Values.{IsStorable};
 ghost use Rattle.jc_inflight.specs.Joining.{callers_of};
 ghost use Rattle.jc_stripe.specs.OrderOfUse.{uses};
-ghost use Rattle.jc_stripe.specs.Appending.{AppliesStep, group_events, callers_in, append_all, append_group, eviction_of};
+ghost use Rattle.jc_stripe.specs.Appending.{AppliesStep, new_step, group_events, callers_in, append_all, append_group, eviction_of};
 
 use crate::begun::{Eviction, StepDone};
 use jc_entries::{Entries, Inserted};
@@ -165,9 +166,9 @@ fn append_eviction(history: &mut History, key: &Key, cause: Cause)
 fn append_step(history: &mut History, group: &NewGroup) -> u32
     requires few { length history.old.events + 1 < 2 ^ 32 }
     requires places { length (victim_events group.now.victim) + 1 ≤ history.old.promised }
+    requires storable { IsStorable (new_step group.now) }
     ensures place { result ≡ length history.old.events + length (victim_events group.now.victim) }
-    ensures history { history.new ≡ append_all (victim_events group.now.victim
-        ++ Step group.now.caller group.now.op group.now.key group.now.out None group.now.reply ∷ []) history.old }
+    ensures history { history.new ≡ append_all (victim_events group.now.victim ++ new_step group.now ∷ []) history.old }
 {
     if let Some(victim) = &group.victim {
         append_eviction(history, victim, Cause::Full);
@@ -243,6 +244,7 @@ pub(crate) fn append_group(
     requires kept { kept ≤ history.old.promised }
     requires few { length history.old.events + kept < 2 ^ 32 }
     requires places { length (group_events (length history.old.events) group.now (callers_in load joiners.now)) ≤ kept }
+    requires storable { IsStorable (new_step group.now) }
     ensures reply { result.reply ≡ group.now.reply }
     ensures place { result.place ≡ length history.old.events + length (victim_events group.now.victim) }
     ensures victim { result.victim ≡ group.now.victim }

@@ -8,7 +8,7 @@ use Rattle.jc_stripe.proofs.Used.{find-entry}
 use Rattle.jc_stripe.proofs.Inner.{entries_len}
 use Rattle.jc_stripe.proofs.Making.{enough_promised}
 use Rattle.jc_stripe.proofs.Stepping.{made_is}
-use Rattle.jc_stripe.proofs.Finishing.{IsCommit, committed_at, commit_few, commit_steps, commit_sound}
+use Rattle.jc_stripe.proofs.Finishing.{IsCommit, committed_at, commit_few, commit_storable, commit_steps, commit_sound}
 use Rattle.jc_stripe.proofs.stripe.Stripe.commit.Goals as goal
 
 pub make_step-group-requires-clause-room : goal.make_step-group-requires-clause-room
@@ -22,6 +22,14 @@ append_group-done-requires-clause-kept c =
 pub append_group-done-requires-clause-places : goal.append_group-done-requires-clause-places
 append_group-done-requires-clause-places c =
     commit_few c.args.reservation.now.number c.self.inside.joiners (length c.self.inside.history.events) c.waiting.result c.make_step-group.result c.waiting.ensures.count
+
+pub append_group-done-requires-clause-storable : goal.append_group-done-requires-clause-storable
+append_group-done-requires-clause-storable c =
+    let Out : State → Type 0 = λ s. IsOut s c.args.reservation.now in
+    let Said : State → Type 0 = λ s. AnswersFirst s.config c.args.reservation.now.first c.args.out.now in
+    commit_storable c.self.inside c.args.reservation.now c.args.out.now c.make_step-group.result c.self.invariant (subst Out (sym c.self.view_is) c.requires.out) (subst Said (sym c.self.view_is) c.requires.answers)
+    (made_is (state_of c.self.inside) c.args.reservation.now.caller c.args.reservation.now.key c.args.reservation.now.op c.args.out.now c.peek-entry.result c.make_step-group.result c.make_step-group.ensures.group
+    (c.peek-entry.ensures ∙ find-entry c.self.inside.entries.list c.args.reservation.now.key))
 
 is_commit : (c : goal.After-resolve)
     → IsCommit c.self.inside c.args.reservation.now c.args.out.now c.make_step-group.new.entries c.release.new.self c.resolve.new.self c.append_group-done.new.history c.keys-pinned.result.now c.make_step-group.result c.append_group-done.result

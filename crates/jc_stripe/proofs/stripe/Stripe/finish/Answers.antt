@@ -16,7 +16,7 @@ use Rattle.jc_stripe.proofs.Fitting.{nobody_fits}
 use Rattle.jc_stripe.proofs.Refusing.{not_refused, roomy}
 use Rattle.jc_stripe.proofs.Making.{promised_so, room_so}
 use Rattle.jc_stripe.proofs.Stepping.{IsMade, made_is}
-use Rattle.jc_stripe.proofs.Finishing.{IsDone, done_at, done_few, done_steps, done_sound}
+use Rattle.jc_stripe.proofs.Finishing.{IsDone, done_at, done_few, done_storable, done_steps, done_sound}
 use Rattle.jc_stripe.proofs.stripe.Stripe.finish.Goals as goal
 
 pub make_step-group-requires-clause-room : goal.make_step-group-requires-clause-room
@@ -57,6 +57,9 @@ append_group-requires-clause-places c =
     subst (λ n. length (group_events (length c.promise.new.self.events) c.make_step-group.result []) ≤ n) (needed c)
     (done_few c.self.inside c.args.caller c.args.key.now c.args.op.now c.make_step-group.new.entries c.keys-pinned.result.now c.make_step-group.result (length c.promise.new.self.events) c.self.invariant (asked c) c.keys-pinned.ensures.keys (made c)
     (subst (λ o. AppliesStep c.self.inside.entries c.keys-pinned.result.now c.args.key.now c.args.op.now o c.make_step-group.result.victim c.make_step-group.result.evicted c.make_step-group.new.entries) c.nothing_said-out.ensures c.make_step-group.ensures.applies))
+
+pub append_group-requires-clause-storable : goal.append_group-requires-clause-storable
+append_group-requires-clause-storable c = done_storable c.self.inside c.args.caller c.args.key.now c.args.op.now c.make_step-group.result (asked c) (made c)
 
 is_done : (c : goal.After-append_group)
     → IsDone c.self.inside c.args.caller c.args.key.now c.args.op.now c.make_step-group.new.entries c.promise.new.self c.append_group.new.history c.keys-pinned.result.now c.make_step-group.result c.append_group.result c.places_needed-kept.result
