@@ -1,4 +1,7 @@
 //! The same long runs of random calls on the entries and on a plain list, and on a history and a plain vector of events.
+ghost use Rattle.std.specs.Prelude.{◌+◌, ◌≤◌};
+ghost use Rattle.jc_history.specs.Values.{IsStorable, values_in_op, values_in_load, values_in_process};
+
 use super::{is, key, value};
 use jc_entries::{Entries, Inserted};
 use jc_history::History;
@@ -166,7 +169,9 @@ fn entries_are_a_plain_list(rt: HostRuntime) {
 // 2. A history.
 
 impl Numbers {
-    fn op(&mut self, rt: &impl Abort) -> Op {
+    fn op(&mut self, rt: &impl Abort) -> Op
+        ensures { values_in_op result ≤ 2 }
+    {
         let (first, second) = (self.value(rt), self.value(rt));
         match self.below(14) {
             0 => Op::Get,
@@ -191,7 +196,9 @@ impl Numbers {
         }
     }
 
-    fn load(&mut self, rt: &impl Abort) -> LoadAnswer {
+    fn load(&mut self, rt: &impl Abort) -> LoadAnswer
+        ensures { values_in_load result ≤ 1 }
+    {
         match self.below(4) {
             0 => LoadAnswer::Found(self.value(rt)),
             1 => LoadAnswer::Nothing,
@@ -200,7 +207,9 @@ impl Numbers {
         }
     }
 
-    fn process(&mut self, rt: &impl Abort) -> ProcessAnswer {
+    fn process(&mut self, rt: &impl Abort) -> ProcessAnswer
+        ensures { values_in_process result ≤ 2 }
+    {
         match self.below(4) {
             0 => ProcessAnswer::Ended {
                 effect: Effect::Set(self.value(rt)),
@@ -225,34 +234,57 @@ impl Numbers {
         }
     }
 
-    fn event(&mut self, rt: &impl Abort) -> Event {
-        let key = self.key(rt);
-        if self.below(5) == 0 {
-            return Event::Evict {
-                key,
-                cause: Cause::Full,
-            };
-        }
+    /// A step of this operation, with these answers of the loader and the processor.
+    #[tactic(auto, using(jc_history::proofs::CallerLemmas::few_in_reply))]
+    fn step(&mut self, rt: &impl Abort, op: Op, load: LoadAnswer, process: ProcessAnswer) -> Event
+        requires { values_in_op op + (values_in_load load + values_in_process process) ≤ 2 }
+        ensures { IsStorable result }
+    {
         Event::Step {
             caller: Caller {
                 session: 1 + self.below(32) as u32,
                 call: self.below(250) as u64,
             },
-            op: self.op(rt),
-            key,
+            op,
+            key: self.key(rt),
             out: Out {
-                load: self.load(rt),
+                load,
                 write: WriteAnswer::Failed(self.below(200) as u32),
-                process: self.process(rt),
+                process,
             },
             shared_with: Some(self.below(250) as u32),
             reply: self.reply(rt),
         }
     }
+
+    fn event(&mut self, rt: &impl Abort) -> Event
+        ensures { IsStorable result }
+    {
+        match self.below(4) {
+            0 => Event::Evict {
+                key: self.key(rt),
+                cause: Cause::Full,
+            },
+            1 => {
+                let op = self.op(rt);
+                self.step(rt, op, LoadAnswer::NotAsked, ProcessAnswer::NotAsked)
+            }
+            2 => {
+                let load = self.load(rt);
+                self.step(rt, Op::Get, load, ProcessAnswer::NotAsked)
+            }
+            _ => {
+                let process = self.process(rt);
+                self.step(rt, Op::Invoke, LoadAnswer::NotAsked, process)
+            }
+        }
+    }
 }
 
 /// Pushes an event into both, and reads it back.
-fn pushes_both(rt: &impl Abort, history: &mut History, plain: &mut Vec<Event>, event: &Event) {
+fn pushes_both(rt: &impl Abort, history: &mut History, plain: &mut Vec<Event>, event: &Event)
+    requires { IsStorable event.now }
+{
     assert!(rt; history.promise(1));
     history.push(event);
     plain.push(*event).expect(rt, "memory");

@@ -1,4 +1,6 @@
 //! Room for events, and events read back.
+ghost use Rattle.jc_history.specs.Values.{IsStorable};
+
 use super::{is, key, value};
 use jc_history::{History, LentStep};
 use jc_model::{Cause, Effect, Event, LoadAnswer, Op, Out, ProcessAnswer, Reply, WriteAnswer};
@@ -48,14 +50,18 @@ fn promises_up_to_the_limit(rt: HostRuntime) {
 }
 
 /// Pushes into a place that is promised for it.
-fn pushes(rt: &impl Abort, history: &mut History, event: &Event) {
+fn pushes(rt: &impl Abort, history: &mut History, event: &Event)
+    requires { IsStorable event.now }
+{
     let fits = history.promise(1);
     assert!(rt; fits);
     history.push(event);
 }
 
 /// Pushes a step of which each part is lent into a place that is promised for it.
-fn pushes_lent(rt: &impl Abort, history: &mut History, event: &Event) {
+fn pushes_lent(rt: &impl Abort, history: &mut History, event: &Event)
+    requires { IsStorable event.now }
+{
     let fits = history.promise(1);
     assert!(rt; fits);
     match event {
@@ -78,7 +84,9 @@ fn pushes_lent(rt: &impl Abort, history: &mut History, event: &Event) {
     }
 }
 
-fn hit(key: Key, value: Value) -> Event {
+fn hit(key: Key, value: Value) -> Event
+    ensures { IsStorable result }
+{
     Event::Step {
         caller: Caller {
             session: 1,
@@ -93,7 +101,9 @@ fn hit(key: Key, value: Value) -> Event {
 }
 
 /// Has `n` places promised, pushes into two of them, and gives the rest back.
-fn pushes_two_of(rt: &impl Abort, history: &mut History, n: usize, event: &Event) {
+fn pushes_two_of(rt: &impl Abort, history: &mut History, n: usize, event: &Event)
+    requires { IsStorable event.now }
+{
     let fits = history.promise(n);
     assert!(rt; fits && 2 <= n);
     history.push(event);
@@ -115,28 +125,28 @@ fn pushes_into_promised_places(rt: HostRuntime) {
     is(&rt, "full", history.has_room(0), true);
 }
 
-/// An event with each field at its longest.
-fn largest(key: Key, value: Value) -> Event {
+/// A step with as many values as an event has, and each field at its longest. It replies what its processor answered.
+#[tactic(auto, using(jc_history::proofs::CallerLemmas::same_bytes))]
+fn largest(key: Key, loaded: Value, outcome: Value) -> Event
+    ensures { IsStorable result }
+{
     Event::Step {
         caller: Caller {
             session: u32::MAX,
             call: u64::MAX,
         },
-        op: Op::ReplaceIf {
-            old: value,
-            new: value,
-        },
+        op: Op::Invoke,
         key,
         out: Out {
-            load: LoadAnswer::Found(value),
+            load: LoadAnswer::Found(loaded),
             write: WriteAnswer::Failed(u32::MAX),
             process: ProcessAnswer::Ended {
-                effect: Effect::Set(value),
-                outcome: Some(value),
+                effect: Effect::Set(loaded),
+                outcome: Some(outcome),
             },
         },
         shared_with: Some(u32::MAX),
-        reply: Reply::Value(Some(value)),
+        reply: Reply::Value(Some(outcome)),
     }
 }
 
@@ -161,13 +171,14 @@ fn appends(rt: &impl Abort, alloc: Global, history: &History, want: &[Event]) {
 #[test]
 fn reads_back(rt: HostRuntime) {
     let key = key(&rt, &[255; KEY_MAX]);
-    let (empty_value, long) = (value(&rt, b""), value(&rt, &[0; VALUE_MAX]));
+    let (empty_value, zeros) = (value(&rt, b""), value(&rt, &[0; VALUE_MAX]));
+    let ones = value(&rt, &[1; VALUE_MAX]);
     let first = hit(key, empty_value);
     let second = Event::Evict {
         key,
         cause: Cause::Memory,
     };
-    let third = largest(key, long);
+    let third = largest(key, zeros, ones);
     let mut history = empty(&rt, rt.alloc(), 3);
     pushes(&rt, &mut history, &first);
     pushes(&rt, &mut history, &second);
@@ -175,7 +186,7 @@ fn reads_back(rt: HostRuntime) {
     let reply = Some(Reply::Value(Some(empty_value)));
     reads(&rt, &history, 0, &first, reply);
     reads(&rt, &history, 1, &second, None);
-    let reply = Some(Reply::Value(Some(long)));
+    let reply = Some(Reply::Value(Some(ones)));
     reads(&rt, &history, 2, &third, reply);
     is(&rt, "no such place", history.reply(3), None);
     appends(&rt, rt.alloc(), &history, &[second, third, first]);
