@@ -1,7 +1,6 @@
 -- Lemmas for the crates above: which events may be stored.
-use Rattle.std.proofs.Common.{◌≡◌, ◌==◌, ℕ, ◌≤◌, ◌+◌, ◌&&◌, Bool, true, false, not, cond, IsTrue, Option, None, Some, is_none, is_some, refl, ap, ◌∙◌, arith}
+use Rattle.std.proofs.Common.{◌≡◌, ◌==◌, ℕ, ◌≤◌, ◌+◌, ◌&&◌, Bool, true, false, not, cond, IsTrue, Option, None, Some, is_none, is_some, refl, ap, arith}
 use Rattle.std.specs.Bool.{beq}
-use Rattle.std.specs.Option.{option_len}
 use Rattle.std.specs.Cmp.Lexicographic.{pointwise}
 use Rattle.std.proofs.lemmas.Bool.{and_parts}
 use Rattle.std.proofs.lemmas.Cmp.{nat_list_eq_equiv}
@@ -21,10 +20,8 @@ use Rattle.jc_model.specs.declared.event.Out.{Out}
 use Rattle.jc_model.specs.declared.event.Reply.{Reply}
 use Rattle.jc_model.specs.declared.event.Reply.TheVariants as reply
 use Rattle.jc_model.specs.declared.event.Event.TheVariants.{Step}
-use Rattle.jc_model.specs.declared.table.LoaderAsk.{LoaderAsk}
-use Rattle.jc_model.specs.declared.table.LoaderAsk.TheVariants.{Never}
 use Rattle.jc_model.specs.Cache.{Bytes}
-use Rattle.jc_model.specs.Table.{answers_fit, reply_after, reply_without_fault, reply_by_fault, loader_ask, load_fits, write_ask, early_fault, first_fault, is_load_given, is_process_given, is_write_given, is_invoke, outcome_of}
+use Rattle.jc_model.specs.Table.{answers_fit, reply_after, reply_by_fault, loader_ask, load_fits, write_ask, early_fault, first_fault, is_load_given, is_process_given, is_write_given, is_invoke, outcome_of}
 use Rattle.jc_model.specs.Group.{load_only, shared_event}
 use Rattle.jc_history.specs.Values.{repeats_outside, values_in_op, values_in_load, values_in_effect, values_in_process, values_in_reply, IsStorable}
 
