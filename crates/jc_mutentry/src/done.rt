@@ -7,12 +7,14 @@ use crate::ask::AskProcess;
 use jc_model::{Change, LoadAnswer, Op, ProcessAnswer};
 use jc_outside::Origin;
 use std::marker::Model;
+use std::snapshot::Snapshot;
 
 /// What an entry processor did to the entry of one ask, and what the loader answered if `getValue` asked it.
 ///
-/// It can't be dropped or copied: the commit that ends the ask's reservation spends it.
+/// The ask was spent when this was made, and only clauses see it. It can't be dropped or copied: the commit that ends the ask's
+/// reservation spends it.
 pub struct ProcDone<A: AskProcess> {
-    ask: A,
+    ask: Snapshot<A>,
     origin: Origin,
     load: LoadAnswer,
     process: ProcessAnswer,
@@ -25,20 +27,13 @@ impl<A: AskProcess> Model for ProcDone<A> {
 
     ghost Value = { ProcessResult A };
 
-    ghost view = { λ d. record { ask = d.ask; origin = d.origin; load = d.load; process = d.process } };
+    ghost view = { λ d. record { ask = d.ask.value; origin = d.origin; load = d.load; process = d.process } };
 
     ghost invariant = { λ d. (is_process_given d.process ≡ true)
-        × (load_fits (wanted_if (A.may_load d.ask)) (is_load_given d.load) ≡ true) };
+        × (load_fits (wanted_if (A.may_load d.ask.value)) (is_load_given d.load) ≡ true) };
 }
 
 impl<A: AskProcess> ProcDone<A> {
-    /// The ask that it answers.
-    pub fn ask(&self) -> &A
-        ensures { result.now ≡ self.now.ask }
-    {
-        &self.ask
-    }
-
     /// What the loader answered: `NotAsked` if the processor's calls didn't ask it.
     pub fn load(&self) -> &LoadAnswer
         ensures { result.now ≡ self.now.load }
@@ -66,7 +61,7 @@ impl<A: AskProcess> ProcDone<A> {
         }
     }
 
-    /// What the loader answered, and what the processor did. The value and its ask are spent.
+    /// What the loader answered, and what the processor did. The done value is spent.
     pub fn into_answers(self) -> (LoadAnswer, ProcessAnswer)
         ensures load { result.0 ≡ self.load }
         ensures process { result.1 ≡ self.process }
@@ -74,23 +69,24 @@ impl<A: AskProcess> ProcDone<A> {
         ensures fits { load_fits (wanted_if (A.may_load self.ask)) (is_load_given self.load) ≡ true }
     {
         let ProcDone {
-            ask,
+            ask: _,
             origin: _,
             load,
             process,
         } = self;
-        ask.spend();
         (load, process)
     }
 
-    /// The done value of an ask.
+    /// The done value of an ask, which is spent.
     pub(crate) fn new(ask: A, origin: Origin, load: LoadAnswer, process: ProcessAnswer) -> Self
         requires given { is_process_given process ≡ true }
         requires fits { load_fits (wanted_if (A.may_load ask)) (is_load_given load) ≡ true }
         ensures { result ≡ record { ask = ask; origin = origin; load = load; process = process } }
     {
+        let answered = Snapshot::of(&ask);
+        ask.spend();
         ProcDone {
-            ask,
+            ask: answered,
             origin,
             load,
             process,

@@ -1,6 +1,7 @@
 //! What was answered outside, and where that comes from.
 //!
-//! A done value holds the ask that it answers, and its type says who makes such asks. It can't be dropped or copied: the commit
+//! A done value stands for the ask that it answers, and its type says who makes such asks. The ask is spent when the done value is
+//! made: only clauses see it from then on, so a done value has the size of its answer. It can't be dropped or copied: the commit
 //! that ends the ask's reservation spends it.
 ghost use Rattle.std.specs.Prelude.{◌≡◌, true};
 ghost use Rattle.jc_model.specs.Table.{is_load_given, is_write_given};
@@ -9,6 +10,7 @@ ghost use Rattle.jc_outside.specs.declared.done.Origin.TheVariants.{Played};
 use crate::ask::{Ask, AskWrite};
 use jc_model::{LoadAnswer, WriteAnswer};
 use std::marker::Model;
+use std::snapshot::Snapshot;
 
 /// Where a stripe, and the outside answers for it, come from.
 #[derive(Clone, Copy, Debug, PartialEq, Eq)]
@@ -21,7 +23,7 @@ pub enum Origin {
 
 /// What a loader answered to one ask: a value, nothing, or a failure.
 pub struct LoadDone<A> {
-    ask: A,
+    ask: Snapshot<A>,
     origin: Origin,
     answer: LoadAnswer,
 }
@@ -33,33 +35,34 @@ impl<A> Model for LoadDone<A> {
 
     ghost Value = { LoadResult A };
 
-    ghost view = { λ d. record { ask = d.ask; origin = d.origin; answer = d.answer } };
+    ghost view = { λ d. record { ask = d.ask.value; origin = d.origin; answer = d.answer } };
 
     ghost invariant = { λ d. is_load_given d.answer ≡ true };
 }
 
 impl<A: Ask> LoadDone<A> {
-    /// What was answered. The value and its ask are spent.
+    /// What was answered. The done value is spent.
     pub fn into_answer(self) -> LoadAnswer
         ensures answer { result ≡ self.answer }
         ensures given { is_load_given self.answer ≡ true }
     {
         let LoadDone {
-            ask,
+            ask: _,
             origin: _,
             answer,
         } = self;
-        ask.spend();
         answer
     }
 
-    /// The done value of an ask.
+    /// The done value of an ask, which is spent.
     pub(crate) fn new(ask: A, origin: Origin, answer: LoadAnswer) -> Self
         requires { is_load_given answer ≡ true }
         ensures { result ≡ record { ask = ask; origin = origin; answer = answer } }
     {
+        let answered = Snapshot::of(&ask);
+        ask.spend();
         LoadDone {
-            ask,
+            ask: answered,
             origin,
             answer,
         }
@@ -68,7 +71,7 @@ impl<A: Ask> LoadDone<A> {
 
 /// What a writer reported of one ask: success or a failure.
 pub struct WriteDone<A> {
-    ask: A,
+    ask: Snapshot<A>,
     origin: Origin,
     answer: WriteAnswer,
 }
@@ -80,33 +83,34 @@ impl<A> Model for WriteDone<A> {
 
     ghost Value = { WriteResult A };
 
-    ghost view = { λ d. record { ask = d.ask; origin = d.origin; answer = d.answer } };
+    ghost view = { λ d. record { ask = d.ask.value; origin = d.origin; answer = d.answer } };
 
     ghost invariant = { λ d. is_write_given d.answer ≡ true };
 }
 
 impl<A: AskWrite> WriteDone<A> {
-    /// What was reported. The value and its ask are spent.
+    /// What was reported. The done value is spent.
     pub fn into_answer(self) -> WriteAnswer
         ensures answer { result ≡ self.answer }
         ensures given { is_write_given self.answer ≡ true }
     {
         let WriteDone {
-            ask,
+            ask: _,
             origin: _,
             answer,
         } = self;
-        ask.spend();
         answer
     }
 
-    /// The done value of an ask.
+    /// The done value of an ask, which is spent.
     pub(crate) fn new(ask: A, origin: Origin, answer: WriteAnswer) -> Self
         requires { is_write_given answer ≡ true }
         ensures { result ≡ record { ask = ask; origin = origin; answer = answer } }
     {
+        let answered = Snapshot::of(&ask);
+        ask.spend();
         WriteDone {
-            ask,
+            ask: answered,
             origin,
             answer,
         }
