@@ -1,6 +1,6 @@
 -- What a first phase finds at its key, and keeps while it decides. No contract of a public call cites this.
---     found_at         the key's entry, the load that the call joins, whom it asks first, whether it needs its key free, and whether the
---                      key is reserved though the call needs it free
+--     found_at         the load that the call joins, whether there is anybody to ask, whether it needs its key free, and whether the key
+--                      is reserved though the call needs it free
 --     is_to_reserve    whether the call reserves its key, by what it has found
 use Rattle.std.specs.Prelude.{Bool, ◌&&◌, is_none}
 use Rattle.jc_model.specs.declared.event.Op.{Op}
@@ -12,12 +12,11 @@ use Rattle.jc_stripe.specs.Refusals.{first_asked, reserves, load_joined, needs_f
 abbrev pub found_at : State → Bytes → Op → Found
 found_at state key op =
     record {
-      entry = entry_at state.cache key;
       load = load_joined state key op;
-      first = first_asked state.config op (entry_at state.cache key);
+      asks = reserves (first_asked state.config op (entry_at state.cache key));
       needs_free_key = needs_free_key state key op;
       is_busy = is_reserved state key && needs_free_key state key op;
     }
 
 abbrev pub is_to_reserve : Found → Bool
-is_to_reserve found = reserves found.first && is_none found.load
+is_to_reserve found = found.asks && is_none found.load

@@ -8,13 +8,14 @@ use jc_model::{Change, LoaderAsk, Op, ProcessAnswer};
 use jc_types::{Config, HIT_PLACES, STEP_PLACES, Value};
 
 /// What a call finds at its key, before anything is done.
+///
+/// It has no copy of the entry, nor of whom the call asks first: both may have a value.
 #[derive(Clone, Copy)]
 pub(crate) struct Found {
-    pub(crate) entry: Option<Value>,
     /// The load that the call joins, if there is one.
     pub(crate) load: Option<u64>,
-    /// Whom the call asks first, unless it joins a load.
-    pub(crate) first: First,
+    /// Whether there is anybody to ask, unless the call joins a load.
+    pub(crate) asks: bool,
     /// Whether the call neither answers from the entry nor joins a load.
     pub(crate) needs_free_key: bool,
     /// Whether the key is reserved, though the call needs it free.
@@ -152,5 +153,5 @@ pub(crate) fn reserves(first: &First) -> bool
 pub(crate) fn is_to_reserve(found: &Found) -> bool
     ensures { result ≡ is_to_reserve found.now }
 {
-    found.load.is_none() && reserves(&found.first)
+    found.load.is_none() && found.asks
 }

@@ -200,7 +200,9 @@ impl Stripe {
         ensures commits { Commits self.old ticket.reservation (load_only done.answer) result self.new }
         ensures phase { IsPhaseOf ticket.reservation.caller.session self.old self.new }
     {
-        self.commit(&ticket.spend(), &Out::load_only(done.into_answer()))
+        let step = self.commit(ticket.reservation(), &Out::load_only(done.into_answer()));
+        ticket.spend();
+        step
     }
 
     /// The last phase of a call whose writer was asked: its reservation ends, and its step is appended with the writer's report.
@@ -216,7 +218,9 @@ impl Stripe {
         ensures commits { Commits self.old ticket.reservation (write_only done.answer) result self.new }
         ensures phase { IsPhaseOf ticket.reservation.caller.session self.old self.new }
     {
-        self.commit(&ticket.spend(), &Out::write_only(done.into_answer()))
+        let step = self.commit(ticket.reservation(), &Out::write_only(done.into_answer()));
+        ticket.spend();
+        step
     }
 
     /// The last phase of a call whose processor ran: its reservation ends, and its step is appended with what the loader, the
@@ -248,7 +252,9 @@ impl Stripe {
             write,
             process,
         };
-        self.commit(&ticket.spend(), &out)
+        let step = self.commit(ticket.reservation(), &out);
+        ticket.spend();
+        step
     }
 
     /// Gives a ticket back that asked nobody: nothing is appended, and the entry and the store stay. Each call that has joined a
@@ -261,7 +267,8 @@ impl Stripe {
         ensures withdraws { Withdraws self.old ticket.reservation self.new }
         ensures phase { IsPhaseOf ticket.reservation.caller.session self.old self.new }
     {
-        self.give_back(&ticket.spend());
+        self.give_back(ticket.reservation());
+        ticket.spend();
     }
 
     /// Picks up the answer of the load that a call has joined. If the load isn't over, the join comes back and nothing changes;

@@ -162,15 +162,12 @@ impl Ticket {
     }
 
     /// The ticket is spent.
-    pub(crate) fn spend(self) -> Reservation
-        ensures { result ≡ self.reservation }
-    {
+    pub(crate) fn spend(self) {
         let Ticket {
-            reservation,
+            reservation: _,
             is_asked: _,
             is_writer_asked: _,
         } = self;
-        reservation
     }
 }
 

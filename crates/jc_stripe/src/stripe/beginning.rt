@@ -1,5 +1,5 @@
 //! The first phase of a call: a hit, and what it is otherwise.
-ghost use Rattle.std.specs.Prelude.{◌≡◌, ◌↔◌, [], length, true, IsTrue, None, Some, IfSome, IfNone, MatchOption};
+ghost use Rattle.std.specs.Prelude.{◌≡◌, ◌↔◌, [], length, true, false, IsTrue, None, Some, IfSome, IfNone, MatchOption};
 ghost use Rattle.jc_types.specs.declared.limits.TheConstants.{HIT_PLACES};
 ghost use Rattle.jc_model.specs.declared.event.Op.TheVariants.{Get};
 ghost use Rattle.jc_model.specs.Cache.{entry_at};
@@ -14,7 +14,7 @@ ghost use Rattle.jc_stripe.specs.declared.begun.Begun.TheVariants.{Done};
 use super::Stripe;
 use crate::appending::{append_group, make_step};
 use crate::begun::{Begun, StepDone};
-use crate::call_rules::{Found, places_needed};
+use crate::call_rules::{Found, first_asked, places_needed};
 use crate::ticket::{First, Join, Reservation, Ticket};
 use jc_model::{Op, Out, Reply};
 use jc_types::{Caller, HIT_PLACES, Key, STEP_PLACES, Value};
@@ -23,7 +23,7 @@ use jc_types::{Caller, HIT_PLACES, Key, STEP_PLACES, Value};
 fn is_get(op: &Op) -> bool
     ensures { IsTrue result ↔ (op.now ≡ Get) }
 {
-    *op == Op::Get
+    matches!(op, Op::Get)
 }
 
 /// The step of a `get` that found this value, at this place.
@@ -46,13 +46,13 @@ impl Stripe {
     {
         if is_get(op) && self.has_room(caller.call, HIT_PLACES) {
             let place = self.next_place();
-            return match self.find_and_use(caller, key) {
-                Some(value) => Begun::Done(hit_done(place, value)),
-                None => self.begin_on(caller, key, op, None),
-            };
+            if let Some(value) = self.find_and_use(caller, key) {
+                return Begun::Done(hit_done(place, value));
+            }
+            return self.begin_on(caller, key, op, &None);
         }
         let entry = self.entry(key);
-        self.begin_on(caller, key, op, entry)
+        self.begin_on(caller, key, op, &entry)
     }
 
     /// The place of the next event.
@@ -64,22 +64,23 @@ impl Stripe {
 
     /// What a first phase gives on a key that has this entry, and what it leaves.
     #[inline(never)]
-    fn begin_on(&mut self, caller: Caller, key: &Key, op: &Op, entry: Option<Value>) -> Begun
+    fn begin_on(&mut self, caller: Caller, key: &Key, op: &Op, entry: &Option<Value>) -> Begun
         requires begins { MayBegin self.old caller key.now }
-        requires entry { entry ≡ entry_at self.old.cache key.now }
+        requires entry { entry.now ≡ entry_at self.old.cache key.now }
         ensures { Begins self.old caller key.now op.now result self.new }
     {
-        let found = self.find(key, op, entry);
+        let first = first_asked(&self.config, op, entry);
+        let found = self.find(key, op, entry, &first);
         if let Some(refusal) = self.refusal(caller, &found) {
             return Begun::Refused(refusal);
         }
         if let Some(load) = found.load {
             return Begun::Joined(self.join(caller, key, op, load));
         }
-        match found.first {
-            First::Nobody => Begun::Done(self.finish(caller, key, op, &found)),
+        match first {
+            First::Nobody => Begun::Done(self.finish(caller, key, op, entry, &found)),
             First::Loader | First::Writer(_) | First::Processor { .. } => {
-                Begun::Asks(Ticket::new(self.reserve(caller, key, op, found.first)))
+                Begun::Asks(self.reserve(caller, key, op, &first))
             }
         }
     }
@@ -115,25 +116,29 @@ impl Stripe {
 
     /// Reserves a key, and keeps room in the history for its commit.
     #[inline(never)]
-    fn reserve(&mut self, caller: Caller, key: &Key, op: &Op, first: First) -> Reservation
+    fn reserve(&mut self, caller: Caller, key: &Key, op: &Op, first: &First) -> Ticket
         requires free { first_refusal self.old caller key.now op.now ≡ None }
         requires alone { load_joined self.old key.now op.now ≡ None }
         requires needs { needs_reservation self.old key.now op.now ≡ true }
-        requires asks { first_asked self.old.config op.now (entry_at self.old.cache key.now) ≡ first }
+        requires asks { first_asked self.old.config op.now (entry_at self.old.cache key.now) ≡ first.now }
         requires begins { MayBegin self.old caller key.now }
-        ensures reservation { result ≡ new_reservation self.old caller key.now op.now first }
-        ensures reserved { self.new ≡ with_reservation self.old (new_reservation self.old caller key.now op.now first) }
+        ensures ticket { result ≡ record {
+          reservation = new_reservation self.old caller key.now op.now first.now;
+          asked = false;
+          writer_asked = false;
+        } }
+        ensures reserved { self.new ≡ with_reservation self.old (new_reservation self.old caller key.now op.now first.now) }
     {
         let reservation = Reservation {
             caller,
             key: *key,
             op: *op,
             number: self.reservations.next_number(),
-            first,
+            first: *first,
         };
         let _ = self.history.promise(STEP_PLACES);
         let _ = self.reservations.reserve(&reservation);
-        reservation
+        Ticket::new(reservation)
     }
 
     /// Joins a load, and keeps room in the history for the shared step.
@@ -151,7 +156,15 @@ impl Stripe {
     }
 
     /// Does a call at once that asks nobody.
-    fn finish(&mut self, caller: Caller, key: &Key, op: &Op, found: &Found) -> StepDone
+    fn finish(
+        &mut self,
+        caller: Caller,
+        key: &Key,
+        op: &Op,
+        entry: &Option<Value>,
+        found: &Found,
+    ) -> StepDone
+        requires entry { entry.now ≡ entry_at self.old.cache key.now }
         requires found { found.now ≡ found_at self.old key.now op.now }
         requires free { first_refusal self.old caller key.now op.now ≡ None }
         requires asks { first_asked self.old.config op.now (entry_at self.old.cache key.now) ≡ Nobody }
@@ -162,15 +175,7 @@ impl Stripe {
         let _ = self.history.promise(kept);
         let pinned = self.reservations.keys();
         let out = Out::nothing_said();
-        let group = make_step(
-            &mut self.entries,
-            pinned,
-            caller,
-            key,
-            found.entry,
-            op,
-            &out,
-        );
+        let group = make_step(&mut self.entries, pinned, caller, key, *entry, op, &out);
         append_group(&mut self.history, &self.joiners, None, &group, kept)
     }
 }

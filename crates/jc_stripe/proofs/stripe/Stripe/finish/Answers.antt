@@ -24,7 +24,7 @@ make_step-group-requires-clause-room c = entries_len c.self.inside c.self.invari
 
 pub make_step-group-requires-clause-entry : goal.make_step-group-requires-clause-entry
 make_step-group-requires-clause-entry c =
-    ap (λ (f : Found). f.entry) c.requires.found
+    c.requires.entry
     ∙ sym (ap (λ (s : State). entry_at s.cache c.args.key.now) c.self.view_is)
     ∙ sym (find-entry c.self.inside.entries.list c.args.key.now)
 
@@ -48,9 +48,9 @@ asked c = ap (λ (s : State). first_asked s.config c.args.op.now (entry_at s.cac
 
 made : (c : goal.After-group-1) → IsMade (state_of c.self.inside) c.args.caller c.args.key.now c.args.op.now nothing_said c.make_step-group.result
 made c =
-    made_is (state_of c.self.inside) c.args.caller c.args.key.now c.args.op.now nothing_said c.args.found.now.entry c.make_step-group.result
-    (c.make_step-group.ensures.group ∙ (λ i. record { caller = c.args.caller; key = c.args.key.now; op = c.args.op.now; out = c.nothing_said-out.ensures i; reply = reply_after c.args.op.now c.args.found.now.entry (c.nothing_said-out.ensures i); victim = c.make_step-group.result.victim; evicted = c.make_step-group.result.evicted }))
-    (ap (λ (f : Found). f.entry) c.requires.found ∙ sym (ap (λ (s : State). entry_at s.cache c.args.key.now) c.self.view_is))
+    made_is (state_of c.self.inside) c.args.caller c.args.key.now c.args.op.now nothing_said c.args.entry.now c.make_step-group.result
+    (c.make_step-group.ensures.group ∙ (λ i. record { caller = c.args.caller; key = c.args.key.now; op = c.args.op.now; out = c.nothing_said-out.ensures i; reply = reply_after c.args.op.now c.args.entry.now (c.nothing_said-out.ensures i); victim = c.make_step-group.result.victim; evicted = c.make_step-group.result.evicted }))
+    (c.requires.entry ∙ sym (ap (λ (s : State). entry_at s.cache c.args.key.now) c.self.view_is))
 
 pub append_group-requires-clause-places : goal.append_group-requires-clause-places
 append_group-requires-clause-places c =

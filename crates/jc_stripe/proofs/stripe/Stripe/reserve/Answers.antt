@@ -8,29 +8,29 @@ use Rattle.jc_stripe.specs.Inside.{state_of}
 use Rattle.jc_stripe.proofs.Making.{table_made, reserve_made, reserve_sound}
 use Rattle.jc_stripe.proofs.stripe.Stripe.reserve.Goals as goal
 
-free_inside : (c : goal.After-reserve) → first_refusal (state_of c.self.inside) c.args.caller c.args.key.now c.args.op.now ≡ None
+free_inside : (c : goal.After-new) → first_refusal (state_of c.self.inside) c.args.caller c.args.key.now c.args.op.now ≡ None
 free_inside c = subst (λ (s : State). first_refusal s c.args.caller c.args.key.now c.args.op.now ≡ None) (sym c.self.view_is) c.requires.free
 
-needs_inside : (c : goal.After-reserve) → needs_reservation (state_of c.self.inside) c.args.key.now c.args.op.now ≡ true
+needs_inside : (c : goal.After-new) → needs_reservation (state_of c.self.inside) c.args.key.now c.args.op.now ≡ true
 needs_inside c = subst (λ (s : State). needs_reservation s c.args.key.now c.args.op.now ≡ true) (sym c.self.view_is) c.requires.needs
 
-table_is : (c : goal.After-reserve)
-    → c.reserve.new.self ≡ reserving.with_reservation c.self.inside.reservations (new_reservation (state_of c.self.inside) c.args.caller c.args.key.now c.args.op.now c.args.first)
+table_is : (c : goal.After-new)
+    → c.reserve.new.self ≡ reserving.with_reservation c.self.inside.reservations (new_reservation (state_of c.self.inside) c.args.caller c.args.key.now c.args.op.now c.args.first.now)
 table_is c =
-    table_made c.self.inside c.args.caller c.args.key.now c.args.op.now c.args.first c.next_number.result c.reserve.result c.reserve.new.self (free_inside c) (needs_inside c)
+    table_made c.self.inside c.args.caller c.args.key.now c.args.op.now c.args.first.now c.next_number.result c.reserve.result c.reserve.new.self (free_inside c) (needs_inside c)
     c.next_number.ensures c.reserve.ensures.can c.reserve.ensures.table
 
 pub invariant_of-self : goal.invariant_of-self
 invariant_of-self c =
     let back = sym c.self.view_is in
-    let Asks : State → Type 0 = λ s. first_asked s.config c.args.op.now (entry_at s.cache c.args.key.now) ≡ c.args.first in
+    let Asks : State → Type 0 = λ s. first_asked s.config c.args.op.now (entry_at s.cache c.args.key.now) ≡ c.args.first.now in
     let May : State → Type 0 = λ s. MayBegin s c.args.caller c.args.key.now in
-    reserve_sound c.self.inside c.args.caller c.args.key.now c.args.op.now c.args.first c.reserve.new.self c.promise.new.self c.promise.result c.self.invariant
+    reserve_sound c.self.inside c.args.caller c.args.key.now c.args.op.now c.args.first.now c.reserve.new.self c.promise.new.self c.promise.result c.self.invariant
     (free_inside c) (needs_inside c) (subst Asks back c.requires.asks) (subst May back c.requires.begins)
     (table_is c) c.promise.ensures.fits c.promise.ensures.after
 
 pub returns-clause-reserved : goal.returns-clause-reserved
 returns-clause-reserved c =
-    reserve_made c.self.inside c.args.caller c.args.key.now c.args.op.now c.args.first c.reserve.new.self c.promise.new.self c.promise.result c.self.invariant
+    reserve_made c.self.inside c.args.caller c.args.key.now c.args.op.now c.args.first.now c.reserve.new.self c.promise.new.self c.promise.result c.self.invariant
     (free_inside c) (needs_inside c) (table_is c) c.promise.ensures.fits c.promise.ensures.after
-    ∙ ap (λ (s : State). with_reservation s (new_reservation s c.args.caller c.args.key.now c.args.op.now c.args.first)) c.self.view_is
+    ∙ ap (λ (s : State). with_reservation s (new_reservation s c.args.caller c.args.key.now c.args.op.now c.args.first.now)) c.self.view_is
