@@ -14,14 +14,15 @@ ghost use Rattle.jc_engine.specs.Asking.{AsksLoader, AsksWriter, KeepsTypes};
 ghost use Rattle.jc_engine.specs.Needs.{BeginsIfClear};
 ghost use Rattle.jc_engine.specs.Calls.{IsCall, AsksAndEnds};
 
+use crate::ending::commit_answer;
 use crate::entering::{Entered, enter};
 use crate::phase::make_phase;
-use crate::phases::{CommitLoad, CommitWrite, Hit};
+use crate::phases::Hit;
 use jc_gate::Gate;
 use jc_model::{Op, Reply};
 use jc_session::Agent;
 use jc_stripe::phase_laws::is_uniform;
-use jc_stripe::{First, Ticket};
+use jc_stripe::{Ask, First, LoadDone, Ticket, WriteDone};
 use jc_types::{Key, Refusal};
 use std::sync::Wait;
 
@@ -167,8 +168,9 @@ fn load_and_end<G: Gate, R: Wait>(
     ensures ends { AsksAndEnds loads load_state writes write_state G.takes G.gives G.finds
         ticket.reservation agent.old gate.old token.old result agent.new gate.new token.new }
 {
-    let commit = ask_loader(rt, agent, ticket);
-    make_phase(rt, gate, token, agent, commit).reply
+    let mut ticket = ticket;
+    let done = ask_loader(rt, agent, &mut ticket);
+    commit_answer(rt, gate, token, agent, ticket, done).reply
 }
 
 /// The call, if its writer is asked.
@@ -193,57 +195,54 @@ fn write_and_end<G: Gate, R: Wait>(
     ensures ends { AsksAndEnds loads load_state writes write_state G.takes G.gives G.finds
         ticket.reservation agent.old gate.old token.old result agent.new gate.new token.new }
 {
-    let commit = ask_writer(rt, agent, ticket);
-    make_phase(rt, gate, token, agent, commit).reply
+    let mut ticket = ticket;
+    let done = ask_writer(rt, agent, &mut ticket);
+    commit_answer(rt, gate, token, agent, ticket, done).reply
 }
 
 /// Asks the loader: the call may then be committed.
-fn ask_loader<R: Wait>(rt: &R, agent: &mut Agent, ticket: Ticket) -> CommitLoad
+fn ask_loader<R: Wait>(rt: &R, agent: &mut Agent, ticket: &mut Ticket) -> LoadDone<Ask>
     requires held { agent.old.hands.held ≡ 0 }
-    requires unasked { ticket.asked ≡ false }
-    requires first { asks_loader ticket.reservation.first ≡ true }
-    ensures ticket { result.ticket.reservation ≡ ticket.reservation }
-    ensures answered { IsAnswered result.ticket (Loaded result.done) }
+    requires unasked { ticket.old.asked ≡ false }
+    requires first { asks_loader ticket.old.reservation.first ≡ true }
+    ensures ticket { ticket.new.reservation ≡ ticket.old.reservation }
+    ensures answered { IsAnswered ticket.new (Loaded result) }
     ensures loader { AsksLoader (boxed loads) (boxed load_state)
-        agent.old.hands.outside.loader ticket.reservation.key
-        (out_of (Loaded result.done)).load agent.new.hands.outside.loader }
+        agent.old.hands.outside.loader ticket.old.reservation.key
+        (out_of (Loaded result)).load agent.new.hands.outside.loader }
     ensures writer { (wanted : Option Change)
-        → (asks_writer ticket.reservation.first ≡ true → wanted ≡ change_asked ticket.reservation.first)
+        → (asks_writer ticket.old.reservation.first ≡ true → wanted ≡ change_asked ticket.old.reservation.first)
         → AsksWriter (boxed writes) (boxed write_state)
-        agent.old.hands.outside.writer ticket.reservation.key wanted
-        (out_of (Loaded result.done)).write agent.new.hands.outside.writer }
+        agent.old.hands.outside.writer ticket.old.reservation.key wanted
+        (out_of (Loaded result)).write agent.new.hands.outside.writer }
     ensures types { KeepsTypes agent.old agent.new }
-    ensures process { (out_of (Loaded result.done)).process ≡ NotAsked }
+    ensures process { (out_of (Loaded result)).process ≡ NotAsked }
     ensures held { agent.new.hands.held ≡ 0 }
     ensures rest { agent.new ≡ record agent.old { hands = agent.new.hands } }
 {
-    let mut ticket = ticket;
-    let done = agent.ask_loader(rt, ticket.ask());
-    CommitLoad { ticket, done }
+    agent.ask_loader(rt, ticket.ask())
 }
 
 /// Asks the writer: the call may then be committed.
-fn ask_writer<R: Wait>(rt: &R, agent: &mut Agent, ticket: Ticket) -> CommitWrite
+fn ask_writer<R: Wait>(rt: &R, agent: &mut Agent, ticket: &mut Ticket) -> WriteDone<Ask>
     requires held { agent.old.hands.held ≡ 0 }
-    requires unasked { ticket.asked ≡ false }
-    requires first { asks_writer ticket.reservation.first ≡ true }
+    requires unasked { ticket.old.asked ≡ false }
+    requires first { asks_writer ticket.old.reservation.first ≡ true }
     requires writer { IsSome agent.old.hands.outside.writer }
-    ensures ticket { result.ticket.reservation ≡ ticket.reservation }
-    ensures answered { IsAnswered result.ticket (Written result.done) }
+    ensures ticket { ticket.new.reservation ≡ ticket.old.reservation }
+    ensures answered { IsAnswered ticket.new (Written result) }
     ensures loader { AsksLoader (boxed loads) (boxed load_state)
-        agent.old.hands.outside.loader ticket.reservation.key
-        (out_of (Written result.done)).load agent.new.hands.outside.loader }
+        agent.old.hands.outside.loader ticket.old.reservation.key
+        (out_of (Written result)).load agent.new.hands.outside.loader }
     ensures writer { (wanted : Option Change)
-        → (asks_writer ticket.reservation.first ≡ true → wanted ≡ change_asked ticket.reservation.first)
+        → (asks_writer ticket.old.reservation.first ≡ true → wanted ≡ change_asked ticket.old.reservation.first)
         → AsksWriter (boxed writes) (boxed write_state)
-        agent.old.hands.outside.writer ticket.reservation.key wanted
-        (out_of (Written result.done)).write agent.new.hands.outside.writer }
+        agent.old.hands.outside.writer ticket.old.reservation.key wanted
+        (out_of (Written result)).write agent.new.hands.outside.writer }
     ensures types { KeepsTypes agent.old agent.new }
-    ensures process { (out_of (Written result.done)).process ≡ NotAsked }
+    ensures process { (out_of (Written result)).process ≡ NotAsked }
     ensures held { agent.new.hands.held ≡ 0 }
     ensures rest { agent.new ≡ record agent.old { hands = agent.new.hands } }
 {
-    let mut ticket = ticket;
-    let done = agent.ask_writer(rt, ticket.ask());
-    CommitWrite { ticket, done }
+    agent.ask_writer(rt, ticket.ask())
 }

@@ -7,6 +7,7 @@
 
 mod answered;
 mod calling;
+mod ending;
 mod entering;
 mod invoking;
 mod owned;

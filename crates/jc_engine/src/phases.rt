@@ -8,7 +8,7 @@ use crate::phase::Phase;
 use jc_model::Op;
 use jc_session::Counted;
 use jc_stripe::phase_laws::caller_numbers;
-use jc_stripe::{Ask, Begun, Join, LoadDone, Picked, StepDone, Stripe, Ticket, WriteDone};
+use jc_stripe::{Begun, Join, Picked, StepDone, Stripe, Ticket};
 use jc_types::{Caller, Key, Value};
 
 /// Whether a first phase is to be tried again.
@@ -22,7 +22,7 @@ fn is_waited_out(begun: &Begun) -> bool
 }
 
 /// Whether a ticket's reservation is out here, so that its call may be committed.
-fn is_out(stripe: &Stripe, ticket: &Ticket) -> bool
+pub(crate) fn is_out(stripe: &Stripe, ticket: &Ticket) -> bool
     ensures { IsTrue result ↔ IsOut stripe.now ticket.now.reservation }
 {
     stripe.holds(ticket.reservation())
@@ -250,88 +250,6 @@ impl Phase for Commit {
             Answered::Written(done) => Ok(stripe.commit_write(ticket, done)),
             Answered::Processed(done, report) => Ok(stripe.commit_process(ticket, done, report)),
         }
-    }
-
-    fn counted(_step: &StepDone) -> Counted {
-        Counted::Committed
-    }
-}
-
-/// The last phase of a call that was answered by the loader: a [`Commit`] that has no room for a processor's answer.
-pub(crate) struct CommitLoad {
-    /// The ticket of its reservation.
-    pub(crate) ticket: Ticket,
-    /// What the loader has answered.
-    pub(crate) done: LoadDone<Ask>,
-}
-
-impl Phase for CommitLoad {
-    ghost use Rattle.jc_stripe.specs.Phases.{Commits};
-    ghost use Rattle.jc_session.specs.declared.counts.Counted.TheVariants.{Committed};
-    ghost use Rattle.jc_engine.specs.Answered.{out_of};
-    ghost use Rattle.jc_engine.specs.declared.answered.Answered.TheVariants.{Loaded};
-    ghost use Rattle.jc_engine.specs.Needs.{CommitsHere};
-    ghost use Rattle.jc_engine.specs.Stays.{commits-stays};
-
-    type Answer = StepDone;
-
-    ghost who = { λ p. p.ticket.reservation.caller.session };
-
-    ghost needs = { λ p a. CommitsHere p.ticket (Loaded p.done) a };
-
-    ghost makes = { λ p a step b. Commits a p.ticket.reservation (out_of (Loaded p.done)) step b };
-
-    ghost counts = { λ step. Committed };
-
-    ghost stays = { λ p a b after needs. commits-stays p.ticket (Loaded p.done) a b after needs };
-
-    fn make(self, stripe: &mut Stripe) -> Result<StepDone, Self> {
-        if !is_out(stripe, &self.ticket) {
-            return Err(self);
-        }
-        let CommitLoad { ticket, done } = self;
-        Ok(stripe.commit_load(ticket, done))
-    }
-
-    fn counted(_step: &StepDone) -> Counted {
-        Counted::Committed
-    }
-}
-
-/// The last phase of a call that was answered by the writer: a [`Commit`] that has no room for a processor's answer.
-pub(crate) struct CommitWrite {
-    /// The ticket of its reservation.
-    pub(crate) ticket: Ticket,
-    /// What the writer has reported.
-    pub(crate) done: WriteDone<Ask>,
-}
-
-impl Phase for CommitWrite {
-    ghost use Rattle.jc_stripe.specs.Phases.{Commits};
-    ghost use Rattle.jc_session.specs.declared.counts.Counted.TheVariants.{Committed};
-    ghost use Rattle.jc_engine.specs.Answered.{out_of};
-    ghost use Rattle.jc_engine.specs.declared.answered.Answered.TheVariants.{Written};
-    ghost use Rattle.jc_engine.specs.Needs.{CommitsHere};
-    ghost use Rattle.jc_engine.specs.Stays.{commits-stays};
-
-    type Answer = StepDone;
-
-    ghost who = { λ p. p.ticket.reservation.caller.session };
-
-    ghost needs = { λ p a. CommitsHere p.ticket (Written p.done) a };
-
-    ghost makes = { λ p a step b. Commits a p.ticket.reservation (out_of (Written p.done)) step b };
-
-    ghost counts = { λ step. Committed };
-
-    ghost stays = { λ p a b after needs. commits-stays p.ticket (Written p.done) a b after needs };
-
-    fn make(self, stripe: &mut Stripe) -> Result<StepDone, Self> {
-        if !is_out(stripe, &self.ticket) {
-            return Err(self);
-        }
-        let CommitWrite { ticket, done } = self;
-        Ok(stripe.commit_write(ticket, done))
     }
 
     fn counted(_step: &StepDone) -> Counted {
