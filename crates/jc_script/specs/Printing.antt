@@ -5,6 +5,7 @@
 --     flag_text, reply_text          a yes or no; a reply
 --     place_text                     a stripe, and a place in its history
 --     subject                        how a line of a call's key begins: the call's number and the key
+--     piece_text                     a part of a line
 --     cause_name                     the word for an eviction's cause
 --     evict_line, victim_text, evicted_text      an eviction; the one directly before a step, if there is one; the one of a step's
 --                                    own key, if there is one
@@ -73,6 +74,8 @@ use Rattle.jc_world.specs.declared.process.LoadSource.{LoadSource}
 use Rattle.jc_world.specs.declared.process.LoadSource.TheVariants.{Store, Stated, Failing}
 use Rattle.jc_world.specs.declared.process.Processed.{Processed}
 use Rattle.jc_script.specs.declared.fault.Fault.{Fault}
+use Rattle.jc_script.specs.declared.printing.Piece.{Piece}
+use Rattle.jc_script.specs.declared.printing.Piece.TheVariants as piece
 use Rattle.jc_script.specs.Faults.{text_of}
 
 -- 1. Values, replies and places.
@@ -124,6 +127,19 @@ place_text stripe place = codes " at " ++ decimal stripe ++ codes "." ++ decimal
 unfoldable pub subject : ℕ → Bytes → List ℕ
 subject call key = decimal call ++ codes " " ++ key
 
+-- a part of a line
+abbrev pub piece_text : Piece → List ℕ
+piece_text (piece.Text text) = text.now
+piece_text (piece.Number n) = decimal n
+piece_text (piece.Key key) = key.now
+piece_text (piece.Subject call key) = subject call key.now
+piece_text (piece.Value value) = value_text value.now
+piece_text (piece.ValueOrNone value) = value_or_none_text value.now
+piece_text (piece.Flag flag) = flag_text flag
+piece_text (piece.Refusal refusal) = refusal_text refusal.now
+piece_text (piece.Reply reply) = reply_text reply.now
+piece_text (piece.Place stripe place) = place_text stripe place
+
 abbrev pub cause_name : Cause → List ℕ
 cause_name Full = codes "full"
 cause_name Memory = codes "memory"
@@ -155,13 +171,13 @@ stepped_text call key seen =
 unfoldable pub picked_line : ℕ → Bytes → JoinAnswer → List ℕ
 picked_line call key seen = outcome_text call key seen.reply seen.stripe seen.place ++ codes " shared " ++ decimal seen.shared ++ codes "\n"
 
-unfoldable pub loads_line : ℕ → Bytes → List ℕ
+abbrev pub loads_line : ℕ → Bytes → List ℕ
 loads_line call key = subject call key ++ codes " load\n"
 
 unfoldable pub write_line : ℕ → Bytes → Bytes → List ℕ
 write_line call key value = subject call key ++ codes " write " ++ value_text value ++ codes "\n"
 
-unfoldable pub delete_line : ℕ → Bytes → List ℕ
+abbrev pub delete_line : ℕ → Bytes → List ℕ
 delete_line call key = subject call key ++ codes " delete\n"
 
 abbrev pub asks_text : ℕ → Bytes → Change → List ℕ
@@ -171,13 +187,13 @@ asks_text call key Delete = delete_line call key
 unfoldable pub process_line : ℕ → Bytes → Option Bytes → List ℕ
 process_line call key entry = subject call key ++ codes " process " ++ value_or_none_text entry ++ codes "\n"
 
-unfoldable pub joined_line : ℕ → Bytes → List ℕ
+abbrev pub joined_line : ℕ → Bytes → List ℕ
 joined_line call key = subject call key ++ codes " joined\n"
 
-unfoldable pub waits_line : ℕ → Bytes → List ℕ
+abbrev pub waits_line : ℕ → Bytes → List ℕ
 waits_line call key = subject call key ++ codes " waits\n"
 
-unfoldable pub again_line : ℕ → Bytes → List ℕ
+abbrev pub again_line : ℕ → Bytes → List ℕ
 again_line call key = subject call key ++ codes " again\n"
 
 unfoldable pub dropped_line : ℕ → List ℕ
@@ -196,7 +212,7 @@ cause_text (Some refusal) = refusal_text refusal
 unfoldable pub over_line : ℕ → Option Refusal → List ℕ
 over_line call cause = decimal call ++ codes " over " ++ cause_text cause ++ codes "\n"
 
-unfoldable pub put_off_line : ℕ → Bytes → List ℕ
+abbrev pub put_off_line : ℕ → Bytes → List ℕ
 put_off_line call key = subject call key ++ codes " put off\n"
 
 unfoldable pub fails_line : ℕ → ℕ → List ℕ
@@ -254,7 +270,7 @@ answers_text call loaded (entry.Present there ∷ answers) = exists_line call th
 answers_text call loaded (entry.Done ∷ answers) = answers_text call loaded answers
 answers_text call loaded (entry.Failed code ∷ answers) = fails_line call code ++ answers_text call loaded answers
 
-unfoldable pub ready_line : ℕ → Bytes → List ℕ
+abbrev pub ready_line : ℕ → Bytes → List ℕ
 ready_line call key = subject call key ++ codes " ready\n"
 
 abbrev pub due_text : ℕ → Bytes → Option Change → List ℕ

@@ -1,7 +1,7 @@
 //! Operations as words: their names, and what follows a name.
 ghost use Rattle.std.specs.Prelude.{◌≡◌, map, length};
 ghost use Rattle.jc_script.specs.Lines.{Gives, ok_with, form_named, bulk_named, takes_words, bare_op, valued_op, bare_of, valued_of};
-ghost use Rattle.jc_script.specs.Lines.{value_alone_of, replace_if_of, command_of, begin_with, bulk_alone, bulk_of, bulk_with};
+ghost use Rattle.jc_script.specs.Lines.{value_alone_of, replace_if_of, command_of, begin_with, bulk_of, bulk_with};
 ghost use Rattle.jc_script.specs.Lines.{is_load_mode, has_load_shape, bulk_takes, load_all_of};
 
 use crate::fault::{Fault, ReadError};
@@ -263,15 +263,6 @@ fn begin_replace_if(call: u32, session: u32, words: &[&[u8]], line: &mut Line) -
     }
 }
 
-fn bulk_alone(bulk: BulkCall, words: &[&[u8]]) -> Result<BulkCall, ReadError>
-    ensures { Gives result (bulk_alone bulk (map (λ w. w.now) words.now)) }
-{
-    match words {
-        [] => Ok(bulk),
-        _ => Err(ReadError::Fault(Fault::BadLine)),
-    }
-}
-
 /// A `loadall` of the keys after the first word, which says whether it replaces.
 fn load_all(alloc: Global, words: &[&[u8]]) -> Result<BulkCall, ReadError>
     ensures { Gives result (load_all_of (map (λ w. w.now) words.now)) }
@@ -293,8 +284,14 @@ fn read_bulk(alloc: Global, name: BulkName, words: &[&[u8]]) -> Result<BulkCall,
         BulkName::GetAll => Ok(BulkCall::GetAll(keys(alloc, words)?)),
         BulkName::PutAll => Ok(BulkCall::PutAll(distinct_pairs(alloc, words)?)),
         BulkName::RemoveAll => Ok(BulkCall::RemoveAll(keys(alloc, words)?)),
-        BulkName::RemoveEvery => bulk_alone(BulkCall::RemoveEvery, words),
-        BulkName::Clear => bulk_alone(BulkCall::Clear, words),
+        BulkName::RemoveEvery => match words {
+            [] => Ok(BulkCall::RemoveEvery),
+            _ => Err(ReadError::Fault(Fault::BadLine)),
+        },
+        BulkName::Clear => match words {
+            [] => Ok(BulkCall::Clear),
+            _ => Err(ReadError::Fault(Fault::BadLine)),
+        },
         BulkName::LoadAll => load_all(alloc, words),
         BulkName::InvokeAll => Ok(BulkCall::InvokeAll(keys(alloc, words)?)),
     }

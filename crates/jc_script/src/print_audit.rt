@@ -4,7 +4,7 @@ ghost use Rattle.std.specs.List.{flat_map};
 ghost use Rattle.jc_script.specs.Printing.{entry_text, entries_line, key_text, differs_line, coherence_text, legal_name};
 ghost use Rattle.jc_script.specs.Printing.{history_line, audit_text};
 
-use crate::printing::{put, put_key, put_number, put_value};
+use crate::printing::{Piece, put, put_pieces};
 use jc_types::{Key, Value};
 use jc_world::audit::Audit;
 use std::alloc::AllocError;
@@ -13,10 +13,15 @@ use std::alloc::AllocError;
 fn put_entry(out: &mut Vec<u8>, entry: &(Key, Value)) -> Result<(), AllocError>
     ensures { OnOk result (out.new.items ≡ out.old.items ++ entry_text entry.now) }
 {
-    put(out, " ")?;
-    put_key(out, &entry.0)?;
-    put(out, "=")?;
-    put_value(out, &entry.1)
+    put_pieces(
+        out,
+        &[
+            Piece::Text(" "),
+            Piece::Key(&entry.0),
+            Piece::Text("="),
+            Piece::Value(&entry.1),
+        ],
+    )
 }
 
 fn put_entries(out: &mut Vec<u8>, entries: &[(Key, Value)]) -> Result<(), AllocError>
@@ -45,8 +50,7 @@ fn put_entries_line(
 fn put_key_text(out: &mut Vec<u8>, key: &Key) -> Result<(), AllocError>
     ensures { OnOk result (out.new.items ≡ out.old.items ++ key_text key.now) }
 {
-    put(out, " ")?;
-    put_key(out, key)
+    put_pieces(out, &[Piece::Text(" "), Piece::Key(key)])
 }
 
 fn put_keys(out: &mut Vec<u8>, keys: &[Key]) -> Result<(), AllocError>
@@ -86,9 +90,14 @@ fn legality(is_legal: bool) -> &'static str
 fn put_history(out: &mut Vec<u8>, events: usize, is_legal: bool) -> Result<(), AllocError>
     ensures { OnOk result (out.new.items ≡ out.old.items ++ history_line events is_legal) }
 {
-    put(out, "history ")?;
-    put_number(out, events as u64)?;
-    put(out, legality(is_legal))
+    put_pieces(
+        out,
+        &[
+            Piece::Text("history "),
+            Piece::Number(events as u64),
+            Piece::Text(legality(is_legal)),
+        ],
+    )
 }
 
 /// What an audit says.

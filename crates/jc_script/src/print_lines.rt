@@ -1,41 +1,32 @@
 //! Lines that several kinds of events print.
 ghost use Rattle.std.specs.Prelude.{◌≡◌, ◌++◌, OnOk};
-ghost use Rattle.jc_script.specs.Printing.{subject, write_line, delete_line, asks_text, fails_line, answer_line, answer_text, fails_text};
-ghost use Rattle.jc_script.specs.Printing.{refused_whole_line, cause_text, over_line};
+ghost use Rattle.jc_script.specs.Printing.{write_line, asks_text, fails_line, answer_line, answer_text, fails_text};
+ghost use Rattle.jc_script.specs.Printing.{refused_whole_line, over_line, cause_text, piece_text};
 
-use crate::printing::{put, put_key, put_number, put_refusal, put_value, put_value_or_none};
+use crate::printing::{Piece, put_key_line, put_pieces};
 use jc_model::{Change, LoadAnswer};
 use jc_types::{Key, Refusal, Value};
 use std::alloc::AllocError;
 
-/// The number of the call, and the key.
-#[tactic(auto, unfolding(crate::specs::Printing::subject))]
-pub fn put_subject(out: &mut Vec<u8>, call: u64, key: &Key) -> Result<(), AllocError>
-    ensures { OnOk result (out.new.items ≡ out.old.items ++ subject call key.now) }
-{
-    put_number(out, call)?;
-    put(out, " ")?;
-    put_key(out, key)
-}
-
 /// The writer is asked to write a value.
 #[tactic(auto, unfolding(crate::specs::Printing::write_line))]
-pub fn put_write(out: &mut Vec<u8>, call: u64, key: &Key, value: &Value) -> Result<(), AllocError>
+fn put_write<'a>(
+    out: &mut Vec<u8>,
+    call: u64,
+    key: &'a Key,
+    value: &'a Value,
+) -> Result<(), AllocError>
     ensures { OnOk result (out.new.items ≡ out.old.items ++ write_line call key.now value.now) }
 {
-    put_subject(out, call, key)?;
-    put(out, " write ")?;
-    put_value(out, value)?;
-    put(out, "\n")
-}
-
-/// The writer is asked to delete.
-#[tactic(auto, unfolding(crate::specs::Printing::delete_line))]
-pub fn put_delete(out: &mut Vec<u8>, call: u64, key: &Key) -> Result<(), AllocError>
-    ensures { OnOk result (out.new.items ≡ out.old.items ++ delete_line call key.now) }
-{
-    put_subject(out, call, key)?;
-    put(out, " delete\n")
+    put_pieces(
+        out,
+        &[
+            Piece::Subject(call, key),
+            Piece::Text(" write "),
+            Piece::Value(value),
+            Piece::Text("\n"),
+        ],
+    )
 }
 
 /// The writer is asked for a change.
@@ -44,7 +35,7 @@ pub fn put_asks(out: &mut Vec<u8>, call: u64, key: &Key, change: &Change) -> Res
 {
     match change {
         Change::Write(value) => put_write(out, call, key, value),
-        Change::Delete => put_delete(out, call, key),
+        Change::Delete => put_key_line(out, call, key, " delete\n"),
     }
 }
 
@@ -53,10 +44,15 @@ pub fn put_asks(out: &mut Vec<u8>, call: u64, key: &Key, change: &Change) -> Res
 pub fn put_fails(out: &mut Vec<u8>, call: u64, code: u32) -> Result<(), AllocError>
     ensures { OnOk result (out.new.items ≡ out.old.items ++ fails_line call code) }
 {
-    put_number(out, call)?;
-    put(out, " fails ")?;
-    put_number(out, code as u64)?;
-    put(out, "\n")
+    put_pieces(
+        out,
+        &[
+            Piece::Number(call),
+            Piece::Text(" fails "),
+            Piece::Number(code as u64),
+            Piece::Text("\n"),
+        ],
+    )
 }
 
 /// The code of a fault, if there is one.
@@ -71,19 +67,24 @@ pub fn put_fault_code(out: &mut Vec<u8>, call: u64, fault: Option<u32>) -> Resul
 
 /// What the loader answered: a value, or none.
 #[tactic(auto, unfolding(crate::specs::Printing::answer_line))]
-fn put_answer_line(
+fn put_answer_line<'a>(
     out: &mut Vec<u8>,
     call: u64,
-    key: &Key,
-    verb: &str,
-    value: &Option<Value>,
+    key: &'a Key,
+    verb: &'a str,
+    value: &'a Option<Value>,
 ) -> Result<(), AllocError>
     ensures { OnOk result (out.new.items ≡ out.old.items ++ answer_line call key.now verb.now value.now) }
 {
-    put_subject(out, call, key)?;
-    put(out, verb)?;
-    put_value_or_none(out, value)?;
-    put(out, "\n")
+    put_pieces(
+        out,
+        &[
+            Piece::Subject(call, key),
+            Piece::Text(verb),
+            Piece::ValueOrNone(value),
+            Piece::Text("\n"),
+        ],
+    )
 }
 
 /// What the loader answered for a key. A load that fails says nothing of its key.
@@ -108,19 +109,24 @@ pub fn put_answer(
 pub fn put_refused_whole(out: &mut Vec<u8>, call: u64, refusal: &Refusal) -> Result<(), AllocError>
     ensures { OnOk result (out.new.items ≡ out.old.items ++ refused_whole_line call refusal.now) }
 {
-    put_number(out, call)?;
-    put(out, " refused ")?;
-    put(out, refusal.name())?;
-    put(out, "\n")
+    put_pieces(
+        out,
+        &[
+            Piece::Number(call),
+            Piece::Text(" refused "),
+            Piece::Text(refusal.name()),
+            Piece::Text("\n"),
+        ],
+    )
 }
 
 /// What a call has met first, or that it has met nothing.
-fn put_cause(out: &mut Vec<u8>, cause: &Option<Refusal>) -> Result<(), AllocError>
-    ensures { OnOk result (out.new.items ≡ out.old.items ++ cause_text cause.now) }
+fn cause_piece(cause: &Option<Refusal>) -> Piece<'_>
+    ensures { piece_text result ≡ cause_text cause.now }
 {
     match cause {
-        None => put(out, "ok"),
-        Some(refusal) => put_refusal(out, refusal),
+        None => Piece::Text("ok"),
+        Some(refusal) => Piece::Refusal(refusal),
     }
 }
 
@@ -129,8 +135,13 @@ fn put_cause(out: &mut Vec<u8>, cause: &Option<Refusal>) -> Result<(), AllocErro
 pub fn put_over(out: &mut Vec<u8>, call: u64, cause: &Option<Refusal>) -> Result<(), AllocError>
     ensures { OnOk result (out.new.items ≡ out.old.items ++ over_line call cause.now) }
 {
-    put_number(out, call)?;
-    put(out, " over ")?;
-    put_cause(out, cause)?;
-    put(out, "\n")
+    put_pieces(
+        out,
+        &[
+            Piece::Number(call),
+            Piece::Text(" over "),
+            cause_piece(cause),
+            Piece::Text("\n"),
+        ],
+    )
 }

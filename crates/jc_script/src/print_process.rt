@@ -1,10 +1,10 @@
 //! What is printed of an entry processor.
 ghost use Rattle.std.specs.Prelude.{◌≡◌, ◌++◌, OnOk};
 ghost use Rattle.jc_script.specs.Printing.{process_line, got_line, exists_line, load_verb, answer_text, answers_text};
-ghost use Rattle.jc_script.specs.Printing.{ready_line, due_text, processed_text};
+ghost use Rattle.jc_script.specs.Printing.{due_text, processed_text};
 
-use crate::print_lines::{put_answer, put_asks, put_fails, put_fault_code, put_subject};
-use crate::printing::{put, put_flag, put_number, put_value_or_none};
+use crate::print_lines::{put_answer, put_asks, put_fails, put_fault_code};
+use crate::printing::{Piece, put_key_line, put_pieces};
 use jc_model::{Change, EntryAnswer, LoadAnswer};
 use jc_types::{Key, Value};
 use jc_world::process::{LoadSource, Processed};
@@ -12,38 +12,53 @@ use std::alloc::AllocError;
 
 /// The key is reserved, and the processor is asked, about this entry.
 #[tactic(auto, unfolding(crate::specs::Printing::process_line))]
-pub fn put_process(
+pub fn put_process<'a>(
     out: &mut Vec<u8>,
     call: u64,
-    key: &Key,
-    entry: &Option<Value>,
+    key: &'a Key,
+    entry: &'a Option<Value>,
 ) -> Result<(), AllocError>
     ensures { OnOk result (out.new.items ≡ out.old.items ++ process_line call key.now entry.now) }
 {
-    put_subject(out, call, key)?;
-    put(out, " process ")?;
-    put_value_or_none(out, entry)?;
-    put(out, "\n")
+    put_pieces(
+        out,
+        &[
+            Piece::Subject(call, key),
+            Piece::Text(" process "),
+            Piece::ValueOrNone(entry),
+            Piece::Text("\n"),
+        ],
+    )
 }
 
 #[tactic(auto, unfolding(crate::specs::Printing::got_line))]
 fn put_got(out: &mut Vec<u8>, call: u64, value: &Option<Value>) -> Result<(), AllocError>
     ensures { OnOk result (out.new.items ≡ out.old.items ++ got_line call value.now) }
 {
-    put_number(out, call)?;
-    put(out, " got ")?;
-    put_value_or_none(out, value)?;
-    put(out, "\n")
+    put_pieces(
+        out,
+        &[
+            Piece::Number(call),
+            Piece::Text(" got "),
+            Piece::ValueOrNone(value),
+            Piece::Text("\n"),
+        ],
+    )
 }
 
 #[tactic(auto, unfolding(crate::specs::Printing::exists_line))]
 fn put_exists(out: &mut Vec<u8>, call: u64, there: bool) -> Result<(), AllocError>
     ensures { OnOk result (out.new.items ≡ out.old.items ++ exists_line call there) }
 {
-    put_number(out, call)?;
-    put(out, " exists ")?;
-    put_flag(out, there)?;
-    put(out, "\n")
+    put_pieces(
+        out,
+        &[
+            Piece::Number(call),
+            Piece::Text(" exists "),
+            Piece::Flag(there),
+            Piece::Text("\n"),
+        ],
+    )
 }
 
 /// How a line begins that says what such a loader answered.
@@ -84,14 +99,6 @@ fn put_answers(
     Ok(())
 }
 
-#[tactic(auto, unfolding(crate::specs::Printing::ready_line))]
-fn put_ready(out: &mut Vec<u8>, call: u64, key: &Key) -> Result<(), AllocError>
-    ensures { OnOk result (out.new.items ≡ out.old.items ++ ready_line call key.now) }
-{
-    put_subject(out, call, key)?;
-    put(out, " ready\n")
-}
-
 fn put_due(
     out: &mut Vec<u8>,
     call: u64,
@@ -101,7 +108,7 @@ fn put_due(
     ensures { OnOk result (out.new.items ≡ out.old.items ++ due_text call key.now change.now) }
 {
     match change {
-        None => put_ready(out, call, key),
+        None => put_key_line(out, call, key, " ready\n"),
         Some(change) => put_asks(out, call, key, change),
     }
 }

@@ -2,16 +2,13 @@
 ghost use Rattle.std.specs.Prelude.{◌≡◌, ◌++◌, OnOk};
 ghost use Rattle.std.specs.List.{flat_map};
 ghost use Rattle.jc_script.specs.Printing.{process_text, cause_name, evict_line, victim_text, evicted_text, outcome_text};
-ghost use Rattle.jc_script.specs.Printing.{stepped_text, picked_line, loads_line, joined_line, waits_line, again_line};
-ghost use Rattle.jc_script.specs.Printing.{dropped_line, refused_line, put_off_line, done_name, change_name, reported_line, reported_text};
-ghost use Rattle.jc_script.specs.Printing.{returned_text};
+ghost use Rattle.jc_script.specs.Printing.{stepped_text, picked_line, dropped_line, refused_line, done_name, change_name};
+ghost use Rattle.jc_script.specs.Printing.{reported_line, reported_text, returned_text};
 ghost use Rattle.jc_script.specs.Printing.{shown_text, begun_text, left_text, foreign_line, told, end_text, event_text, texts};
 
-use crate::print_lines::{
-    put_answer, put_asks, put_fault_code, put_over, put_refused_whole, put_subject,
-};
+use crate::print_lines::{put_answer, put_asks, put_fault_code, put_over, put_refused_whole};
 use crate::print_process::{put_process, put_processed, verb};
-use crate::printing::{put, put_key, put_number, put_place, put_reply, put_value_or_none};
+use crate::printing::{Piece, put, put_key_line, put_number, put_pieces};
 use jc_model::{Cause, Change, Reply};
 use jc_stripe::Eviction;
 use jc_types::{Key, Refusal, Value};
@@ -39,12 +36,17 @@ fn put_evict(
 ) -> Result<(), AllocError>
     ensures { OnOk result (out.new.items ≡ out.old.items ++ evict_line key.now cause stripe place) }
 {
-    put(out, "evict ")?;
-    put_key(out, key)?;
-    put(out, " ")?;
-    put(out, name_of(cause))?;
-    put_place(out, stripe, place)?;
-    put(out, "\n")
+    put_pieces(
+        out,
+        &[
+            Piece::Text("evict "),
+            Piece::Key(key),
+            Piece::Text(" "),
+            Piece::Text(name_of(cause)),
+            Piece::Place(stripe, place),
+            Piece::Text("\n"),
+        ],
+    )
 }
 
 fn put_victim(
@@ -75,21 +77,27 @@ fn put_evicted(
     }
 }
 
+/// What a call's key is, and where.
 #[tactic(auto, unfolding(crate::specs::Printing::outcome_text))]
-fn put_outcome(
+fn put_outcome<'a>(
     out: &mut Vec<u8>,
     call: u64,
-    key: &Key,
-    reply: &Reply,
+    key: &'a Key,
+    reply: &'a Reply,
     stripe: usize,
     place: u32,
 ) -> Result<(), AllocError>
     ensures { OnOk result (out.new.items ≡ out.old.items ++ outcome_text call key.now reply.now stripe place) }
 {
-    put_subject(out, call, key)?;
-    put(out, " is ")?;
-    put_reply(out, reply)?;
-    put_place(out, stripe, place)
+    put_pieces(
+        out,
+        &[
+            Piece::Subject(call, key),
+            Piece::Text(" is "),
+            Piece::Reply(reply),
+            Piece::Place(stripe, place),
+        ],
+    )
 }
 
 #[tactic(auto, unfolding(crate::specs::Printing::stepped_text))]
@@ -107,41 +115,14 @@ fn put_picked(out: &mut Vec<u8>, call: u64, key: &Key, seen: &JoinAnswer) -> Res
     ensures { OnOk result (out.new.items ≡ out.old.items ++ picked_line call key.now seen.now) }
 {
     put_outcome(out, call, key, &seen.reply, seen.stripe, seen.place)?;
-    put(out, " shared ")?;
-    put_number(out, seen.shared as u64)?;
-    put(out, "\n")
-}
-
-#[tactic(auto, unfolding(crate::specs::Printing::loads_line))]
-fn put_loads(out: &mut Vec<u8>, call: u64, key: &Key) -> Result<(), AllocError>
-    ensures { OnOk result (out.new.items ≡ out.old.items ++ loads_line call key.now) }
-{
-    put_subject(out, call, key)?;
-    put(out, " load\n")
-}
-
-#[tactic(auto, unfolding(crate::specs::Printing::joined_line))]
-fn put_joined(out: &mut Vec<u8>, call: u64, key: &Key) -> Result<(), AllocError>
-    ensures { OnOk result (out.new.items ≡ out.old.items ++ joined_line call key.now) }
-{
-    put_subject(out, call, key)?;
-    put(out, " joined\n")
-}
-
-#[tactic(auto, unfolding(crate::specs::Printing::waits_line))]
-fn put_waits(out: &mut Vec<u8>, call: u64, key: &Key) -> Result<(), AllocError>
-    ensures { OnOk result (out.new.items ≡ out.old.items ++ waits_line call key.now) }
-{
-    put_subject(out, call, key)?;
-    put(out, " waits\n")
-}
-
-#[tactic(auto, unfolding(crate::specs::Printing::again_line))]
-fn put_again(out: &mut Vec<u8>, call: u64, key: &Key) -> Result<(), AllocError>
-    ensures { OnOk result (out.new.items ≡ out.old.items ++ again_line call key.now) }
-{
-    put_subject(out, call, key)?;
-    put(out, " again\n")
+    put_pieces(
+        out,
+        &[
+            Piece::Text(" shared "),
+            Piece::Number(seen.shared as u64),
+            Piece::Text("\n"),
+        ],
+    )
 }
 
 #[tactic(auto, unfolding(crate::specs::Printing::dropped_line))]
@@ -156,18 +137,15 @@ fn put_dropped(out: &mut Vec<u8>, call: u64) -> Result<(), AllocError>
 fn put_refused(out: &mut Vec<u8>, call: u64, key: &Key, refusal: &Refusal) -> Result<(), AllocError>
     ensures { OnOk result (out.new.items ≡ out.old.items ++ refused_line call key.now refusal.now) }
 {
-    put_subject(out, call, key)?;
-    put(out, " refused ")?;
-    put(out, refusal.name())?;
-    put(out, "\n")
-}
-
-#[tactic(auto, unfolding(crate::specs::Printing::put_off_line))]
-fn put_put_off(out: &mut Vec<u8>, call: u64, key: &Key) -> Result<(), AllocError>
-    ensures { OnOk result (out.new.items ≡ out.old.items ++ put_off_line call key.now) }
-{
-    put_subject(out, call, key)?;
-    put(out, " put off\n")
+    put_pieces(
+        out,
+        &[
+            Piece::Subject(call, key),
+            Piece::Text(" refused "),
+            Piece::Text(refusal.name()),
+            Piece::Text("\n"),
+        ],
+    )
 }
 
 fn done(change: &Change) -> &'static str
@@ -189,8 +167,7 @@ fn changed(change: &Change, is_changed: bool) -> &'static str
 fn put_reported_key(out: &mut Vec<u8>, call: u64, one: &ReportedKey) -> Result<(), AllocError>
     ensures { OnOk result (out.new.items ≡ out.old.items ++ reported_line call one.now) }
 {
-    put_subject(out, call, &one.key)?;
-    put(out, changed(&one.change, one.is_changed))
+    put_key_line(out, call, &one.key, changed(&one.change, one.is_changed))
 }
 
 /// The keys that the writer was asked for.
@@ -234,13 +211,13 @@ fn put_shown(out: &mut Vec<u8>, call: u64, key: &Key, seen: &Outcome) -> Result<
         Outcome::Begun => Ok(()),
         Outcome::Looked => Ok(()),
         Outcome::Stepped(seen) => put_stepped(out, call, key, seen),
-        Outcome::Loads => put_loads(out, call, key),
+        Outcome::Loads => put_key_line(out, call, key, " load\n"),
         Outcome::Asks(change) => put_asks(out, call, key, change),
         Outcome::Processes(entry) => put_process(out, call, key, entry),
         Outcome::Processed(_) => Ok(()),
-        Outcome::Joins => put_joined(out, call, key),
+        Outcome::Joins => put_key_line(out, call, key, " joined\n"),
         Outcome::Refused(refusal) => put_refused(out, call, key, refusal),
-        Outcome::PutOff(_) => put_put_off(out, call, key),
+        Outcome::PutOff(_) => put_key_line(out, call, key, " put off\n"),
         Outcome::Reads(answer) => put_answer(out, call, key, " reads ", answer),
         Outcome::Says(answer) => put_answer(out, call, key, " says ", answer),
         Outcome::Changed => Ok(()),
@@ -248,22 +225,31 @@ fn put_shown(out: &mut Vec<u8>, call: u64, key: &Key, seen: &Outcome) -> Result<
         Outcome::Withdrawn => Ok(()),
         Outcome::Left => Ok(()),
         Outcome::PickedUp(seen) => put_picked(out, call, key, seen),
-        Outcome::Waits => put_waits(out, call, key),
-        Outcome::Again => put_again(out, call, key),
+        Outcome::Waits => put_key_line(out, call, key, " waits\n"),
+        Outcome::Again => put_key_line(out, call, key, " again\n"),
         Outcome::Written => Ok(()),
         Outcome::Unfit => Ok(()),
     }
 }
 
 #[tactic(auto, unfolding(crate::specs::Printing::foreign_line))]
-fn put_foreign(out: &mut Vec<u8>, key: &Key, value: &Option<Value>) -> Result<(), AllocError>
+fn put_foreign<'a>(
+    out: &mut Vec<u8>,
+    key: &'a Key,
+    value: &'a Option<Value>,
+) -> Result<(), AllocError>
     ensures { OnOk result (out.new.items ≡ out.old.items ++ foreign_line key.now value.now) }
 {
-    put(out, "foreign ")?;
-    put_key(out, key)?;
-    put(out, " ")?;
-    put_value_or_none(out, value)?;
-    put(out, "\n")
+    put_pieces(
+        out,
+        &[
+            Piece::Text("foreign "),
+            Piece::Key(key),
+            Piece::Text(" "),
+            Piece::ValueOrNone(value),
+            Piece::Text("\n"),
+        ],
+    )
 }
 
 /// What was shown of the beginning of a call.
