@@ -12,7 +12,6 @@ mod history;
 mod joiners;
 mod keys;
 mod openings;
-mod processors;
 mod refusal;
 mod reservations;
 mod script;

@@ -1,8 +1,6 @@
 //! The callers' order.
-use super::script::all_judged;
-use super::shape;
 
-const CALLERS: &str = "\
+pub(super) const CALLERS: &str = "\
 a call's number that rises
 5 s1 put a 1, is ok
 6 s1 put a 1, is ok
@@ -48,8 +46,3 @@ an eviction between
 evict b memory
 6 s1 put a 1, is ok
 legal";
-
-#[test]
-fn keeps_the_order_of_each_caller(rt: HostRuntime) {
-    all_judged(&rt, rt.alloc(), &shape(false), CALLERS);
-}

@@ -1,8 +1,6 @@
 //! Evictions from a stripe with room for two entries.
-use super::script::all_judged;
-use super::shape;
 
-const VICTIMS: &str = "\
+pub(super) const VICTIMS: &str = "\
 a victim
 set a 1
 set b 1
@@ -82,12 +80,7 @@ evict b full
 1 s1 put c 1, is ok
 illegal";
 
-#[test]
-fn evicts_for_a_new_entry(rt: HostRuntime) {
-    all_judged(&rt, rt.alloc(), &shape(false), VICTIMS);
-}
-
-const OWN: &str = "\
+pub(super) const OWN: &str = "\
 from a full stripe
 set a 1
 set b 1
@@ -167,8 +160,3 @@ set a 1
 1 s1 put a 2, is ok
 evict a memory
 illegal";
-
-#[test]
-fn evicts_what_it_inserted(rt: HostRuntime) {
-    all_judged(&rt, rt.alloc(), &shape(false), OWN);
-}

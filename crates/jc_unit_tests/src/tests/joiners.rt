@@ -2,11 +2,10 @@
 ghost use Rattle.std.specs.Prelude.{◌≡◌};
 ghost use Rattle.jc_inflight.specs.Joining.{has_joined};
 
-use super::is;
+use super::{is, key};
 use jc_inflight::{JoinState, Joiner, Joiners};
 use jc_types::{Caller, Key};
 use std::process::Abort;
-use std::test::Fail;
 
 fn caller(session: u32, call: u64) -> Caller {
     Caller { session, call }
@@ -33,13 +32,12 @@ fn resolve(rt: &impl Abort, joiners: &mut Joiners, load: u64, step: u32) -> u32 
 /// Session, call and key of a call that asks for its answer, and what it is given.
 type Taken = (u32, u64, &'static str, Option<JoinState>);
 
-fn take(rt: &impl Abort, joiners: &mut Joiners, calls: &[Taken]) -> Result<(), Fail> {
+fn take(rt: &impl Abort, joiners: &mut Joiners, calls: &[Taken]) {
     for (session, call, name, want) in calls {
-        let key = Key::new(name.as_bytes())?;
+        let key = key(rt, name.as_bytes());
         let found = joiners.take(caller(*session, *call), &key);
         is(rt, name, found, *want);
     }
-    Ok(())
 }
 
 /// Two joiners of load 7, at one key, with one of load 8 between them, at another.
@@ -85,8 +83,8 @@ const ANSWERS: &[Taken] = &[
 ];
 
 #[test]
-fn answers_in_the_order_of_joining(rt: HostRuntime) -> Result<(), Fail> {
-    let (a, b) = (Key::new(b"a")?, Key::new(b"b")?);
+fn answers_in_the_order_of_joining(rt: HostRuntime) {
+    let (a, b) = (key(&rt, b"a"), key(&rt, b"b"));
     let mut joiners = three(&rt, &a, &b);
     let list = joiners.list();
     assert!(rt; list.len() == 3);
@@ -98,9 +96,8 @@ fn answers_in_the_order_of_joining(rt: HostRuntime) -> Result<(), Fail> {
     is(&rt, "resolve", resolve(&rt, &mut joiners, 7, 40), 2);
     is(&rt, "no longer", joiners.waiting(7), 0);
     is(&rt, "still", joiners.waiting(8), 1);
-    take(&rt, &mut joiners, ANSWERS)?;
+    take(&rt, &mut joiners, ANSWERS);
     is(&rt, "length", joiners.list().len(), 1);
-    Ok(())
 }
 
 // Another key, another call and another session take nothing.
@@ -113,8 +110,8 @@ const RETRIES: &[Taken] = &[
 ];
 
 #[test]
-fn tells_the_joiners_of_a_withdrawn_load_to_retry(rt: HostRuntime) -> Result<(), Fail> {
-    let (a, b) = (Key::new(b"a")?, Key::new(b"b")?);
+fn tells_the_joiners_of_a_withdrawn_load_to_retry(rt: HostRuntime) {
+    let (a, b) = (key(&rt, b"a"), key(&rt, b"b"));
     let mut joiners = three(&rt, &a, &b);
     is(&rt, "no such load", joiners.dissolve(9), 0);
     is(&rt, "dissolve", joiners.dissolve(7), 2);
@@ -124,11 +121,10 @@ fn tells_the_joiners_of_a_withdrawn_load_to_retry(rt: HostRuntime) -> Result<(),
         resolve(&rt, &mut joiners, 7, 1),
         0,
     );
-    take(&rt, &mut joiners, RETRIES)?;
+    take(&rt, &mut joiners, RETRIES);
     is(&rt, "dissolve", joiners.dissolve(8), 1);
-    take(&rt, &mut joiners, &[(2, 20, "b", Some(JoinState::Again))])?;
+    take(&rt, &mut joiners, &[(2, 20, "b", Some(JoinState::Again))]);
     is(&rt, "empty", joiners.is_empty(), true);
-    Ok(())
 }
 
 /// Has 64 calls join at the key, the even ones load 0 and the others load 1.
@@ -149,9 +145,9 @@ const LATE: &[Taken] = &[(2, 0, "k", Some(JoinState::Waiting)), (1, 0, "k", None
 
 /// No call joins while there are 64 joiners, whether they wait or not. One that is taken leaves a place free.
 #[test]
-fn holds_64_joiners_and_no_65th(rt: HostRuntime) -> Result<(), Fail> {
+fn holds_64_joiners_and_no_65th(rt: HostRuntime) {
     let mut joiners = Joiners::new();
-    let k = Key::new(b"k")?;
+    let k = key(&rt, b"k");
     join_64(&rt, &mut joiners, &k);
     let late = caller(2, 0);
     is(&rt, "full", join(&rt, &mut joiners, late, &k, 0), false);
@@ -163,8 +159,8 @@ fn holds_64_joiners_and_no_65th(rt: HostRuntime) -> Result<(), Fail> {
         join(&rt, &mut joiners, late, &k, 0),
         false,
     );
-    take(&rt, &mut joiners, &[(1, 0, "k", FIRST)])?;
+    take(&rt, &mut joiners, &[(1, 0, "k", FIRST)]);
     is(&rt, "room", join(&rt, &mut joiners, late, &k, 9), true);
     is(&rt, "full again", joiners.is_full(), true);
-    take(&rt, &mut joiners, LATE)
+    take(&rt, &mut joiners, LATE);
 }

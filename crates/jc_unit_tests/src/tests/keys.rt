@@ -2,7 +2,6 @@
 use super::{is, key};
 use jc_types::{KEY_MAX, Key, KeyFault, stripe_of};
 use std::cmp::Ordering;
-use std::test::Fail;
 
 // Texts of 0, 1, 32 and 33 bytes, and why they make no key.
 const TEXTS: [(&str, Option<KeyFault>); 4] = [
@@ -66,21 +65,19 @@ const FAULTS: [(KeyFault, &str); 2] = [
 ];
 
 #[test]
-fn says_why(rt: HostRuntime) -> Result<(), Fail> {
+fn says_why(rt: HostRuntime) {
     for (fault, want) in FAULTS {
-        let text = format!(in rt.alloc(); "{fault}")?;
+        let text = format!(in rt.alloc(); "{fault}").expect(&rt, "memory");
         is(&rt, want, text.as_str(), want);
     }
-    Ok(())
 }
 
 const PRINTED: [(&[u8], &str); 2] = [(b"a.1", "\"a.1\""), (&[255, 0], "[255, 0]")];
 
 #[test]
-fn prints_as_text(rt: HostRuntime) -> Result<(), Fail> {
+fn prints_as_text(rt: HostRuntime) {
     for (bytes, want) in PRINTED {
-        let text = format!(in rt.alloc(); "{:?}", Key::new(bytes)?)?;
+        let text = format!(in rt.alloc(); "{:?}", key(&rt, bytes)).expect(&rt, "memory");
         is(&rt, want, text.as_str(), want);
     }
-    Ok(())
 }

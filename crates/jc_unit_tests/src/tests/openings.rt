@@ -1,9 +1,6 @@
-//! Openings and shapes that have no legal history, and keys of two stripes.
-use super::script::all_judged;
-use super::{is, shape};
-use jc_model::legal;
+//! Openings that have no legal history, keys of two stripes, and a shape that has no history at all.
 
-const OPENINGS: &str = "\
+pub(super) const OPENINGS: &str = "\
 as many as fit
 set b 1
 set a 2
@@ -20,13 +17,8 @@ set a 1
 set a 2
 illegal";
 
-#[test]
-fn takes_an_opening_that_fits(rt: HostRuntime) {
-    all_judged(&rt, rt.alloc(), &shape(true), OPENINGS);
-}
-
 // Of 4 stripes, a and e are of stripe 1, and b of stripe 2.
-const STRIPES: &str = "\
+pub(super) const STRIPES: &str = "\
 of one stripe
 set e 1
 1 s1 put a 1, is ok
@@ -49,19 +41,14 @@ set b 1
 1 s1 put a 1, is ok
 illegal";
 
-#[test]
-fn takes_keys_of_one_stripe(rt: HostRuntime) {
-    let mut config = shape(false);
-    config.stripes = 4;
-    all_judged(&rt, rt.alloc(), &config, STRIPES);
-}
+// Of no stripe: a shape that no cache has.
+pub(super) const NO_STRIPE: &str = "\
+nothing
 
-#[test]
-fn refuses_a_bad_shape(rt: HostRuntime) {
-    let mut config = shape(true);
-    let is_legal = legal(rt.alloc(), &config, &[], &[]).expect(&rt, "memory");
-    is(&rt, "one stripe", is_legal, true);
-    config.stripes = 0;
-    let is_legal = legal(rt.alloc(), &config, &[], &[]).expect(&rt, "memory");
-    is(&rt, "no stripe", is_legal, false);
-}
+illegal";
+
+// The same of one stripe.
+pub(super) const ONE_STRIPE: &str = "\
+nothing
+
+legal";

@@ -1,7 +1,6 @@
 //! Refusals, by name and as texts.
 use super::is;
 use jc_types::{Field, Refusal};
-use std::test::Fail;
 
 // The name of each refusal, and what it says.
 const TEXTS: &str = "\
@@ -43,13 +42,12 @@ const REFUSALS: [Refusal; 16] = [
 ];
 
 #[test]
-fn names_and_explains_each_refusal(rt: HostRuntime) -> Result<(), Fail> {
+fn names_and_explains_each_refusal(rt: HostRuntime) {
     let mut lines = TEXTS.lines();
     for refusal in REFUSALS {
         let name = refusal.name();
-        let found = format!(in rt.alloc(); "{name}: {refusal}")?;
+        let found = format!(in rt.alloc(); "{name}: {refusal}").expect(&rt, "memory");
         is(&rt, name, Some(found.as_str()), lines.next());
     }
     is(&rt, "the end", lines.next(), None);
-    Ok(())
 }

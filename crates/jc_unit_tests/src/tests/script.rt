@@ -7,7 +7,7 @@
 //! - `CALL SESSION OP KEY [, ANSWER], is REPLY [shared PLACE]`, a step, as `1 s1 get a, read 1, is 1`. Nobody was asked
 //!   if there is no answer. The loader's is `read VALUE`, `read -` or `readfail CODE`, the writer's `apply` or `applyfail CODE`;
 //! - `evict KEY full` or `evict KEY memory`.
-use super::is;
+use super::{callers, evictions, is, openings, shape, shared};
 use jc_model::{Cause, Event, LoadAnswer, Op, Out, Reply, WriteAnswer, legal};
 use jc_types::{Caller, Config, Key, Refusal, Value};
 use std::alloc::Global;
@@ -66,7 +66,7 @@ pub(super) fn op(rt: &impl Abort, name: &str, word: &str) -> Op {
 }
 
 /// What a loader answers: a value, or `-` for none.
-pub(super) fn found(rt: &impl Abort, word: &str) -> LoadAnswer {
+fn found(rt: &impl Abort, word: &str) -> LoadAnswer {
     match value_or_none(rt, word) {
         Some(value) => LoadAnswer::Found(value),
         None => LoadAnswer::Nothing,
@@ -167,8 +167,36 @@ fn is_judged(rt: &impl Abort, alloc: Global, config: &Config, row: &str) {
 }
 
 /// Judges rows that are separated by `==`.
-pub(super) fn all_judged(rt: &impl Abort, alloc: Global, config: &Config, rows: &str) {
+fn all_judged(rt: &impl Abort, alloc: Global, config: &Config, rows: &str) {
     for row in rows.split("\n==\n") {
         is_judged(rt, alloc, config, row);
+    }
+}
+
+/// How many stripes there are, whether read-through and write-through are on, and rows.
+type Judged = (usize, bool, &'static str);
+
+const JUDGED: &[Judged] = &[
+    (1, false, callers::CALLERS),
+    (1, false, evictions::VICTIMS),
+    (1, false, evictions::OWN),
+    (1, true, openings::OPENINGS),
+    (4, false, openings::STRIPES),
+    (0, true, openings::NO_STRIPE),
+    (1, true, openings::ONE_STRIPE),
+    (1, true, shared::PUT),
+    (1, true, shared::LOADED),
+    (1, true, shared::SPOILED),
+    (1, true, shared::EVICTED),
+];
+
+#[test]
+fn judges_histories(rt: HostRuntime) {
+    for (stripes, is_through, rows) in JUDGED {
+        let config = Config {
+            stripes: *stripes,
+            ..shape(*is_through)
+        };
+        all_judged(&rt, rt.alloc(), &config, rows);
     }
 }

@@ -1,9 +1,7 @@
 //! Loads that several callers share, and what they see of a put.
-use super::script::all_judged;
-use super::shape;
 
 // A load answers, and its value is seen while a put is out; the put commits, and then the new value is seen.
-const PUT: &str = "\
+pub(super) const PUT: &str = "\
 the run
 1 s1 get a, read 1, is 1
 3 s2 get a, is 1
@@ -58,12 +56,7 @@ the writer fails, and the put is seen
 4 s2 get a, is 2
 illegal";
 
-#[test]
-fn put_seen_after_commit(rt: HostRuntime) {
-    all_judged(&rt, rt.alloc(), &shape(true), PUT);
-}
-
-const LOADED: &str = "\
+pub(super) const LOADED: &str = "\
 a value
 1 s1 get a, read 1, is 1
 2 s2 get a, read 1, is 1 shared 0
@@ -120,12 +113,7 @@ by the step itself
 2 s1 get a, read 1, is 1 shared 0
 illegal";
 
-#[test]
-fn shares_what_was_loaded(rt: HostRuntime) {
-    all_judged(&rt, rt.alloc(), &shape(true), LOADED);
-}
-
-const SPOILED: &str = "\
+pub(super) const SPOILED: &str = "\
 another place
 1 s1 get a, read 1, is 1
 2 s2 get a, read 1, is 1 shared 1
@@ -156,14 +144,9 @@ another reply
 2 s2 get a, read 1, is - shared 0
 illegal";
 
-#[test]
-fn shares_nothing_else(rt: HostRuntime) {
-    all_judged(&rt, rt.alloc(), &shape(true), SPOILED);
-}
-
 // A key is loaded into a full stripe whose other entries are reserved, two callers share the load, and the new entry goes
 // at once.
-const EVICTED: &str = "\
+pub(super) const EVICTED: &str = "\
 behind all who share
 set a 1
 set b 1
@@ -188,8 +171,3 @@ set b 1
 1 s1 get c, read 1, is 1
 2 s2 get c, read 1, is 1 shared 0
 illegal";
-
-#[test]
-fn evicts_behind_a_shared_load(rt: HostRuntime) {
-    all_judged(&rt, rt.alloc(), &shape(true), EVICTED);
-}

@@ -1,5 +1,5 @@
 //! The phases of a stripe, each once, and its limits of 64, as lines of text. What scripts can say, as which entry goes and when a
-//! history is full, is in `examples/tests`.
+//! history is full, is in `examples/tests`, and so is the last phase of an entry processor.
 //!
 //! A line has what is done, ` = `, and what is seen:
 //!
@@ -7,8 +7,6 @@
 //!   `asks process ENTRY [loading]`, with the entry that is seen and `loading` if it may be loaded; `joins CALL`, the one that loads; or
 //!   `refused REFUSAL`;
 //! - `commit CALL read VALUE`, `commit CALL apply` and the like, a last phase with what the loader or the writer answers: `REPLY at PLACE`;
-//! - `process CALL ENTRYCALL.. [, ANSWER]`, a last phase whose processor makes these calls, and fails if the last word is
-//!   `fail=CODE`; the loader finds nothing, and the writer answers this;
 //! - `drop CALL`, a withdrawal: `dropped`;
 //! - `take CALL`, a joiner asks for its answer: `REPLY at PLACE shared PLACE`, `waits`, or `again`;
 //! - `idle`, `clear CALL SESSION KEY`, `admits CALL SESSION KEY`, `outside OP KEY [VALUE]`, tests of the stripe: `yes` or `no`.
@@ -26,7 +24,7 @@ use jc_stripe::Stripe;
 use jc_types::Config;
 use std::alloc::Global;
 use std::process::Abort;
-use words::{Seen, run_of, seen_of};
+use words::{Seen, seen_of};
 
 /// A shape as `open` says it.
 fn shape(rt: &impl Abort, line: &str) -> Config {
@@ -71,14 +69,8 @@ fn begin(rt: &impl Abort, desk: &mut Desk, call: &str, text: &str) -> Seen {
     desk.begin(rt, caller, &key(rt, at), &op(rt, name, value))
 }
 
-fn process(rt: &impl Abort, alloc: Global, desk: &mut Desk, call: u64, text: &str) -> Seen {
-    let run = run_of(rt, alloc, text);
-    let ran = desk.commit_run(rt, alloc, call, &run);
-    ran.seen()
-}
-
 /// Does what a line says, and compares what is seen.
-fn play(rt: &impl Abort, alloc: Global, desk: &mut Desk, line: &str) {
+fn play(rt: &impl Abort, desk: &mut Desk, line: &str) {
     let (done, wanted) = line.split_once(" = ").expect(rt, line);
     let (word, text) = first_word(done);
     let (call, rest) = first_word(text);
@@ -86,7 +78,6 @@ fn play(rt: &impl Abort, alloc: Global, desk: &mut Desk, line: &str) {
     let found = match word {
         "begin" => begin(rt, desk, call, rest),
         "commit" => desk.commit(rt, number, &answer(rt, rest)),
-        "process" => process(rt, alloc, desk, number, rest),
         "drop" => desk.withdraw(rt, number),
         "take" => desk.pick_up(rt, number),
         _ => Seen::Flag(look(rt, &desk.stripe, word, text)),
@@ -100,7 +91,7 @@ fn play_each(rt: &impl Abort, alloc: Global, desk: &mut Desk, text: &str) {
     for n in 1..=number(rt, count) {
         let n = format!(in alloc; "{n}").expect(rt, "memory");
         let line = line.replace(alloc, '#', n.as_str()).expect(rt, "memory");
-        play(rt, alloc, desk, line.as_str());
+        play(rt, desk, line.as_str());
     }
 }
 
@@ -109,7 +100,7 @@ fn play_all(rt: &impl Abort, alloc: Global, desk: &mut Desk, lines: &str) {
     for line in lines.lines() {
         match line.strip_prefix("each ") {
             Some(text) => play_each(rt, alloc, desk, text),
-            None => play(rt, alloc, desk, line),
+            None => play(rt, desk, line),
         }
     }
 }
@@ -119,7 +110,7 @@ fn play_case(rt: &impl Abort, alloc: Global, case: &str) {
     let (_rule, case) = case.split_once('\n').expect(rt, "a rule");
     let (opened, lines) = case.split_once('\n').expect(rt, "a shape");
     let next = first_reservation(rt, opened);
-    let mut desk = Desk::new_from(rt, alloc, &shape(rt, opened), next);
+    let mut desk = Desk::new(rt, alloc, &shape(rt, opened), next);
     play_all(rt, alloc, &mut desk, lines);
     desk.close(rt);
 }
@@ -191,16 +182,6 @@ commit 2 apply = ok at 0
 begin 3 s1 invoke a = asks process 1
 drop 3 = dropped
 idle = yes
-==
-# What a processor sets is kept, but not if it or its writer fails.
-open 100 read write
-begin 1 s1 invoke a = asks process - loading
-process 1 get set=1 = - at 0
-begin 2 s1 invoke a = asks process 1
-process 2 set=2 fail=3 = ProcessorFailed 3 at 1
-begin 3 s1 invoke a = asks process 1
-process 3 set=2, applyfail 4 = WriterFailed 4 at 2
-begin 4 s1 get a = 1 at 3
 ==
 # While a processor has its key, a get answers from the entry, and joins nothing. It is refused if the history lacks places.
 open 16 read write
@@ -311,7 +292,7 @@ fn lists_events(rt: &impl Abort, alloc: Global, stripe: &Stripe) {
 #[test]
 fn shows_what_it_has(rt: HostRuntime) {
     let config = shape(&rt, "open 100");
-    let mut desk = Desk::new(&rt, rt.alloc(), &config);
+    let mut desk = Desk::new(&rt, rt.alloc(), &config, 0);
     let lines = "begin 1 s1 put b 1 = ok at 0\nbegin 2 s1 put a 1 = ok at 1";
     play_all(&rt, rt.alloc(), &mut desk, lines);
     is(&rt, "shape", *desk.stripe.config(), config);

@@ -2,7 +2,6 @@
 use super::{is, value};
 use jc_types::{Value, ValueFault};
 use std::cmp::Ordering;
-use std::test::Fail;
 
 // Texts of 256 bytes that differ in the last one.
 const LONG: &str =
@@ -54,9 +53,8 @@ fn compares_all_bytes(rt: HostRuntime) {
 }
 
 #[test]
-fn says_why(rt: HostRuntime) -> Result<(), Fail> {
-    let text = format!(in rt.alloc(); "{}", ValueFault::TooLong)?;
+fn says_why(rt: HostRuntime) {
+    let text = format!(in rt.alloc(); "{}", ValueFault::TooLong).expect(&rt, "memory");
     let want = "a value has at most 256 bytes";
     is(&rt, want, text.as_str(), want);
-    Ok(())
 }

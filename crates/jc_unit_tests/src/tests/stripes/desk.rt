@@ -1,16 +1,11 @@
 //! A stripe that is driven phase by phase, and what it has asked and let join meanwhile. What a phase requires is asserted before it.
-ghost use Rattle.std.specs.Prelude.{◌≡◌, true, false, IsTrue};
-ghost use Rattle.jc_model.specs.Table.{is_write_given, is_load_given};
+ghost use Rattle.std.specs.Prelude.{◌≡◌, IsTrue};
 ghost use Rattle.jc_outside.specs.declared.done.Origin.TheVariants.{Played};
-ghost use Rattle.jc_stripe.specs.Effects.{HasReport, change_due};
-ghost use Rattle.jc_stripe.specs.Tickets.{asks_processor, claim_of};
 
-use super::words::{Ran, Run, Seen};
-use jc_model::{Op, Out, WriteAnswer};
-use jc_mutentry::{ProcDone, played_process};
-use jc_outside::WriteDone;
+use super::words::Seen;
+use jc_model::{Op, Out};
 use jc_stripe::{
-    Ask, Begun, First, Join, Origin, Picked, StepDone, Stripe, Ticket, played_load, played_write,
+    Begun, First, Join, Origin, Picked, StepDone, Stripe, Ticket, played_load, played_write,
 };
 use jc_types::{Caller, Config, Key};
 use std::alloc::Global;
@@ -74,74 +69,9 @@ fn commit(rt: &impl Abort, stripe: &mut Stripe, unasked: Unasked, out: &Out) -> 
     }
 }
 
-/// The writer's report of what a processor did, if it is asked.
-fn report(
-    stripe: &Stripe,
-    ticket: &mut Ticket,
-    done: &ProcDone<Ask>,
-    answer: WriteAnswer,
-) -> Option<WriteDone<Ask>>
-    requires asked { ticket.old.asked ≡ true }
-    requires writer { ticket.old.writer_asked ≡ false }
-    requires claim { done.now.ask ≡ claim_of ticket.old.reservation }
-    requires given { is_write_given answer ≡ true }
-    ensures report { HasReport Played ticket.old.reservation
-        (change_due stripe.now.config done.now) result }
-    ensures ticket { ticket.new.reservation ≡ ticket.old.reservation }
-{
-    if !stripe.config().write_through {
-        return None;
-    }
-    match done.change() {
-        Some(_) => Some(played_write(ticket.ask_writer(done), answer)),
-        None => None,
-    }
-}
-
-fn is_of_processor(first: &First) -> bool
-    ensures { result ≡ asks_processor first.now }
-{
-    match first {
-        First::Processor { .. } => true,
-        First::Nobody | First::Loader | First::Writer(_) => false,
-    }
-}
-
-/// Ends a call whose processor is run so.
-fn commit_run(
-    rt: &impl Abort,
-    alloc: Global,
-    stripe: &mut Stripe,
-    unasked: Unasked,
-    run: &Run,
-) -> Ran {
-    let Unasked { mut ticket } = unasked;
-    assert!(rt; stripe.holds(ticket.reservation()), "out");
-    assert!(rt; is_of_processor(&ticket.reservation().first), "a processor");
-    assert!(rt; is_played(stripe) && run.load.is_given() && run.write.is_given());
-    let mut told = Vec::with_capacity(alloc, run.calls.len()).expect(rt, "memory");
-    let ask = ticket.ask();
-    let done = played_process(ask, &run.calls, run.fail, run.load, &mut told);
-    let (load, process, change) = (*done.load(), *done.process(), done.change());
-    let report = report(stripe, &mut ticket, &done, run.write);
-    let step = stripe.commit_process(ticket, done, report);
-    Ran {
-        told,
-        load,
-        process,
-        change,
-        step,
-    }
-}
-
 impl Desk {
-    /// An empty stripe of this shape.
-    pub fn new(rt: &impl Abort, alloc: Global, config: &Config) -> Self {
-        Desk::new_from(rt, alloc, config, 0)
-    }
-
     /// An empty stripe of this shape, whose first reservation has this number.
-    pub fn new_from(rt: &impl Abort, alloc: Global, config: &Config, next: u64) -> Self {
+    pub fn new(rt: &impl Abort, alloc: Global, config: &Config, next: u64) -> Self {
         config.check().expect(rt, "a shape");
         let stripe = Stripe::new_from(alloc, config, 0, Origin::Played, next);
         Desk {
@@ -195,12 +125,6 @@ impl Desk {
         let ticket = self.take_ticket(rt, call);
         let done = commit(rt, &mut self.stripe, ticket, out);
         Seen::Step(done.reply, done.place)
-    }
-
-    /// The last phase of a call whose processor was asked.
-    pub fn commit_run(&mut self, rt: &impl Abort, alloc: Global, call: u64, run: &Run) -> Ran {
-        let ticket = self.take_ticket(rt, call);
-        commit_run(rt, alloc, &mut self.stripe, ticket, run)
     }
 
     /// Gives a call's reservation back.
