@@ -1,3 +1,4 @@
 pub mod ByUse
 pub mod Inserting
 pub mod EntriesInside
+pub mod MostRecent

@@ -2,13 +2,14 @@
 //!
 //! JSR 107 leaves eviction to the provider. Here the least recently used entry is evicted, unless its
 //! key is pinned, as is the key of a call that is asking the loader or the writer.
-ghost use Rattle.std.specs.Prelude.{◌≡◌, ◌+◌, ◌<◌, ◌≤◌, [], ◌∷◌, ◌++◌, length, true, is_some, IsOk, IfOk, OnOk};
+ghost use Rattle.std.specs.Prelude.{◌≡◌, ◌+◌, ◌<◌, ◌≤◌, [], ◌∷◌, ◌++◌, length, true, is_some, option_map, IsOk, IfOk, OnOk};
 ghost use Rattle.std.specs.Prelude.{OnErr, vec_len, vec_capacity};
 ghost use Rattle.std.specs.Map.{keys_of};
 ghost use Rattle.std.specs.FinMap as finite;
 ghost use Rattle.jc_model.specs.Cache.{key_cmp};
 ghost use Rattle.jc_model.specs.Listed.{others};
 ghost use Rattle.jc_entries.specs.ByUse.{IsValidByUse, after_touch, lru_victim};
+ghost use Rattle.jc_entries.specs.MostRecent.{most_recent};
 
 use jc_model::Cause;
 use jc_types::{CAPACITY_MAX, Key, Value};
@@ -82,22 +83,23 @@ impl Entries {
         self.cache.peek(key).copied()
     }
 
-    /// The key's value, or none, by one look-up. Its entry is then the most recently used; if the key has no entry, nothing
-    /// changes.
-    pub fn get(&mut self, key: &Key) -> Option<Value>
-        ensures value { result ≡ finite.find key_cmp key.now self.old.list }
+    /// Makes the key's entry the most recently used, by one look-up, and says whether it has one. If it has none, nothing changes.
+    pub fn touch(&mut self, key: &Key) -> bool
+        ensures found { result ≡ is_some (finite.find key_cmp key.now self.old.list) }
         ensures after { self.new ≡ record self.old { list = after_touch key.now self.old.list } }
         ensures valid { IsValidByUse self.new }
     {
-        self.cache.get(key).copied()
+        self.cache.promote(key)
     }
 
-    /// Makes the key's entry the most recently used. If the key has no entry, nothing changes.
-    pub fn touch(&mut self, key: &Key)
-        ensures after { self.new ≡ record self.old { list = after_touch key.now self.old.list } }
-        ensures valid { IsValidByUse self.new }
+    /// The value of the most recently used entry, or none if there is no entry.
+    pub fn most_recent(&self) -> Option<&Value>
+        ensures { option_map (λ v. v.now) result ≡ most_recent self.now.list }
     {
-        self.cache.promote(key);
+        match self.cache.peek_mru() {
+            Some((_, value)) => Some(value),
+            None => None,
+        }
     }
 
     /// Gives the key this value, and makes its entry the most recently used.

@@ -2,6 +2,8 @@
 --     hit_applies     to move the entry to the front is what its step makes of the entries
 --     hit_refusal     it is not refused, if the history has a place free and no number is at its end
 --     hit_asks        it asks nobody
+--     touched_none    what has no value was not found
+--     touched_front   the value in front, after a touch of a key that has an entry, is the key's
 use Rattle.std.proofs.Common.{◌≡◌, ◌==◌, ◌||◌, ◌&&◌, List, ◌∷◌, length, Bool, true, false, not, Option, Some, None, is_some, is_none, nat_le, refl, sym, ap, ◌∙◌, if◌then◌else◌}
 use Rattle.std.specs.Option.{option_map_or}
 use Rattle.std.specs.FinMap as finite
@@ -14,6 +16,7 @@ use Rattle.jc_model.specs.Listed.{others, with_entry_first}
 use Rattle.jc_model.specs.Table.{entry_after}
 use Rattle.jc_model.specs.Group.{nothing_said}
 use Rattle.jc_entries.specs.ByUse.{ByUse, after_touch, lru_victim}
+use Rattle.jc_entries.specs.MostRecent.{most_recent}
 use Rattle.jc_stripe.specs.declared.ticket.First.TheVariants.{Nobody}
 use Rattle.jc_stripe.specs.State.{State, is_reserved, reservation_of}
 use Rattle.jc_stripe.specs.Refusals.{answers_at_once, first_asked, first_refusal, has_room, load_at, load_joined, needs_free_key, needs_reservation, places_needed, reserves}
@@ -65,3 +68,12 @@ hit_refusal state caller key value found room =
     none_of _ (load_at (reservation_of state key)) (ap (λ o. state.config.read_through && is_none o) found ∙ and_right state.config.read_through false refl) in
     unrefused (has_room state caller.call (places_needed (needs_free_key state key Get))) (is_reserved state key) (needs_free_key state key Get) (needs_reservation state key Get) (nat_le RESERVATIONS_MAX (length state.reservations))
     (is_some (load_joined state key Get)) (nat_le JOINERS_MAX (length state.joiners)) places free needs joins
+
+pub touched_none : (found : Option Bytes) → is_some found ≡ false → found ≡ None
+touched_none None h = refl
+touched_none (Some value) h = cc
+
+pub touched_front : (key : Bytes) (found : Option Bytes) (list rest : List (Bytes × Bytes)) (value : Bytes) → is_some found ≡ true
+    → most_recent (option_map_or (λ v. (key, v) ∷ rest) found list) ≡ Some value → found ≡ Some value
+touched_front key None list rest value h front = cc
+touched_front key (Some v) list rest value h front = front

@@ -13,3 +13,4 @@ pub mod OnePhase
 pub mod OwnSteps
 pub mod Tests
 pub mod Keys
+pub mod Hitting

@@ -28,6 +28,7 @@ mod looking;
 use crate::appending::{append_group, make_step};
 use crate::begun::{Begun, Picked, StepDone};
 use crate::ticket::{Ask, Join, Reservation, Ticket};
+use beginning::{hit_done, is_get};
 use jc_entries::Entries;
 use jc_history::History;
 use jc_inflight::{JoinState, Joiners};
@@ -35,7 +36,7 @@ use jc_model::{Event, Op, Out, WriteAnswer};
 use jc_mutentry::ProcDone;
 use jc_outside::{LoadDone, Origin, WriteDone};
 use jc_reserve::Reservations;
-use jc_types::{Caller, Config, Key, STEP_PLACES, Value};
+use jc_types::{Caller, Config, HIT_PLACES, Key, STEP_PLACES, Value};
 use std::alloc::{AllocError, Global};
 use std::marker::Model;
 
@@ -169,7 +170,14 @@ impl Stripe {
         ensures begins { Begins self.old caller key.now op.now result self.new }
         ensures phase { IsPhaseOf caller.session self.old self.new }
     {
-        self.first_phase(caller, key, op)
+        if !is_get(op) || !self.has_room(caller.call, HIT_PLACES) {
+            return self.begin_at(caller, key, op);
+        }
+        let place = self.next_place();
+        if !self.find_and_use(caller, key) {
+            return self.begin_missing(caller, key, op);
+        }
+        Begun::Done(hit_done(place, self.most_recent()))
     }
 
     /// A `get` that finds its entry, as [`begin`](Stripe::begin) makes it, and gives its value. None says that the entry is missing,
@@ -182,7 +190,11 @@ impl Stripe {
         ensures some { IfSome result (λ value. Begins self.old caller key.now Get
             (Done (hit_done (length self.old.history) value)) self.new) }
     {
-        self.hit_at_once(caller, key)
+        if self.has_room(caller.call, HIT_PLACES) && self.find_and_use(caller, key) {
+            Some(*self.most_recent())
+        } else {
+            None
+        }
     }
 
     /// The last phase of a call whose loader was asked: its reservation ends, and its step is appended with the loader's answer.

@@ -1,5 +1,8 @@
 //! The first phase of a call: a hit, and what it is otherwise.
-ghost use Rattle.std.specs.Prelude.{◌≡◌, ◌↔◌, [], length, true, false, IsTrue, None, Some, IfSome, IfNone, MatchOption};
+ghost use Rattle.std.specs.Prelude.{◌≡◌, ◌↔◌, [], length, true, false, is_some, IsTrue, None, Some};
+ghost use Rattle.std.specs.Bool.{OnTrue, OnFalse};
+ghost use Rattle.jc_entries.specs.MostRecent.{most_recent};
+ghost use Rattle.jc_stripe.specs.OrderOfUse.{by_use};
 ghost use Rattle.jc_types.specs.declared.limits.TheConstants.{HIT_PLACES};
 ghost use Rattle.jc_model.specs.declared.event.Op.TheVariants.{Get};
 ghost use Rattle.jc_model.specs.Cache.{entry_at};
@@ -8,6 +11,7 @@ ghost use Rattle.jc_stripe.specs.State.{new_reservation, with_reservation};
 ghost use Rattle.jc_stripe.specs.Refusals.{has_room, first_refusal, first_asked, load_joined, needs_reservation};
 ghost use Rattle.jc_stripe.specs.Finding.{found_at};
 ghost use Rattle.jc_stripe.specs.Phases.{MayBegin, Steps, Begins, hit_done, with_joiner};
+ghost use Rattle.jc_stripe.specs.Hitting.{IsHit};
 ghost use Rattle.jc_stripe.specs.declared.ticket.First.TheVariants.{Nobody};
 ghost use Rattle.jc_stripe.specs.declared.begun.Begun.TheVariants.{Done};
 
@@ -20,18 +24,18 @@ use jc_model::{Op, Out, Reply};
 use jc_types::{Caller, HIT_PLACES, Key, STEP_PLACES, Value};
 
 /// Whether a call is a `get`.
-fn is_get(op: &Op) -> bool
+pub(super) fn is_get(op: &Op) -> bool
     ensures { IsTrue result ↔ (op.now ≡ Get) }
 {
     matches!(op, Op::Get)
 }
 
 /// The step of a `get` that found this value, at this place.
-fn hit_done(place: u32, value: Value) -> StepDone
-    ensures { result ≡ hit_done place value }
+pub(super) fn hit_done(place: u32, value: &Value) -> StepDone
+    ensures { result ≡ hit_done place value.now }
 {
     StepDone {
-        reply: Reply::Value(Some(value)),
+        reply: Reply::Value(Some(*value)),
         place,
         victim: None,
         evicted: None,
@@ -39,24 +43,26 @@ fn hit_done(place: u32, value: Value) -> StepDone
 }
 
 impl Stripe {
-    /// What a first phase gives, and what it leaves.
-    pub(super) fn first_phase(&mut self, caller: Caller, key: &Key, op: &Op) -> Begun
+    /// What a first phase gives, and what it leaves, if the call isn't a `get`, or there is no place for one that finds its entry.
+    pub(super) fn begin_at(&mut self, caller: Caller, key: &Key, op: &Op) -> Begun
         requires begins { MayBegin self.old caller key.now }
         ensures { Begins self.old caller key.now op.now result self.new }
     {
-        if is_get(op) && self.has_room(caller.call, HIT_PLACES) {
-            let place = self.next_place();
-            if let Some(value) = self.find_and_use(caller, key) {
-                return Begun::Done(hit_done(place, value));
-            }
-            return self.begin_on(caller, key, op, &None);
-        }
         let entry = self.entry(key);
         self.begin_on(caller, key, op, &entry)
     }
 
+    /// What a first phase gives, and what it leaves, if the key has no entry.
+    pub(super) fn begin_missing(&mut self, caller: Caller, key: &Key, op: &Op) -> Begun
+        requires begins { MayBegin self.old caller key.now }
+        requires missing { entry_at self.old.cache key.now ≡ None }
+        ensures { Begins self.old caller key.now op.now result self.new }
+    {
+        self.begin_on(caller, key, op, &None)
+    }
+
     /// The place of the next event.
-    fn next_place(&self) -> u32
+    pub(super) fn next_place(&self) -> u32
         ensures { result ≡ length self.now.history }
     {
         self.history.len() as u32
@@ -85,33 +91,38 @@ impl Stripe {
         }
     }
 
-    /// A `get` that finds its entry: the one look-up also makes the entry the most recently used, and the step is appended in a free
-    /// place. It gives the value. If the entry is missing, nothing is done.
+    /// A `get` that finds its entry, and says whether it did: the one look-up also makes the entry the most recently used, and the
+    /// step is appended in a free place. If the entry is missing, nothing is done.
     #[inline(never)]
-    fn find_and_use(&mut self, caller: Caller, key: &Key) -> Option<Value>
+    pub(super) fn find_and_use(&mut self, caller: Caller, key: &Key) -> bool
         requires room { has_room self.old caller.call HIT_PLACES ≡ true }
         requires begins { MayBegin self.old caller key.now }
-        ensures { MatchOption result
-            ((self.new ≡ self.old) × (entry_at self.old.cache key.now ≡ None))
-            (λ value. Begins self.old caller key.now Get (Done (hit_done (length self.old.history) value)) self.new) }
+        ensures missing { OnFalse result ((self.new ≡ self.old) × (entry_at self.old.cache key.now ≡ None)) }
+        ensures found { OnTrue result (IsHit self.old caller key.now self.new) }
     {
-        let Some(value) = self.entries.get(key) else {
-            return None;
-        };
-        self.history.push_hit(&caller, key, &value);
-        Some(value)
+        if !self.entries.touch(key) {
+            return false;
+        }
+        match self.entries.most_recent() {
+            Some(value) => {
+                self.history.push_hit(&caller, key, value);
+                true
+            }
+            None => unreachable!(),
+        }
     }
 
-    /// A call that can be done at once, without a look at what is outside: a `get` that finds its entry.
-    pub(super) fn hit_at_once(&mut self, caller: Caller, key: &Key) -> Option<Value>
-        requires begins { MayBegin self.old caller key.now }
-        ensures none { IfNone result (self.new ≡ self.old) }
-        ensures some { IfSome result (λ value. Begins self.old caller key.now Get (Done (hit_done (length self.old.history) value)) self.new) }
+    /// The value of the most recently used entry.
+    ///
+    /// Condition: there is one.
+    pub(super) fn most_recent(&self) -> &Value
+        requires { is_some (most_recent (by_use self.now.opening self.now.history)) ≡ true }
+        ensures { most_recent (by_use self.now.opening self.now.history) ≡ Some result.now }
     {
-        if !self.has_room(caller.call, HIT_PLACES) {
-            return None;
+        match self.entries.most_recent() {
+            Some(value) => value,
+            None => unreachable!(),
         }
-        self.find_and_use(caller, key)
     }
 
     /// Reserves a key, and keeps room in the history for its commit.

@@ -122,12 +122,12 @@ fn calls_both(
             );
         }
         2 => is(rt, "remove", entries.remove(&key), plain.take(&key)),
-        3 => {
-            entries.touch(&key);
-            plain.touch(rt, &key);
-        }
-        4 => {
-            is(rt, "get", entries.get(&key), plain.find(&key));
+        3 | 4 => {
+            let found = plain.find(&key);
+            is(rt, "touch", entries.touch(&key), found.is_some());
+            if found.is_some() {
+                is(rt, "most recent", entries.most_recent().copied(), found);
+            }
             plain.touch(rt, &key);
         }
         _ => is(rt, "peek", entries.peek(&key), plain.find(&key)),

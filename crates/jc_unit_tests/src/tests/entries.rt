@@ -42,9 +42,8 @@ enum Call {
     /// Inserts the value.
     Put(&'static str),
     Remove,
-    Touch,
+    Use,
     Peek,
-    Get,
 }
 
 /// Makes a call, and gives what it finds.
@@ -56,12 +55,14 @@ fn made(rt: &impl Abort, entries: &mut Entries, key: &Key, call: Call) -> Option
             None
         }
         Call::Remove => entries.remove(key),
-        Call::Touch => {
-            entries.touch(key);
-            None
+        Call::Use => {
+            if entries.touch(key) {
+                entries.most_recent().copied()
+            } else {
+                None
+            }
         }
         Call::Peek => entries.peek(key),
-        Call::Get => entries.get(key),
     }
 }
 
@@ -75,10 +76,10 @@ const USES: &[Use] = &[
     (Call::Put("3"), "c", None, b"cba"),
     (Call::Peek, "a", Some("1"), b"cba"),
     (Call::Peek, "d", None, b"cba"),
-    (Call::Touch, "a", None, b"acb"),
-    (Call::Touch, "d", None, b"acb"),
-    (Call::Get, "c", Some("3"), b"cab"),
-    (Call::Get, "d", None, b"cab"),
+    (Call::Use, "a", Some("1"), b"acb"),
+    (Call::Use, "d", None, b"acb"),
+    (Call::Use, "c", Some("3"), b"cab"),
+    (Call::Use, "d", None, b"cab"),
     (Call::Put("4"), "b", None, b"bca"),
     (Call::Remove, "a", Some("1"), b"bc"),
     (Call::Remove, "a", None, b"bc"),
