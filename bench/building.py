@@ -1,4 +1,4 @@
-"""Builds the programs of `calls`, `threads` and `stress` over copies of the crates, and changes nothing in the repository.
+"""Builds the programs of `calls`, `threads`, `peers` and `stress` over copies of the crates, and changes nothing in the repository.
 
 A program's text, KIND_program.txt, has all files of its crate: each of them follows a line with its name."""
 import os
@@ -9,6 +9,8 @@ import sys
 
 HERE = os.path.dirname(os.path.abspath(__file__))
 ABOVE = os.path.dirname(HERE)
+# What the program of `calls` uses, which `peers` runs, too.
+CALLS_CRATES = ('jc_types', 'jc_model', 'jc_outside', 'jc_mutentry', 'jc_stripe', 'jc_store', 'jc_session', 'jc_cache', 'anyhow')
 
 
 def crates_below(line, lines):
@@ -60,3 +62,14 @@ def build(kind, crates, words, folder):
     if made.returncode != 0:
         sys.exit(f'{made.stdout}the program was not built: rt run ended with status {made.returncode}')
     return os.path.join(at, 'out', name)
+
+
+def build_plain(name, folder):
+    """A program in plain Rust, or none if there is no compiler."""
+    if shutil.which('rustc') is None:
+        return None
+    program = os.path.join(folder, name)
+    made = subprocess.run(['rustc', '-O', '-o', program, os.path.join(HERE, f'{name}.rs')])
+    if made.returncode != 0:
+        sys.exit('the cache in plain Rust was not built')
+    return program
