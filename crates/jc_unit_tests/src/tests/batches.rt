@@ -27,19 +27,34 @@ const ROWS: &[Row] = &[
     ("czab", "", "abc"),
 ];
 
-fn split_as(rt: &impl Abort, split: &Split, row: &Row, code: u32) {
-    let (_left, written, failed) = row;
-    is(rt, "written", split.written.len(), written.len());
-    for (found, byte) in split.written.iter().zip(written.as_bytes()) {
-        is(rt, "written", *found, key(rt, &[*byte]));
+/// The keys as a text, one byte each.
+fn text_of(rt: &impl Abort, alloc: Global, keys: &[Key]) -> Vec<u8> {
+    let mut text = Vec::new(alloc);
+    for key in keys {
+        text.extend_from_slice(key.bytes()).expect(rt, "memory");
     }
-    is(rt, "failed", split.failed.len(), failed.len());
-    for (found, byte) in split.failed.iter().zip(failed.as_bytes()) {
-        is(rt, "failed", *found, (key(rt, &[*byte]), code));
-    }
+    text
 }
 
-fn written(rt: &impl Abort, alloc: Global) -> BatchKeys {
+/// The same of keys that failed, all with this code.
+fn text_of_failed(rt: &impl Abort, alloc: Global, failed: &[(Key, u32)], code: u32) -> Vec<u8> {
+    let mut text = Vec::new(alloc);
+    for (key, found) in failed {
+        is(rt, "code", *found, code);
+        text.extend_from_slice(key.bytes()).expect(rt, "memory");
+    }
+    text
+}
+
+fn split_as(rt: &impl Abort, alloc: Global, split: &Split, row: &Row, code: u32) {
+    let (_left, written, failed) = row;
+    let found = text_of(rt, alloc, &split.written);
+    is(rt, "written", found.as_slice(), written.as_bytes());
+    let found = text_of_failed(rt, alloc, &split.failed, code);
+    is(rt, "failed", found.as_slice(), failed.as_bytes());
+}
+
+fn three_writes(rt: &impl Abort, alloc: Global) -> WriteBatch {
     let (a, b, c, v) = (key(rt, b"a"), key(rt, b"b"), key(rt, b"c"), value(rt, b"1"));
     let mut batch = WriteBatch::with_capacity(alloc, 3).expect(rt, "memory");
     batch.insert(a, v);
@@ -47,14 +62,20 @@ fn written(rt: &impl Abort, alloc: Global) -> BatchKeys {
     batch.insert(b, v);
     assert!(rt; !is_among(&[a, b], &c));
     batch.insert(c, v);
+    batch
+}
+
+fn written(rt: &impl Abort, alloc: Global) -> BatchKeys {
+    let batch = three_writes(rt, alloc);
     is(rt, "entries", batch.len(), 3);
     let (entries, keys) = batch.into_parts();
+    let (a, v) = (key(rt, b"a"), value(rt, b"1"));
     is(rt, "first", entries.get_index(0), Some((&a, &v)));
     is(rt, "keys", keys.len(), 3);
     keys
 }
 
-fn deleted(rt: &impl Abort, alloc: Global) -> BatchKeys {
+fn three_deletes(rt: &impl Abort, alloc: Global) -> DeleteBatch {
     let (a, b, c) = (key(rt, b"a"), key(rt, b"b"), key(rt, b"c"));
     let mut batch = DeleteBatch::with_capacity(alloc, 3).expect(rt, "memory");
     batch.insert(a);
@@ -62,8 +83,14 @@ fn deleted(rt: &impl Abort, alloc: Global) -> BatchKeys {
     batch.insert(b);
     assert!(rt; !is_among(&[a, b], &c));
     batch.insert(c);
+    batch
+}
+
+fn deleted(rt: &impl Abort, alloc: Global) -> BatchKeys {
+    let batch = three_deletes(rt, alloc);
     is(rt, "keys", batch.len(), 3);
     let (collection, keys) = batch.into_parts();
+    let c = key(rt, b"c");
     is(rt, "last", collection.get_index(2), Some(&c));
     keys
 }
@@ -88,13 +115,13 @@ fn leftover_keys(rt: &impl Abort, alloc: Global, names: &str) -> IndexSet<Key> {
 fn splits_writes(rt: &impl Abort, alloc: Global, row: &Row, fault: Option<u32>) {
     let left = leftover_entries(rt, alloc, row.0);
     let split = written(rt, alloc).split(&left, fault);
-    split_as(rt, &split, row, fault.unwrap_or(0));
+    split_as(rt, alloc, &split, row, fault.unwrap_or(0));
 }
 
 fn splits_deletes(rt: &impl Abort, alloc: Global, row: &Row, fault: Option<u32>) {
     let left = leftover_keys(rt, alloc, row.0);
     let split = deleted(rt, alloc).split(&left, fault);
-    split_as(rt, &split, row, fault.unwrap_or(0));
+    split_as(rt, alloc, &split, row, fault.unwrap_or(0));
 }
 
 #[test]
