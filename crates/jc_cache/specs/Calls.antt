@@ -27,6 +27,7 @@ use Rattle.jc_lock.specs.declared.view.View.{View}
 use Rattle.jc_session.specs.Boxed.{boxed}
 use Rattle.jc_session.specs.Counting.{one_more}
 use Rattle.jc_engine.specs.Asking.{AsksLoader, AsksWriter, KeepsTypes, RunsProcessor, change_wanted, own_after}
+pub use Rattle.jc_engine.specs.Values.{value_in}
 use Rattle.jc_cache.specs.declared.session.Session.{Session}
 use Rattle.jc_cache.specs.Caches.{CacheState}
 use Rattle.jc_cache.specs.Fronts.{SeatAfter, SeatTried, IsBetween}
@@ -94,13 +95,6 @@ pub record Invoked
   pub type : processor'.vtable ≡ processor.vtable
 
 -- 5. What a call returns.
-
-abbrev pub value_in : Result Reply Refusal → Result (Option Bytes) Refusal
-value_in (Err refusal) = Err refusal
-value_in (Ok (reply.Fault fault)) = Err fault
-value_in (Ok (reply.Value value)) = Ok value
-value_in (Ok (reply.Flag flag)) = Ok None
-value_in (Ok reply.Unit) = Ok None
 
 abbrev pub flag_in : Result Reply Refusal → Result Bool Refusal
 flag_in (Err refusal) = Err refusal

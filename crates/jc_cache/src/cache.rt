@@ -4,12 +4,14 @@ ghost use Rattle.jc_types.specs.Limits.{check};
 ghost use Rattle.jc_types.specs.declared.refusal.Refusal.{Refusal};
 ghost use Rattle.jc_model.specs.Table.{is_invoke};
 ghost use Rattle.jc_model.specs.declared.event.Reply.{Reply};
+ghost use Rattle.jc_model.specs.declared.event.Op.TheVariants.{Get};
+ghost use Rattle.jc_engine.specs.Values.{value_told};
 ghost use Rattle.jc_cache.specs.Sessions.{MayCall};
 ghost use Rattle.jc_cache.specs.Calls.{Called, Tried, Invoked, value_in};
 
 use crate::calls::value_of;
 use crate::session::Session;
-use jc_engine::{call, invoke, try_call};
+use jc_engine::{call, get, invoke, try_call};
 use jc_lock::HistLock;
 use jc_model::{Op, Reply};
 use jc_mutentry::EntryProcessor;
@@ -85,6 +87,32 @@ impl Cache {
         let mut lock = &self.locks[at];
         let seat = &mut session.seats[at];
         call(rt, &mut lock, seat, &mut session.agent, key, op)
+    }
+
+    /// The session's next call, if it is a `get`, whole. It writes the key's value, or None, to `value`.
+    pub(crate) fn get_into<R: Wait>(
+        &self,
+        rt: &R,
+        session: &mut Session,
+        key: &Key,
+        value: &mut Option<Value>,
+    ) -> Result<(), Refusal>
+        requires may { MayCall self.now session.old }
+        ensures may { MayCall self.now session.new }
+        ensures call { (ended : Result Reply Refusal) × Called loads load_state writes write_state
+            self.now session.old key.now Get ended session.new
+            × (value_in ended ≡ value_told result value.new) }
+    {
+        is_uniform();
+        is_legal();
+        own_steps();
+        own_numbers();
+        steps_behind();
+        let at = stripe_of(key, self.config.stripes);
+        session.agent.next_call();
+        let mut lock = &self.locks[at];
+        let seat = &mut session.seats[at];
+        get(rt, &mut lock, seat, &mut session.agent, key, value)
     }
 
     /// The session's next call on one key, if it can be done at once.

@@ -42,7 +42,11 @@ impl Cache {
         ensures call { Returns loads load_state writes write_state
             self.now session.old key.now op.Get value_in result session.new }
     {
-        value_of(self.call(rt, session, key, &Op::Get))
+        let mut value = None;
+        match self.get_into(rt, session, key, &mut value) {
+            Ok(()) => Ok(value),
+            Err(fault) => Err(fault),
+        }
     }
 
     /// Whether the key has an entry (`containsKey`). It never loads.

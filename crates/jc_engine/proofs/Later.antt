@@ -9,7 +9,9 @@
 --     later_call       a whole call
 --     hit_enters       a get that found its entry is done
 --     hit_call         and is the whole call
-use Rattle.std.proofs.Common.{◌≡◌, ◌∙◌, ℕ, zero, suc, List, [], ◌∷◌, ◌++◌, length, true, Result, Ok, Some, IsSome, option_map, refl, sym, ap, subst}
+--     hit_told         so what it wrote is what the call returns
+--     not_found        what is not there is None
+use Rattle.std.proofs.Common.{◌≡◌, ◌∙◌, ℕ, zero, suc, List, [], ◌∷◌, ◌++◌, length, true, false, Result, Ok, Option, None, Some, IsSome, is_some, option_map, refl, sym, ap, subst}
 use Rattle.jc_types.specs.declared.caller.Caller.{Caller}
 use Rattle.jc_types.specs.declared.refusal.Refusal.{Refusal}
 use Rattle.jc_model.specs.Cache.{Bytes}
@@ -29,7 +31,8 @@ use Rattle.jc_session.specs.declared.counts.Counted.TheVariants.{Step}
 use Rattle.jc_session.specs.declared.agent.Agent.{Agent}
 use Rattle.jc_engine.specs.Asking.{AsksWriter, change_wanted}
 use Rattle.jc_engine.specs.Chain.{AllSame, Rests, Since, LentPhase}
-use Rattle.jc_engine.specs.Needs.{BeginsIfClear, Starts, Hits}
+use Rattle.jc_engine.specs.Needs.{BeginsIfClear, Starts, Hits, counted_hit}
+use Rattle.jc_engine.specs.Values.{value_in, value_told}
 use Rattle.jc_engine.specs.Stays.{begins-stays}
 use Rattle.jc_engine.specs.Calls.{Rejoins, Retries, EntersAs, Enters, IsCall}
 use Rattle.jc_engine.specs.declared.entering.Entered.{Entered}
@@ -200,3 +203,15 @@ module _ {I J G T : Type 0} {D : I → Type 0} {E : J → Type 0}
     held = ap (λ s. s.hands.held) first ∙ held;
     agent = after_first old new _ first;
   }
+
+  pub hit_told : (old new : Agent I J D E) (key : Bytes) (found : Option Bytes) (g : G) (t : T) (h : G) (u : T) → is_some found ≡ true
+      → LentPhase takes gives finds old.caller.session g t (λ a b. Hits old.caller key found a b) h u
+      → new ≡ record old { counts = counts_after old.counts (counted_hit found) } → old.hands.held ≡ 0
+      → (ended : Result Reply Refusal) × IsCall loads load_state writes write_state takes gives finds old key Get g t ended new h u
+      × (value_in ended ≡ value_told (Ok tt) found)
+  hit_told old new key (Some value) g t h u is x first held = (Ok (reply.Value (Some value)), hit_call old new old.caller key value g t h u refl x first held, refl)
+  hit_told old new key None g t h u is x first held = cc
+
+pub not_found : (found : Option Bytes) → is_some found ≡ false → found ≡ None
+not_found None h = refl
+not_found (Some value) h = cc

@@ -5,3 +5,4 @@ pub mod Answered
 pub mod Asking
 pub mod Calls
 pub mod Owned
+pub mod Values

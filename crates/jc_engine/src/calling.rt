@@ -1,7 +1,6 @@
 //! A whole call on one key.
 ghost use Rattle.std.specs.Prelude.{◌≡◌, ◌||◌, ℕ, true, false, Option, IsSome};
 ghost use Rattle.jc_model.specs.Table.{is_invoke};
-ghost use Rattle.jc_model.specs.declared.event.Op.TheVariants.{Get};
 ghost use Rattle.jc_model.specs.declared.event.Change.{Change};
 ghost use Rattle.jc_model.specs.declared.event.ProcessAnswer.TheVariants.{NotAsked};
 ghost use Rattle.jc_stripe.specs.State.{State};
@@ -17,11 +16,9 @@ ghost use Rattle.jc_engine.specs.Calls.{IsCall, AsksAndEnds};
 use crate::ending::commit_answer;
 use crate::entering::{Entered, enter};
 use crate::phase::make_phase;
-use crate::phases::Hit;
 use jc_gate::Gate;
 use jc_model::{Op, Reply};
 use jc_session::Agent;
-use jc_stripe::phase_laws::is_uniform;
 use jc_stripe::{Ask, First, LoadDone, Ticket, WriteDone};
 use jc_types::{Key, Refusal};
 use std::sync::Wait;
@@ -36,63 +33,10 @@ use std::sync::Wait;
 /// Conditions: the agent holds no stripe, and has no reservation and no join out; the token has not taken the gate's stripe and
 /// speaks for the session; the stripe that a take finds is live, the session's own steps there let the call come, and if it has
 /// write-through on, the agent has a writer. The operation runs no processor.
-pub fn call<G: Gate, R: Wait>(
-    rt: &R,
-    gate: &mut G,
-    token: &mut G::Token,
-    agent: &mut Agent,
-    key: &Key,
-    op: &Op,
-) -> Result<Reply, Refusal>
-    requires held { agent.old.hands.held ≡ 0 }
-    requires free { G.is_free gate.old token.old }
-    requires speaks { G.speaks_for token.old agent.old.caller.session }
-    requires op { is_invoke op.now ≡ false }
-    requires needs { (a : State) → G.finds gate.old token.old a → BeginsIfClear agent.old.caller key.now a }
-    requires none { (agent.old.counts.reservations ≡ 0) × (agent.old.counts.joins ≡ 0) }
-    requires writer { (a : State) → G.finds gate.old token.old a → a.config.write_through ≡ true → IsSome agent.old.hands.outside.writer }
-    ensures free { G.is_free gate.new token.new }
-    ensures speaks { (n : ℕ) → G.speaks_for token.old n → G.speaks_for token.new n }
-    ensures call { IsCall loads load_state writes write_state G.takes G.gives G.finds
-        agent.old key.now op.now gate.old token.old result agent.new gate.new token.new }
-{
-    if let Op::Get = op {
-        get(rt, gate, token, agent, key)
-    } else {
-        call_in_phases(rt, gate, token, agent, key, op)
-    }
-}
-
-/// The agent's current call, if it is a `get`: a hit, or else as every other call.
-fn get<G: Gate, R: Wait>(
-    rt: &R,
-    gate: &mut G,
-    token: &mut G::Token,
-    agent: &mut Agent,
-    key: &Key,
-) -> Result<Reply, Refusal>
-    requires held { agent.old.hands.held ≡ 0 }
-    requires free { G.is_free gate.old token.old }
-    requires speaks { G.speaks_for token.old agent.old.caller.session }
-    requires needs { (a : State) → G.finds gate.old token.old a → BeginsIfClear agent.old.caller key.now a }
-    requires none { (agent.old.counts.reservations ≡ 0) × (agent.old.counts.joins ≡ 0) }
-    requires writer { (a : State) → G.finds gate.old token.old a → a.config.write_through ≡ true → IsSome agent.old.hands.outside.writer }
-    ensures free { G.is_free gate.new token.new }
-    ensures speaks { (n : ℕ) → G.speaks_for token.old n → G.speaks_for token.new n }
-    ensures call { IsCall loads load_state writes write_state G.takes G.gives G.finds
-        agent.old key.now Get gate.old token.old result agent.new gate.new token.new }
-{
-    is_uniform();
-    let caller = agent.caller();
-    match make_phase(rt, gate, token, agent, Hit { caller, key }) {
-        Some(value) => Ok(Reply::Value(Some(value))),
-        None => call_in_phases(rt, gate, token, agent, key, &Op::Get),
-    }
-}
-
-/// The call, if it isn't a hit. Out of line: a hit shouldn't clear the room of tickets.
+///
+/// Out of line: a [`get`] that is a hit shouldn't clear the room of tickets.
 #[inline(never)]
-fn call_in_phases<G: Gate, R: Wait>(
+pub fn call<G: Gate, R: Wait>(
     rt: &R,
     gate: &mut G,
     token: &mut G::Token,

@@ -9,7 +9,7 @@ use jc_model::Op;
 use jc_session::Counted;
 use jc_stripe::phase_laws::caller_numbers;
 use jc_stripe::{Begun, Join, Picked, StepDone, Stripe, Ticket};
-use jc_types::{Caller, Key, Value};
+use jc_types::{Caller, Key};
 
 /// Whether a first phase is to be tried again.
 fn is_waited_out(begun: &Begun) -> bool
@@ -77,50 +77,6 @@ impl<'a> Phase for Start<'a> {
         ensures { result ≡ counted_begun begun.now }
     {
         Counted::of_begun(begun)
-    }
-}
-
-/// The first phase of a `get` that finds its entry. It answers the value; None says that nothing was done, and that the call is to
-/// be begun by [`Start`].
-#[derive(Drop)]
-pub(crate) struct Hit<'a> {
-    /// The call.
-    pub(crate) caller: Caller,
-    /// Its key.
-    pub(crate) key: &'a Key,
-}
-
-impl<'a> Phase for Hit<'a> {
-    ghost use Rattle.jc_engine.specs.Needs.{BeginsIfClear, Hits, counted_hit};
-    ghost use Rattle.jc_engine.specs.Stays.{begins-stays};
-
-    type Answer = Option<Value>;
-
-    ghost who = { λ p. p.caller.session };
-
-    ghost needs = { λ p a. BeginsIfClear p.caller p.key.now a };
-
-    ghost makes = { λ p a found b. Hits p.caller p.key.now found a b };
-
-    ghost counts = { λ found. counted_hit found };
-
-    ghost stays = { λ p a b after needs. begins-stays p.caller p.key.now a b after needs };
-
-    fn make(self, stripe: &mut Stripe) -> Result<Option<Value>, Self> {
-        caller_numbers();
-        if !stripe.is_clear(self.caller, self.key) {
-            return Ok(None);
-        }
-        Ok(stripe.hit(self.caller, self.key))
-    }
-
-    fn counted(found: &Option<Value>) -> Counted
-        ensures { result ≡ counted_hit found.now }
-    {
-        match found {
-            Some(_) => Counted::Step,
-            None => Counted::Nothing,
-        }
     }
 }
 

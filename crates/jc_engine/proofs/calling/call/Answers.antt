@@ -4,7 +4,7 @@ use Rattle.jc_engine.proofs.Asked.{asks_first, kept_config, is_live, of_caller}
 use Rattle.jc_engine.proofs.FromPhases.{reserved_call}
 use Rattle.jc_engine.proofs.Unasked.{asks_one}
 use Rattle.jc_engine.proofs.Wanted.{writes_through, wanted_is_asked}
-use Rattle.jc_engine.proofs.calling.call_in_phases.Goals as goal
+use Rattle.jc_engine.proofs.calling.call.Goals as goal
 
 pub ask_and_end-requires-clause-first : goal.ask_and_end-requires-clause-first
 ask_and_end-requires-clause-first g c =
