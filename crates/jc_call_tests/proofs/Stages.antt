@@ -1,6 +1,7 @@
 -- What holds of each session of a stage, or of each actor.
 --     at_cache       it holds at a cache that is the same
 --     handed_back    it holds of those that are handed back with a cache that is the same
+--     none_yet       it holds of none
 --     one_more       it holds of one more, whom a cache that is the same has given out
 --     last_one       it holds of the last one, and of those before
 --     all_of         sessions that may call a cache are of it
@@ -8,7 +9,7 @@
 --     set_place      it holds of each once it holds of who comes to a place
 use Rattle.std.proofs.Common.{◌≡◌, ◌<◌, ℕ, List, [], ◌∷◌, ◌++◌, length, get_or, set, Some, subst, sym}
 use Rattle.std.specs.List.{All}
-use Rattle.std.proofs.lemmas.List.Elements.{All-get_or, All-push, All-pop, All-set, All-weaker}
+use Rattle.std.proofs.lemmas.List.Elements.{All-get_or, All-nil, All-push, All-pop, All-set, All-weaker}
 use Rattle.jc_cache.specs.Caches.{CacheState}
 use Rattle.jc_cache.specs.Sessions.{IsOf, MayCall}
 use Rattle.jc_cache.specs.declared.session.Session.{Session}
@@ -18,6 +19,9 @@ at_cache xs P k l same all = subst (λ (z : CacheState). All (P z) xs) (sym same
 
 pub handed_back : {X : Type 0} (xs ys : List X) (P : CacheState → X → Type 0) (k l : CacheState) → l ≡ k → ys ≡ xs → All (P k) xs → All (P l) ys
 handed_back {X} xs ys P k l same is all = subst (λ (zs : List X). All (P l) zs) (sym is) (at_cache xs P k l same all)
+
+pub none_yet : {X : Type 0} (xs : List X) (P : X → Type 0) → xs ≡ [] → All P xs
+none_yet {X} xs P is = subst (λ (zs : List X). All P zs) (sym is) (All-nil P)
 
 pub one_more : {X : Type 0} (xs ys : List X) (x : X) (P : CacheState → X → Type 0) (k l : CacheState) → l ≡ k → ys ≡ xs ++ x ∷ [] → All (P k) xs → P l x → All (P l) ys
 one_more {X} xs ys x P k l same is all here = subst (λ (zs : List X). All (P l) zs) (sym is) (All-push (P l) xs x (at_cache xs P k l same all) here)

@@ -46,6 +46,14 @@ pub fn answer_of(rt: &impl Abort, text: &str) -> Answer {
     }
 }
 
+/// What a call is answered whose step has this reply.
+pub fn replied_as(reply: Reply) -> Answer {
+    match reply {
+        Reply::Fault(fault) => Err(fault),
+        Reply::Unit | Reply::Flag(_) | Reply::Value(_) => Ok(reply),
+    }
+}
+
 pub fn entry(answer: Result<Option<Value>, Refusal>) -> Answer {
     Ok(Reply::Value(answer?))
 }

@@ -1,4 +1,5 @@
 //! What calls leave in a stripe's history.
+use super::answers::replied_as;
 use super::outside::Rising;
 use super::*;
 use jc_cache::ClosedStripe;
@@ -35,7 +36,7 @@ fn is_step(rt: &impl Abort, event: &Event, text: &str) {
         } => {
             is(rt, Some(caller.session), session.parse().ok());
             is(rt, *found, key(rt, at));
-            is_at(rt, text, Ok(*replied), answer_of(rt, reply));
+            is_at(rt, text, replied_as(*replied), answer_of(rt, reply));
         }
         Event::Evict { .. } => panic!(rt; "{text} is an eviction"),
     }

@@ -205,6 +205,15 @@ impl Stage {
         closed(rt, alloc, owner, sessions)
     }
 
+    /// Who owns the cache, and its sessions.
+    pub fn into_parts(self) -> (CacheOwner, Vec<Session>)
+        requires { All (MayCall self.owner.cache) self.sessions.items }
+        ensures { All (MayCall result.0.cache) result.1.items }
+    {
+        let Stage { owner, sessions } = self;
+        (owner, sessions)
+    }
+
     /// The cache isn't closed without its last session. It comes back with those that were handed in.
     pub fn close_without_last(self, rt: &impl Abort, alloc: Global) -> Stage
         requires { All (MayCall self.owner.cache) self.sessions.items }

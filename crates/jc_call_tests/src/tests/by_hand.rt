@@ -1,0 +1,334 @@
+//! Calls that a session makes phase by phase, with other sessions' calls between the phases.
+ghost use Rattle.std.specs.Prelude.{◌≡◌, ◌∷◌, [], All};
+ghost use Rattle.jc_cache.specs.Sessions.{IsOf, MayCall};
+
+use super::closing::closed;
+use super::histories::are_steps;
+use super::outside::Failing;
+use super::phases::{
+    ask_loader, ask_writer, is_busy, join_load, not_yet, picks, replies, report, reserve, run, sees,
+};
+use super::scripted::processor_of;
+use super::stage::push;
+use super::*;
+use jc_cache::Op;
+
+/// Three sessions, each by itself.
+#[derive(Drop)]
+struct Three {
+    first: Session,
+    second: Session,
+    third: Session,
+}
+
+/// Which call the first session makes, on `a`.
+enum Call {
+    Get,
+    Put,
+    /// With a processor that makes these calls.
+    Invoke(&'static str),
+}
+
+/// What is to come of it.
+struct Story {
+    call: Call,
+    /// What it is answered.
+    reply: &'static str,
+    /// What a third session does before its first phase, between its phases, and after its last one.
+    first: &'static str,
+    between: &'static str,
+    then: &'static str,
+    /// The steps of the stripe.
+    steps: [&'static str; 4],
+}
+
+/// A load, phase by phase: it holds no stripe, and a second session joins it and has its answer. Before its commit nobody sees its
+/// value.
+fn load<R: Abort + Wait>(
+    rt: &R,
+    alloc: Global,
+    desk: &Desk,
+    cache: &Cache,
+    sessions: &mut Three,
+    story: &Story,
+)
+    requires first { MayCall cache.now sessions.old.first }
+    requires second { MayCall cache.now sessions.old.second }
+    requires third { MayCall cache.now sessions.old.third }
+    ensures first { IsOf cache.now sessions.new.first }
+    ensures second { IsOf cache.now sessions.new.second }
+    ensures third { IsOf cache.now sessions.new.third }
+{
+    let Three {
+        first,
+        second,
+        third,
+    } = sessions;
+    let a = key(rt, "a");
+    let mut ticket = reserve(rt, cache, first, &a, &Op::Get);
+    let join = join_load(rt, cache, second, &a);
+    desk.plays(rt, alloc, cache, third, story.between);
+    let done = ask_loader(rt, cache, first, &mut ticket);
+    let join = not_yet(rt, cache, second, join);
+    sees(rt, alloc, cache, first, 1);
+    let step = cache.commit_load(rt, first, ticket, done);
+    replies(rt, step.reply, story.reply);
+    picks(rt, cache, second, join, step.place, story.reply);
+    desk.plays(rt, alloc, cache, third, story.then);
+}
+
+/// A write, phase by phase. Nobody else can change the entry meanwhile, and until the commit it is the old one.
+fn write<R: Abort + Wait>(
+    rt: &R,
+    alloc: Global,
+    desk: &Desk,
+    cache: &Cache,
+    sessions: &mut Three,
+    story: &Story,
+)
+    requires first { MayCall cache.now sessions.old.first }
+    requires second { MayCall cache.now sessions.old.second }
+    requires third { MayCall cache.now sessions.old.third }
+    ensures first { IsOf cache.now sessions.new.first }
+    ensures second { IsOf cache.now sessions.new.second }
+    ensures third { IsOf cache.now sessions.new.third }
+{
+    let Three {
+        first,
+        second,
+        third,
+    } = sessions;
+    let a = key(rt, "a");
+    desk.plays(rt, alloc, cache, third, story.first);
+    let mut ticket = reserve(rt, cache, first, &a, &Op::Put(value(rt, "5")));
+    is_busy(rt, cache, second, &a, &Op::Remove);
+    let done = ask_writer(rt, cache, first, &mut ticket);
+    desk.plays(rt, alloc, cache, third, story.between);
+    let step = cache.commit_write(rt, first, ticket, done);
+    replies(rt, step.reply, story.reply);
+    desk.plays(rt, alloc, cache, third, story.then);
+}
+
+/// A processor and its writer, phase by phase.
+fn process<R: Abort + Wait>(
+    rt: &R,
+    alloc: Global,
+    desk: &Desk,
+    cache: &Cache,
+    sessions: &mut Three,
+    story: &Story,
+    calls: &str,
+)
+    requires first { MayCall cache.now sessions.old.first }
+    requires second { MayCall cache.now sessions.old.second }
+    requires third { MayCall cache.now sessions.old.third }
+    ensures first { IsOf cache.now sessions.new.first }
+    ensures second { IsOf cache.now sessions.new.second }
+    ensures third { IsOf cache.now sessions.new.third }
+{
+    let Three {
+        first,
+        second,
+        third,
+    } = sessions;
+    let a = key(rt, "a");
+    desk.plays(rt, alloc, cache, third, story.first);
+    let mut ticket = reserve(rt, cache, first, &a, &Op::Invoke);
+    is_busy(rt, cache, second, &a, &Op::Put(value(rt, "5")));
+    let mut processor = processor_of(rt, alloc, calls);
+    let done = run(rt, cache, first, &mut ticket, &mut processor);
+    let report = report(rt, cache, first, &mut ticket, &done);
+    desk.plays(rt, alloc, cache, third, story.between);
+    let step = cache.commit_process(rt, first, ticket, done, report);
+    replies(rt, step.reply, story.reply);
+    desk.plays(rt, alloc, cache, third, story.then);
+}
+
+/// The first session makes the story's call by hand, with other sessions' calls between its phases.
+fn play<R: Abort + Wait>(
+    rt: &R,
+    alloc: Global,
+    desk: &Desk,
+    cache: &Cache,
+    sessions: &mut Three,
+    story: &Story,
+)
+    requires first { MayCall cache.now sessions.old.first }
+    requires second { MayCall cache.now sessions.old.second }
+    requires third { MayCall cache.now sessions.old.third }
+    ensures first { IsOf cache.now sessions.new.first }
+    ensures second { IsOf cache.now sessions.new.second }
+    ensures third { IsOf cache.now sessions.new.third }
+{
+    match story.call {
+        Call::Get => load(rt, alloc, desk, cache, sessions, story),
+        Call::Put => write(rt, alloc, desk, cache, sessions, story),
+        Call::Invoke(calls) => process(rt, alloc, desk, cache, sessions, story, calls),
+    }
+}
+
+/// The three sessions of a list.
+fn three_of(rt: &impl Abort, _cache: &Cache, sessions: Vec<Session>) -> Three
+    requires { All (MayCall _cache.now) sessions.items }
+    ensures first { MayCall _cache.now result.first }
+    ensures second { MayCall _cache.now result.second }
+    ensures third { MayCall _cache.now result.third }
+{
+    let mut sessions = sessions;
+    let Some(third) = sessions.pop() else {
+        panic!(rt; "no session");
+    };
+    let Some(second) = sessions.pop() else {
+        panic!(rt; "one session");
+    };
+    let Some(first) = sessions.pop() else {
+        panic!(rt; "two sessions");
+    };
+    Three {
+        first,
+        second,
+        third,
+    }
+}
+
+/// A list of them.
+fn listed(rt: &impl Abort, alloc: Global, _cache: &Cache, sessions: Three) -> Vec<Session>
+    requires first { IsOf _cache.now sessions.first }
+    requires second { IsOf _cache.now sessions.second }
+    requires third { IsOf _cache.now sessions.third }
+    ensures { All (λ s. IsOf _cache.now s) result.items }
+{
+    let Three {
+        first,
+        second,
+        third,
+    } = sessions;
+    let mut list = Vec::new(alloc);
+    push(rt, &mut list, first);
+    push(rt, &mut list, second);
+    push(rt, &mut list, third);
+    list
+}
+
+/// Plays a story by three sessions.
+fn played<R: Abort + Wait>(
+    rt: &R,
+    alloc: Global,
+    desk: &Desk,
+    cache: &Cache,
+    sessions: Vec<Session>,
+    story: &Story,
+) -> Vec<Session>
+    requires { All (MayCall cache.now) sessions.items }
+    ensures { All (λ s. IsOf cache.now s) result.items }
+{
+    let mut three = three_of(rt, cache, sessions);
+    play(rt, alloc, desk, cache, &mut three, story);
+    listed(rt, alloc, cache, three)
+}
+
+/// Plays a story on a stage of three sessions, and ends the cache.
+fn tell<R: Abort + Wait>(rt: &R, alloc: Global, desk: &Desk, stage: Stage, story: &Story)
+    requires { All (MayCall stage.owner.cache) stage.sessions.items }
+{
+    let (owner, sessions) = stage.into_parts();
+    let sessions = played(rt, alloc, desk, owner.cache(), sessions, story);
+    let mut stripes = closed(rt, alloc, owner, sessions);
+    are_steps(
+        rt,
+        alloc,
+        &stripes.pop().expect(rt, "a stripe"),
+        &story.steps,
+    );
+}
+
+/// A store with a=1 and b=2.
+fn stored(rt: &impl Abort, alloc: Global) -> Desk {
+    let entries = [
+        (key(rt, "a"), value(rt, "1")),
+        (key(rt, "b"), value(rt, "2")),
+    ];
+    Desk::of(rt, alloc, &entries)
+}
+
+const STORIES: [Story; 3] = [
+    Story {
+        call: Call::Get,
+        reply: "1",
+        first: "",
+        between: "get b = 2 | 1 0 0\ntryput a 5 = Busy\n",
+        then: "get a = 1 | 2 0 0\n",
+        steps: ["2 b 2", "0 a 1", "1 a 1", "2 a 1"],
+    },
+    Story {
+        call: Call::Put,
+        reply: "ok",
+        first: "get a = 1 | 1 0 0\n",
+        between: "stored a=5 b=2\nget a = 1 | 1 1 0\n",
+        then: "get a = 5 | 1 1 0\n",
+        steps: ["2 a 1", "2 a 1", "0 a ok", "2 a 5"],
+    },
+    Story {
+        call: Call::Invoke("get set=4"),
+        reply: "1",
+        first: "get b = 2 | 1 0 0\n",
+        between: "stored a=4 b=2\ncontains a = false | 2 1 0\n",
+        then: "get a = 4 | 2 1 0\n",
+        steps: ["2 b 2", "2 a false", "0 a 1", "2 a 4"],
+    },
+];
+
+#[test]
+fn makes_calls_by_hand(rt: HostRuntime) {
+    let alloc = rt.alloc();
+    for story in &STORIES {
+        let desk = stored(&rt, alloc);
+        let mut stage = Stage::new(&rt, alloc, &config(100, true, true));
+        enter!(rt, stage, desk);
+        enter!(rt, stage, desk);
+        enter!(rt, stage, desk);
+        tell(&rt, alloc, &desk, stage, story);
+    }
+}
+
+/// The first session's loader fails with 7, and its writer with 9. A load that failed is also the answer of who has joined it; a
+/// write that failed leaves the entry.
+const FAILURES: [Story; 3] = [
+    Story {
+        call: Call::Get,
+        reply: "LoaderFailed 7",
+        first: "",
+        between: "get b = 2 | 1 0 0\ntryput a 5 = Busy\n",
+        then: "get a = 1 | 2 0 0\n",
+        steps: ["2 b 2", "0 a LoaderFailed 7", "1 a LoaderFailed 7", "2 a 1"],
+    },
+    Story {
+        call: Call::Put,
+        reply: "WriterFailed 9",
+        first: "get a = 1 | 1 0 0\n",
+        between: "stored a=1 b=2\nget a = 1 | 1 0 0\n",
+        then: "get a = 1 | 1 0 0\n",
+        steps: ["2 a 1", "2 a 1", "0 a WriterFailed 9", "2 a 1"],
+    },
+    Story {
+        call: Call::Invoke("set=4 get"),
+        reply: "WriterFailed 9",
+        first: "get b = 2 | 1 0 0\n",
+        between: "stored a=1 b=2\ncontains a = false | 1 0 0\n",
+        then: "get a = 1 | 2 0 0\n",
+        steps: ["2 b 2", "2 a false", "0 a WriterFailed 9", "2 a 1"],
+    },
+];
+
+#[test]
+fn fails_by_hand(rt: HostRuntime) {
+    let alloc = rt.alloc();
+    for story in &FAILURES {
+        let desk = stored(&rt, alloc);
+        let mut stage = Stage::new(&rt, alloc, &config(100, true, true));
+        enter!(rt, stage, Failing { code: 7 }, Failing { code: 9 });
+        enter!(rt, stage, desk);
+        enter!(rt, stage, desk);
+        tell(&rt, alloc, &desk, stage, story);
+    }
+}

@@ -1,0 +1,243 @@
+//! Phases of calls by hand: each makes one phase of a session, and says what is to come of it.
+ghost use Rattle.std.specs.Prelude.{◌≡◌, true, false};
+ghost use Rattle.jc_outside.specs.declared.done.Origin.TheVariants.{Live};
+ghost use Rattle.jc_stripe.specs.Effects.{HasReport, change_due};
+ghost use Rattle.jc_stripe.specs.Tickets.{asks_loader, asks_processor, asks_writer, claim_of};
+ghost use Rattle.jc_cache.specs.Sessions.{IsOf, MayCall};
+
+use super::answers::replied_as;
+use super::*;
+use jc_cache::{
+    Ask, Begun, EntryProcessor, First, Join, LoadDone, Op, Picked, ProcDone, Ticket, WriteDone,
+};
+use jc_model::Reply;
+use jc_stripe::phase_laws::own_numbers;
+
+// 1. First phases.
+
+/// The first phase of the session's next call, which reserves the key.
+pub fn reserve<R: Abort + Wait>(
+    rt: &R,
+    cache: &Cache,
+    session: &mut Session,
+    key: &Key,
+    op: &Op,
+) -> Ticket
+    requires { MayCall cache.now session.old }
+    ensures own { IsOf cache.now session.new }
+    ensures caller { result.reservation.caller.session ≡ session.new.agent.caller.session }
+    ensures unasked { (result.asked ≡ false) × (result.writer_asked ≡ false) }
+{
+    own_numbers();
+    session.next_call();
+    match cache.start(rt, session, key, op) {
+        Begun::Asks(ticket) => ticket,
+        _other => panic!(rt; "nobody is to be asked"),
+    }
+}
+
+/// The first phase of the session's next call, a `get` that joins another session's load.
+pub fn join_load<R: Abort + Wait>(rt: &R, cache: &Cache, session: &mut Session, key: &Key) -> Join
+    requires { MayCall cache.now session.old }
+    ensures own { IsOf cache.now session.new }
+    ensures caller { result.caller.session ≡ session.new.agent.caller.session }
+{
+    own_numbers();
+    session.next_call();
+    match cache.start(rt, session, key, &Op::Get) {
+        Begun::Joined(join) => join,
+        _other => panic!(rt; "no load to join"),
+    }
+}
+
+/// The first phase of the session's next call, which is refused since another session has reserved the key.
+pub fn is_busy<R: Abort + Wait>(rt: &R, cache: &Cache, session: &mut Session, key: &Key, op: &Op)
+    requires { MayCall cache.now session.old }
+    ensures { IsOf cache.now session.new }
+{
+    own_numbers();
+    session.next_call();
+    match cache.start(rt, session, key, op) {
+        Begun::Refused(why) => is(rt, why, Refusal::Busy),
+        _other => panic!(rt; "the key isn't reserved"),
+    }
+}
+
+// 2. Calls outside, with no stripe held.
+
+fn is_loader(first: &First) -> bool
+    ensures { result ≡ asks_loader first.now }
+{
+    match first {
+        First::Loader => true,
+        First::Nobody | First::Writer(_) | First::Processor { .. } => false,
+    }
+}
+
+fn is_writer(first: &First) -> bool
+    ensures { result ≡ asks_writer first.now }
+{
+    match first {
+        First::Writer(_) => true,
+        First::Nobody | First::Loader | First::Processor { .. } => false,
+    }
+}
+
+fn is_processor(first: &First) -> bool
+    ensures { result ≡ asks_processor first.now }
+{
+    match first {
+        First::Processor { .. } => true,
+        First::Nobody | First::Loader | First::Writer(_) => false,
+    }
+}
+
+/// The session's loader is called for a reservation.
+pub fn ask_loader<R: Abort + Wait>(
+    rt: &R,
+    _cache: &Cache,
+    session: &mut Session,
+    ticket: &mut Ticket,
+) -> LoadDone<Ask>
+    requires own { IsOf _cache.now session.old }
+    requires unasked { ticket.old.asked ≡ false }
+    ensures own { IsOf _cache.now session.new }
+    ensures caller { session.new.agent.caller ≡ session.old.agent.caller }
+    ensures ticket { ticket.new.reservation ≡ ticket.old.reservation }
+    ensures first { asks_loader ticket.new.reservation.first ≡ true }
+    ensures done { (result.ask ≡ claim_of ticket.new.reservation) × (result.origin ≡ Live) }
+{
+    assert!(rt; is_loader(&ticket.reservation().first), "a load");
+    session.ask_loader(rt, ticket.ask())
+}
+
+/// The session's writer is called for a reservation.
+pub fn ask_writer<R: Abort + Wait>(
+    rt: &R,
+    cache: &Cache,
+    session: &mut Session,
+    ticket: &mut Ticket,
+) -> WriteDone<Ask>
+    requires own { IsOf cache.now session.old }
+    requires unasked { ticket.old.asked ≡ false }
+    ensures own { IsOf cache.now session.new }
+    ensures caller { session.new.agent.caller ≡ session.old.agent.caller }
+    ensures ticket { ticket.new.reservation ≡ ticket.old.reservation }
+    ensures first { asks_writer ticket.new.reservation.first ≡ true }
+    ensures done { (result.ask ≡ claim_of ticket.new.reservation) × (result.origin ≡ Live) }
+{
+    assert!(rt; cache.config().write_through, "write-through");
+    assert!(rt; is_writer(&ticket.reservation().first), "a write");
+    session.ask_writer(rt, ticket.ask())
+}
+
+/// A processor runs for a reservation.
+pub fn run<R: Abort + Wait>(
+    rt: &R,
+    _cache: &Cache,
+    session: &mut Session,
+    ticket: &mut Ticket,
+    processor: &mut Box<dyn EntryProcessor + Send + Drop>,
+) -> ProcDone<Ask>
+    requires own { IsOf _cache.now session.old }
+    requires unasked { (ticket.old.asked ≡ false) × (ticket.old.writer_asked ≡ false) }
+    ensures own { IsOf _cache.now session.new }
+    ensures caller { session.new.agent.caller ≡ session.old.agent.caller }
+    ensures ticket { ticket.new.reservation ≡ ticket.old.reservation }
+    ensures asked { (ticket.new.asked ≡ true) × (ticket.new.writer_asked ≡ false) }
+    ensures first { asks_processor ticket.new.reservation.first ≡ true }
+    ensures done { (result.ask ≡ claim_of ticket.new.reservation) × (result.origin ≡ Live) }
+{
+    assert!(rt; is_processor(&ticket.reservation().first), "a processor");
+    session.run_processor(rt, ticket.ask(), processor, &[])
+}
+
+/// The session's writer is called for what a processor did, if there is anything to write.
+pub fn report<R: Abort + Wait>(
+    rt: &R,
+    cache: &Cache,
+    session: &mut Session,
+    ticket: &mut Ticket,
+    done: &ProcDone<Ask>,
+) -> Option<WriteDone<Ask>>
+    requires own { IsOf cache.now session.old }
+    requires asked { (ticket.old.asked ≡ true) × (ticket.old.writer_asked ≡ false) }
+    requires claim { done.now.ask ≡ claim_of ticket.old.reservation }
+    ensures own { IsOf cache.now session.new }
+    ensures caller { session.new.agent.caller ≡ session.old.agent.caller }
+    ensures ticket { ticket.new.reservation ≡ ticket.old.reservation }
+    ensures report { HasReport Live ticket.new.reservation (change_due cache.now.config done.now) result }
+{
+    if !cache.config().write_through {
+        return None;
+    }
+    match done.change() {
+        Some(_change) => Some(session.ask_writer(rt, ticket.ask_writer(done))),
+        None => None,
+    }
+}
+
+// 3. Pick-ups, replies, and what is cached.
+
+/// The load that a session has joined isn't over.
+pub fn not_yet<R: Abort + Wait>(rt: &R, cache: &Cache, session: &mut Session, join: Join) -> Join
+    requires own { IsOf cache.now session.old }
+    requires caller { join.caller.session ≡ session.old.agent.caller.session }
+    ensures own { IsOf cache.now session.new }
+    ensures caller { result.caller.session ≡ session.new.agent.caller.session }
+{
+    match cache.pick_up(rt, session, join) {
+        Picked::NotYet(join) => join,
+        Picked::Answer { .. } | Picked::Again => panic!(rt; "the load is over"),
+    }
+}
+
+/// A session picks up this answer of the load that it has joined, which shares the step at this place.
+pub fn picks<R: Abort + Wait>(
+    rt: &R,
+    cache: &Cache,
+    session: &mut Session,
+    join: Join,
+    place: u32,
+    want: &str,
+)
+    requires own { IsOf cache.now session.old }
+    requires caller { join.caller.session ≡ session.old.agent.caller.session }
+    ensures { IsOf cache.now session.new }
+{
+    match cache.pick_up(rt, session, join) {
+        Picked::Answer {
+            reply,
+            place: _own,
+            shared_with,
+        } => {
+            is(rt, shared_with, place);
+            replies(rt, reply, want);
+        }
+        _other => panic!(rt; "no answer"),
+    }
+}
+
+/// A step has this reply.
+pub fn replies(rt: &impl Abort, reply: Reply, want: &str) {
+    is_at(rt, want, replied_as(reply), answer_of(rt, want));
+}
+
+/// So many keys of the first stripe have an entry.
+pub fn sees<R: Abort + Wait>(
+    rt: &R,
+    alloc: Global,
+    cache: &Cache,
+    session: &mut Session,
+    keys: usize,
+)
+    requires own { IsOf cache.now session.old }
+    ensures own { IsOf cache.now session.new }
+    ensures caller { session.new.agent.caller ≡ session.old.agent.caller }
+{
+    let config = *cache.config();
+    assert!(rt; config.stripes > 0);
+    let mut found = Vec::with_capacity(alloc, config.capacity).expect(rt, "memory");
+    cache.look(rt, session, 0, &mut found);
+    is(rt, found.len(), keys);
+}
