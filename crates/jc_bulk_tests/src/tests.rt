@@ -2,7 +2,7 @@
 //!
 //!     getall a b = a=1
 //!     putall a=1 b=2 = WriterFailed 4: b WriterFailed 4
-//!     invokeall a b = a=2 b=1
+//!     invokeall a b = a 2, b 1
 
 /// An object in a box. Only a test itself can make it.
 macro_rules! boxed {
@@ -12,10 +12,24 @@ macro_rules! boxed {
     }};
 }
 
+/// One more session on a stage, with a loader and a writer of its own.
+macro_rules! enter {
+    ($rt:expr, $stage:expr, $loader:expr, $writer:expr) => {{
+        let loader = boxed!($rt, Loader, $loader);
+        let writer = boxed!($rt, Writer, $writer);
+        $stage.enter(&$rt, $rt.alloc(), loader, writer)
+    }};
+}
+
+mod closing;
 mod lines;
 mod outside;
+mod random;
 mod results;
 mod side_by_side;
+mod signals;
+mod stage;
+mod unreliable;
 mod whole;
 mod words;
 
@@ -36,4 +50,15 @@ pub type Processor = Box<dyn EntryProcessor + Send + Drop>;
 
 fn is<T: Copy + Debug + PartialEq>(rt: &impl Abort, found: T, want: T) {
     assert_eq!(rt; found, want);
+}
+
+/// Both options are on.
+const fn config(stripes: usize, capacity: usize, history: usize) -> Config {
+    Config {
+        stripes,
+        capacity,
+        history,
+        read_through: true,
+        write_through: true,
+    }
 }

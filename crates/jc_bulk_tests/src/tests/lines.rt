@@ -2,15 +2,18 @@
 //!
 //!     stored a=1                  what is in the store
 //!     counts 0 1 0 1 0 0          calls of the loader for one key and for many, of the writer to write and to delete so
+//!     told 1 0                    how often a listener was told of success, and of a failure
 //!     own 2                       how many steps the session has made
+//!     await                       waits for the first signal
 ghost use Rattle.jc_cache.specs.Sessions.{MayCall};
 
 use super::outside::Outside;
 use super::results::{ended, got, invoked};
-use super::words::{first_word, key, keys_of, pairs_of, value};
+use super::words::{first_word, key, keys_of, many, pairs_of, value};
 use super::*;
 use jc_bulk::{BulkFault, clear, get_all, load_keys, put_all, remove_all, remove_every};
 use jc_invoke::invoke_all;
+use jc_store::Increment;
 
 /// Makes a call that has no result but its faults.
 fn called<R: Abort + Wait>(
@@ -60,15 +63,13 @@ fn called_at_key<R: Abort + Wait>(
         .expect(rt, "a get")
 }
 
+/// A processor that counts in its entry.
+pub fn increment(rt: &impl Abort, alloc: Global) -> Processor {
+    Box::new(alloc, Increment).ok().expect(rt, "memory")
+}
+
 /// Makes the call that a line says. It is to return what the line says.
-fn call<R: Abort + Wait>(
-    rt: &R,
-    alloc: Global,
-    cache: &Cache,
-    session: &mut Session,
-    processor: &mut Processor,
-    line: &str,
-)
+fn call<R: Abort + Wait>(rt: &R, alloc: Global, cache: &Cache, session: &mut Session, line: &str)
     requires { MayCall cache.now session.old }
     ensures { MayCall cache.now session.new }
 {
@@ -77,40 +78,38 @@ fn call<R: Abort + Wait>(
     match word {
         "get" | "put" => {
             let found = called_at_key(rt, cache, session, word, words);
-            is(
-                rt,
-                found,
-                if wanted == "-" {
-                    None
-                } else {
-                    Some(value(rt, wanted))
-                },
-            );
+            let wanted = if wanted == "-" {
+                None
+            } else {
+                Some(value(rt, wanted))
+            };
+            is(rt, found, wanted);
         }
         "getall" => {
-            let found = get_all(alloc, rt, cache, session, &keys_of(rt, alloc, words));
-            got(rt, found, wanted);
+            let keys = keys_of(rt, alloc, words);
+            got(rt, get_all(alloc, rt, cache, session, &keys), wanted);
+        }
+        "getmany" => {
+            let keys = many(rt, alloc, words);
+            got(rt, get_all(alloc, rt, cache, session, &keys), wanted);
         }
         "invokeall" => {
             let keys = keys_of(rt, alloc, words);
-            invoked(
-                rt,
-                invoke_all(alloc, rt, cache, session, &keys, processor, &[]),
-                wanted,
-            );
+            let mut processor = increment(rt, alloc);
+            let results = invoke_all(alloc, rt, cache, session, &keys, &mut processor, &[]);
+            invoked(rt, results, wanted);
         }
         _ => ended(rt, called(rt, alloc, cache, session, word, words), wanted),
     }
 }
 
 /// Does what a line says.
-fn play<R: Abort + Wait>(
+pub fn play<R: Abort + Wait>(
     rt: &R,
     alloc: Global,
     outside: &Outside,
     cache: &Cache,
     session: &mut Session,
-    processor: &mut Processor,
     line: &str,
 )
     requires { MayCall cache.now session.old }
@@ -121,8 +120,10 @@ fn play<R: Abort + Wait>(
         "#" => {}
         "stored" => outside.holds(rt, alloc, rest),
         "counts" => outside.counted(rt, rest),
+        "told" => outside.has_told(rt, rest),
+        "await" => outside.signals.wait_for_first(rt),
         "own" => is(rt, Some(session.own()), rest.parse().ok()),
-        _ => call(rt, alloc, cache, session, processor, line),
+        _ => call(rt, alloc, cache, session, line),
     }
 }
 
@@ -133,13 +134,12 @@ pub fn plays<R: Abort + Wait>(
     outside: &Outside,
     cache: &Cache,
     session: &mut Session,
-    processor: &mut Processor,
     text: &str,
 )
     requires { MayCall cache.now session.old }
     ensures { MayCall cache.now session.new }
 {
     for line in text.split_terminator('\n') {
-        play(rt, alloc, outside, cache, session, processor, line);
+        play(rt, alloc, outside, cache, session, line);
     }
 }

@@ -44,7 +44,7 @@ pub fn ended(rt: &impl Abort, returned: Result<(), BulkFault>, wanted: &str) {
 /// The `getAll` is to have returned this.
 pub fn got(rt: &impl Abort, returned: Result<IndexMap<Key, Value>, BulkFault>, wanted: &str) {
     match returned {
-        Ok(found) => has_pairs(rt, &found, wanted),
+        Ok(found) => has_pairs(rt, &found, wanted.trim_start_matches('-')),
         Err(fault) => failed(rt, &fault, wanted),
     }
 }

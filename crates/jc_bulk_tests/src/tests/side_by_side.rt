@@ -1,241 +1,208 @@
-//! A `loadAll` by two sessions on threads of their own, whose loaders wait for each other.
-ghost use Rattle.std.specs.Prelude.{◌≡◌, ◌++◌, ◌∷◌, [], All, length};
-ghost use Rattle.jc_cache.specs.Sessions.{MayCall};
+//! Sessions side by side, on threads of their own.
+ghost use Rattle.std.specs.Prelude.{◌≡◌, true, false, All};
+ghost use Rattle.jc_cache.specs.Sessions.{IsOf, MayCall};
+ghost use Rattle.jc_stripe.specs.Tickets.{asks_writer};
 
+use super::closing::{are_stripes, closed, shared_by};
+use super::lines::plays;
+use super::outside::Outside;
+use super::signals::Paired;
+use super::stage::Stage;
+use super::words::{key, value};
 use super::*;
-use indexmap::IndexSet;
-use jc_cache::Answers;
-use jc_loadall::load_all;
-use jc_outside::CompletionListener;
-use std::alloc::AllocError;
-use std::sync::Arc;
-use std::sync::atomic::Ordering::SeqCst;
-use std::sync::atomic::{AtomicBool, AtomicU64};
-use std::thread::{Threads, yield_now};
+use jc_cache::{Begun, ClosedStripe, First, Op, Ticket};
+use jc_stripe::phase_laws::own_numbers;
+use std::thread;
+use std::thread::Threads;
 
-/// How often a loader looks for the other one before it gives up.
-const TURNS: u64 = 1_000_000_000;
-
-/// The code of a loader that has given up.
-const GAVE_UP: u32 = 99;
-
-/// Which of two loaders was called, and what a listener was told.
-#[derive(Drop)]
-struct Seen {
-    first: AtomicBool,
-    second: AtomicBool,
-    completions: AtomicU64,
-    exceptions: AtomicU64,
-}
-
-fn nothing_seen(alloc: Global) -> Result<Arc<Seen>, AllocError> {
-    let none = Seen {
-        first: AtomicBool::new(false),
-        second: AtomicBool::new(false),
-        completions: AtomicU64::new(0),
-        exceptions: AtomicU64::new(0),
-    };
-    Ok(Arc::new(alloc, none)?)
-}
-
-/// A loader that answers once another one was called, too: each key has the value 1.
-#[derive(Drop)]
-struct Twin {
-    seen: Arc<Seen>,
-    is_first: bool,
-}
-
-impl Twin {
-    /// Says that it was called, and waits until the other one was.
-    fn wait(&self) -> Result<(), u32> {
-        let (own, other) = if self.is_first {
-            (&self.seen.first, &self.seen.second)
-        } else {
-            (&self.seen.second, &self.seen.first)
-        };
-        own.store(true, SeqCst);
-        if is_raised(other) {
-            Ok(())
-        } else {
-            Err(GAVE_UP)
-        }
-    }
-}
-
-/// Waits until a flag is raised, and says whether it is.
-fn is_raised(flag: &AtomicBool) -> bool {
-    for _ in 0..TURNS {
-        if flag.load(SeqCst) {
-            return true;
-        }
-        yield_now();
-    }
-    false
-}
-
-impl CacheLoader for Twin {
-    ghost use Rattle.std.specs.Prelude.{[]};
-
-    ghost load_state = { λ l. [] };
-
-    ghost loads = { λ l key answer after. Unit {0} };
-
-    ghost loads_all = { λ l keys answer answers after. Unit {0} };
-
-    fn load(&mut self, _key: &Key) -> Result<Option<Value>, u32> {
-        Ok(None)
-    }
-
-    fn load_all(&mut self, keys: &[Key], answers: &mut Answers) -> Result<(), u32> {
-        self.wait()?;
-        let Ok(one) = Value::new(b"1") else {
-            return Err(GAVE_UP);
-        };
-        for key in keys {
-            let _was_asked = answers.put(key, &one);
-        }
-        Ok(())
-    }
-}
-
-/// A listener that counts what it is told.
-#[derive(Drop)]
-struct Listening {
-    seen: Arc<Seen>,
-}
-
-impl CompletionListener for Listening {
-    ghost use Rattle.std.specs.Prelude.{[]};
-
-    ghost listener_state = { λ l. [] };
-
-    ghost hears = { λ l ended after. Unit {0} };
-
-    fn on_completion(&mut self) {
-        let _before = self.seen.completions.fetch_add(1, SeqCst);
-    }
-
-    fn on_exception(&mut self, _refusal: Refusal) {
-        let _before = self.seen.exceptions.fetch_add(1, SeqCst);
-    }
-}
-
-/// One more session, with this loader.
-fn enter(
-    rt: &impl Abort,
-    alloc: Global,
-    owner: &mut CacheOwner,
-    sessions: &mut Vec<Session>,
-    loader: Loader,
-)
-    requires { All (MayCall owner.old.cache) sessions.old.items }
-    ensures { All (MayCall owner.new.cache) sessions.new.items }
-{
-    let Ok(session) = owner.session(alloc, Some(loader), None) else {
-        panic!(rt; "no session");
-    };
-    push(rt, sessions, session);
-}
-
-fn push(rt: &impl Abort, sessions: &mut Vec<Session>, session: Session)
-    ensures { sessions.new.items ≡ sessions.old.items ++ session ∷ [] }
-{
-    match sessions.push(session) {
-        Ok(()) => {}
-        Err(_failed) => panic!(rt; "memory"),
-    }
-}
-
-/// Two sessions, with these loaders.
-fn two_sessions(
-    rt: &impl Abort,
-    alloc: Global,
-    owner: &mut CacheOwner,
-    first: Loader,
-    second: Loader,
-) -> Vec<Session>
-    ensures { All (MayCall owner.new.cache) result.items }
-{
-    let mut sessions = Vec::new(alloc);
-    enter(rt, alloc, owner, &mut sessions, first);
-    enter(rt, alloc, owner, &mut sessions, second);
-    sessions
-}
-
-/// Loads these keys by these sessions, and says how many steps they have made together.
-fn load<R: Abort + Wait + Threads + Sync>(
-    rt: &R,
-    alloc: Global,
-    cache: &Cache,
-    sessions: &mut Vec<Session>,
-    listener: &mut Box<dyn CompletionListener + Send + Drop>,
-    keys: &IndexSet<Key>,
-) -> u64
-    requires { All (MayCall cache.now) sessions.old.items }
-{
-    assert!(rt; sessions.len() > 0, "no session");
-    let all = sessions.as_mut_slice();
-    let loaded = load_all(alloc, rt, cache, all, keys, false, listener);
-    results::ended(rt, loaded, "ok");
-    let mut own = 0u64;
-    for session in sessions.iter() {
-        own = own.saturating_add(session.own());
-    }
-    own
-}
-
-/// Loads these keys by two sessions with these loaders.
-fn load_by_two<R: Abort + Wait + Threads + Sync>(
-    rt: &R,
-    alloc: Global,
-    first: Loader,
-    second: Loader,
-    listener: &mut Box<dyn CompletionListener + Send + Drop>,
-    keys: &IndexSet<Key>,
-) -> u64 {
-    let config = Config {
-        stripes: 2,
-        capacity: 64,
-        history: 400,
-        read_through: false,
-        write_through: false,
-    };
-    let mut owner = CacheOwner::new(alloc, &config).ok().expect(rt, "a cache");
-    let mut sessions = two_sessions(rt, alloc, &mut owner, first, second);
-    load(rt, alloc, owner.cache(), &mut sessions, listener, keys)
-}
+/// A `loadAll` by two sessions, whose loaders wait for each other: so both load some of the keys.
+const LOADED: &str = "\
+loadmany 32 = ok
+told 1 0
+counts 0 2 0 0 0 0
+own 16
+s2 own 16
+";
 
 #[test]
 fn loads_side_by_side(rt: HostRuntime) {
     let alloc = rt.alloc();
-    let seen = nothing_seen(alloc).expect(&rt, "memory");
-    let one = Arc::try_clone(&seen).expect(&rt, "memory");
-    let two = Arc::try_clone(&seen).expect(&rt, "memory");
-    let told = Arc::try_clone(&seen).expect(&rt, "memory");
-    let first = boxed!(
-        rt,
-        Loader,
-        Twin {
-            seen: one,
-            is_first: true
-        }
-    );
-    let second = boxed!(
-        rt,
-        Loader,
-        Twin {
-            seen: two,
-            is_first: false
-        }
-    );
-    let mut listener =
-        boxed!(rt, Box<dyn CompletionListener + Send + Drop>, Listening { seen: told });
-    let keys = words::many(&rt, alloc, 32);
+    let outside = Outside::of(&rt, alloc, "");
+    let mut stage = Stage::new(&rt, alloc, &config(2, 64, 400));
+    let first = Paired::first(&rt, &outside.signals, outside.loader(rt));
+    let second = Paired::second(&rt, &outside.signals, outside.loader(rt));
+    enter!(rt, stage, first, outside.writer(rt));
+    enter!(rt, stage, second, outside.writer(rt));
+    stage.plays(&rt, alloc, &outside, LOADED);
+    are_stripes(&rt, alloc, &stage.close(&rt, alloc), "16, 16");
+}
+
+/// A `get_all` joins a load that another thread has under way, and calls its own loader for the other key alone. The first loader
+/// answers only after the second was called.
+#[test]
+fn joins_a_load_of_another_thread(rt: HostRuntime) {
+    let alloc = rt.alloc();
+    let outside = Outside::of(&rt, alloc, "a=1 b=2");
+    let mut stage = Stage::new(&rt, alloc, &config(1, 4, 100));
+    let first = Paired::first(&rt, &outside.signals, outside.loader(rt));
+    let second = Paired::second(&rt, &outside.signals, outside.loader(rt));
+    enter!(rt, stage, first, outside.writer(rt));
+    enter!(rt, stage, second, outside.writer(rt));
+    let texts = ["get a = 1\n", "await\ngetall a b = a=1 b=2\nown 2\n"];
+    stage.plays_beside(&rt, alloc, &outside, &texts);
+    outside.counted(&rt, "1 1 0 0 0 0");
+    let stripes = stage.close(&rt, alloc);
     is(
         &rt,
-        load_by_two(&rt, alloc, first, second, &mut listener, &keys),
-        32,
+        shared_by(&rt, alloc, stripes.first().expect(&rt, "a stripe"), 1),
+        1,
     );
-    is(&rt, seen.completions.load(SeqCst), 1);
-    is(&rt, seen.exceptions.load(SeqCst), 0);
+}
+
+/// What two sessions do, each on a thread of its own, before and after they meet.
+const PREPARED: [&str; 2] = ["putall a=1 b=2 c=3 = ok\n", "putall d=4 e=5 = ok\n"];
+
+const TAKEN_OVER: [&str; 2] = [
+    "getall d e = d=4 e=5\nputall f=6 = ok\nown 6\n",
+    "getall a b c = a=1 b=2 c=3\nown 5\n",
+];
+
+/// One thread's session goes on where another thread's has left off.
+#[test]
+fn meets_between_threads(rt: HostRuntime) {
+    let alloc = rt.alloc();
+    let outside = Outside::of(&rt, alloc, "");
+    let mut stage = Stage::new(&rt, alloc, &config(2, 8, 100));
+    enter!(rt, stage, outside.loader(rt), outside.writer(rt));
+    enter!(rt, stage, outside.loader(rt), outside.writer(rt));
+    stage.plays_beside(&rt, alloc, &outside, &PREPARED);
+    stage.plays(&rt, alloc, &outside, "meet\nown 3\ns2 own 2\n");
+    stage.plays_beside(&rt, alloc, &outside, &TAKEN_OVER);
+    outside.counted(&rt, "0 0 0 3 0 0");
+    is(&rt, stage.close(&rt, alloc).len(), 2);
+}
+
+fn is_writer(first: &First) -> bool
+    ensures { result ≡ asks_writer first.now }
+{
+    match first {
+        First::Writer(_) => true,
+        First::Nobody | First::Loader | First::Processor { .. } => false,
+    }
+}
+
+/// The first phase of a put, which reserves its key.
+fn reserve<R: Abort + Wait>(
+    rt: &R,
+    cache: &Cache,
+    session: &mut Session,
+    key: &Key,
+    value: &Value,
+) -> Ticket
+    requires { MayCall cache.now session.old }
+    ensures own { IsOf cache.now session.new }
+    ensures caller { result.reservation.caller.session ≡ session.new.agent.caller.session }
+    ensures unasked { result.asked ≡ false }
+    ensures first { asks_writer result.reservation.first ≡ true }
+{
+    own_numbers();
+    session.next_call();
+    match cache.start(rt, session, key, &Op::Put(*value)) {
+        Begun::Asks(ticket) => {
+            assert!(rt; is_writer(&ticket.reservation().first), "a write");
+            ticket
+        }
+        _other => panic!(rt; "nobody is to be asked"),
+    }
+}
+
+/// A put of `c`, phase by phase. It says that it has reserved its key, and holds it until the second session's writer was called.
+fn put_late<R: Abort + Wait>(rt: &R, outside: &Outside, cache: &Cache, session: &mut Session)
+    requires { MayCall cache.now session.old }
+    ensures { IsOf cache.now session.new }
+{
+    assert!(rt; cache.config().write_through, "write-through");
+    let mut ticket = reserve(rt, cache, session, &key(rt, "c"), &value(rt, "9"));
+    outside.signals.raise_first();
+    outside.signals.wait_for_second(rt);
+    let done = session.ask_writer(rt, ticket.ask());
+    let _step = cache.commit_write(rt, session, ticket, done);
+}
+
+/// What the second session does meanwhile: `c` is put off, and written in a later round.
+const PUT_OFF: &str = "\
+await
+putall a=1 b=2 c=3 = ok
+own 3
+";
+
+/// What the session at this place does.
+fn act<R: Abort + Wait>(
+    rt: &R,
+    alloc: Global,
+    outside: &Outside,
+    cache: &Cache,
+    place: usize,
+    session: &mut Session,
+)
+    requires { MayCall cache.now session.old }
+    ensures { IsOf cache.now session.new }
+{
+    if place == 0 {
+        put_late(rt, outside, cache, session);
+    } else {
+        plays(rt, alloc, outside, cache, session, PUT_OFF);
+    }
+}
+
+/// All sessions do that beside each other.
+fn act_beside<R: Abort + Wait + Threads + Sync>(
+    rt: &R,
+    alloc: Global,
+    outside: &Outside,
+    cache: &Cache,
+    sessions: &mut Vec<Session>,
+)
+    requires { All (MayCall cache.now) sessions.old.items }
+    ensures { All (λ s. IsOf cache.now s) sessions.new.items }
+{
+    let threads = sessions.len();
+    assert!(rt; threads > 0, "no session");
+    thread::for_each_mut(
+        rt,
+        sessions.as_mut_slice(),
+        threads,
+        &|place, session: &mut Session|
+            requires { MayCall cache.now session.old }
+            ensures { IsOf cache.entry.now session.new }
+        { act(rt, alloc, outside, cache, place, session) },
+    );
+}
+
+/// Plays it on a stage of two sessions, and ends the cache.
+fn put_off<R: Abort + Wait + Threads + Sync>(
+    rt: &R,
+    alloc: Global,
+    outside: &Outside,
+    stage: Stage,
+) -> Vec<ClosedStripe>
+    requires { All (MayCall stage.owner.cache) stage.sessions.items }
+{
+    let (owner, mut sessions) = stage.into_parts();
+    act_beside(rt, alloc, outside, owner.cache(), &mut sessions);
+    closed(rt, alloc, owner, sessions)
+}
+
+#[test]
+fn puts_a_reserved_key_off(rt: HostRuntime) {
+    let alloc = rt.alloc();
+    let outside = Outside::of(&rt, alloc, "");
+    let mut stage = Stage::new(&rt, alloc, &config(1, 4, 100));
+    let second = Paired::second(&rt, &outside.signals, outside.writer(rt));
+    enter!(rt, stage, outside.loader(rt), outside.writer(rt));
+    enter!(rt, stage, outside.loader(rt), second);
+    let stripes = put_off(&rt, alloc, &outside, stage);
+    outside.counted(&rt, "0 0 1 2 0 0");
+    outside.holds(&rt, alloc, "a=1 b=2 c=3");
+    are_stripes(&rt, alloc, &stripes, "4 c=3 b=2 a=1");
 }

@@ -57,8 +57,9 @@ fn code(rt: &impl Abort, word: &str) -> u32 {
     word.parse().ok().expect(rt, "a code")
 }
 
-/// So many keys: `k` and a number.
-pub fn many(rt: &impl Abort, alloc: Global, count: u16) -> IndexSet<Key> {
+/// So many keys, of a word that says how many: `k` and a number.
+pub fn many(rt: &impl Abort, alloc: Global, word: &str) -> IndexSet<Key> {
+    let count: u16 = word.parse().ok().expect(rt, word);
     let mut keys = IndexSet::new(alloc);
     for i in 0..count {
         let [low, high] = i.to_le_bytes();

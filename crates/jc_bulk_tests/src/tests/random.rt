@@ -1,0 +1,326 @@
+//! Random calls with many keys of four sessions, each on a thread of its own, on a cache that is too small for their keys, before
+//! loaders and writers that fail now and then.
+ghost use Rattle.std.specs.Prelude.{◌<◌, All};
+ghost use Rattle.jc_cache.specs.Sessions.{MayCall};
+
+use super::closing::are_coherent;
+use super::lines::increment;
+use super::outside::Outside;
+use super::stage::Stage;
+use super::unreliable::{DOWN, Failures, Keys, Unreliable};
+use super::*;
+use indexmap::{IndexMap, IndexSet};
+use jc_bulk::{BulkFault, clear, get_all, load_keys, put_all, remove_all, remove_every};
+use jc_invoke::invoke_all;
+
+/// How many calls each session makes.
+const CALLS: u64 = 60;
+
+/// How many keys there are, and how many are drawn for a call.
+const KEYS: u64 = 40;
+
+const MOST: u64 = 12;
+
+/// Numbers that look random (Knuth's linear congruential generator).
+#[derive(Drop)]
+struct Random(u64);
+
+impl Random {
+    /// A number below this one.
+    fn below(&mut self, end: u64) -> u64
+        requires { 0 < end }
+        ensures { result < end }
+    {
+        self.0 = self
+            .0
+            .wrapping_mul(6_364_136_223_846_793_005)
+            .wrapping_add(1_442_695_040_888_963_407);
+        (self.0 >> 33) % end
+    }
+}
+
+/// The two digits of a number below 100.
+fn digits(number: u64) -> [u8; 2] {
+    let number = (number % 100) as u8;
+    [b'0' + number / 10, b'0' + number % 10]
+}
+
+/// Some keys.
+fn drawn_keys(rt: &impl Abort, alloc: Global, random: &mut Random) -> IndexSet<Key> {
+    let mut keys = IndexSet::new(alloc);
+    let count = random.below(MOST);
+    for _ in 0..=count {
+        let key = Key::new(&digits(random.below(KEYS)))
+            .ok()
+            .expect(rt, "a key");
+        let _is_new = keys.insert(key).ok().expect(rt, "memory");
+    }
+    keys
+}
+
+/// Some entries, whose values are numbers.
+fn drawn_entries(rt: &impl Abort, alloc: Global, random: &mut Random) -> IndexMap<Key, Value> {
+    let mut entries = IndexMap::new(alloc);
+    for key in &drawn_keys(rt, alloc, random) {
+        let value = Value::new(&digits(random.below(100)))
+            .ok()
+            .expect(rt, "a value");
+        let _old = entries.insert(*key, value).ok().expect(rt, "memory");
+    }
+    entries
+}
+
+/// The keys of a list.
+fn set_of(keys: &IndexSet<Key>) -> Keys {
+    let mut set = Keys::NONE;
+    for key in keys {
+        set = set.with(key);
+    }
+    set
+}
+
+/// The keys that were found.
+fn found_of(found: &IndexMap<Key, Value>) -> Keys {
+    let mut set = Keys::NONE;
+    for (key, _value) in found {
+        set = set.with(key);
+    }
+    set
+}
+
+/// The keys that failed, each with this.
+fn failed_of(rt: &impl Abort, failed: &IndexMap<Key, Refusal>, want: Refusal) -> Keys {
+    let mut set = Keys::NONE;
+    for (key, why) in failed {
+        is(rt, *why, want);
+        set = set.with(key);
+    }
+    set
+}
+
+/// The call failed at exactly those keys which the writer has left.
+fn is_written(rt: &impl Abort, returned: Result<(), BulkFault>, left: Keys) {
+    let down = Refusal::WriterFailed(DOWN);
+    let failed = match returned {
+        Ok(()) => Keys::NONE,
+        Err(fault) => {
+            is(rt, fault.cause, down);
+            failed_of(rt, &fault.failed, down)
+        }
+    };
+    is(rt, failed, left);
+}
+
+/// A call that loads failed at the keys for which its own loader has failed, and at none that it doesn't name. At others it may have
+/// joined a load that failed.
+fn is_loaded(rt: &impl Abort, fault: Option<&BulkFault>, keys: Keys, down_at: Keys) -> Keys {
+    let down = Refusal::LoaderFailed(DOWN);
+    let failed = match fault {
+        None => Keys::NONE,
+        Some(fault) => {
+            is(rt, fault.cause, down);
+            failed_of(rt, &fault.failed, down)
+        }
+    };
+    assert!(rt; down_at.are_among(failed));
+    assert!(rt; failed.are_among(keys));
+    failed
+}
+
+fn put_some<R: Abort + Wait>(
+    rt: &R,
+    alloc: Global,
+    cache: &Cache,
+    session: &mut Session,
+    failures: &Failures,
+    random: &mut Random,
+)
+    requires { MayCall cache.now session.old }
+    ensures { MayCall cache.now session.new }
+{
+    let entries = drawn_entries(rt, alloc, random);
+    let own = session.own();
+    let returned = put_all(alloc, rt, cache, session, &entries);
+    is_written(rt, returned, failures.take());
+    is(rt, session.own().wrapping_sub(own), entries.len() as u64);
+}
+
+fn remove_some<R: Abort + Wait>(
+    rt: &R,
+    alloc: Global,
+    cache: &Cache,
+    session: &mut Session,
+    failures: &Failures,
+    random: &mut Random,
+)
+    requires { MayCall cache.now session.old }
+    ensures { MayCall cache.now session.new }
+{
+    let keys = drawn_keys(rt, alloc, random);
+    let own = session.own();
+    let returned = remove_all(alloc, rt, cache, session, &keys);
+    is_written(rt, returned, failures.take());
+    is(rt, session.own().wrapping_sub(own), keys.len() as u64);
+}
+
+/// What was found is among the keys, and didn't fail.
+fn get_some<R: Abort + Wait>(
+    rt: &R,
+    alloc: Global,
+    cache: &Cache,
+    session: &mut Session,
+    failures: &Failures,
+    random: &mut Random,
+)
+    requires { MayCall cache.now session.old }
+    ensures { MayCall cache.now session.new }
+{
+    let keys = drawn_keys(rt, alloc, random);
+    let own = session.own();
+    match get_all(alloc, rt, cache, session, &keys) {
+        Ok(found) => {
+            is_loaded(rt, None, set_of(&keys), failures.take());
+            assert!(rt; found_of(&found).are_among(set_of(&keys)));
+        }
+        Err(fault) => {
+            let failed = is_loaded(rt, Some(&fault), set_of(&keys), failures.take());
+            assert!(rt; found_of(&fault.found).are_among(set_of(&keys)));
+            assert!(rt; found_of(&fault.found).are_apart_from(failed));
+        }
+    }
+    is(rt, session.own().wrapping_sub(own), keys.len() as u64);
+}
+
+fn load_some<R: Abort + Wait>(
+    rt: &R,
+    alloc: Global,
+    cache: &Cache,
+    session: &mut Session,
+    failures: &Failures,
+    random: &mut Random,
+)
+    requires { MayCall cache.now session.old }
+    ensures { MayCall cache.now session.new }
+{
+    let keys = drawn_keys(rt, alloc, random);
+    let replace = random.below(2) == 0;
+    let own = session.own();
+    let fault = load_keys(alloc, rt, cache, session, &keys, replace).err();
+    let _failed = is_loaded(rt, fault.as_ref(), set_of(&keys), failures.take());
+    is(rt, session.own().wrapping_sub(own), keys.len() as u64);
+}
+
+/// The keys whose results are faults of the loader or the writer.
+fn down_in(rt: &impl Abort, results: &IndexMap<Key, Result<Value, Refusal>>) -> Keys {
+    let mut set = Keys::NONE;
+    for (key, one) in results {
+        if let Err(why) = one {
+            assert!(rt; *why == Refusal::LoaderFailed(DOWN) || *why == Refusal::WriterFailed(DOWN));
+            set = set.with(key);
+        }
+    }
+    set
+}
+
+/// Each key has a result, and just those are faults for which the loader or the writer has failed.
+fn invoke_some<R: Abort + Wait>(
+    rt: &R,
+    alloc: Global,
+    cache: &Cache,
+    session: &mut Session,
+    failures: &Failures,
+    random: &mut Random,
+)
+    requires { MayCall cache.now session.old }
+    ensures { MayCall cache.now session.new }
+{
+    let keys = drawn_keys(rt, alloc, random);
+    let mut processor = increment(rt, alloc);
+    let own = session.own();
+    let returned = invoke_all(alloc, rt, cache, session, &keys, &mut processor, &[]);
+    let results = returned.ok().expect(rt, "results");
+    is(rt, down_in(rt, &results), failures.take());
+    is(rt, results.len(), keys.len());
+    is(rt, session.own().wrapping_sub(own), keys.len() as u64);
+}
+
+/// Removes all entries, or clears them. A `clear` asks nobody, and can't fail.
+fn sweep<R: Abort + Wait>(
+    rt: &R,
+    alloc: Global,
+    cache: &Cache,
+    session: &mut Session,
+    failures: &Failures,
+    random: &mut Random,
+)
+    requires { MayCall cache.now session.old }
+    ensures { MayCall cache.now session.new }
+{
+    let returned = if random.below(2) == 0 {
+        clear(alloc, rt, cache, session)
+    } else {
+        remove_every(alloc, rt, cache, session)
+    };
+    is_written(rt, returned, failures.take());
+}
+
+/// Makes a random call.
+fn call_once<R: Abort + Wait>(
+    rt: &R,
+    alloc: Global,
+    cache: &Cache,
+    session: &mut Session,
+    failures: &Failures,
+    random: &mut Random,
+)
+    requires { MayCall cache.now session.old }
+    ensures { MayCall cache.now session.new }
+{
+    match random.below(16) {
+        0..=3 => put_some(rt, alloc, cache, session, failures, random),
+        4..=7 => get_some(rt, alloc, cache, session, failures, random),
+        8..=9 => remove_some(rt, alloc, cache, session, failures, random),
+        10..=12 => invoke_some(rt, alloc, cache, session, failures, random),
+        13..=14 => load_some(rt, alloc, cache, session, failures, random),
+        _ => sweep(rt, alloc, cache, session, failures, random),
+    }
+}
+
+/// Makes random calls, always the same ones for a place. The place's loader and writer note their failures in the list.
+pub fn call_often<R: Abort + Wait>(
+    rt: &R,
+    alloc: Global,
+    cache: &Cache,
+    session: &mut Session,
+    failures: &[Failures],
+    place: usize,
+)
+    requires { MayCall cache.now session.old }
+    ensures { MayCall cache.now session.new }
+{
+    let failures = failures.get(place).expect(rt, "failures");
+    let mut random = Random(place as u64);
+    'calling: for _ in 0..CALLS {
+        call_once(rt, alloc, cache, session, failures, &mut random);
+    }
+}
+
+/// Loaders and writers that never fail, and some that fail at each fifth call.
+#[test]
+fn four_sessions_call_at_random(rt: HostRuntime) {
+    let alloc = rt.alloc();
+    for every in [0, 5] {
+        let outside = Outside::of(&rt, alloc, "00=1 07=2 12=3 39=4");
+        let mut stage = Stage::new(&rt, alloc, &config(4, 3, 16_384));
+        let mut noted = Vec::new(alloc);
+        'entering: for _ in 0..4 {
+            let failures = Failures::new(alloc).expect(&rt, "memory");
+            let loader = Unreliable::new(&rt, every, &failures, outside.loader(rt));
+            let writer = Unreliable::new(&rt, every, &failures, outside.writer(rt));
+            enter!(rt, stage, loader, writer);
+            noted.push(failures).ok().expect(&rt, "memory");
+        }
+        stage.calls_at_random(&rt, alloc, &noted);
+        are_coherent(&rt, alloc, &outside, &stage.close(&rt, alloc));
+    }
+}

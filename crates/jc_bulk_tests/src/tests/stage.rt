@@ -1,0 +1,283 @@
+//! A cache with its sessions. A line names its session, by its place; without a name it is the first. Besides the lines of a session
+//! there are
+//!
+//!     loadall a c = ok            a `loadAll` by all sessions side by side
+//!     loadmany 32 = ok            the same with so many keys
+//!     meet                        the first session tells the last one what it has seen
+ghost use Rattle.std.specs.Prelude.{◌≡◌, ◌++◌, ◌∷◌, [], All};
+ghost use Rattle.jc_cache.specs.Sessions.{MayCall};
+
+use super::closing::closed;
+use super::lines::{play, plays};
+use super::outside::Outside;
+use super::random::call_often;
+use super::results::ended;
+use super::unreliable::Failures;
+use super::words::{first_word, keys_of, many};
+use super::*;
+use indexmap::IndexSet;
+use jc_cache::ClosedStripe;
+use jc_loadall::load_all;
+use std::thread;
+use std::thread::Threads;
+
+/// Who owns a cache, and sessions that may call it.
+#[derive(Drop)]
+pub struct Stage {
+    owner: CacheOwner,
+    sessions: Vec<Session>,
+}
+
+/// The session that a line names, and the rest of the line.
+fn by_session(line: &str) -> (usize, &str) {
+    let (word, rest) = first_word(line);
+    match word {
+        "s1" => (0, rest),
+        "s2" => (1, rest),
+        _ => (0, line),
+    }
+}
+
+/// Does what a line says, by the session at this place.
+fn play_at<R: Abort + Wait>(
+    rt: &R,
+    alloc: Global,
+    outside: &Outside,
+    cache: &Cache,
+    sessions: &mut Vec<Session>,
+    at: usize,
+    line: &str,
+)
+    requires { All (MayCall cache.now) sessions.old.items }
+    ensures { All (MayCall cache.now) sessions.new.items }
+{
+    assert!(rt; at < sessions.len(), "{line}");
+    play(rt, alloc, outside, cache, &mut sessions[at], line);
+}
+
+/// Loads these keys by all sessions side by side. It is to end so.
+fn load<R: Abort + Wait + Threads + Sync>(
+    rt: &R,
+    alloc: Global,
+    outside: &Outside,
+    cache: &Cache,
+    sessions: &mut Vec<Session>,
+    keys: &IndexSet<Key>,
+    wanted: &str,
+)
+    requires { All (MayCall cache.now) sessions.old.items }
+    ensures { All (MayCall cache.now) sessions.new.items }
+{
+    assert!(rt; sessions.len() > 0, "no session");
+    let mut listener = outside.listener(rt, alloc);
+    let all = sessions.as_mut_slice();
+    let loaded = load_all(alloc, rt, cache, all, keys, false, &mut listener);
+    ended(rt, loaded, wanted);
+}
+
+/// The first session tells the last one what it has seen.
+fn tell_last<R: Abort + Wait>(rt: &R, cache: &Cache, sessions: &mut Vec<Session>)
+    requires { All (MayCall cache.now) sessions.old.items }
+    ensures { All (MayCall cache.now) sessions.new.items }
+{
+    let Some(mut last) = sessions.pop() else {
+        panic!(rt; "no session");
+    };
+    assert!(rt; 0 < sessions.len(), "one session alone");
+    cache.meet(rt, &mut sessions[0], &mut last);
+    push(rt, sessions, last);
+}
+
+fn push(rt: &impl Abort, sessions: &mut Vec<Session>, session: Session)
+    ensures { sessions.new.items ≡ sessions.old.items ++ session ∷ [] }
+{
+    match sessions.push(session) {
+        Ok(()) => {}
+        Err(_failed) => panic!(rt; "memory"),
+    }
+}
+
+/// Does what a line says.
+fn play_line<R: Abort + Wait + Threads + Sync>(
+    rt: &R,
+    alloc: Global,
+    outside: &Outside,
+    cache: &Cache,
+    sessions: &mut Vec<Session>,
+    line: &str,
+)
+    requires { All (MayCall cache.now) sessions.old.items }
+    ensures { All (MayCall cache.now) sessions.new.items }
+{
+    let (called, wanted) = line.split_once(" = ").unwrap_or((line, ""));
+    let (word, rest) = first_word(called);
+    match word {
+        "loadall" => {
+            let keys = keys_of(rt, alloc, rest);
+            load(rt, alloc, outside, cache, sessions, &keys, wanted);
+        }
+        "loadmany" => {
+            let keys = many(rt, alloc, rest);
+            load(rt, alloc, outside, cache, sessions, &keys, wanted);
+        }
+        "meet" => tell_last(rt, cache, sessions),
+        _ => {
+            let (at, rest) = by_session(line);
+            play_at(rt, alloc, outside, cache, sessions, at, rest);
+        }
+    }
+}
+
+/// Does what each line of a text says.
+fn play_lines<R: Abort + Wait + Threads + Sync>(
+    rt: &R,
+    alloc: Global,
+    outside: &Outside,
+    cache: &Cache,
+    sessions: &mut Vec<Session>,
+    text: &str,
+)
+    requires { All (MayCall cache.now) sessions.old.items }
+    ensures { All (MayCall cache.now) sessions.new.items }
+{
+    for line in text.split_terminator('\n') {
+        play_line(rt, alloc, outside, cache, sessions, line);
+    }
+}
+
+/// Plays texts beside each other, each by a session of its own on a thread of its own.
+fn play_beside<R: Abort + Wait + Threads + Sync>(
+    rt: &R,
+    alloc: Global,
+    outside: &Outside,
+    cache: &Cache,
+    sessions: &mut Vec<Session>,
+    texts: &[&str],
+)
+    requires { All (MayCall cache.now) sessions.old.items }
+    ensures { All (MayCall cache.now) sessions.new.items }
+{
+    let threads = sessions.len();
+    assert!(rt; threads > 0, "no session");
+    thread::for_each_mut(
+        rt,
+        sessions.as_mut_slice(),
+        threads,
+        &|i, session: &mut Session|
+            requires { MayCall cache.now session.old }
+            ensures { MayCall cache.entry.now session.new }
+        {
+            let text = texts.get(i).copied().unwrap_or("");
+            plays(rt, alloc, outside, cache, session, text);
+        },
+    );
+}
+
+/// Random calls of all sessions beside each other, each on a thread of its own.
+fn call_beside<R: Abort + Wait + Threads + Sync>(
+    rt: &R,
+    alloc: Global,
+    cache: &Cache,
+    sessions: &mut Vec<Session>,
+    failures: &[Failures],
+)
+    requires { All (MayCall cache.now) sessions.old.items }
+    ensures { All (MayCall cache.now) sessions.new.items }
+{
+    let threads = sessions.len();
+    assert!(rt; threads > 0, "no session");
+    thread::for_each_mut(
+        rt,
+        sessions.as_mut_slice(),
+        threads,
+        &|place, session: &mut Session|
+            requires { MayCall cache.now session.old }
+            ensures { MayCall cache.entry.now session.new }
+        { call_often(rt, alloc, cache, session, failures, place) },
+    );
+}
+
+impl Stage {
+    /// A cache of this shape, without sessions.
+    pub fn new(rt: &impl Abort, alloc: Global, config: &Config) -> Stage
+        ensures { All (MayCall result.owner.cache) result.sessions.items }
+    {
+        Stage {
+            owner: CacheOwner::new(alloc, config).ok().expect(rt, "a cache"),
+            sessions: Vec::new(alloc),
+        }
+    }
+
+    /// One more session, with this loader and this writer.
+    pub fn enter(&mut self, rt: &impl Abort, alloc: Global, loader: Loader, writer: Writer)
+        requires { All (MayCall self.old.owner.cache) self.old.sessions.items }
+        ensures { All (MayCall self.new.owner.cache) self.new.sessions.items }
+    {
+        let Ok(session) = self.owner.session(alloc, Some(loader), Some(writer)) else {
+            panic!(rt; "no session");
+        };
+        push(rt, &mut self.sessions, session);
+    }
+
+    /// Does what each line of a text says.
+    pub fn plays<R: Abort + Wait + Threads + Sync>(
+        &mut self,
+        rt: &R,
+        alloc: Global,
+        outside: &Outside,
+        text: &str,
+    )
+        requires { All (MayCall self.old.owner.cache) self.old.sessions.items }
+        ensures { All (MayCall self.new.owner.cache) self.new.sessions.items }
+    {
+        let sessions = &mut self.sessions;
+        play_lines(rt, alloc, outside, self.owner.cache(), sessions, text);
+    }
+
+    /// Plays texts beside each other, each by a session of its own on a thread of its own.
+    pub fn plays_beside<R: Abort + Wait + Threads + Sync>(
+        &mut self,
+        rt: &R,
+        alloc: Global,
+        outside: &Outside,
+        texts: &[&str],
+    )
+        requires { All (MayCall self.old.owner.cache) self.old.sessions.items }
+        ensures { All (MayCall self.new.owner.cache) self.new.sessions.items }
+    {
+        let sessions = &mut self.sessions;
+        play_beside(rt, alloc, outside, self.owner.cache(), sessions, texts);
+    }
+
+    /// Random calls of all sessions beside each other, each on a thread of its own. Their loaders and writers note their failures in
+    /// this list.
+    pub fn calls_at_random<R: Abort + Wait + Threads + Sync>(
+        &mut self,
+        rt: &R,
+        alloc: Global,
+        failures: &[Failures],
+    )
+        requires { All (MayCall self.old.owner.cache) self.old.sessions.items }
+        ensures { All (MayCall self.new.owner.cache) self.new.sessions.items }
+    {
+        let sessions = &mut self.sessions;
+        call_beside(rt, alloc, self.owner.cache(), sessions, failures);
+    }
+
+    /// Who owns the cache, and its sessions.
+    pub fn into_parts(self) -> (CacheOwner, Vec<Session>)
+        requires { All (MayCall self.owner.cache) self.sessions.items }
+        ensures { All (MayCall result.0.cache) result.1.items }
+    {
+        let Stage { owner, sessions } = self;
+        (owner, sessions)
+    }
+
+    /// Ends the cache with all of its sessions.
+    pub fn close(self, rt: &impl Abort, alloc: Global) -> Vec<ClosedStripe>
+        requires { All (MayCall self.owner.cache) self.sessions.items }
+    {
+        let Stage { owner, sessions } = self;
+        closed(rt, alloc, owner, sessions)
+    }
+}
