@@ -57,10 +57,10 @@ const LEFT_NOTHING: &str = "\
 open 1 16 4096
 before
 fault 1 5
-end 4 b=2 a=1
-putall a=1 b=2 = WriterFailed 5
-stored a=1 b=2
-getall a b = a=1 b=2
+end 6 c=3 b=2 a=1
+putall a=1 b=2 c=3 = WriterFailed 5
+stored a=1 b=2 c=3
+getall a b c = a=1 b=2 c=3
 counts 0 0 0 1 0 0
 ";
 

@@ -10,6 +10,7 @@ const TEXTS: &[&str] = &[
     calls::READS,
     calls::WRITES,
     limits::FULL,
+    limits::LAST_NUMBER,
     invoking::NET_EFFECTS,
     invoking::FAILED,
     invoking::ALONE,

@@ -147,3 +147,16 @@ get a = HistoryFull | 1 13 0
 own 16
 stored a=1 b=2
 ";
+
+/// A session whose next call has the last number that a call has, 2^64 - 2. After it each call is refused; another session's calls
+/// go on.
+pub const LAST_NUMBER: &str = "\
+open 1 4 100
+skip 18446744073709551614
+put a 1 = ok
+put a 2 = HistoryFull
+get a = HistoryFull
+own 1
+s2 get a = 1
+s2 put a 3 = ok
+";

@@ -6,6 +6,8 @@
 //!     stored a=1
 //!     own 2
 //!
+//! `skip N` has the next call begin by the number N.
+//!
 //! Between threads: `await` waits until a loader or a writer that waits was asked, `raise` lets it answer, and `rest` lets other
 //! threads go on.
 ghost use Rattle.jc_cache.specs.Sessions.{MayCall};
@@ -61,6 +63,7 @@ impl Desk {
             "#" => {}
             "stored" => self.holds(rt, alloc, rest),
             "own" => is(rt, Some(session.own()), rest.parse().ok()),
+            "skip" => session.skip_to(rest.parse().ok().expect(rt, rest)),
             "await" => self.signals.wait_for_ask(rt),
             "raise" => self.signals.raise(),
             "rest" => signals::rest(),

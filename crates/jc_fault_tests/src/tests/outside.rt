@@ -1,0 +1,182 @@
+//! A store, and what its loaders and writers have failed at.
+use super::calls::Ended;
+use super::noted::{Log, Noted, Watched};
+use super::trial::{Fault, LOADER_DOWN, Trial};
+use super::words::{Line, pairs_of};
+use super::*;
+use indexmap::{IndexMap, IndexSet};
+use jc_store::{ScheduledLoader, ScheduledWriter, SharedStore, Store, StoreLoader, StoreWriter};
+
+/// What the store has at first.
+const STORED: &str = "a=1 c=3 k01=1 k07=7 k12=12 k17=17 k23=23 k24=24 k31=31";
+
+/// A store that some sessions share, what the loader and the writer of each note, and which fault they have.
+#[derive(Drop)]
+pub struct Outside {
+    store: SharedStore,
+    logs: Vec<Log>,
+    trial: Trial,
+}
+
+impl Outside {
+    pub fn new(rt: &impl Abort, alloc: Global, trial: &Trial) -> Self {
+        let store = Store::of(alloc, &pairs_of(rt, alloc, STORED)).expect(rt, "memory");
+        Outside {
+            store: SharedStore::new(alloc, store).expect(rt, "memory"),
+            logs: logs(rt, alloc, trial.sessions),
+            trial: *trial,
+        }
+    }
+
+    fn log(&self, rt: &impl Abort, who: usize) -> &Log {
+        self.logs.get(who).expect(rt, "a log")
+    }
+
+    /// The loader of the session at this place.
+    pub fn loader<R: Abort + Wait + Drop + Copy>(
+        &self,
+        rt: R,
+        alloc: Global,
+        who: usize,
+    ) -> Watched<ScheduledLoader<StoreLoader<R>>, R> {
+        let loader = self.store.loader(rt).expect(&rt, "memory");
+        let fault = self.trial.load_fault(&rt, alloc);
+        let loader = ScheduledLoader::new(loader, self.trial.load_call(), fault);
+        self.log(&rt, who).watching(rt, alloc, loader)
+    }
+
+    /// The writer of the session at this place.
+    pub fn writer<R: Abort + Wait + Drop + Copy>(
+        &self,
+        rt: R,
+        alloc: Global,
+        who: usize,
+    ) -> Watched<ScheduledWriter<StoreWriter<R>>, R> {
+        let writer = self.store.writer(rt).expect(&rt, "memory");
+        let fault = self.trial.write_fault(&rt, alloc);
+        let writer = ScheduledWriter::new(writer, self.trial.write_call(), fault);
+        self.log(&rt, who).watching(rt, alloc, writer)
+    }
+
+    /// A call of the session at this place has ended so. It failed where the session's loader or its writer has since its last call.
+    pub fn explains<R: Abort + Wait>(
+        &self,
+        rt: &R,
+        alloc: Global,
+        who: usize,
+        line: &Line,
+        ended: &Ended,
+    ) {
+        let noted = self.log(rt, who).take(rt, alloc);
+        let may_join = self.logs.len() > 1;
+        if line.word != "invokeall" {
+            has_cause(rt, ended.cause, noted.cause, may_join);
+        }
+        fails_where_noted(rt, &noted.failed, &ended.failed);
+        was_noted(rt, &ended.failed, &noted.failed, may_join);
+        are_in_order(rt, &ended.failed, &line.keys);
+    }
+
+    /// A call of all sessions together has ended so.
+    pub fn explains_all<R: Abort + Wait>(
+        &self,
+        rt: &R,
+        alloc: Global,
+        keys: &IndexSet<Key>,
+        ended: &Ended,
+    ) {
+        let mut failures = 0usize;
+        for log in &self.logs {
+            let noted = log.take(rt, alloc);
+            failures = failures.saturating_add(noted.failed.len());
+            fails_where_noted(rt, &noted.failed, &ended.failed);
+        }
+        is(rt, ended.failed.len(), failures);
+        are_in_order(rt, &ended.failed, keys);
+        let down = Some(Refusal::LoaderFailed(LOADER_DOWN));
+        is(rt, ended.cause, if failures > 0 { down } else { None });
+    }
+
+    /// Whether a loader or a writer was called so often that it has had its fault.
+    pub fn has_met<R: Abort + Wait>(&self, rt: &R, alloc: Global) -> bool {
+        let mut met = false;
+        for log in &self.logs {
+            let noted = log.take(rt, alloc);
+            met = met || self.has_had(&noted);
+        }
+        met
+    }
+
+    fn has_had(&self, noted: &Noted) -> bool {
+        if self.trial.is_of_loader() {
+            noted.loads >= self.trial.call
+        } else {
+            noted.writes >= self.trial.call
+        }
+    }
+
+    /// Each of these entries is that of the store. Of two answers the last one counts.
+    pub fn has_all<R: Abort + Wait>(&self, rt: &R, entries: &[(Key, Value)]) {
+        for (key, value) in entries {
+            match self.trial.fault {
+                Fault::AlsoAnswers if key.bytes() == b"c".as_slice() => {
+                    is(rt, value.bytes(), b"3".as_slice());
+                },
+                _ => is(rt, self.store.read(rt, key), Some(*value)),
+            }
+        }
+    }
+}
+
+fn logs(rt: &impl Abort, alloc: Global, sessions: usize) -> Vec<Log> {
+    let mut logs = Vec::new(alloc);
+    for _ in 0..sessions {
+        logs.push(Log::new(rt, alloc)).ok().expect(rt, "memory");
+    }
+    logs
+}
+
+/// The refusal of a key whose load another session has made, and that one's loader has failed.
+const JOINED: Refusal = Refusal::LoaderFailed(LOADER_DOWN);
+
+fn has_cause(rt: &impl Abort, cause: Option<Refusal>, noted: Option<Refusal>, may_join: bool) {
+    if !(may_join && cause == Some(JOINED)) {
+        is(rt, cause, noted);
+    }
+}
+
+/// Each key that was noted has failed.
+fn fails_where_noted(
+    rt: &impl Abort,
+    noted: &IndexMap<Key, Refusal>,
+    failed: &IndexMap<Key, Refusal>,
+) {
+    for (key, why) in noted {
+        is(rt, failed.get(key).copied(), Some(*why));
+    }
+}
+
+/// Each key that has failed was noted, or its load was joined.
+fn was_noted(
+    rt: &impl Abort,
+    failed: &IndexMap<Key, Refusal>,
+    noted: &IndexMap<Key, Refusal>,
+    may_join: bool,
+) {
+    for (key, why) in failed {
+        if !(may_join && *why == JOINED) {
+            is(rt, noted.get(key).copied(), Some(*why));
+        }
+    }
+}
+
+/// The keys that failed are in the order of the call's keys, if it names any.
+fn are_in_order(rt: &impl Abort, failed: &IndexMap<Key, Refusal>, keys: &IndexSet<Key>) {
+    let mut next = 0usize;
+    for (key, _why) in failed {
+        if let Some(at) = keys.get_index_of(key) {
+            assert!(rt; next <= at);
+            next = at;
+        }
+    }
+}
