@@ -357,17 +357,29 @@ fn loaded_end(rt: &impl Abort, ended: &Ended, sessions: &[Session]) -> &'static 
 }
 
 /// A `loadAll` by one session.
+fn loads_by_one<R: Abort + Wait + Threads + Sync + Print>(
+    rt: &R,
+    alloc: Global,
+    owner: CacheOwner,
+    session: Session,
+)
+    requires { MayCall owner.cache session }
+{
+    let mut sessions = Vec::new(alloc);
+    push(rt, &mut sessions, session);
+    loads(rt, alloc, owner.cache(), &mut sessions);
+}
+
+/// A `loadAll` in two pieces: a piece that finds no memory has its keys refused.
 #[test]
 fn loads_in_pieces(rt: HostRuntime) {
     let alloc = rt.alloc();
     let mut owner = CacheOwner::new(alloc, &SHAPE).ok().expect(&rt, "memory");
     let (loader, writer) = (loader(&rt, alloc), writer(&rt, alloc));
-    let Ok(session) = owner.session(alloc, Some(loader), Some(writer)) else {
-        panic!(rt; "memory");
-    };
-    let mut sessions = Vec::new(alloc);
-    push(&rt, &mut sessions, session);
-    loads(&rt, alloc, owner.cache(), &mut sessions);
+    match owner.session(alloc, Some(loader), Some(writer)) {
+        Ok(session) => loads_by_one(&rt, alloc, owner, session),
+        Err(_fault) => panic!(rt; "memory"),
+    }
 }
 
 /// Lets two sessions meet.
