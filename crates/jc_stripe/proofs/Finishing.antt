@@ -79,6 +79,7 @@ done_sound i caller key op entries promised_in history keys made done kept d non
       limit = ap (λ (p : Past). p.limit) d.put ∙ ap (λ (p : Past). p.limit) d.promises ∙ d.sound.limit;
       by_use = by_use_put m i.entries entries keys caller key op nothing_said [] made (done_entries i keys d.sound d.keys_are) d.is d.keeps ∙ ap (by_use []) (sym after);
       promised = let same : history.promised ≡ i.history.promised = omega arith in same ∙ d.sound.promised;
+      boxes = d.sound.boxes;
       state = begins_done m (state_of (done_at i entries history)) caller key op done d.sound.state may none nobody steps;
     }
 
@@ -89,8 +90,8 @@ done_storable i caller key op made nobody is = storable_made (state_of i) caller
 -- 2. A commit.
 
 -- the stripe after it
-abbrev pub committed_at : Inside → ByUse → Table Reservation → List Joiner → Past → Inside
-committed_at i entries table js history = record i { entries = entries; reservations = table; joiners = js; history = history }
+abbrev pub committed_at : Inside → ByUse → Table Reservation → List Joiner → Past → ℕ → Inside
+committed_at i entries table js history boxes = record i { entries = entries; reservations = table; joiners = js; history = history; boxes = boxes }
 
 -- others may share the load of what is out
 may_share_claimed : (i : Inside) (r : Reservation) (out : Out) (place : ℕ) (callers : List Caller) → IsStripe i → IsOut (state_of i) r → AnswersFirst i.config r.first out → callers_of r.number i.joiners ≡ callers
@@ -101,7 +102,7 @@ may_share_claimed i r out place (c ∷ cs) sound found said same =
     (known.read_through, known.whole, known.missing, said_given i.config r.first out known.first said)
 
 -- what is known of a commit
-pub record IsCommit (i : Inside) (r : Reservation) (out : Out) (entries : ByUse) (table : Table Reservation) (js : List Joiner) (history : Past) (keys : List Bytes) (made : NewGroup) (done : StepDone) (kept : ℕ) : Type 0 where
+pub record IsCommit (i : Inside) (r : Reservation) (out : Out) (entries : ByUse) (table : Table Reservation) (js : List Joiner) (history : Past) (boxes : ℕ) (keys : List Bytes) (made : NewGroup) (done : StepDone) (kept : ℕ) : Type 0 where
   pub sound : IsStripe i
   pub found : IsOut (state_of i) r
   pub said : AnswersFirst i.config r.first out
@@ -113,6 +114,7 @@ pub record IsCommit (i : Inside) (r : Reservation) (out : Out) (entries : ByUse)
   pub put : history ≡ append_group (group_events (length i.history.events) made (callers_of r.number i.joiners)) kept i.history
   pub joiners : js ≡ after_resolve r.number done.place i.joiners
   pub kept_is : kept ≡ STEP_PLACES + count_by (waits_for r.number) i.joiners
+  pub one_more : boxes ≡ i.boxes + 1
 
 commit_entries : (i : Inside) (r : Reservation) (place : ℕ) (table : Table Reservation) (keys : List Bytes) → IsStripe i → table ≡ reserving.without_reservation (λ (x : Reservation). x.key) i.reservations r.key → keys ≡ pinned table.held
     → AreEntries (after_commit (state_of i) r place) i.entries keys
@@ -130,23 +132,23 @@ commit_entries i r place table keys sound released keys_are =
 made_after : (i : Inside) (r : Reservation) (place : ℕ) (out : Out) (made : NewGroup) → IsMade (state_of i) r.caller r.key r.op out made → IsMade (after_commit (state_of i) r place) r.caller r.key r.op out made
 made_after i r place out made is = record { caller_is = is.caller_is; key_is = is.key_is; op_is = is.op_is; out_is = is.out_is; reply_is = is.reply_is }
 
-pub commit_steps : (i : Inside) (r : Reservation) (out : Out) (entries : ByUse) (table : Table Reservation) (js : List Joiner) (history : Past) (keys : List Bytes) (made : NewGroup) (done : StepDone) (kept : ℕ)
-    → IsCommit i r out entries table js history keys made done kept
-    → Steps (after_commit (state_of i) r done.place) r.caller r.key r.op out (callers_of r.number i.joiners) done (state_of (committed_at i entries table js history))
-commit_steps i r out entries table js history keys made done kept c =
+pub commit_steps : (i : Inside) (r : Reservation) (out : Out) (entries : ByUse) (table : Table Reservation) (js : List Joiner) (history : Past) (boxes : ℕ) (keys : List Bytes) (made : NewGroup) (done : StepDone) (kept : ℕ)
+    → IsCommit i r out entries table js history boxes keys made done kept
+    → Steps (after_commit (state_of i) r done.place) r.caller r.key r.op out (callers_of r.number i.joiners) done (state_of (committed_at i entries table js history boxes))
+commit_steps i r out entries table js history boxes keys made done kept c =
     let m : State = after_commit (state_of i) r done.place in
     let callers = callers_of r.number i.joiners in
-    steps_put m (state_of (committed_at i entries table js history)) i.entries entries keys r.caller r.key r.op out callers made done
+    steps_put m (state_of (committed_at i entries table js history boxes)) i.entries entries keys r.caller r.key r.op out callers made done
     (commit_entries i r done.place table keys c.sound c.released c.keys_are) c.sound.state.few_entries
     (said_fits i.config r.op (entry_at (state_of i).cache r.key) r.first out (claim_asks (state_of i) r c.sound.state c.found) c.said)
     (may_share_claimed i r out done.place callers c.sound c.found c.said refl)
     (made_after i r done.place out made c.is) c.keeps c.told
-    ((λ k. state_of (committed_at i entries (c.released k) (c.joiners k) (c.put k)))
+    ((λ k. state_of (committed_at i entries (c.released k) (c.joiners k) (c.put k) boxes))
     ∙ (λ k. record (state_of i) { cache = from_entries entries.list; reservations = without_key r.key i.reservations.held; joiners = after_resolve r.number done.place i.joiners; history = i.history.events ++ group_events (length i.history.events) made callers }))
 
-pub commit_sound : (i : Inside) (r : Reservation) (out : Out) (entries : ByUse) (table : Table Reservation) (js : List Joiner) (history : Past) (keys : List Bytes) (made : NewGroup) (done : StepDone) (kept : ℕ)
-    → IsCommit i r out entries table js history keys made done kept → IsStripe (committed_at i entries table js history)
-commit_sound i r out entries table js history keys made done kept c =
+pub commit_sound : (i : Inside) (r : Reservation) (out : Out) (entries : ByUse) (table : Table Reservation) (js : List Joiner) (history : Past) (boxes : ℕ) (keys : List Bytes) (made : NewGroup) (done : StepDone) (kept : ℕ)
+    → IsCommit i r out entries table js history boxes keys made done kept → IsStripe (committed_at i entries table js history boxes)
+commit_sound i r out entries table js history boxes keys made done kept c =
     let m : State = after_commit (state_of i) r done.place in
     let callers = callers_of r.number i.joiners in
     let after : history.events ≡ i.history.events ++ group_events (length i.history.events) made callers = ap (λ (p : Past). p.events) c.put in
@@ -157,13 +159,16 @@ commit_sound i r out entries table js history keys made done kept c =
     let count = waiting-answered_from r.number done.place (done.place + 1) i.joiners in
     let was = c.sound.promised in
     let kept_is = c.kept_is in
+    let one_more = c.one_more in
+    let were = c.sound.boxes in
     let now : history.promised ≡ i.history.promised - kept = ap (λ (p : Past). p.promised) c.put in
     record {
       capacity = ap (λ (e : ByUse). e.capacity) c.keeps.left ∙ c.sound.capacity;
       limit = ap (λ (p : Past). p.limit) c.put ∙ c.sound.limit;
       by_use = by_use_put m i.entries entries keys r.caller r.key r.op out callers made (commit_entries i r done.place table keys c.sound c.released c.keys_are) (made_after i r done.place out made c.is) c.keeps ∙ ap (by_use []) (sym after);
       promised = omega arith;
-      state = reached_commits (state_of i) (state_of (committed_at i entries table js history)) r out done c.sound.state (c.found, commit_steps i r out entries table js history keys made done kept c);
+      boxes = omega arith;
+      state = reached_commits (state_of i) (state_of (committed_at i entries table js history boxes)) r out done c.sound.state (c.found, commit_steps i r out entries table js history boxes keys made done kept c);
     }
 
 -- what a commit appends fits into the room that was kept for it

@@ -53,17 +53,19 @@ can_reserve i s caller key op view none needs =
     }
 
 -- the state with the key reserved
-pub state-reserved : (i : Inside) (caller : Caller) (key : Bytes) (op : Op) (first : First) (table : Table Reservation) (history : Past)
+pub state-reserved : (i : Inside) (caller : Caller) (key : Bytes) (op : Op) (first : First) (table : Table Reservation) (history : Past) (boxes : ℕ)
     → table ≡ reserving.with_reservation i.reservations (new_reservation (state_of i) caller key op first) → history ≡ promise STEP_PLACES i.history
-    → state_of (record i { reservations = table; history = history }) ≡ with_reservation (state_of i) (new_reservation (state_of i) caller key op first)
-state-reserved i caller key op first table history t h =
-    λ k. state_of (record i { reservations = t k; history = h k })
+    → state_of (record i { reservations = table; history = history; boxes = boxes }) ≡ with_reservation (state_of i) (new_reservation (state_of i) caller key op first)
+state-reserved i caller key op first table history boxes t h =
+    λ k. state_of (record i { reservations = t k; history = h k; boxes = boxes })
 
-pub sound-reserved : (i : Inside) (caller : Caller) (key : Bytes) (op : Op) (first : First) (table : Table Reservation) (history : Past) → IsStripe i
-    → table ≡ reserving.with_reservation i.reservations (new_reservation (state_of i) caller key op first) → history ≡ promise STEP_PLACES i.history → IsReached (with_reservation (state_of i) (new_reservation (state_of i) caller key op first))
-    → IsStripe (record i { reservations = table; history = history })
-sound-reserved i caller key op first table history sound t h reached =
-    let state = state-reserved i caller key op first table history t h in
+pub sound-reserved : (i : Inside) (caller : Caller) (key : Bytes) (op : Op) (first : First) (table : Table Reservation) (history : Past) (boxes : ℕ) → IsStripe i
+    → boxes + 1 ≡ i.boxes → table ≡ reserving.with_reservation i.reservations (new_reservation (state_of i) caller key op first) → history ≡ promise STEP_PLACES i.history → IsReached (with_reservation (state_of i) (new_reservation (state_of i) caller key op first))
+    → IsStripe (record i { reservations = table; history = history; boxes = boxes })
+sound-reserved i caller key op first table history boxes sound b t h reached =
+    let state = state-reserved i caller key op first table history boxes t h in
+    let longer : length table.held ≡ length i.reservations.held + 1 = ap (λ (x : Table Reservation). length x.held) t ∙ length-append i.reservations.held (new_reservation (state_of i) caller key op first ∷ []) in
+    let were = sound.boxes in
     let kept : history.promised ≡ i.history.promised + STEP_PLACES = ap (λ (p : Past). p.promised) h in
     let more : promised (with_reservation (state_of i) (new_reservation (state_of i) caller key op first)) ≡ promised (state_of i) + STEP_PLACES =
     let n = length-append i.reservations.held (new_reservation (state_of i) caller key op first ∷ []) in omega arith in
@@ -72,6 +74,7 @@ sound-reserved i caller key op first table history sound t h reached =
       limit = ap (λ (p : Past). p.limit) h ∙ sound.limit;
       by_use = sound.by_use ∙ ap (λ (p : Past). by_use [] p.events) (sym h);
       promised = kept ∙ ap (λ n. n + STEP_PLACES) sound.promised ∙ sym more ∙ ap promised (sym state);
+      boxes = omega arith;
       state = subst IsReached (sym state) reached;
     }
 
@@ -96,6 +99,7 @@ sound-joined i caller load key js history sound t h reached =
       limit = ap (λ (p : Past). p.limit) h ∙ sound.limit;
       by_use = sound.by_use ∙ ap (λ (p : Past). by_use [] p.events) (sym h);
       promised = ap (λ (p : Past). p.promised) h ∙ ap (λ n. n + HIT_PLACES) sound.promised ∙ sym more ∙ ap promised (sym state);
+      boxes = sound.boxes;
       state = subst IsReached (sym state) reached;
     }
 
@@ -121,16 +125,18 @@ one_exactly key (x ∷ xs) r once h =
     ] refl h
 
 -- the state with the reservation given back
-pub state-withdrawn : (i : Inside) (r : Reservation) (table : Table Reservation) (js : List Joiner) (history : Past) (n : ℕ) → table ≡ reserving.without_reservation (λ (x : Reservation). x.key) i.reservations r.key → js ≡ after_dissolve r.number i.joiners
-    → history ≡ unpromise n i.history → state_of (record i { reservations = table; joiners = js; history = history }) ≡ after_withdrawal (state_of i) r
-state-withdrawn i r table js history n t j h =
-    λ k. state_of (record i { reservations = t k; joiners = j k; history = h k })
+pub state-withdrawn : (i : Inside) (r : Reservation) (table : Table Reservation) (js : List Joiner) (history : Past) (boxes n : ℕ) → table ≡ reserving.without_reservation (λ (x : Reservation). x.key) i.reservations r.key → js ≡ after_dissolve r.number i.joiners
+    → history ≡ unpromise n i.history → state_of (record i { reservations = table; joiners = js; history = history; boxes = boxes }) ≡ after_withdrawal (state_of i) r
+state-withdrawn i r table js history boxes n t j h =
+    λ k. state_of (record i { reservations = t k; joiners = j k; history = h k; boxes = boxes })
 
-pub sound-withdrawn : (i : Inside) (r : Reservation) (table : Table Reservation) (js : List Joiner) (history : Past) (waiting : ℕ) → IsStripe i → find (is_key r.key) (state_of i).reservations ≡ Some r
+pub sound-withdrawn : (i : Inside) (r : Reservation) (table : Table Reservation) (js : List Joiner) (history : Past) (boxes waiting : ℕ) → IsStripe i → boxes ≡ i.boxes + 1 → find (is_key r.key) (state_of i).reservations ≡ Some r
     → waiting ≡ count_by (waits_for r.number) i.joiners → table ≡ reserving.without_reservation (λ (x : Reservation). x.key) i.reservations r.key → js ≡ after_dissolve r.number i.joiners → history ≡ unpromise (STEP_PLACES + waiting) i.history
-    → IsReached (after_withdrawal (state_of i) r) → IsStripe (record i { reservations = table; joiners = js; history = history })
-sound-withdrawn i r table js history waiting sound found w t j h reached =
-    let state = state-withdrawn i r table js history (STEP_PLACES + waiting) t j h in
+    → IsReached (after_withdrawal (state_of i) r) → IsStripe (record i { reservations = table; joiners = js; history = history; boxes = boxes })
+sound-withdrawn i r table js history boxes waiting sound b found w t j h reached =
+    let state = state-withdrawn i r table js history boxes (STEP_PLACES + waiting) t j h in
+    let shorter : length table.held ≡ length (without_key r.key (state_of i).reservations) = ap (λ (x : Table Reservation). length x.held) t in
+    let were = sound.boxes in
     let one = one_exactly r.key (state_of i).reservations r sound.state.numbered.once found in
     let count = waiting-after_dissolve r.number i.joiners in
     let kept : history.promised ≡ i.history.promised - (STEP_PLACES + waiting) = ap (λ (p : Past). p.promised) h in
@@ -141,6 +147,7 @@ sound-withdrawn i r table js history waiting sound found w t j h reached =
       limit = ap (λ (p : Past). p.limit) h ∙ sound.limit;
       by_use = sound.by_use ∙ ap (λ (p : Past). by_use [] p.events) (sym h);
       promised = less ∙ ap promised (sym state);
+      boxes = omega arith;
       state = subst IsReached (sym state) reached;
     }
 
@@ -166,22 +173,22 @@ room_so i n sound h =
     let l = sound.limit in
     omega arith
 
-pub reserve_sound : (i : Inside) (caller : Caller) (key : Bytes) (op : Op) (first : First) (table : Table Reservation) (history : Past) (fits : Bool) → IsStripe i → first_refusal (state_of i) caller key op ≡ None
+pub reserve_sound : (i : Inside) (caller : Caller) (key : Bytes) (op : Op) (first : First) (table : Table Reservation) (history : Past) (boxes : ℕ) (fits : Bool) → IsStripe i → boxes + 1 ≡ i.boxes → first_refusal (state_of i) caller key op ≡ None
     → needs_reservation (state_of i) key op ≡ true → first_asked i.config op (entry_at (state_of i).cache key) ≡ first → MayBegin (state_of i) caller key
     → table ≡ reserving.with_reservation i.reservations (new_reservation (state_of i) caller key op first)
-    → (IsTrue fits ↔ (places_used i.history + STEP_PLACES ≤ i.history.limit)) → history ≡ (if fits then promise STEP_PLACES i.history else i.history) → IsStripe (record i { reservations = table; history = history })
-reserve_sound i caller key op first table history fits sound none needs asks may t f h =
+    → (IsTrue fits ↔ (places_used i.history + STEP_PLACES ≤ i.history.limit)) → history ≡ (if fits then promise STEP_PLACES i.history else i.history) → IsStripe (record i { reservations = table; history = history; boxes = boxes })
+reserve_sound i caller key op first table history boxes fits sound b none needs asks may t f h =
     let places = ticket_places (state_of i) caller key op none needs in
-    sound-reserved i caller key op first table history sound t (promised_so STEP_PLACES i.history history fits f h (room_so i STEP_PLACES sound places))
+    sound-reserved i caller key op first table history boxes sound b t (promised_so STEP_PLACES i.history history fits f h (room_so i STEP_PLACES sound places))
     (reached_reserved (state_of i) caller key op first sound.state may (few_out (state_of i) caller key op none needs) places asks (was_free (state_of i) caller key op none needs))
 
 -- the state has the reservation
-pub reserve_made : (i : Inside) (caller : Caller) (key : Bytes) (op : Op) (first : First) (table : Table Reservation) (history : Past) (fits : Bool) → IsStripe i → first_refusal (state_of i) caller key op ≡ None
+pub reserve_made : (i : Inside) (caller : Caller) (key : Bytes) (op : Op) (first : First) (table : Table Reservation) (history : Past) (boxes : ℕ) (fits : Bool) → IsStripe i → first_refusal (state_of i) caller key op ≡ None
     → needs_reservation (state_of i) key op ≡ true → table ≡ reserving.with_reservation i.reservations (new_reservation (state_of i) caller key op first)
     → (IsTrue fits ↔ (places_used i.history + STEP_PLACES ≤ i.history.limit)) → history ≡ (if fits then promise STEP_PLACES i.history else i.history)
-    → state_of (record i { reservations = table; history = history }) ≡ with_reservation (state_of i) (new_reservation (state_of i) caller key op first)
-reserve_made i caller key op first table history fits sound none needs t f h =
-    state-reserved i caller key op first table history t
+    → state_of (record i { reservations = table; history = history; boxes = boxes }) ≡ with_reservation (state_of i) (new_reservation (state_of i) caller key op first)
+reserve_made i caller key op first table history boxes fits sound none needs t f h =
+    state-reserved i caller key op first table history boxes t
     (promised_so STEP_PLACES i.history history fits f h (room_so i STEP_PLACES sound (ticket_places (state_of i) caller key op none needs)))
 
 made : {X : Type 0} (b : Bool) (new more old : X) → IsTrue b → MatchBool b (new ≡ more) (new ≡ old) → new ≡ more

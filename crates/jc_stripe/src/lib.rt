@@ -9,6 +9,7 @@ mod call_rules;
 pub mod phase_laws;
 mod stripe;
 mod ticket;
+mod ticket_boxes;
 
 pub use begun::{Begun, Eviction, Picked, StepDone};
 pub use jc_mutentry::{AskProcess, ProcDone};

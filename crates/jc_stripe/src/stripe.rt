@@ -28,6 +28,7 @@ mod looking;
 use crate::appending::{append_group, make_step};
 use crate::begun::{Begun, Picked, StepDone};
 use crate::ticket::{Ask, Join, Reservation, Ticket};
+use crate::ticket_boxes::TicketBoxes;
 use beginning::{hit_done, is_get};
 use jc_entries::Entries;
 use jc_history::History;
@@ -61,6 +62,7 @@ pub struct Stripe {
     origin: Origin,
     entries: Entries,
     reservations: Reservations<Reservation>,
+    boxes: TicketBoxes,
     joiners: Joiners,
     history: History,
 }
@@ -139,6 +141,7 @@ impl Stripe {
     {
         let entries = Entries::new(alloc, config.capacity)?;
         let reservations = Reservations::new_from(next);
+        let boxes = TicketBoxes::new(alloc)?;
         let joiners = Joiners::new();
         let history = History::new(alloc, config.history)?;
         Ok(Stripe {
@@ -147,6 +150,7 @@ impl Stripe {
             origin,
             entries,
             reservations,
+            boxes,
             joiners,
             history,
         })
@@ -212,9 +216,7 @@ impl Stripe {
         ensures commits { Commits self.old ticket.reservation (load_only done.answer) result self.new }
         ensures phase { IsPhaseOf ticket.reservation.caller.session self.old self.new }
     {
-        let step = self.commit(ticket.reservation(), &Out::load_only(done.into_answer()));
-        ticket.spend();
-        step
+        self.commit(ticket.spend(), &Out::load_only(done.into_answer()))
     }
 
     /// The last phase of a call whose writer was asked: its reservation ends, and its step is appended with the writer's report.
@@ -230,9 +232,7 @@ impl Stripe {
         ensures commits { Commits self.old ticket.reservation (write_only done.answer) result self.new }
         ensures phase { IsPhaseOf ticket.reservation.caller.session self.old self.new }
     {
-        let step = self.commit(ticket.reservation(), &Out::write_only(done.into_answer()));
-        ticket.spend();
-        step
+        self.commit(ticket.spend(), &Out::write_only(done.into_answer()))
     }
 
     /// The last phase of a call whose processor ran: its reservation ends, and its step is appended with what the loader, the
@@ -264,9 +264,7 @@ impl Stripe {
             write,
             process,
         };
-        let step = self.commit(ticket.reservation(), &out);
-        ticket.spend();
-        step
+        self.commit(ticket.spend(), &out)
     }
 
     /// Gives a ticket back that asked nobody: nothing is appended, and the entry and the store stay. Each call that has joined a
@@ -279,8 +277,7 @@ impl Stripe {
         ensures withdraws { Withdraws self.old ticket.reservation self.new }
         ensures phase { IsPhaseOf ticket.reservation.caller.session self.old self.new }
     {
-        self.give_back(ticket.reservation());
-        ticket.spend();
+        self.give_back(ticket.spend());
     }
 
     /// Picks up the answer of the load that a call has joined. If the load isn't over, the join comes back and nothing changes;
@@ -369,14 +366,15 @@ impl Stripe {
         self.history.append_to(from, to, out)
     }
 
-    /// Ends a reservation, and appends its step and those of its joiners.
-    fn commit(&mut self, reservation: &Reservation, out: &Out) -> StepDone
-        requires out { IsOut self.old reservation.now }
-        requires answers { AnswersFirst self.old.config reservation.now.first out.now }
-        ensures { Commits self.old reservation.now out.now result self.new }
+    /// Ends a reservation, and appends its step and those of its joiners. Its ticket's box is free again.
+    fn commit(&mut self, reservation: Box<Reservation>, out: &Out) -> StepDone
+        requires out { IsOut self.old reservation.value }
+        requires answers { AnswersFirst self.old.config reservation.value.first out.now }
+        ensures { Commits self.old reservation.value out.now result self.new }
     {
-        let key = reservation.key;
-        let load = reservation.number;
+        let ended = &*reservation;
+        let key = ended.key;
+        let load = ended.number;
         let _ = self.reservations.release(&key);
         let kept = STEP_PLACES + self.joiners.waiting(load) as usize;
         let entry = self.entries.peek(&key);
@@ -384,25 +382,28 @@ impl Stripe {
         let group = make_step(
             &mut self.entries,
             pinned,
-            reservation.caller,
+            ended.caller,
             &key,
             entry,
-            &reservation.op,
+            &ended.op,
             out,
         );
         let done = append_group(&mut self.history, &self.joiners, Some(load), &group, kept);
         let _ = self.joiners.resolve(load, done.place);
+        self.boxes.give_back(reservation);
         done
     }
 
-    /// Gives a reservation back.
-    fn give_back(&mut self, reservation: &Reservation)
-        requires { IsOut self.old reservation.now }
-        ensures { Withdraws self.old reservation.now self.new }
+    /// Gives a reservation back. Its ticket's box is free again.
+    fn give_back(&mut self, reservation: Box<Reservation>)
+        requires { IsOut self.old reservation.value }
+        ensures { Withdraws self.old reservation.value self.new }
     {
-        let _ = self.reservations.release(&reservation.key);
-        let waiting = self.joiners.dissolve(reservation.number);
+        let ended = &*reservation;
+        let _ = self.reservations.release(&ended.key);
+        let waiting = self.joiners.dissolve(ended.number);
         self.history.unpromise(STEP_PLACES + waiting as usize);
+        self.boxes.give_back(reservation);
     }
 
     /// How far a joiner is. It is a joiner no more if its load is over.

@@ -100,8 +100,10 @@ impl First {
 }
 
 /// A call has reserved its key, and the one whom it asks first is to be asked.
+///
+/// It keeps the reservation in a box of its stripe's, so it is cheap to hand on.
 pub struct Ticket {
-    reservation: Reservation,
+    reservation: Box<Reservation>,
     is_asked: bool,
     is_writer_asked: bool,
 }
@@ -111,13 +113,13 @@ impl Model for Ticket {
 
     ghost Value = { TicketClaim };
 
-    ghost view = { λ t. record { reservation = t.reservation; asked = t.is_asked; writer_asked = t.is_writer_asked } };
+    ghost view = { λ t. record { reservation = t.reservation.value; asked = t.is_asked; writer_asked = t.is_writer_asked } };
 }
 
 impl Ticket {
     /// The ticket of a reservation that was made. Nobody was asked yet.
-    pub(crate) fn new(reservation: Reservation) -> Self
-        ensures { result ≡ record { reservation = reservation; asked = false; writer_asked = false } }
+    pub(crate) fn new(reservation: Box<Reservation>) -> Self
+        ensures { result ≡ record { reservation = reservation.value; asked = false; writer_asked = false } }
     {
         Ticket {
             reservation,
@@ -161,13 +163,16 @@ impl Ticket {
         Ask::new(&self.reservation, done.change())
     }
 
-    /// The ticket is spent.
-    pub(crate) fn spend(self) {
+    /// The ticket is spent: its box, with the reservation that it stood for.
+    pub(crate) fn spend(self) -> Box<Reservation>
+        ensures { result.value ≡ self.reservation }
+    {
         let Ticket {
-            reservation: _,
+            reservation,
             is_asked: _,
             is_writer_asked: _,
         } = self;
+        reservation
     }
 }
 

@@ -149,7 +149,7 @@ impl Stripe {
         };
         let _ = self.history.promise(STEP_PLACES);
         let _ = self.reservations.reserve(&reservation);
-        Ticket::new(reservation)
+        Ticket::new(self.boxes.take(&reservation))
     }
 
     /// Joins a load, and keeps room in the history for the shared step.

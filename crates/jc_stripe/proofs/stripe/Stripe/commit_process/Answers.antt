@@ -5,15 +5,15 @@ use Rattle.jc_stripe.specs.Phases.{Commits}
 use Rattle.jc_stripe.specs.Effects.{process_out}
 use Rattle.jc_stripe.proofs.stripe.Stripe.commit_process.Goals as goal
 
-commits : (c : goal.After-spend) → Commits c.args.self.now c.args.ticket.reservation (process_out c.args.done c.args.report) c.commit-step.result c.commit-step.new.self
+commits : (c : goal.After-commit) → Commits c.args.self.now c.args.ticket.reservation (process_out c.args.done c.args.report) c.commit.result c.commit.new.self
 commits c =
-    let P : Reservation × Out → Type 0 = λ x. Commits c.args.self.now x.0 x.1 c.commit-step.result c.commit-step.new.self in
+    let P : Reservation × Out → Type 0 = λ x. Commits c.args.self.now x.0 x.1 c.commit.result c.commit.new.self in
     let answers = c.into_answers-load.ensures in
-    subst P (λ i. (c.reservation.ensures i, record { load = answers.load i; write = c.report_answer-write.ensures.answer i; process = answers.process i })) c.commit-step.ensures
+    subst P (λ i. (c.spend.ensures i, record { load = answers.load i; write = c.report_answer-write.ensures.answer i; process = answers.process i })) c.commit.ensures
 
 pub returns-clause-commits : goal.returns-clause-commits
 returns-clause-commits c = commits c
 
 pub returns-clause-phase : goal.returns-clause-phase
 returns-clause-phase c =
-    inr (inr (inl (record { reservation = c.args.ticket.reservation; out = process_out c.args.done c.args.report; done = c.commit-step.result; own = refl; commits = commits c })))
+    inr (inr (inl (record { reservation = c.args.ticket.reservation; out = process_out c.args.done c.args.report; done = c.commit.result; own = refl; commits = commits c })))

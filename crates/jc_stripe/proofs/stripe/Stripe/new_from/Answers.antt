@@ -1,4 +1,4 @@
-use Rattle.jc_types.specs.declared.limits.TheConstants.{STEP_PLACES, HIT_PLACES}
+use Rattle.jc_types.specs.declared.limits.TheConstants.{STEP_PLACES, HIT_PLACES, RESERVATIONS_MAX}
 use Rattle.jc_types.specs.Limits.{check}
 use Rattle.std.proofs.Common.{◌≡◌, [], Ok, refl, ap, ◌∙◌, sym, length, count_by, ◌*◌, ◌+◌, arith}
 use Rattle.std.specs.FinMap.{from_entries}
@@ -40,10 +40,11 @@ invariant_of-result c =
       limit = ap (λ (h : Past). h.limit) history;
       by_use = ap (λ (e : ByUse). e.list) entries ∙ ap (λ (h : Past). by_use [] h.events) (sym history);
       promised = ap (λ (h : Past). h.promised) history ∙ sym (λ i. STEP_PLACES * length (table i).held + HIT_PLACES * count_by waits (joiners i));
-      state = fresh (record { config = c.args.config.now; number = c.args.number; origin = c.args.origin; entries = c.in_ok-entries.entries; reservations = c.new_from-reservations.result; joiners = c.new-joiners.result; history = c.in_ok-history.history }) c.requires (ap (λ (e : ByUse). e.list) entries) (ap (λ (t : Table Reservation). t.held) table) joiners (ap (λ (h : Past). h.events) history);
+      boxes = ap (λ n. n + length c.new_from-reservations.result.held) c.in_ok-boxes.ensures ∙ ap (λ (t : Table Reservation). RESERVATIONS_MAX + length t.held) table;
+      state = fresh (record { config = c.args.config.now; number = c.args.number; origin = c.args.origin; entries = c.in_ok-entries.entries; reservations = c.new_from-reservations.result; boxes = c.in_ok-boxes.boxes; joiners = c.new-joiners.result; history = c.in_ok-history.history }) c.requires (ap (λ (e : ByUse). e.list) entries) (ap (λ (t : Table Reservation). t.held) table) joiners (ap (λ (h : Past). h.events) history);
     }
 
 pub returns-clause-reached : goal.returns-clause-reached
 returns-clause-reached c =
-    fresh (record { config = c.args.config.now; number = c.args.number; origin = c.args.origin; entries = c.in_ok-entries.entries; reservations = c.new_from-reservations.result; joiners = c.new-joiners.result; history = c.in_ok-history.history }) c.requires (ap (λ (e : ByUse). e.list) c.in_ok-entries.ensures) (ap (λ (t : Table Reservation). t.held) c.new_from-reservations.ensures) c.new-joiners.ensures
+    fresh (record { config = c.args.config.now; number = c.args.number; origin = c.args.origin; entries = c.in_ok-entries.entries; reservations = c.new_from-reservations.result; boxes = c.in_ok-boxes.boxes; joiners = c.new-joiners.result; history = c.in_ok-history.history }) c.requires (ap (λ (e : ByUse). e.list) c.in_ok-entries.ensures) (ap (λ (t : Table Reservation). t.held) c.new_from-reservations.ensures) c.new-joiners.ensures
     (ap (λ (h : Past). h.events) c.in_ok-history.ensures)

@@ -25,12 +25,12 @@ invariant_of-self c =
     let back = sym c.self.view_is in
     let Asks : State → Type 0 = λ s. first_asked s.config c.args.op.now (entry_at s.cache c.args.key.now) ≡ c.args.first.now in
     let May : State → Type 0 = λ s. MayBegin s c.args.caller c.args.key.now in
-    reserve_sound c.self.inside c.args.caller c.args.key.now c.args.op.now c.args.first.now c.reserve.new.self c.promise.new.self c.promise.result c.self.invariant
+    reserve_sound c.self.inside c.args.caller c.args.key.now c.args.op.now c.args.first.now c.reserve.new.self c.promise.new.self c.take.new.self c.promise.result c.self.invariant c.take.ensures.fewer
     (free_inside c) (needs_inside c) (subst Asks back c.requires.asks) (subst May back c.requires.begins)
     (table_is c) c.promise.ensures.fits c.promise.ensures.after
 
 pub returns-clause-reserved : goal.returns-clause-reserved
 returns-clause-reserved c =
-    reserve_made c.self.inside c.args.caller c.args.key.now c.args.op.now c.args.first.now c.reserve.new.self c.promise.new.self c.promise.result c.self.invariant
+    reserve_made c.self.inside c.args.caller c.args.key.now c.args.op.now c.args.first.now c.reserve.new.self c.promise.new.self c.take.new.self c.promise.result c.self.invariant
     (free_inside c) (needs_inside c) (table_is c) c.promise.ensures.fits c.promise.ensures.after
     ∙ ap (λ (s : State). with_reservation s (new_reservation s c.args.caller c.args.key.now c.args.op.now c.args.first.now)) c.self.view_is
