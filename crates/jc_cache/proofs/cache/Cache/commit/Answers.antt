@@ -1,4 +1,5 @@
-use Rattle.std.proofs.Common.{◌≡◌, ap, refl, subst, ◌∙◌, ℕ, Some, slice_get}
+use Rattle.std.proofs.Common.{◌≡◌, ap, refl, sym, subst, ◌∙◌, ℕ, Some, length, slice_get, arith}
+use Rattle.std.proofs.lemmas.Option.{slice_get_read, slice_get_within}
 use Rattle.jc_types.specs.Stripes.{stripe_of}
 use Rattle.jc_stripe.specs.declared.ticket.Reservation.{Reservation}
 use Rattle.jc_stripe.specs.Phases.{Commits}
@@ -6,6 +7,7 @@ use Rattle.jc_stripe.specs.State.{State}
 use Rattle.jc_session.specs.declared.counts.Counted.TheVariants.{Committed}
 use Rattle.jc_engine.specs.Answered.{out_of}
 use Rattle.jc_cache.specs.Caches.{CacheState}
+use Rattle.jc_cache.proofs.Rows.{length_locks, lock_there}
 use Rattle.jc_cache.proofs.WholeCalls.{at_key, seat_at}
 use Rattle.jc_cache.proofs.SessionPhases.{HasLonger, committed_longer, commit_needs, phase_left}
 use Rattle.jc_cache.proofs.cache.Cache.commit.Goals as goal
@@ -36,3 +38,23 @@ returns-clause-phase g c =
     (phase_left c.is_uniform.ensures c.args.self.now c.args.session.now _ _ c.stripe_of-at.result Committed makes makes _ c.index_mut-seat.result.now c.make_phase.new.gate c.make_phase.new.token c.requires.own
     (at_key c.args.self.now _ c.reservation.result.now.key _ same c.stripe_of-at.ensures ∙ ap (λ (r : Reservation). stripe_of r.key c.args.self.now.config.stripes) c.reservation.ensures) there refl c.make_phase.ensures.agent (λ a b reached m. m)
     (λ a b reached m. subst (λ (n : ℕ). HasLonger n Committed a b) c.requires.caller (committed_longer c.own_steps.ensures c.args.ticket.reservation _ c.make_phase.result a b reached m)) c.make_phase.ensures.phase).0
+
+pub make_phase-requires-clause-free : goal.make_phase-requires-clause-free
+make_phase-requires-clause-free g c =
+    let same = ap (λ (z : CacheState). z.config) c.self.view_is in
+    let there : slice_get c.args.session.now.seats.items c.stripe_of-at.result ≡ Some c.index_mut-seat.result.now =
+    seat_at c.args.self.now c.args.session.now _ c.reservation.result.now.key _ _ c.requires.own c.self.invariant.fits same c.stripe_of-at.ensures c.index_mut-seat.ensures.value in
+    let near = slice_get_within c.args.session.now.seats.items c.stripe_of-at.result c.index_mut-seat.result.now there in
+    let long = length_locks c.args.session.now.seats.items c.args.self.now.locks c.requires.own.locks in
+    let locks = ap (λ (z : CacheState). z.locks) c.self.view_is in (
+      lock_there c.args.session.now.seats.items c.args.self.now.locks c.stripe_of-at.result c.index_mut-seat.result.now c.index.result.now c.requires.own.locks there
+          (ap (λ ls. slice_get ls c.stripe_of-at.result) (sym locks) ∙ slice_get_read c.self.inside.locks.items (length c.self.inside.locks.items) c.stripe_of-at.result c.index.result.now refl (let l = ap length locks in omega arith) c.index.ensures),
+      (c.requires.own.seats c.stripe_of-at.result c.index_mut-seat.result.now there).free,
+    )
+
+pub make_phase-requires-clause-speaks : goal.make_phase-requires-clause-speaks
+make_phase-requires-clause-speaks g c =
+    let same = ap (λ (z : CacheState). z.config) c.self.view_is in
+    let there : slice_get c.args.session.now.seats.items c.stripe_of-at.result ≡ Some c.index_mut-seat.result.now =
+    seat_at c.args.self.now c.args.session.now _ c.reservation.result.now.key _ _ c.requires.own c.self.invariant.fits same c.stripe_of-at.ensures c.index_mut-seat.ensures.value in
+    (c.requires.own.seats c.stripe_of-at.result c.index_mut-seat.result.now there).of_session
