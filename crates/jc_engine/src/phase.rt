@@ -54,6 +54,9 @@ pub trait Phase {
 ///
 /// Conditions: the agent holds no stripe; the token has not taken the gate's and speaks for the session, whose phase it is; the
 /// stripe that a take finds has what the phase needs.
+///
+/// In line: what a phase gives is as large as a step, and shouldn't be copied once more.
+#[inline(always)]
 pub fn make_phase<G: Gate, P: Phase, R: Wait>(
     rt: &R,
     gate: &mut G,

@@ -81,20 +81,20 @@ fn apply_to_entries(
     entries: &mut Entries,
     pinned: &[Key],
     key: &Key,
-    entry: Option<Value>,
+    entry: &Option<Value>,
     op: &Op,
     out: &Out,
 ) -> (Option<Key>, Option<Cause>)
     requires room { length entries.old.list ≤ entries.old.capacity }
-    requires entry { entry ≡ finite.find key_cmp key.now entries.old.list }
+    requires entry { entry.now ≡ finite.find key_cmp key.now entries.old.list }
     ensures { AppliesStep entries.old pinned.now key.now op.now out.now result.0 result.1 entries.new }
 {
     if out.first_fault().is_some() || !uses(op, &out.load) {
         return (None, None);
     }
-    match op.entry_after(entry, out) {
+    match op.entry_after(*entry, out) {
         Some(value) => {
-            if holds(&entry, &value) {
+            if holds(entry, &value) {
                 entries.touch(key);
                 return (None, None);
             }
@@ -120,27 +120,25 @@ pub(crate) fn make_step<'a>(
     pinned: &[Key],
     caller: Caller,
     key: &'a Key,
-    entry: Option<Value>,
+    entry: &Option<Value>,
     op: &'a Op,
     out: &'a Out,
 ) -> NewGroup<'a>
     requires room { length entries.old.list ≤ entries.old.capacity }
-    requires entry { entry ≡ finite.find key_cmp key.now entries.old.list }
+    requires entry { entry.now ≡ finite.find key_cmp key.now entries.old.list }
     ensures group { result ≡ record {
       caller = caller;
       key = key.now;
       op = op.now;
       out = out.now;
-      reply = reply_after op.now entry out.now;
+      reply = reply_after op.now entry.now out.now;
       victim = result.victim;
       evicted = result.evicted;
     } }
     ensures applies { AppliesStep entries.old pinned.now key.now op.now out.now result.victim result.evicted entries.new }
 {
-    // Copied first: a value counts as moved by the call that takes it.
-    let found = entry;
-    let reply = op.reply_after(entry, out);
-    let (victim, evicted) = apply_to_entries(entries, pinned, key, found, op, out);
+    let reply = op.reply_after(*entry, out);
+    let (victim, evicted) = apply_to_entries(entries, pinned, key, entry, op, out);
     NewGroup {
         caller,
         key,
@@ -202,8 +200,16 @@ fn shared_event(place: u32, key: &Key, answer: LoadAnswer, caller: Caller) -> Ev
     }
 }
 
-/// Appends the shared step of each joiner that waits for a load, in the order of joining.
+/// Appends the shared step of a joiner. It is a function of its own, as the other that builds an event is.
 #[inline(never)]
+fn append_shared_step(history: &mut History, place: u32, group: &NewGroup, joiner: Caller)
+    requires { 0 < history.old.promised }
+    ensures { history.new ≡ push (shared_event place group.now.key group.now.out.load joiner) history.old }
+{
+    history.push(&shared_event(place, group.key, group.out.load, joiner));
+}
+
+/// Appends the shared step of each joiner that waits for a load, in the order of joining.
 fn append_shared(history: &mut History, joiners: &Joiners, load: u64, place: u32, group: &NewGroup)
     requires places { length (callers_of load joiners.now) ≤ history.old.promised }
     ensures history { history.new ≡ append_all (map (shared_event place group.now.key group.now.out.load)
@@ -211,7 +217,7 @@ fn append_shared(history: &mut History, joiners: &Joiners, load: u64, place: u32
 {
     for joiner in joiners.list() {
         if joiner.waits_for(load) {
-            history.push(&shared_event(place, group.key, group.out.load, joiner.caller));
+            append_shared_step(history, place, group, joiner.caller);
         }
     }
 }

@@ -384,7 +384,7 @@ impl Stripe {
             pinned,
             ended.caller,
             &key,
-            entry,
+            &entry,
             &ended.op,
             out,
         );

@@ -38,18 +38,13 @@ impl TicketBoxes {
         Ok(TicketBoxes { free })
     }
 
-    /// A box with this reservation in it.
-    pub(crate) fn take(&mut self, reservation: &Reservation) -> Box<Reservation>
+    /// One of the boxes.
+    pub(crate) fn take(&mut self) -> Box<Reservation>
         requires { 0 < self.old }
-        ensures reservation { result.value ≡ reservation.now }
-        ensures fewer { self.new + 1 ≡ self.old }
+        ensures { self.new + 1 ≡ self.old }
     {
         match self.free.pop() {
-            Some(free) => {
-                let mut taken = free;
-                *taken = *reservation;
-                taken
-            }
+            Some(free) => free,
             None => unreachable!(),
         }
     }

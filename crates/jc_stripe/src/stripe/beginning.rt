@@ -140,7 +140,8 @@ impl Stripe {
         } }
         ensures reserved { self.new ≡ with_reservation self.old (new_reservation self.old caller key.now op.now first.now) }
     {
-        let reservation = Reservation {
+        let mut reservation = self.boxes.take();
+        *reservation = Reservation {
             caller,
             key: *key,
             op: *op,
@@ -149,7 +150,7 @@ impl Stripe {
         };
         let _ = self.history.promise(STEP_PLACES);
         let _ = self.reservations.reserve(&reservation);
-        Ticket::new(self.boxes.take(&reservation))
+        Ticket::new(reservation)
     }
 
     /// Joins a load, and keeps room in the history for the shared step.
@@ -186,7 +187,7 @@ impl Stripe {
         let _ = self.history.promise(kept);
         let pinned = self.reservations.keys();
         let out = Out::nothing_said();
-        let group = make_step(&mut self.entries, pinned, caller, key, *entry, op, &out);
+        let group = make_step(&mut self.entries, pinned, caller, key, entry, op, &out);
         append_group(&mut self.history, &self.joiners, None, &group, kept)
     }
 }

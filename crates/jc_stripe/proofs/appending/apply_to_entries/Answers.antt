@@ -28,5 +28,5 @@ pub returns-then-is_none : goal.returns-then-is_none
 returns-then-is_none c =
     kept_none c.args.entries.now c.args.key.now c.args.pinned.now c.args.op.now c.args.out.now
     (use_is _ _ _ _ c.first_fault.ensures c.uses.ensures (sym c.is_some.ensures ∙ c.if-is_some.false) c.if-not-uses.false)
-    (sym c.requires.entry ∙ none_from c.args.entry (c.is_none.ensures ∙ ap not c.if-is_none.true))
+    (sym c.requires.entry ∙ none_from c.args.entry.now (c.is_none.ensures ∙ ap not c.if-is_none.true))
     (ap (λ o. entry_after c.args.op.now o c.args.out.now) (sym c.requires.entry) ∙ sym c.entry_after.ensures ∙ c.in-None.is)

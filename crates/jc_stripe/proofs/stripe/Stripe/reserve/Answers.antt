@@ -1,6 +1,8 @@
-use Rattle.std.proofs.Common.{◌≡◌, ◌∙◌, None, true, sym, ap, subst}
+use Rattle.std.proofs.Common.{MatchBool, ◌≡◌, ◌∙◌, ◌↔◌, IsTrue, None, true, sym, ap, subst}
 use Rattle.jc_model.specs.Cache.{entry_at}
+use Rattle.jc_reserve.specs.Reserving.{CanReserve}
 use Rattle.jc_reserve.specs.Reserving as reserving
+use Rattle.jc_stripe.specs.declared.ticket.Reservation.{Reservation}
 use Rattle.jc_stripe.specs.State.{State, new_reservation, with_reservation}
 use Rattle.jc_stripe.specs.Refusals.{first_refusal, first_asked, needs_reservation}
 use Rattle.jc_stripe.specs.Phases.{MayBegin}
@@ -14,23 +16,30 @@ free_inside c = subst (λ (s : State). first_refusal s c.args.caller c.args.key.
 needs_inside : (c : goal.After-new) → needs_reservation (state_of c.self.inside) c.args.key.now c.args.op.now ≡ true
 needs_inside c = subst (λ (s : State). needs_reservation s c.args.key.now c.args.op.now ≡ true) (sym c.self.view_is) c.requires.needs
 
+abbrev claim : (c : goal.After-new) → Reservation
+claim c = record { caller = c.args.caller; key = c.args.key.now; op = c.args.op.now; number = c.next_number.result; first = c.args.first.now }
+
 table_is : (c : goal.After-new)
     → c.reserve.new.self ≡ reserving.with_reservation c.self.inside.reservations (new_reservation (state_of c.self.inside) c.args.caller c.args.key.now c.args.op.now c.args.first.now)
 table_is c =
+    let Reserves : Reservation → Type 0 = λ r. (IsTrue c.reserve.result ↔ CanReserve (λ (x : Reservation). x.key) c.self.inside.reservations r.key)
+        × MatchBool c.reserve.result (c.reserve.new.self ≡ reserving.with_reservation c.self.inside.reservations r) (c.reserve.new.self ≡ c.self.inside.reservations) in
+    let same : c.deref.result.now ≡ claim c = c.deref.ensures in
+    let reserves = subst Reserves same (c.reserve.ensures.can, c.reserve.ensures.table) in
     table_made c.self.inside c.args.caller c.args.key.now c.args.op.now c.args.first.now c.next_number.result c.reserve.result c.reserve.new.self (free_inside c) (needs_inside c)
-    c.next_number.ensures c.reserve.ensures.can c.reserve.ensures.table
+    c.next_number.ensures reserves.0 reserves.1
 
 pub invariant_of-self : goal.invariant_of-self
 invariant_of-self c =
     let back = sym c.self.view_is in
     let Asks : State → Type 0 = λ s. first_asked s.config c.args.op.now (entry_at s.cache c.args.key.now) ≡ c.args.first.now in
     let May : State → Type 0 = λ s. MayBegin s c.args.caller c.args.key.now in
-    reserve_sound c.self.inside c.args.caller c.args.key.now c.args.op.now c.args.first.now c.reserve.new.self c.promise.new.self c.take.new.self c.promise.result c.self.invariant c.take.ensures.fewer
+    reserve_sound c.self.inside c.args.caller c.args.key.now c.args.op.now c.args.first.now c.reserve.new.self c.promise.new.self c.take-reservation.new.self c.promise.result c.self.invariant c.take-reservation.ensures
     (free_inside c) (needs_inside c) (subst Asks back c.requires.asks) (subst May back c.requires.begins)
     (table_is c) c.promise.ensures.fits c.promise.ensures.after
 
 pub returns-clause-reserved : goal.returns-clause-reserved
 returns-clause-reserved c =
-    reserve_made c.self.inside c.args.caller c.args.key.now c.args.op.now c.args.first.now c.reserve.new.self c.promise.new.self c.take.new.self c.promise.result c.self.invariant
+    reserve_made c.self.inside c.args.caller c.args.key.now c.args.op.now c.args.first.now c.reserve.new.self c.promise.new.self c.take-reservation.new.self c.promise.result c.self.invariant
     (free_inside c) (needs_inside c) (table_is c) c.promise.ensures.fits c.promise.ensures.after
     ∙ ap (λ (s : State). with_reservation s (new_reservation s c.args.caller c.args.key.now c.args.op.now c.args.first.now)) c.self.view_is
