@@ -23,7 +23,7 @@ table_is : (c : goal.After-new)
     → c.reserve.new.self ≡ reserving.with_reservation c.self.inside.reservations (new_reservation (state_of c.self.inside) c.args.caller c.args.key.now c.args.op.now c.args.first.now)
 table_is c =
     let Reserves : Reservation → Type 0 = λ r. (IsTrue c.reserve.result ↔ CanReserve (λ (x : Reservation). x.key) c.self.inside.reservations r.key)
-        × MatchBool c.reserve.result (c.reserve.new.self ≡ reserving.with_reservation c.self.inside.reservations r) (c.reserve.new.self ≡ c.self.inside.reservations) in
+    × MatchBool c.reserve.result (c.reserve.new.self ≡ reserving.with_reservation c.self.inside.reservations r) (c.reserve.new.self ≡ c.self.inside.reservations) in
     let same : c.deref.result.now ≡ claim c = c.deref.ensures in
     let reserves = subst Reserves same (c.reserve.ensures.can, c.reserve.ensures.table) in
     table_made c.self.inside c.args.caller c.args.key.now c.args.op.now c.args.first.now c.next_number.result c.reserve.result c.reserve.new.self (free_inside c) (needs_inside c)
