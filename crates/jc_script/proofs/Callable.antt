@@ -5,7 +5,7 @@ use Rattle.jc_model.specs.declared.event.Op.{Op}
 use Rattle.jc_model.specs.declared.event.Op.TheVariants as op
 use Rattle.jc_world.specs.Fits.{is_single}
 use Rattle.jc_script.specs.declared.line.Line.{Line}
-use Rattle.jc_script.specs.declared.line.Line.TheVariants.{Open, Set, Begin, BeginBulk, OfCall, Foreign, Audit}
+use Rattle.jc_script.specs.declared.line.Line.TheVariants.{Begin, BeginBulk}
 use Rattle.jc_script.specs.Lines.{read_line, is_callable}
 use Rattle.jc_script.specs.Spelled.{IsOperation, SaysWords}
 use Rattle.jc_script.proofs.Given.{ok_weaker}
@@ -13,30 +13,15 @@ use Rattle.jc_script.proofs.ReadLines.{SaysText, text_read}
 
 -- each operation that has a name is a call by itself
 operation_single : (o : Op) → IsOperation o → is_single o ≡ true
-operation_single op.Get known = refl
-operation_single op.ContainsKey known = refl
-operation_single (op.Put value) known = refl
-operation_single (op.GetAndPut value) known = refl
-operation_single (op.PutIfAbsent value) known = refl
-operation_single op.Remove known = refl
-operation_single (op.RemoveIf old) known = refl
-operation_single op.GetAndRemove known = refl
-operation_single (op.Replace value) known = refl
-operation_single (op.ReplaceIf old value) known = refl
-operation_single (op.GetAndReplace value) known = refl
 operation_single op.Clear known = absurd known
 operation_single (op.LoadAll replace) known = absurd known
-operation_single op.Invoke known = refl
+operation_single single known = refl
 
 -- what a script can say may be begun
 line_callable : (line : Line) → SaysWords line → is_callable line ≡ true
-line_callable (Open config) known = refl
-line_callable (Set key value) known = refl
 line_callable (Begin call session command) known = and_from _ _ (operation_single command.op known.2) known.1
 line_callable (BeginBulk call session bulk) known = known.1
-line_callable (OfCall call act) known = refl
-line_callable (Foreign key value) known = refl
-line_callable Audit known = refl
+line_callable other known = refl
 
 -- what the line begins, if it asks for anything and begins a call, may be begun
 abbrev pub MayBegin : Option Line → Type 0

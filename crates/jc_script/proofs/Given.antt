@@ -30,13 +30,13 @@ pub ok_since : {A : Type 0} (b : Bool) (r : Result A Fault) (e : Fault) (P : A �
 ok_since true r e P h = tt
 ok_since false r e P h = h refl
 
--- through the comparison of a word with a text
-pub ok_named : {A : Type 0} (word text : List ℕ) (x : A) (r : Result A Fault) (P : A → Type 0) → (word ≡ text → P x) → IfOk r P → IfOk (cond (bytes_eq word text) (Ok x) r) P
-ok_named {A} word text x r P found other = by (bytes_eq word text) (bytes_eq-Decides word text).0
+-- through the comparison of a word with a text, by what holds of that text
+pub ok_word : {A : Type 0} (word text : List ℕ) (found other : Result A Fault) (P : List ℕ → A → Type 0) → IfOk found (P text) → IfOk other (P word) → IfOk (cond (bytes_eq word text) found other) (P word)
+ok_word {A} word text found other P h k = by (bytes_eq word text) (bytes_eq-Decides word text).0
   where
-    by : (b : Bool) → (b ≡ true → word ≡ text) → IfOk (cond b (Ok x) r) P
-    by true same = found (same refl)
-    by false same = other
+    by : (b : Bool) → (b ≡ true → word ≡ text) → IfOk (cond b found other) (P word)
+    by true same = rw (same refl) h
+    by false same = k
 
 -- what follows from it
 pub ok_weaker : {A : Type 0} (r : Result A Fault) (Q P : A → Type 0) → ((x : A) → Q x → P x) → IfOk r Q → IfOk r P

@@ -18,7 +18,7 @@ use Rattle.jc_script.specs.declared.fault.Fault.TheVariants.{BadNumber, BadCalle
 use Rattle.jc_script.specs.Words.{◌>>=◌, is_digit, is_text, digits_from, number_of, caller_if, caller_of, key_of, value_of, some_value, value_or_none_of, Pairs, equals_at, key_part, value_part, pair_onto, pairs_from, pairs_of}
 use Rattle.jc_script.specs.Printing.{value_text, value_or_none_text}
 use Rattle.jc_script.specs.Spelled.{IsNumber, IsSession, IsKey, IsValue, IsValueOrNone, IsPair, session_text, pair_text}
-use Rattle.jc_script.proofs.Given.{ok_bind, ok_then, ok_if, ok_since, ok_named, ok_weaker}
+use Rattle.jc_script.proofs.Given.{ok_bind, ok_then, ok_if, ok_since, ok_word, ok_weaker}
 use Rattle.jc_script.proofs.SpelledWords.{text_shown, pair_parts}
 
 -- 1. Numbers.
@@ -92,7 +92,7 @@ SaysValue w value = IsValue value × (w ≡ value_text value)
 
 pub value_read : (w : List ℕ) → IfOk (value_of w) (SaysValue w)
 value_read w =
-    ok_named w (codes "~") [] (cond (is_text VALUE_MAX w) (Ok w) (Err BadValue)) (SaysValue w) (λ e. (inl refl, e))
+    ok_word w (codes "~") (Ok []) (cond (is_text VALUE_MAX w) (Ok w) (Err BadValue)) SaysValue (inl refl, refl)
     (ok_if (is_text VALUE_MAX w) (Ok w) BadValue (SaysValue w) (λ e. (inr e, shown w e)))
   where
     shown : (w : List ℕ) → is_text VALUE_MAX w ≡ true → w ≡ value_text w
@@ -103,7 +103,7 @@ abbrev pub SaysValueOrNone : List ℕ → Option Bytes → Type 0
 SaysValueOrNone w value = IsValueOrNone value × (w ≡ value_or_none_text value)
 
 pub value_or_none_read : (w : List ℕ) → IfOk (value_or_none_of w) (SaysValueOrNone w)
-value_or_none_read w = ok_named w (codes "-") None (some_value (value_of w)) (SaysValueOrNone w) (λ e. (tt, e)) (some (value_of w) (value_read w))
+value_or_none_read w = ok_word w (codes "-") (Ok None) (some_value (value_of w)) SaysValueOrNone (tt, refl) (some (value_of w) (value_read w))
   where
     some : (r : Result Bytes Fault) → IfOk r (SaysValue w) → IfOk (some_value r) (SaysValueOrNone w)
     some (Ok value) h = h

@@ -6,17 +6,9 @@ use Rattle.std.proofs.lemmas.Bool.{and_from, lt-ltb, le-leb}
 use Rattle.std.proofs.lemmas.List.{length-map}
 use Rattle.jc_model.specs.Cache.{Bytes}
 use Rattle.jc_types.specs.declared.config.Config.{Config}
-use Rattle.jc_script.specs.declared.commands.Bare.{Bare}
-use Rattle.jc_script.specs.declared.commands.Bare.TheVariants as bare
-use Rattle.jc_script.specs.declared.commands.Valued.{Valued}
-use Rattle.jc_script.specs.declared.commands.Valued.TheVariants as valued
 use Rattle.jc_script.specs.declared.commands.BulkName.TheVariants as name
 use Rattle.jc_script.specs.declared.commands.Form.{Form}
 use Rattle.jc_script.specs.declared.commands.Form.TheVariants as form
-use Rattle.jc_script.specs.declared.grammar.Lone.{Lone}
-use Rattle.jc_script.specs.declared.grammar.Lone.TheVariants as lone
-use Rattle.jc_script.specs.declared.grammar.Coded.{Coded}
-use Rattle.jc_script.specs.declared.grammar.Coded.TheVariants as coded
 use Rattle.jc_model.specs.declared.event.Op.{Op}
 use Rattle.jc_model.specs.declared.event.Op.TheVariants as op
 use Rattle.jc_script.specs.declared.line.Line.{Line}
@@ -27,7 +19,7 @@ use Rattle.jc_script.specs.declared.line.Act.{Act}
 use Rattle.jc_script.specs.declared.line.Act.TheVariants.{Read, ReadFail, Say, Apply, ApplyFail, ApplyLie, End, Drop, More, Take, Process}
 use Rattle.jc_script.specs.ProcessWords.{source_words, call_text, fail_words}
 use Rattle.jc_script.specs.Words.{◌>>=◌, Pairs}
-use Rattle.jc_script.specs.Lines.{form_named, flags_of, takes_words, bare_op, valued_op, bare_of, valued_of, replace_if_of, begin_with, has_load_shape, load_all_of, bulk_with, has_but_shape, left_of, apply_of, apply_fail_of, command_of, open_of, set_of, begin_of, lone_act, lone_of, coded_act, coded_of, say_of, foreign_of, read_line}
+use Rattle.jc_script.specs.Lines.{form_named, flags_of, takes_words, bare_of, valued_of, replace_if_of, begin_with, has_load_shape, load_all_of, bulk_with, has_but_shape, left_of, apply_of, apply_fail_of, command_of, open_of, set_of, begin_of, lone_of, coded_of, say_of, foreign_of, read_line}
 use Rattle.jc_script.specs.Printing.{value_text, value_or_none_text}
 use Rattle.jc_script.specs.Spelled.{IsNumber, IsSession, IsKey, IsValue, IsValueOrNone, IsPair, AreKeyWords, AreLeftKeys, HasKeys, IsOperation, IsAct, LinesReadBack, spelling, session_text, pair_text, flag_words, operation_words, load_word, bulk_words, left_words}
 use Rattle.jc_script.proofs.AreKeyWords.{key_back, keys_back, keys_are_words}
@@ -68,10 +60,10 @@ foreign_back key value k v = rw (key_back key k, value_or_none_back value v) ref
 
 -- 2. Operations.
 
-bare_back : (b : Bare) (key : Bytes) → IsKey key → bare_of b (key ∷ []) ≡ Ok (record { op = bare_op b; key = key })
-bare_back b key k = rw (key_back key k) refl
+bare_back : (o : Op) (key : Bytes) → IsKey key → bare_of o (key ∷ []) ≡ Ok (record { op = o; key = key })
+bare_back o key k = rw (key_back key k) refl
 
-valued_back : (o : Valued) (key value : Bytes) → IsKey key → IsValue value → valued_of o (key ∷ value_text value ∷ []) ≡ Ok (record { op = valued_op o value; key = key })
+valued_back : (o : Bytes → Op) (key value : Bytes) → IsKey key → IsValue value → valued_of o (key ∷ value_text value ∷ []) ≡ Ok (record { op = o value; key = key })
 valued_back o key value k v = rw (key_back key k, value_back value v) refl
 
 replace_if_back : (key old value : Bytes) → IsKey key → IsValue old → IsValue value
@@ -104,21 +96,21 @@ begin_asks call session name words form line n s named shaped asks =
 
 begin_back : (call session : ℕ) (o : Op) (key : Bytes) → IsNumber call → IsSession session → IsOperation o → IsKey key
     → begin_of (decimal call ∷ session_text session ∷ operation_words o key) ≡ Ok (Begin call session (record { op = o; key = key }))
-begin_back call session op.Get key n s o k = begin_asks call session (codes "get") (key ∷ []) _ _ n s refl refl (ap (begin_with call session) (bare_back bare.Get key k))
-begin_back call session op.ContainsKey key n s o k = begin_asks call session (codes "contains") (key ∷ []) _ _ n s refl refl (ap (begin_with call session) (bare_back bare.Contains key k))
-begin_back call session (op.Put value) key n s o k = begin_asks call session (codes "put") (key ∷ value_text value ∷ []) _ _ n s refl refl (ap (begin_with call session) (valued_back valued.Put key value k o))
-begin_back call session (op.GetAndPut value) key n s o k = begin_asks call session (codes "getput") (key ∷ value_text value ∷ []) _ _ n s refl refl (ap (begin_with call session) (valued_back valued.GetPut key value k o))
-begin_back call session (op.PutIfAbsent value) key n s o k = begin_asks call session (codes "putif") (key ∷ value_text value ∷ []) _ _ n s refl refl (ap (begin_with call session) (valued_back valued.PutIf key value k o))
-begin_back call session op.Remove key n s o k = begin_asks call session (codes "remove") (key ∷ []) _ _ n s refl refl (ap (begin_with call session) (bare_back bare.Remove key k))
-begin_back call session (op.RemoveIf old) key n s o k = begin_asks call session (codes "removeif") (key ∷ value_text old ∷ []) _ _ n s refl refl (ap (begin_with call session) (valued_back valued.RemoveIf key old k o))
-begin_back call session op.GetAndRemove key n s o k = begin_asks call session (codes "getremove") (key ∷ []) _ _ n s refl refl (ap (begin_with call session) (bare_back bare.GetRemove key k))
-begin_back call session (op.Replace value) key n s o k = begin_asks call session (codes "replace") (key ∷ value_text value ∷ []) _ _ n s refl refl (ap (begin_with call session) (valued_back valued.Replace key value k o))
+begin_back call session op.Get key n s o k = begin_asks call session (codes "get") (key ∷ []) _ _ n s refl refl (ap (begin_with call session) (bare_back op.Get key k))
+begin_back call session op.ContainsKey key n s o k = begin_asks call session (codes "contains") (key ∷ []) _ _ n s refl refl (ap (begin_with call session) (bare_back op.ContainsKey key k))
+begin_back call session (op.Put value) key n s o k = begin_asks call session (codes "put") (key ∷ value_text value ∷ []) _ _ n s refl refl (ap (begin_with call session) (valued_back op.Put key value k o))
+begin_back call session (op.GetAndPut value) key n s o k = begin_asks call session (codes "getput") (key ∷ value_text value ∷ []) _ _ n s refl refl (ap (begin_with call session) (valued_back op.GetAndPut key value k o))
+begin_back call session (op.PutIfAbsent value) key n s o k = begin_asks call session (codes "putif") (key ∷ value_text value ∷ []) _ _ n s refl refl (ap (begin_with call session) (valued_back op.PutIfAbsent key value k o))
+begin_back call session op.Remove key n s o k = begin_asks call session (codes "remove") (key ∷ []) _ _ n s refl refl (ap (begin_with call session) (bare_back op.Remove key k))
+begin_back call session (op.RemoveIf old) key n s o k = begin_asks call session (codes "removeif") (key ∷ value_text old ∷ []) _ _ n s refl refl (ap (begin_with call session) (valued_back op.RemoveIf key old k o))
+begin_back call session op.GetAndRemove key n s o k = begin_asks call session (codes "getremove") (key ∷ []) _ _ n s refl refl (ap (begin_with call session) (bare_back op.GetAndRemove key k))
+begin_back call session (op.Replace value) key n s o k = begin_asks call session (codes "replace") (key ∷ value_text value ∷ []) _ _ n s refl refl (ap (begin_with call session) (valued_back op.Replace key value k o))
 begin_back call session (op.ReplaceIf old value) key n s o k =
     begin_asks call session (codes "replaceif") (key ∷ value_text old ∷ value_text value ∷ []) _ _ n s refl refl (ap (begin_with call session) (replace_if_back key old value k o.0 o.1))
-begin_back call session (op.GetAndReplace value) key n s o k = begin_asks call session (codes "getreplace") (key ∷ value_text value ∷ []) _ _ n s refl refl (ap (begin_with call session) (valued_back valued.GetReplace key value k o))
+begin_back call session (op.GetAndReplace value) key n s o k = begin_asks call session (codes "getreplace") (key ∷ value_text value ∷ []) _ _ n s refl refl (ap (begin_with call session) (valued_back op.GetAndReplace key value k o))
 begin_back call session op.Clear key n s o k = absurd o
 begin_back call session (op.LoadAll replace) key n s o k = absurd o
-begin_back call session op.Invoke key n s o k = begin_asks call session (codes "invoke") (key ∷ []) _ _ n s refl refl (ap (begin_with call session) (bare_back bare.Invoke key k))
+begin_back call session op.Invoke key n s o k = begin_asks call session (codes "invoke") (key ∷ []) _ _ n s refl refl (ap (begin_with call session) (bare_back op.Invoke key k))
 
 bulk_are_words : (b : BulkCall) → HasKeys b → AreWords (bulk_words b)
 bulk_are_words (bulk.GetAll keys) known = keys_are_words keys known.1
@@ -160,10 +152,10 @@ bulk_back call session (bulk.InvokeAll keys) n s known =
 
 -- 3. What happens next to a call.
 
-lone_back : (act : Lone) (call : ℕ) → IsNumber call → lone_of act (decimal call ∷ []) ≡ Ok (OfCall call (lone_act act))
+lone_back : (act : Act) (call : ℕ) → IsNumber call → lone_of act (decimal call ∷ []) ≡ Ok (OfCall call act)
 lone_back act call n = rw (number_back call n) refl
 
-coded_back : (act : Coded) (call code : ℕ) → IsNumber call → IsNumber code → coded_of act (decimal call ∷ decimal code ∷ []) ≡ Ok (OfCall call (coded_act act code))
+coded_back : (act : ℕ → Act) (call code : ℕ) → IsNumber call → IsNumber code → coded_of act (decimal call ∷ decimal code ∷ []) ≡ Ok (OfCall call (act code))
 unfolding coded_of
 coded_back act call code n c = rw (number_back call n, number_back code c) refl
 
@@ -199,10 +191,10 @@ abbrev IsReadBack : Line → Type 0
 IsReadBack line = length (spelling line) ≤ 65536 → read_line (spelling line) ≡ Ok (Some line)
 
 act_back : (call : ℕ) (act : Act) → IsNumber call → IsAct act → IsReadBack (OfCall call act)
-act_back call Read n a short = line_of_words (codes "read") (decimal call ∷ []) _ refl (and_from _ _ (number_word call n) refl) short (lone_back lone.Read call n)
+act_back call Read n a short = line_of_words (codes "read") (decimal call ∷ []) _ refl (and_from _ _ (number_word call n) refl) short (lone_back Read call n)
 act_back call (ReadFail code) n a short =
     line_of_words (codes "readfail") (decimal call ∷ decimal code ∷ []) _ refl (and_from _ _ (number_word call n) (and_from _ _ (number_word code a) refl)) short
-    (coded_back coded.ReadFail call code n a)
+    (coded_back ReadFail call code n a)
 act_back call (Say pairs) n a short =
     line_of_words (codes "say") (decimal call ∷ map pair_text pairs) _ refl (and_from _ _ (number_word call n) (pairs_are_words pairs a)) short (say_back call pairs n a)
 act_back call (Apply left) n a short =
@@ -212,11 +204,11 @@ act_back call (ApplyFail code left) n a short =
     (and_from _ _ (number_word call n) (and_from _ _ (number_word code a.0) (left_are_words 0 left a.1))) short (apply_fail_back call code left n a.0 a.1)
 act_back call (ApplyLie code) n a short =
     line_of_words (codes "applylie") (decimal call ∷ decimal code ∷ []) _ refl (and_from _ _ (number_word call n) (and_from _ _ (number_word code a) refl)) short
-    (coded_back coded.ApplyLie call code n a)
-act_back call End n a short = line_of_words (codes "end") (decimal call ∷ []) _ refl (and_from _ _ (number_word call n) refl) short (lone_back lone.End call n)
-act_back call Drop n a short = line_of_words (codes "drop") (decimal call ∷ []) _ refl (and_from _ _ (number_word call n) refl) short (lone_back lone.Drop call n)
-act_back call More n a short = line_of_words (codes "more") (decimal call ∷ []) _ refl (and_from _ _ (number_word call n) refl) short (lone_back lone.More call n)
-act_back call Take n a short = line_of_words (codes "take") (decimal call ∷ []) _ refl (and_from _ _ (number_word call n) refl) short (lone_back lone.Take call n)
+    (coded_back ApplyLie call code n a)
+act_back call End n a short = line_of_words (codes "end") (decimal call ∷ []) _ refl (and_from _ _ (number_word call n) refl) short (lone_back End call n)
+act_back call Drop n a short = line_of_words (codes "drop") (decimal call ∷ []) _ refl (and_from _ _ (number_word call n) refl) short (lone_back Drop call n)
+act_back call More n a short = line_of_words (codes "more") (decimal call ∷ []) _ refl (and_from _ _ (number_word call n) refl) short (lone_back More call n)
+act_back call Take n a short = line_of_words (codes "take") (decimal call ∷ []) _ refl (and_from _ _ (number_word call n) refl) short (lone_back Take call n)
 act_back call (Process source calls fail) n a short =
     line_of_words (codes "process") (decimal call ∷ (source_words source ++ (map call_text calls ++ fail_words fail))) _ refl (and_from _ _ (number_word call n) (process_words source calls fail a.0 a.1 a.2)) short
     (process_back call source calls fail n a.0 a.1 a.2)

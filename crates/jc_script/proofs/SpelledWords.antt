@@ -10,8 +10,8 @@ use Rattle.std.proofs.lemmas.List.Sums.{AllPass-from_list_all}
 use Rattle.std.proofs.lemmas.List.Splits.{slice_split_none, slice_split_at}
 use Rattle.jc_script.specs.declared.fault.Fault.TheVariants.{BadByte, BadLine, LineTooLong}
 use Rattle.jc_script.specs.declared.line.Line.{Line}
-use Rattle.jc_script.specs.Words.{◌>>=◌, words_of, is_letter, is_text}
-use Rattle.jc_script.specs.Lines.{are_words, line_named, line_of, parsed, is_plain, is_comment, some_line, read_line}
+use Rattle.jc_script.specs.Words.{words_of, is_letter, is_text}
+use Rattle.jc_script.specs.Lines.{are_words, line_of, parsed, is_plain, is_comment, some_line, read_line}
 use Rattle.jc_script.specs.Printing.{value_text, value_or_none_text}
 use Rattle.jc_script.specs.Spelled.{IsNumber, IsSession, IsValue, IsValueOrNone, IsPair, session_text, pair_text}
 use Rattle.jc_script.proofs.Spelling.{few_sessions}
@@ -145,7 +145,7 @@ no_comment (b ∷ bs) (v ∷ vs) e = e
 
 -- so what the words ask for, the line asks for
 pub line_of_words : (w : List ℕ) (ws : List (List ℕ)) (line : Line) → is_comment w ≡ false → AreWords (w ∷ ws) → length (joined (w ∷ ws)) ≤ 65536
-    → (line_named w >>= λ kind. line_of kind ws) ≡ Ok line → read_line (joined (w ∷ ws)) ≡ Ok (Some line)
+    → line_of w ws ≡ Ok line → read_line (joined (w ∷ ws)) ≡ Ok (Some line)
 unfolding read_line parsed
 line_of_words w ws line first known short asks =
     let text = joined (w ∷ ws) in

@@ -64,12 +64,7 @@ act_fault w number act (Some u) =
 
 abbrev pub state_fault : Option WorldState → Line → Option Fault
 state_fault None (Open config) = config_fault (check config)
-state_fault None (Set key value) = Some NotOpen
-state_fault None (Begin number session command) = Some NotOpen
-state_fault None (BeginBulk number session call) = Some NotOpen
-state_fault None (OfCall number act) = Some NotOpen
-state_fault None (Foreign key value) = Some NotOpen
-state_fault None Audit = Some NotOpen
+state_fault None other = Some NotOpen
 state_fault (Some w) (Open config) = Some OpenTwice
 state_fault (Some w) (Set key value) = if w.is_fresh then None else Some SetTooLate
 state_fault (Some w) (Begin number session command) = begin_fault w number session

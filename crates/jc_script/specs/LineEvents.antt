@@ -60,17 +60,8 @@ bulk_call (command.InvokeAll set) = Some (bulk.InvokeAll set.keys)
 -- 1. What an act does at the keys of its call.
 
 abbrev pub is_process : Act → Bool
-is_process Read = false
-is_process (ReadFail code) = false
-is_process (Say pairs) = false
-is_process (Apply left) = false
-is_process (ApplyFail code left) = false
-is_process (ApplyLie code) = false
-is_process End = false
-is_process Drop = false
-is_process More = false
-is_process Take = false
 is_process (Process source calls fail) = true
+is_process other = false
 
 -- the processors of a call run one after the other, in the order of its keys
 abbrev pub keys_of_act : WorldState → ℕ → Act → CallState → List Bytes

@@ -3,31 +3,29 @@
 --     Gives                         what a function returned is what the definition says, unless an allocation failed
 --     ok_with                       the same of a function that leaves its value in a place: the result with that value
 --     with_line                     the same of a line: a flag says whether the line asks for anything
---     bulk_named, form_named        the call of many keys that a word names; the operation
---     act_named                     the kind of line of a call, that a first word names
---     line_named                    the kind of line that a first word names
+--     form_named                    the call that a word names, and what it takes
 --     flags_of                      what of read-through and write-through is on
 --     is_load_mode                  a word says which keys a `loadall` loads: those that are missing, or all
 --     has_load_shape                such a word, and at least one more
 --     bulk_takes, takes_words       these words may follow the name of a call of many keys, and an operation's name, by their number
 --     bare_op, valued_op            the operation of a name with no value, and of a name with one
+--     value_alone                   one value, and no word after it
 --     bare_of, valued_of, replace_if_of      an operation with its key and no value, with one value, with an old and a new one
---     value_alone_of                one value, and no word after it
 --     open_of, set_of, begin_of     what the words after `open`, `set` and `begin` ask for
 --     begin_with                    the begin of a call with an operation
---     bulk_alone, load_all_of       a call of many keys that names none, and a `loadall` with its keys
+--     keys_of, load_all_of          a call of many keys with its keys, and a `loadall`
 --     bulk_of                       a call of many keys, with its keys or its pairs if it names any
 --     bulk_with                     the begin of a call of many keys
 --     command_of                    the begin of a call, by what follows the session
 --     number_alone                  one number, and no word after it
---     lone_act, lone_of             the act of a line with a call's number alone, and what its words ask for
---     coded_act, coded_of           the act of a line with a call's number and a code, and what its words ask for
+--     lone_act, lone_of             an act with no other word than its call's number, and what the words of its line ask for
+--     coded_act, coded_of           an act with a call's number and a code, and what the words of its line ask for
 --     has_but_shape                 nothing follows what the writer does, or `but` and at least so many words
 --     left_of                       the keys that the writer leaves, if `but` is there
 --     apply_of, apply_fail_of       what the words after `apply` and `applyfail` ask for
 --     process_of                    what the words after `process` ask for
 --     say_of, foreign_of, audit_of      what the words after `say`, `foreign` and `audit` ask for
---     line_of                       what the words after the first ask for, by the kind of line
+--     line_of                       what a first word and the words after it ask for
 --     are_words                     no two spaces are next to each other, and none at either end: no word is empty
 --     parsed                        what the words of a line ask for
 --     is_plain                      a byte may be in a line: a space up to a tilde
@@ -68,8 +66,6 @@ use Rattle.jc_script.specs.declared.grammar.Lone.{Lone}
 use Rattle.jc_script.specs.declared.grammar.Lone.TheVariants as lone
 use Rattle.jc_script.specs.declared.grammar.Coded.{Coded}
 use Rattle.jc_script.specs.declared.grammar.Coded.TheVariants as coded
-use Rattle.jc_script.specs.declared.grammar.LineKind.{LineKind}
-use Rattle.jc_script.specs.declared.grammar.LineKind.TheVariants as line
 use Rattle.jc_script.specs.Words.{◌>>=◌, words_of, number_of, caller_of, key_of, value_of, value_or_none_of, pairs_of, distinct_pairs_of, distinct_keys_of}
 use Rattle.jc_script.specs.ProcessWords.{without_load, has_process_shape, source_of, calls_of}
 
@@ -91,18 +87,7 @@ with_line l (Err e) = Err e
 
 -- 1. The fixed words.
 
--- of calls of many keys
-abbrev pub bulk_named : List ℕ → Result Form Fault
-bulk_named word =
-    if bytes_eq word (codes "getall") then Ok (form.Bulk name.GetAll) else
-    if bytes_eq word (codes "putall") then Ok (form.Bulk name.PutAll) else
-    if bytes_eq word (codes "removeall") then Ok (form.Bulk name.RemoveAll) else
-    if bytes_eq word (codes "removeevery") then Ok (form.Bulk name.RemoveEvery) else
-    if bytes_eq word (codes "clear") then Ok (form.Bulk name.Clear) else
-    if bytes_eq word (codes "loadall") then Ok (form.Bulk name.LoadAll) else
-    if bytes_eq word (codes "invokeall") then Ok (form.Bulk name.InvokeAll) else
-    Err BadLine
-
+-- the name of a call
 abbrev pub form_named : List ℕ → Result Form Fault
 form_named word =
     if bytes_eq word (codes "get") then Ok (form.Bare bare.Get) else
@@ -117,32 +102,14 @@ form_named word =
     if bytes_eq word (codes "replaceif") then Ok form.ReplaceIf else
     if bytes_eq word (codes "getreplace") then Ok (form.Valued valued.GetReplace) else
     if bytes_eq word (codes "invoke") then Ok (form.Bare bare.Invoke) else
-    bulk_named word
-
--- of a call that was begun
-abbrev pub act_named : List ℕ → Result LineKind Fault
-act_named word =
-    if bytes_eq word (codes "read") then Ok (line.Lone lone.Read) else
-    if bytes_eq word (codes "apply") then Ok line.Apply else
-    if bytes_eq word (codes "end") then Ok (line.Lone lone.End) else
-    if bytes_eq word (codes "drop") then Ok (line.Lone lone.Drop) else
-    if bytes_eq word (codes "more") then Ok (line.Lone lone.More) else
-    if bytes_eq word (codes "take") then Ok (line.Lone lone.Take) else
-    if bytes_eq word (codes "say") then Ok line.Say else
-    if bytes_eq word (codes "readfail") then Ok (line.Coded coded.ReadFail) else
-    if bytes_eq word (codes "applyfail") then Ok line.ApplyFail else
-    if bytes_eq word (codes "applylie") then Ok (line.Coded coded.ApplyLie) else
-    if bytes_eq word (codes "process") then Ok line.Process else
+    if bytes_eq word (codes "getall") then Ok (form.Bulk name.GetAll) else
+    if bytes_eq word (codes "putall") then Ok (form.Bulk name.PutAll) else
+    if bytes_eq word (codes "removeall") then Ok (form.Bulk name.RemoveAll) else
+    if bytes_eq word (codes "removeevery") then Ok (form.Bulk name.RemoveEvery) else
+    if bytes_eq word (codes "clear") then Ok (form.Bulk name.Clear) else
+    if bytes_eq word (codes "loadall") then Ok (form.Bulk name.LoadAll) else
+    if bytes_eq word (codes "invokeall") then Ok (form.Bulk name.InvokeAll) else
     Err BadLine
-
-abbrev pub line_named : List ℕ → Result LineKind Fault
-line_named word =
-    if bytes_eq word (codes "begin") then Ok line.Begin else
-    if bytes_eq word (codes "open") then Ok line.Open else
-    if bytes_eq word (codes "set") then Ok line.Set else
-    if bytes_eq word (codes "foreign") then Ok line.Foreign else
-    if bytes_eq word (codes "audit") then Ok line.Audit else
-    act_named word
 
 abbrev pub flags_of : List (List ℕ) → Result (Bool × Bool) Fault
 flags_of [] = Ok (false, false)
@@ -151,7 +118,7 @@ flags_of (a ∷ []) =
     if bytes_eq a (codes "write") then Ok (false, true) else
     Err BadLine
 flags_of (a ∷ b ∷ []) = if bytes_eq a (codes "read") && bytes_eq b (codes "write") then Ok (true, true) else Err BadLine
-flags_of (a ∷ b ∷ c ∷ more) = Err BadLine
+flags_of words = Err BadLine
 
 -- 2. Operations.
 
@@ -187,62 +154,55 @@ bare_op bare.GetRemove = op.GetAndRemove
 bare_op bare.Invoke = op.Invoke
 
 abbrev pub valued_op : Valued → Bytes → Op
-valued_op valued.Put value = op.Put value
-valued_op valued.GetPut value = op.GetAndPut value
-valued_op valued.PutIf value = op.PutIfAbsent value
-valued_op valued.RemoveIf value = op.RemoveIf value
-valued_op valued.Replace value = op.Replace value
-valued_op valued.GetReplace value = op.GetAndReplace value
+valued_op valued.Put = op.Put
+valued_op valued.GetPut = op.GetAndPut
+valued_op valued.PutIf = op.PutIfAbsent
+valued_op valued.RemoveIf = op.RemoveIf
+valued_op valued.Replace = op.Replace
+valued_op valued.GetReplace = op.GetAndReplace
 
-abbrev pub bare_of : Bare → List (List ℕ) → Result Operation Fault
-bare_of b (k ∷ []) = do
+abbrev pub bare_of : Op → List (List ℕ) → Result Operation Fault
+bare_of o (k ∷ []) = do
   key ← key_of k
-  Ok (record { op = bare_op b; key = key })
-bare_of b [] = Err BadLine
-bare_of b (k ∷ x ∷ more) = Err BadLine
+  Ok (record { op = o; key = key })
+bare_of o words = Err BadLine
 
-abbrev pub valued_of : Valued → List (List ℕ) → Result Operation Fault
+abbrev pub valued_of : (Bytes → Op) → List (List ℕ) → Result Operation Fault
 valued_of o (k ∷ v ∷ []) = do
   key ← key_of k
   value ← value_of v
-  Ok (record { op = valued_op o value; key = key })
-valued_of o [] = Err BadLine
-valued_of o (k ∷ []) = Err BadLine
-valued_of o (k ∷ v ∷ x ∷ more) = Err BadLine
+  Ok (record { op = o value; key = key })
+valued_of o words = Err BadLine
 
-abbrev pub value_alone_of : List (List ℕ) → Result Bytes Fault
-value_alone_of (v ∷ []) = value_of v
-value_alone_of [] = Err BadLine
-value_alone_of (v ∷ x ∷ more) = Err BadLine
+abbrev pub value_alone : List (List ℕ) → Result Bytes Fault
+value_alone (v ∷ []) = value_of v
+value_alone words = Err BadLine
 
 unfoldable pub replace_if_of : List (List ℕ) → Result Operation Fault
 replace_if_of (k ∷ v ∷ words) = do
   key ← key_of k
   old ← value_of v
-  value ← value_alone_of words
+  value ← value_alone words
   Ok (record { op = op.ReplaceIf old value; key = key })
-replace_if_of [] = Err BadLine
-replace_if_of (k ∷ []) = Err BadLine
+replace_if_of words = Err BadLine
 
--- no word
-abbrev pub bulk_alone : BulkCall → List (List ℕ) → Result BulkCall Fault
-bulk_alone call [] = Ok call
-bulk_alone call (x ∷ more) = Err BadLine
+abbrev pub keys_of : (List Bytes → BulkCall) → List (List ℕ) → Result BulkCall Fault
+keys_of call words = distinct_keys_of words >>= λ keys. Ok (call keys)
 
 -- the words' shape is known
 abbrev pub load_all_of : List (List ℕ) → Result BulkCall Fault
 load_all_of [] = Err BadLine
-load_all_of (mode ∷ words) =
-    distinct_keys_of words >>= λ keys. Ok (bulk.LoadAll (bytes_eq mode (codes "replace")) keys)
+load_all_of (mode ∷ words) = keys_of (bulk.LoadAll (bytes_eq mode (codes "replace"))) words
 
+-- the words' shape is known
 abbrev pub bulk_of : BulkName → List (List ℕ) → Result BulkCall Fault
-bulk_of name.GetAll words = distinct_keys_of words >>= λ keys. Ok (bulk.GetAll keys)
+bulk_of name.GetAll words = keys_of bulk.GetAll words
 bulk_of name.PutAll words = distinct_pairs_of words >>= λ pairs. Ok (bulk.PutAll pairs)
-bulk_of name.RemoveAll words = distinct_keys_of words >>= λ keys. Ok (bulk.RemoveAll keys)
-bulk_of name.RemoveEvery words = bulk_alone bulk.RemoveEvery words
-bulk_of name.Clear words = bulk_alone bulk.Clear words
+bulk_of name.RemoveAll words = keys_of bulk.RemoveAll words
+bulk_of name.RemoveEvery words = Ok bulk.RemoveEvery
+bulk_of name.Clear words = Ok bulk.Clear
 bulk_of name.LoadAll words = load_all_of words
-bulk_of name.InvokeAll words = distinct_keys_of words >>= λ keys. Ok (bulk.InvokeAll keys)
+bulk_of name.InvokeAll words = keys_of bulk.InvokeAll words
 
 -- 3. Lines, from the words after the first.
 
@@ -253,18 +213,14 @@ open_of (s ∷ c ∷ h ∷ flags) = do
   capacity ← number_of c
   history ← number_of h
   Ok (Open (record { stripes = stripes; capacity = capacity; history = history; read_through = set.0; write_through = set.1 }))
-open_of [] = Err BadLine
-open_of (s ∷ []) = Err BadLine
-open_of (s ∷ c ∷ []) = Err BadLine
+open_of words = Err BadLine
 
 unfoldable pub set_of : List (List ℕ) → Result Line Fault
 set_of (k ∷ v ∷ []) = do
   key ← key_of k
   value ← value_of v
   Ok (Set key value)
-set_of [] = Err BadLine
-set_of (k ∷ []) = Err BadLine
-set_of (k ∷ v ∷ x ∷ more) = Err BadLine
+set_of words = Err BadLine
 
 -- or the fault of the command
 abbrev pub begin_with : ℕ → ℕ → Result Operation Fault → Result Line Fault
@@ -275,8 +231,8 @@ abbrev pub bulk_with : ℕ → ℕ → Result BulkCall Fault → Result Line Fau
 bulk_with number session call = call >>= λ call. Ok (BeginBulk number session call)
 
 abbrev pub command_of : ℕ → ℕ → Form → List (List ℕ) → Result Line Fault
-command_of number session (form.Bare b) words = begin_with number session (bare_of b words)
-command_of number session (form.Valued v) words = begin_with number session (valued_of v words)
+command_of number session (form.Bare b) words = begin_with number session (bare_of (bare_op b) words)
+command_of number session (form.Valued v) words = begin_with number session (valued_of (valued_op v) words)
 command_of number session form.ReplaceIf words = begin_with number session (replace_if_of words)
 command_of number session (form.Bulk n) words = bulk_with number session (bulk_of n words)
 
@@ -287,15 +243,12 @@ begin_of (n ∷ who ∷ name ∷ words) = do
   number ← number_of n
   session ← caller_of who
   command_of number session form words
-begin_of [] = Err BadLine
-begin_of (n ∷ []) = Err BadLine
-begin_of (n ∷ who ∷ []) = Err BadLine
+begin_of words = Err BadLine
 
 -- one number
 abbrev pub number_alone : List (List ℕ) → Result ℕ Fault
 number_alone (n ∷ []) = number_of n
-number_alone [] = Err BadLine
-number_alone (n ∷ x ∷ more) = Err BadLine
+number_alone words = Err BadLine
 
 abbrev pub lone_act : Lone → Act
 lone_act lone.Read = Read
@@ -305,20 +258,20 @@ lone_act lone.More = More
 lone_act lone.Take = Take
 
 -- a call's number alone
-abbrev pub lone_of : Lone → List (List ℕ) → Result Line Fault
-lone_of act words = number_alone words >>= λ number. Ok (OfCall number (lone_act act))
+abbrev pub lone_of : Act → List (List ℕ) → Result Line Fault
+lone_of act words = number_alone words >>= λ number. Ok (OfCall number act)
 
 abbrev pub coded_act : Coded → ℕ → Act
 coded_act coded.ReadFail code = ReadFail code
 coded_act coded.ApplyLie code = ApplyLie code
 
 -- a call's number, and a code
-unfoldable pub coded_of : Coded → List (List ℕ) → Result Line Fault
+unfoldable pub coded_of : (ℕ → Act) → List (List ℕ) → Result Line Fault
 coded_of act (n ∷ words) = do
   shaped ← (if length words == 1 then Ok true else Err BadLine)
   number ← number_of n
   code ← number_alone words
-  Ok (OfCall number (coded_act act code))
+  Ok (OfCall number (act code))
 coded_of act [] = Err BadLine
 
 -- nothing, or `but` and at least so many words
@@ -348,8 +301,7 @@ apply_fail_of (n ∷ c ∷ words) = do
   code ← number_of c
   left ← left_of words
   Ok (OfCall number (ApplyFail code left))
-apply_fail_of [] = Err BadLine
-apply_fail_of (n ∷ []) = Err BadLine
+apply_fail_of words = Err BadLine
 
 unfoldable pub say_of : List (List ℕ) → Result Line Fault
 say_of (n ∷ words) = do
@@ -372,26 +324,31 @@ foreign_of (k ∷ v ∷ []) = do
   key ← key_of k
   value ← value_or_none_of v
   Ok (Foreign key value)
-foreign_of [] = Err BadLine
-foreign_of (k ∷ []) = Err BadLine
-foreign_of (k ∷ v ∷ x ∷ more) = Err BadLine
+foreign_of words = Err BadLine
 
 abbrev pub audit_of : List (List ℕ) → Result Line Fault
 audit_of [] = Ok Audit
 audit_of (x ∷ more) = Err BadLine
 
-abbrev pub line_of : LineKind → List (List ℕ) → Result Line Fault
-line_of line.Open words = open_of words
-line_of line.Set words = set_of words
-line_of line.Begin words = begin_of words
-line_of (line.Lone act) words = lone_of act words
-line_of (line.Coded act) words = coded_of act words
-line_of line.Apply words = apply_of words
-line_of line.ApplyFail words = apply_fail_of words
-line_of line.Say words = say_of words
-line_of line.Process words = process_of words
-line_of line.Foreign words = foreign_of words
-line_of line.Audit words = audit_of words
+abbrev pub line_of : List ℕ → List (List ℕ) → Result Line Fault
+line_of first words =
+    if bytes_eq first (codes "begin") then begin_of words else
+    if bytes_eq first (codes "open") then open_of words else
+    if bytes_eq first (codes "set") then set_of words else
+    if bytes_eq first (codes "foreign") then foreign_of words else
+    if bytes_eq first (codes "audit") then audit_of words else
+    if bytes_eq first (codes "read") then lone_of Read words else
+    if bytes_eq first (codes "apply") then apply_of words else
+    if bytes_eq first (codes "end") then lone_of End words else
+    if bytes_eq first (codes "drop") then lone_of Drop words else
+    if bytes_eq first (codes "more") then lone_of More words else
+    if bytes_eq first (codes "take") then lone_of Take words else
+    if bytes_eq first (codes "say") then say_of words else
+    if bytes_eq first (codes "readfail") then coded_of ReadFail words else
+    if bytes_eq first (codes "applyfail") then apply_fail_of words else
+    if bytes_eq first (codes "applylie") then coded_of ApplyLie words else
+    if bytes_eq first (codes "process") then process_of words else
+    Err BadLine
 
 -- no two spaces together, and none at either end
 abbrev pub are_words : List (List ℕ) → Bool
@@ -399,9 +356,7 @@ are_words words = list_all (λ w. nat_lt 0 (length w)) words
 
 unfoldable pub parsed : List (List ℕ) → Result Line Fault
 parsed [] = Err BadLine
-parsed (name ∷ words) = if are_words (name ∷ words) then (do
-  kind ← line_named name
-  line_of kind words) else Err BadLine
+parsed (first ∷ words) = if are_words (first ∷ words) then line_of first words else Err BadLine
 
 -- 4. A whole line.
 

@@ -114,13 +114,7 @@ Plays (Some w) (BeginBulk number session call) text new = PlaysBulk w number ses
 Plays (Some w) (OfCall number act) text new = PlaysAct w number act (open_call w number) text new
 Plays (Some w) (Foreign key value) text new = PlaysForeign w key value text new
 Plays (Some w) Audit text new = Audited w text × (new ≡ Some w)
-Plays None (Set key value) text new = ⊥
-Plays None (Begin number session command) text new = ⊥
-Plays None (BeginBulk number session call) text new = ⊥
-Plays None (OfCall number act) text new = ⊥
-Plays None (Foreign key value) text new = ⊥
-Plays None Audit text new = ⊥
-Plays (Some w) (Open config) text new = ⊥
+Plays old line text new = ⊥
 
 -- printed at the end of what is there already
 abbrev pub PlaysLine : OpenedWorld → Line → Option Fault → List ℕ → List ℕ → OpenedWorld → Type 0

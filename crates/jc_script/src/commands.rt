@@ -1,7 +1,7 @@
 //! Operations as words: their names, and what follows a name.
 ghost use Rattle.std.specs.Prelude.{◌≡◌, map, length};
-ghost use Rattle.jc_script.specs.Lines.{Gives, ok_with, form_named, bulk_named, takes_words, bare_op, valued_op, bare_of, valued_of};
-ghost use Rattle.jc_script.specs.Lines.{value_alone_of, replace_if_of, command_of, begin_with, bulk_of, bulk_with};
+ghost use Rattle.jc_script.specs.Lines.{Gives, ok_with, form_named, takes_words, bare_op, valued_op, bare_of, valued_of};
+ghost use Rattle.jc_script.specs.Lines.{value_alone, replace_if_of, command_of, begin_with, bulk_of, bulk_with};
 ghost use Rattle.jc_script.specs.Lines.{is_load_mode, has_load_shape, bulk_takes, load_all_of};
 
 use crate::fault::{Fault, ReadError};
@@ -55,75 +55,32 @@ pub enum Form {
     Bulk(BulkName),
 }
 
-/// The operation that a word names.
-pub fn read_form(word: &[u8]) -> Result<Form, Fault>
+/// The call that a word names, and what it takes.
+pub fn form_named(word: &[u8]) -> Result<Form, Fault>
     ensures { result ≡ form_named word.now }
 {
-    if is(word, "get") {
-        return Ok(Form::Bare(Bare::Get));
+    match word {
+        _ if is(word, "get") => Ok(Form::Bare(Bare::Get)),
+        _ if is(word, "contains") => Ok(Form::Bare(Bare::Contains)),
+        _ if is(word, "put") => Ok(Form::Valued(Valued::Put)),
+        _ if is(word, "getput") => Ok(Form::Valued(Valued::GetPut)),
+        _ if is(word, "putif") => Ok(Form::Valued(Valued::PutIf)),
+        _ if is(word, "remove") => Ok(Form::Bare(Bare::Remove)),
+        _ if is(word, "removeif") => Ok(Form::Valued(Valued::RemoveIf)),
+        _ if is(word, "getremove") => Ok(Form::Bare(Bare::GetRemove)),
+        _ if is(word, "replace") => Ok(Form::Valued(Valued::Replace)),
+        _ if is(word, "replaceif") => Ok(Form::ReplaceIf),
+        _ if is(word, "getreplace") => Ok(Form::Valued(Valued::GetReplace)),
+        _ if is(word, "invoke") => Ok(Form::Bare(Bare::Invoke)),
+        _ if is(word, "getall") => Ok(Form::Bulk(BulkName::GetAll)),
+        _ if is(word, "putall") => Ok(Form::Bulk(BulkName::PutAll)),
+        _ if is(word, "removeall") => Ok(Form::Bulk(BulkName::RemoveAll)),
+        _ if is(word, "removeevery") => Ok(Form::Bulk(BulkName::RemoveEvery)),
+        _ if is(word, "clear") => Ok(Form::Bulk(BulkName::Clear)),
+        _ if is(word, "loadall") => Ok(Form::Bulk(BulkName::LoadAll)),
+        _ if is(word, "invokeall") => Ok(Form::Bulk(BulkName::InvokeAll)),
+        _ => Err(Fault::BadLine),
     }
-    if is(word, "contains") {
-        return Ok(Form::Bare(Bare::Contains));
-    }
-    if is(word, "put") {
-        return Ok(Form::Valued(Valued::Put));
-    }
-    if is(word, "getput") {
-        return Ok(Form::Valued(Valued::GetPut));
-    }
-    if is(word, "putif") {
-        return Ok(Form::Valued(Valued::PutIf));
-    }
-    if is(word, "remove") {
-        return Ok(Form::Bare(Bare::Remove));
-    }
-    if is(word, "removeif") {
-        return Ok(Form::Valued(Valued::RemoveIf));
-    }
-    if is(word, "getremove") {
-        return Ok(Form::Bare(Bare::GetRemove));
-    }
-    if is(word, "replace") {
-        return Ok(Form::Valued(Valued::Replace));
-    }
-    if is(word, "replaceif") {
-        return Ok(Form::ReplaceIf);
-    }
-    if is(word, "getreplace") {
-        return Ok(Form::Valued(Valued::GetReplace));
-    }
-    if is(word, "invoke") {
-        return Ok(Form::Bare(Bare::Invoke));
-    }
-    read_bulk_form(word)
-}
-
-/// The call of many keys that a word names.
-fn read_bulk_form(word: &[u8]) -> Result<Form, Fault>
-    ensures { result ≡ bulk_named word.now }
-{
-    if is(word, "getall") {
-        return Ok(Form::Bulk(BulkName::GetAll));
-    }
-    if is(word, "putall") {
-        return Ok(Form::Bulk(BulkName::PutAll));
-    }
-    if is(word, "removeall") {
-        return Ok(Form::Bulk(BulkName::RemoveAll));
-    }
-    if is(word, "removeevery") {
-        return Ok(Form::Bulk(BulkName::RemoveEvery));
-    }
-    if is(word, "clear") {
-        return Ok(Form::Bulk(BulkName::Clear));
-    }
-    if is(word, "loadall") {
-        return Ok(Form::Bulk(BulkName::LoadAll));
-    }
-    if is(word, "invokeall") {
-        return Ok(Form::Bulk(BulkName::InvokeAll));
-    }
-    Err(Fault::BadLine)
 }
 
 /// Whether a word says which keys a `loadall` loads: `keep`, those that are missing; or `replace`, all.
@@ -169,7 +126,7 @@ pub fn has_shape(form: Form, words: &[&[u8]]) -> bool
     }
 }
 
-fn op_bare(bare: Bare) -> Op
+fn bare_op(bare: Bare) -> Op
     ensures { result ≡ bare_op bare }
 {
     match bare {
@@ -181,7 +138,7 @@ fn op_bare(bare: Bare) -> Op
     }
 }
 
-fn op_valued(valued: Valued, value: Value) -> Op
+fn valued_op(valued: Valued, value: Value) -> Op
     ensures { result ≡ valued_op valued value }
 {
     match valued {
@@ -202,12 +159,12 @@ fn begin_bare(
     words: &[&[u8]],
     line: &mut Line,
 ) -> Result<(), Fault>
-    ensures { ok_with line.new result ≡ begin_with call session (bare_of bare (map (λ w. w.now) words.now)) }
+    ensures { ok_with line.new result ≡ begin_with call session (bare_of (bare_op bare) (map (λ w. w.now) words.now)) }
 {
     match words {
         [k] => {
             let key = key(k)?;
-            let op = op_bare(bare);
+            let op = bare_op(bare);
             put_line(line, Line::Begin(call, session, Operation { op, key }));
             Ok(())
         }
@@ -223,12 +180,12 @@ fn begin_valued(
     words: &[&[u8]],
     line: &mut Line,
 ) -> Result<(), Fault>
-    ensures { ok_with line.new result ≡ begin_with call session (valued_of valued (map (λ w. w.now) words.now)) }
+    ensures { ok_with line.new result ≡ begin_with call session (valued_of (valued_op valued) (map (λ w. w.now) words.now)) }
 {
     match words {
         [k, v] => {
             let key = key(k)?;
-            let op = op_valued(valued, value(v)?);
+            let op = valued_op(valued, value(v)?);
             put_line(line, Line::Begin(call, session, Operation { op, key }));
             Ok(())
         }
@@ -237,7 +194,7 @@ fn begin_valued(
 }
 
 fn value_alone(words: &[&[u8]]) -> Result<Value, Fault>
-    ensures { result ≡ value_alone_of (map (λ w. w.now) words.now) }
+    ensures { result ≡ value_alone (map (λ w. w.now) words.now) }
 {
     match words {
         [v] => value(v),
@@ -284,14 +241,8 @@ fn read_bulk(alloc: Global, name: BulkName, words: &[&[u8]]) -> Result<BulkCall,
         BulkName::GetAll => Ok(BulkCall::GetAll(keys(alloc, words)?)),
         BulkName::PutAll => Ok(BulkCall::PutAll(distinct_pairs(alloc, words)?)),
         BulkName::RemoveAll => Ok(BulkCall::RemoveAll(keys(alloc, words)?)),
-        BulkName::RemoveEvery => match words {
-            [] => Ok(BulkCall::RemoveEvery),
-            _ => Err(ReadError::Fault(Fault::BadLine)),
-        },
-        BulkName::Clear => match words {
-            [] => Ok(BulkCall::Clear),
-            _ => Err(ReadError::Fault(Fault::BadLine)),
-        },
+        BulkName::RemoveEvery => Ok(BulkCall::RemoveEvery),
+        BulkName::Clear => Ok(BulkCall::Clear),
         BulkName::LoadAll => load_all(alloc, words),
         BulkName::InvokeAll => Ok(BulkCall::InvokeAll(keys(alloc, words)?)),
     }

@@ -1,12 +1,12 @@
 //! The kinds of line, and what each asks for.
 ghost use Rattle.std.specs.Prelude.{◌≡◌, map, length, IfOk};
 ghost use Rattle.std.specs.List.{list_all};
-ghost use Rattle.jc_script.specs.Lines.{Gives, ok_with, with_line, act_named, line_named, flags_of, open_of, set_of};
+ghost use Rattle.jc_script.specs.Lines.{Gives, ok_with, with_line, flags_of, open_of, set_of};
 ghost use Rattle.jc_script.specs.Lines.{begin_of, number_alone, lone_act, lone_of, coded_act, coded_of, process_of, say_of};
 ghost use Rattle.jc_script.specs.Lines.{has_but_shape, left_of, apply_of, apply_fail_of};
 ghost use Rattle.jc_script.specs.Lines.{foreign_of, audit_of, line_of, are_words, parsed, is_plain, is_comment, read_line};
 
-use crate::commands::{begin_command, has_shape, read_form};
+use crate::commands::{begin_command, form_named, has_shape};
 use crate::fault::{Fault, ReadError};
 use crate::keys::Keys;
 use crate::line::{Act, Line, put_line};
@@ -32,102 +32,14 @@ pub enum Coded {
     ApplyLie,
 }
 
-/// The first word of a line.
-#[derive(Clone, Copy)]
-pub enum LineKind {
-    Open,
-    Set,
-    Begin,
-    Lone(Lone),
-    Coded(Coded),
-    Apply,
-    ApplyFail,
-    Say,
-    Process,
-    Foreign,
-    Audit,
-}
-
-fn read_act(word: &[u8]) -> Result<LineKind, Fault>
-    ensures { result ≡ act_named word.now }
-{
-    if is(word, "read") {
-        return Ok(LineKind::Lone(Lone::Read));
-    }
-    if is(word, "apply") {
-        return Ok(LineKind::Apply);
-    }
-    if is(word, "end") {
-        return Ok(LineKind::Lone(Lone::End));
-    }
-    if is(word, "drop") {
-        return Ok(LineKind::Lone(Lone::Drop));
-    }
-    if is(word, "more") {
-        return Ok(LineKind::Lone(Lone::More));
-    }
-    if is(word, "take") {
-        return Ok(LineKind::Lone(Lone::Take));
-    }
-    if is(word, "say") {
-        return Ok(LineKind::Say);
-    }
-    if is(word, "readfail") {
-        return Ok(LineKind::Coded(Coded::ReadFail));
-    }
-    if is(word, "applyfail") {
-        return Ok(LineKind::ApplyFail);
-    }
-    if is(word, "applylie") {
-        return Ok(LineKind::Coded(Coded::ApplyLie));
-    }
-    if is(word, "process") {
-        return Ok(LineKind::Process);
-    }
-    Err(Fault::BadLine)
-}
-
-fn read_kind(word: &[u8]) -> Result<LineKind, Fault>
-    ensures { result ≡ line_named word.now }
-{
-    if is(word, "begin") {
-        return Ok(LineKind::Begin);
-    }
-    if is(word, "open") {
-        return Ok(LineKind::Open);
-    }
-    if is(word, "set") {
-        return Ok(LineKind::Set);
-    }
-    if is(word, "foreign") {
-        return Ok(LineKind::Foreign);
-    }
-    if is(word, "audit") {
-        return Ok(LineKind::Audit);
-    }
-    read_act(word)
-}
-
 fn flags(words: &[&[u8]]) -> Result<(bool, bool), Fault>
     ensures { result ≡ flags_of (map (λ w. w.now) words.now) }
 {
     match words {
         [] => Ok((false, false)),
-        [a] => {
-            if is(a, "read") {
-                return Ok((true, false));
-            }
-            if is(a, "write") {
-                return Ok((false, true));
-            }
-            Err(Fault::BadLine)
-        }
-        [a, b] => {
-            if is(a, "read") && is(b, "write") {
-                return Ok((true, true));
-            }
-            Err(Fault::BadLine)
-        }
+        [a] if is(a, "read") => Ok((true, false)),
+        [a] if is(a, "write") => Ok((false, true)),
+        [a, b] if is(a, "read") && is(b, "write") => Ok((true, true)),
         _ => Err(Fault::BadLine),
     }
 }
@@ -180,7 +92,7 @@ fn begin(alloc: Global, words: &[&[u8]], line: &mut Line) -> Result<(), ReadErro
 {
     match words {
         [n, who, name, rest @ ..] => {
-            let form = read_form(name)?;
+            let form = form_named(name)?;
             if !has_shape(form, rest) {
                 return Err(ReadError::Fault(Fault::BadLine));
             }
@@ -192,7 +104,7 @@ fn begin(alloc: Global, words: &[&[u8]], line: &mut Line) -> Result<(), ReadErro
     }
 }
 
-fn lone_number(words: &[&[u8]]) -> Result<u32, Fault>
+fn number_alone(words: &[&[u8]]) -> Result<u32, Fault>
     ensures { result ≡ number_alone (map (λ w. w.now) words.now) }
 {
     match words {
@@ -201,7 +113,7 @@ fn lone_number(words: &[&[u8]]) -> Result<u32, Fault>
     }
 }
 
-fn act_lone(lone: Lone) -> Act
+fn lone_act(lone: Lone) -> Act
     ensures { result ≡ lone_act lone }
 {
     match lone {
@@ -215,14 +127,14 @@ fn act_lone(lone: Lone) -> Act
 
 #[inline(never)]
 fn lone_line(lone: Lone, words: &[&[u8]], line: &mut Line) -> Result<(), Fault>
-    ensures { ok_with line.new result ≡ lone_of lone (map (λ w. w.now) words.now) }
+    ensures { ok_with line.new result ≡ lone_of (lone_act lone) (map (λ w. w.now) words.now) }
 {
-    let n = lone_number(words)?;
-    put_line(line, Line::OfCall(n, act_lone(lone)));
+    let n = number_alone(words)?;
+    put_line(line, Line::OfCall(n, lone_act(lone)));
     Ok(())
 }
 
-fn act_coded(coded: Coded, code: u32) -> Act
+fn coded_act(coded: Coded, code: u32) -> Act
     ensures { result ≡ coded_act coded code }
 {
     match coded {
@@ -234,7 +146,7 @@ fn act_coded(coded: Coded, code: u32) -> Act
 #[tactic(auto, unfolding(crate::specs::Lines::coded_of))]
 #[inline(never)]
 fn coded_line(coded: Coded, words: &[&[u8]], line: &mut Line) -> Result<(), Fault>
-    ensures { ok_with line.new result ≡ coded_of coded (map (λ w. w.now) words.now) }
+    ensures { ok_with line.new result ≡ coded_of (coded_act coded) (map (λ w. w.now) words.now) }
 {
     match words {
         [n, rest @ ..] => {
@@ -242,8 +154,8 @@ fn coded_line(coded: Coded, words: &[&[u8]], line: &mut Line) -> Result<(), Faul
                 return Err(Fault::BadLine);
             }
             let n = number(n)?;
-            let code = lone_number(rest)?;
-            put_line(line, Line::OfCall(n, act_coded(coded, code)));
+            let code = number_alone(rest)?;
+            put_line(line, Line::OfCall(n, coded_act(coded, code)));
             Ok(())
         }
         _ => Err(Fault::BadLine),
@@ -372,26 +284,28 @@ fn audit(words: &[&[u8]], line: &mut Line) -> Result<(), Fault>
     }
 }
 
-fn line_after(
-    alloc: Global,
-    kind: LineKind,
-    words: &[&[u8]],
-    line: &mut Line,
-) -> Result<(), ReadError>
-    ensures { Gives (ok_with line.new result) (line_of kind (map (λ w. w.now) words.now)) }
+/// The line that a first word names, with what the words after it say.
+fn line_of(alloc: Global, first: &[u8], words: &[&[u8]], line: &mut Line) -> Result<(), ReadError>
+    ensures { Gives (ok_with line.new result) (line_of first.now (map (λ w. w.now) words.now)) }
 {
-    match kind {
-        LineKind::Open => Ok(open(words, line)?),
-        LineKind::Set => Ok(set(words, line)?),
-        LineKind::Begin => begin(alloc, words, line),
-        LineKind::Lone(lone) => Ok(lone_line(lone, words, line)?),
-        LineKind::Coded(coded) => Ok(coded_line(coded, words, line)?),
-        LineKind::Apply => apply(alloc, words, line),
-        LineKind::ApplyFail => apply_fail(alloc, words, line),
-        LineKind::Say => say(alloc, words, line),
-        LineKind::Process => process(alloc, words, line),
-        LineKind::Foreign => Ok(foreign(words, line)?),
-        LineKind::Audit => Ok(audit(words, line)?),
+    match first {
+        _ if is(first, "begin") => begin(alloc, words, line),
+        _ if is(first, "open") => Ok(open(words, line)?),
+        _ if is(first, "set") => Ok(set(words, line)?),
+        _ if is(first, "foreign") => Ok(foreign(words, line)?),
+        _ if is(first, "audit") => Ok(audit(words, line)?),
+        _ if is(first, "read") => Ok(lone_line(Lone::Read, words, line)?),
+        _ if is(first, "apply") => apply(alloc, words, line),
+        _ if is(first, "end") => Ok(lone_line(Lone::End, words, line)?),
+        _ if is(first, "drop") => Ok(lone_line(Lone::Drop, words, line)?),
+        _ if is(first, "more") => Ok(lone_line(Lone::More, words, line)?),
+        _ if is(first, "take") => Ok(lone_line(Lone::Take, words, line)?),
+        _ if is(first, "say") => say(alloc, words, line),
+        _ if is(first, "readfail") => Ok(coded_line(Coded::ReadFail, words, line)?),
+        _ if is(first, "applyfail") => apply_fail(alloc, words, line),
+        _ if is(first, "applylie") => Ok(coded_line(Coded::ApplyLie, words, line)?),
+        _ if is(first, "process") => process(alloc, words, line),
+        _ => Err(ReadError::Fault(Fault::BadLine)),
     }
 }
 
@@ -412,12 +326,11 @@ fn parse(alloc: Global, words: &[&[u8]], line: &mut Line) -> Result<(), ReadErro
 {
     match words {
         [] => Err(ReadError::Fault(Fault::BadLine)),
-        [name, rest @ ..] => {
+        [first, rest @ ..] => {
             if !none_empty(words) {
                 return Err(ReadError::Fault(Fault::BadLine));
             }
-            let kind = read_kind(name)?;
-            line_after(alloc, kind, rest, line)
+            line_of(alloc, first, rest, line)
         }
     }
 }

@@ -109,12 +109,7 @@ fn play_line(
     }
     match line {
         Line::Open(config) => open(alloc, world, config, out),
-        Line::Set(..)
-        | Line::Begin(..)
-        | Line::BeginBulk(..)
-        | Line::OfCall(..)
-        | Line::Foreign(..)
-        | Line::Audit => Ok(Some(Fault::NotOpen)),
+        _ => Ok(Some(Fault::NotOpen)),
     }
 }
 

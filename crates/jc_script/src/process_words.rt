@@ -63,7 +63,7 @@ pub fn without_load<'a, 'b>(words: &'a [&'b [u8]]) -> &'a [&'b [u8]]
     ensures { map (λ w. w.now) result.now ≡ without_load (map (λ w. w.now) words.now) }
 {
     match words {
-        [first, rest @ ..] => { if is_load_word(first) { rest } else { words } }
+        [first, rest @ ..] if is_load_word(first) => rest,
         _ => words,
     }
 }
@@ -80,14 +80,11 @@ pub fn read_source(words: &[&[u8]]) -> Result<LoadSource, Fault>
     ensures { result ≡ source_of (map (λ w. w.now) words.now) }
 {
     match words {
-        [first, ..] => {
-            if begins_with("loadfail=", first) {
-                return Ok(LoadSource::Failing(number(behind(9, first))?));
-            }
-            if begins_with("loadsay=", first) {
-                return Ok(LoadSource::Stated(value_or_none(behind(8, first))?));
-            }
-            Ok(LoadSource::Store)
+        [first, ..] if begins_with("loadfail=", first) => {
+            Ok(LoadSource::Failing(number(behind(9, first))?))
+        }
+        [first, ..] if begins_with("loadsay=", first) => {
+            Ok(LoadSource::Stated(value_or_none(behind(8, first))?))
         }
         _ => Ok(LoadSource::Store),
     }
@@ -108,16 +105,12 @@ fn behind(count: usize, word: &[u8]) -> &[u8]
 fn read_call(word: &[u8]) -> Result<EntryCall, Fault>
     ensures { result ≡ call_of word.now }
 {
-    if is(word, "get") {
-        return Ok(EntryCall::GetValue);
+    match word {
+        _ if is(word, "get") => Ok(EntryCall::GetValue),
+        _ if is(word, "exists") => Ok(EntryCall::Exists),
+        _ if is(word, "remove") => Ok(EntryCall::Remove),
+        _ => Ok(EntryCall::SetValue(value(behind(4, word))?)),
     }
-    if is(word, "exists") {
-        return Ok(EntryCall::Exists);
-    }
-    if is(word, "remove") {
-        return Ok(EntryCall::Remove);
-    }
-    Ok(EntryCall::SetValue(value(behind(4, word))?))
 }
 
 /// One word more: a code, or a call.

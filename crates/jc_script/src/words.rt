@@ -15,7 +15,8 @@ use crate::pairs::Pairs;
 use jc_types::{KEY_MAX, Key, NUMBER_MAX, VALUE_MAX, Value, is_session};
 use std::alloc::{AllocError, Global};
 
-/// Whether a word is this text.
+/// Whether a word is this text. A table of words is a `match` with such guards: of a byte string as a pattern the prover knows each
+/// byte, and no equation.
 pub fn is(word: &[u8], text: &str) -> bool
     ensures { result ≡ bytes_eq word.now text.now }
 {
