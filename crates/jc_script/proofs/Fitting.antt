@@ -64,16 +64,7 @@ own call key = ap (λ b. cond b (Some key) None) (nat_eq_equiv.refl call)
 
 act_key : (call : ℕ) (act : Act) (key : Bytes) → key_at call (event_at call act key) ≡ Some key
 act_key call Read key = own call key
-act_key call (ReadFail code) key = own call key
-act_key call (Say pairs) key = own call key
-act_key call (Apply left) key = own call key
-act_key call (ApplyFail code left) key = own call key
-act_key call (ApplyLie code) key = own call key
-act_key call End key = own call key
-act_key call Drop key = own call key
-act_key call More key = own call key
-act_key call Take key = own call key
-act_key call (Process source calls fail) key = own call key
+act_key call other key = own call key
 
 are_at : (call : ℕ) (act : Act) (keys : List Bytes) → AreAt call keys (map (event_at call act) keys)
 are_at call act [] = tt

@@ -66,29 +66,19 @@ shape_back : (calls : List EntryCall) (fail : Option ℕ) → are_calls_from fal
 shape_back [] None = refl
 shape_back [] (Some code) = refl
 shape_back (entry.GetValue ∷ calls) fail = shape_back calls fail
-shape_back (entry.Exists ∷ calls) fail = shape_back calls fail
-shape_back (entry.Remove ∷ calls) fail = shape_back calls fail
-shape_back ((entry.SetValue value) ∷ calls) fail = shape_back calls fail
+shape_back (other ∷ calls) fail = shape_back calls fail
 
 without_back : (source : LoadSource) (calls : List EntryCall) (fail : Option ℕ) → without_load (source_words source ++ rest_words calls fail) ≡ rest_words calls fail
-without_back (Stated value) calls fail = refl
-without_back (Failing code) calls fail = refl
 without_back Store [] None = refl
-without_back Store [] (Some code) = refl
 without_back Store (entry.GetValue ∷ calls) fail = refl
-without_back Store (entry.Exists ∷ calls) fail = refl
-without_back Store (entry.Remove ∷ calls) fail = refl
-without_back Store ((entry.SetValue value) ∷ calls) fail = refl
+without_back source calls fail = refl
 
 source_back : (source : LoadSource) (calls : List EntryCall) (fail : Option ℕ) → IsSource source → source_of (source_words source ++ rest_words calls fail) ≡ Ok source
 source_back (Stated value) calls fail known = rw (value_or_none_back value known) refl
 source_back (Failing code) calls fail known = rw (number_back code known) refl
 source_back Store [] None known = refl
-source_back Store [] (Some code) known = refl
 source_back Store (entry.GetValue ∷ calls) fail known = refl
-source_back Store (entry.Exists ∷ calls) fail known = refl
-source_back Store (entry.Remove ∷ calls) fail known = refl
-source_back Store ((entry.SetValue value) ∷ calls) fail known = refl
+source_back Store calls fail known = refl
 
 calls_back : (before calls : List EntryCall) (fail : Option ℕ) → All IsEntryCall calls → IsOptionalCode fail → calls_from before None (rest_words calls fail) ≡ Ok (before ++ calls, fail)
 calls_back before [] None known code_is = ap (λ cs. Ok (cs, None)) (sym (append-nil before))

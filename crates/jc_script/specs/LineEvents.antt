@@ -84,17 +84,10 @@ is_left_failing (Some keys) key = is_among keys key
 
 -- one that lies has changed the store at every key, and leaves each
 abbrev pub leaves : Act → Bytes → Bool
-leaves Read key = false
-leaves (ReadFail code) key = false
-leaves (Say pairs) key = false
 leaves (Apply left) key = is_listed left key
 leaves (ApplyFail code left) key = is_left_failing left key
 leaves (ApplyLie code) key = true
-leaves End key = false
-leaves Drop key = false
-leaves More key = false
-leaves Take key = false
-leaves (Process source calls fail) key = false
+leaves other key = false
 
 abbrev pub is_changed : WorldState → ℕ → Act → Bytes → Bool
 is_changed w call act key = is_asked w call key && not (leaves act key)
@@ -141,20 +134,14 @@ abbrev pub left_keys : WorldState → ℕ → Act → List Bytes → List Bytes
 left_keys w call act keys = filter (is_left w call act) keys
 
 abbrev pub end_of_act : WorldState → ℕ → Act → List Bytes → List WorldEvent
-end_of_act w call Read keys = []
-end_of_act w call (ReadFail code) keys = []
-end_of_act w call (Say pairs) keys = []
 end_of_act w call (Apply left) keys =
     event.Report call (left_keys w call (Apply left) keys) None ∷ []
 end_of_act w call (ApplyFail code left) keys =
     event.Report call (left_keys w call (ApplyFail code left) keys) (Some code) ∷ []
 end_of_act w call (ApplyLie code) keys =
     event.Report call (left_keys w call (ApplyLie code) keys) (Some code) ∷ []
-end_of_act w call End keys = []
 end_of_act w call Drop keys = event.Leave call ∷ []
-end_of_act w call More keys = []
-end_of_act w call Take keys = []
-end_of_act w call (Process source calls fail) keys = []
+end_of_act w call other keys = []
 
 abbrev pub events_of_act : WorldState → ℕ → Act → List Bytes → List WorldEvent
 events_of_act w call act keys = key_events w call act keys ++ end_of_act w call act keys
@@ -185,17 +172,9 @@ is_time_for w call act u =
 
 -- the keys that the writer leaves
 abbrev pub has_but : Act → Bool
-has_but Read = false
-has_but (ReadFail code) = false
-has_but (Say pairs) = false
 has_but (Apply left) = is_some left
 has_but (ApplyFail code left) = is_some left
-has_but (ApplyLie code) = false
-has_but End = false
-has_but Drop = false
-has_but More = false
-has_but Take = false
-has_but (Process source calls fail) = false
+has_but other = false
 
 -- a call of one key is asked for one change
 abbrev pub allows_but : CallState → Bool
@@ -203,14 +182,5 @@ allows_but u = is_bulk u.kind
 
 -- at all keys that the loader was asked for
 abbrev pub load_code : Act → Option ℕ
-load_code Read = None
 load_code (ReadFail code) = Some code
-load_code (Say pairs) = None
-load_code (Apply left) = None
-load_code (ApplyFail code left) = None
-load_code (ApplyLie code) = None
-load_code End = None
-load_code Drop = None
-load_code More = None
-load_code Take = None
-load_code (Process source calls fail) = None
+load_code other = None

@@ -92,15 +92,7 @@ fn has_but(act: &Act) -> bool
 {
     match act {
         Act::Apply(left) | Act::ApplyFail(_, left) => left.is_some(),
-        Act::Read
-        | Act::ReadFail(_)
-        | Act::Say(_)
-        | Act::ApplyLie(_)
-        | Act::End
-        | Act::Drop
-        | Act::More
-        | Act::Take
-        | Act::Process { .. } => false,
+        _ => false,
     }
 }
 
@@ -117,16 +109,7 @@ fn load_code(act: &Act) -> Option<u32>
 {
     match act {
         Act::ReadFail(code) => Some(*code),
-        Act::Read
-        | Act::Say(_)
-        | Act::Apply(_)
-        | Act::ApplyFail(..)
-        | Act::ApplyLie(_)
-        | Act::End
-        | Act::Drop
-        | Act::More
-        | Act::Take
-        | Act::Process { .. } => None,
+        _ => None,
     }
 }
 
@@ -245,14 +228,7 @@ fn leaves(act: &Act, key: &Key) -> bool
         Act::Apply(left) => is_listed(left, key),
         Act::ApplyFail(_, left) => is_left_failing(left, key),
         Act::ApplyLie(_) => true,
-        Act::Read
-        | Act::ReadFail(_)
-        | Act::Say(_)
-        | Act::End
-        | Act::Drop
-        | Act::More
-        | Act::Take
-        | Act::Process { .. } => false,
+        _ => false,
     }
 }
 
@@ -357,13 +333,7 @@ fn put_end_of_act(
             put_report(events, call, left, Some(*code))
         }
         Act::Drop => put_leave(events, call),
-        Act::Read
-        | Act::ReadFail(_)
-        | Act::Say(_)
-        | Act::End
-        | Act::More
-        | Act::Take
-        | Act::Process { .. } => Ok(()),
+        _ => Ok(()),
     }
 }
 
