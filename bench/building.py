@@ -10,7 +10,7 @@ import sys
 HERE = os.path.dirname(os.path.abspath(__file__))
 ABOVE = os.path.dirname(HERE)
 # What the program of `calls` uses, which `peers` runs, too.
-CALLS_CRATES = ('jc_types', 'jc_model', 'jc_outside', 'jc_mutentry', 'jc_stripe', 'jc_store', 'jc_session', 'jc_cache', 'anyhow')
+CALLS_CRATES = ('jc_types', 'jc_model', 'jc_outside', 'jc_mutentry', 'jc_stripe', 'jc_store', 'jc_session', 'jc_cache', 'jc_bulk', 'indexmap', 'anyhow')
 
 
 def crates_below(line, lines):
