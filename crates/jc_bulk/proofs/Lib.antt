@@ -3,6 +3,7 @@ pub mod SeatPhases
 pub mod KeyPhases
 pub mod Out
 pub mod SoFar
+pub mod TargetOps
 pub mod ManyAnswered
 pub mod Underway
 pub mod Asking

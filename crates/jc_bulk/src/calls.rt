@@ -125,6 +125,9 @@ impl Calls {
     ///
     /// Conditions: there is room; the call was not asked yet, and asks for what these calls ask for; its key isn't that of any of
     /// them.
+    ///
+    /// Out of line: a key that asks nobody shouldn't clear the room of an ask.
+    #[inline(never)]
     pub fn push(&mut self, ticket: Ticket)
         requires room { 0 < self.old.room }
         requires asked { ticket.asked ≡ false }

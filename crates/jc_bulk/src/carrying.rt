@@ -195,7 +195,7 @@ fn add_failed(targets: &Targets<'_>, progress: &[Progress], failed: &mut IndexMa
     ensures { failed.new.entries ≡ failed_entries (key_ends (ops_of targets.now) progress.now) }
 {
     for place in 0..progress.len() {
-        add_failure(&targets.key(place), &progress[place], failed);
+        add_failure(targets.key(place), &progress[place], failed);
     }
 }
 

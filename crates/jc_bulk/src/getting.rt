@@ -131,7 +131,7 @@ fn add_found(targets: &Targets<'_>, progress: &[Progress], found: &mut IndexMap<
     ensures { found.new.entries ≡ found_entries (key_ends (ops_of targets.now) progress.now) }
 {
     for place in 0..progress.len() {
-        add_value(&targets.key(place), &progress[place], found);
+        add_value(targets.key(place), &progress[place], found);
     }
 }
 

@@ -128,7 +128,7 @@ fn run_later_round<R: Wait>(
     let _types: Option<&(Reply, Value)> = None;
     match targets.no_calls(alloc, most) {
         Ok(calls) => {
-            cache.wait_for_change(rt, session, &targets.at(place).0);
+            cache.wait_for_change(rt, session, targets.key(place));
             run_round(rt, cache, session, targets, progress, calls, joins, cause);
         }
         Err(_failed) => {

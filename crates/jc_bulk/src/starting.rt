@@ -139,8 +139,9 @@ fn start_waiting<R: Wait>(
         session.new progress.new calls.new.items joins.new.items }
 {
     let _types: Option<&(Reply, Value)> = None;
-    let target = targets.at(place);
-    let begun = start_key(rt, cache, session, &target.0, &target.1);
+    let key = targets.key(place);
+    let op = targets.op(place);
+    let begun = start_key(rt, cache, session, key, &op);
     progress[place] = keep(begun, calls, joins);
 }
 

@@ -1,6 +1,7 @@
 //! The keys of a call, and what it does at each of them.
 ghost use Rattle.std.specs.Prelude.{◌≡◌, ◌<◌, length, slice_get, IfOk, Some};
 ghost use Rattle.std.specs.Map.{keys_of};
+ghost use Rattle.jc_model.specs.Cache.{Bytes};
 ghost use Rattle.jc_bulk.specs.Calls.{no_calls};
 ghost use Rattle.jc_bulk.specs.Targets.{kind_for, ops_of};
 
@@ -38,39 +39,37 @@ impl<'a> Targets<'a> {
     }
 
     /// The key of this place.
-    pub(crate) fn key(&self, place: usize) -> Key
+    pub(crate) fn key(&self, place: usize) -> &Key
         requires { place < length (ops_of self.now) }
-        ensures { slice_get (keys_of (ops_of self.now)) place ≡ Some result }
-    {
-        self.at(place).0
-    }
-
-    /// The key of this place, with its operation.
-    pub(crate) fn at(&self, place: usize) -> (Key, Op)
-        requires { place < length (ops_of self.now) }
-        ensures { slice_get (ops_of self.now) place ≡ Some result }
+        ensures { slice_get (keys_of (ops_of self.now)) place ≡ Some result.now }
     {
         match self {
-            Targets::Gets(keys) => match keys.get(place) {
-                Some(key) => (*key, Op::Get),
-                None => unreachable!(),
-            },
+            Targets::Gets(keys) => key_in(keys, place),
             Targets::Puts(entries) => match entries.get_index(place) {
-                Some((key, value)) => (*key, Op::Put(*value)),
+                Some((key, _value)) => key,
                 None => unreachable!(),
             },
-            Targets::Removes(keys) => match keys.get(place) {
-                Some(key) => (*key, Op::Remove),
+            Targets::Removes(keys) => key_in(keys, place),
+            Targets::Clears(keys) => key_in(keys, place),
+            Targets::Loads(keys, _) => key_in(keys, place),
+        }
+    }
+
+    /// What is done at the key of this place.
+    pub(crate) fn op(&self, place: usize) -> Op
+        requires { place < length (ops_of self.now) }
+        ensures { (key : Bytes) → slice_get (keys_of (ops_of self.now)) place ≡ Some key
+            → slice_get (ops_of self.now) place ≡ Some (key, result) }
+    {
+        match self {
+            Targets::Gets(_) => Op::Get,
+            Targets::Puts(entries) => match entries.get_index(place) {
+                Some((_key, value)) => Op::Put(*value),
                 None => unreachable!(),
             },
-            Targets::Clears(keys) => match keys.get(place) {
-                Some(key) => (*key, Op::Clear),
-                None => unreachable!(),
-            },
-            Targets::Loads(keys, replace) => match keys.get(place) {
-                Some(key) => (*key, Op::LoadAll { replace: *replace }),
-                None => unreachable!(),
-            },
+            Targets::Removes(_) => Op::Remove,
+            Targets::Clears(_) => Op::Clear,
+            Targets::Loads(_, replace) => Op::LoadAll { replace: *replace },
         }
     }
 
@@ -85,5 +84,16 @@ impl<'a> Targets<'a> {
             Targets::Puts(_) => Calls::writes(alloc, most),
             Targets::Removes(_) => Calls::deletes(alloc, most),
         }
+    }
+}
+
+/// The key of this place among these.
+fn key_in(keys: &[Key], place: usize) -> &Key
+    requires { place < length keys.now }
+    ensures { slice_get keys.now place ≡ Some result.now }
+{
+    match keys.get(place) {
+        Some(key) => key,
+        None => unreachable!(),
     }
 }

@@ -6,14 +6,14 @@ use Rattle.jc_bulk.proofs.getting.add_found.Goals as goal
 
 pub add_value-requires-clause-new : goal.add_value-requires-clause-new
 add_value-requires-clause-new c =
-    entries_new reply_value (ops_of c.args.targets.now) c.args.progress.now c.loop-place.place c.key.result c.loop-place.found.entries c.requires.distinct c.key.ensures c.loop-place.invariant.found
+    entries_new reply_value (ops_of c.args.targets.now) c.args.progress.now c.loop-place.place c.key.result.now c.loop-place.found.entries c.requires.distinct c.key.ensures c.loop-place.invariant.found
 
 pub loop-place-preserved : goal.loop-place-preserved
 loop-place-preserved c =
     let old = c.loop-place.invariant in
     record {
       found = c.add_value.ensures.entries
-          ∙ entries_more reply_value value_at told_found (ops_of c.args.targets.now) c.args.progress.now c.loop-place.place c.key.result c.index-progress-place.result c.loop-place.found.entries
+          ∙ entries_more reply_value value_at told_found (ops_of c.args.targets.now) c.args.progress.now c.loop-place.place c.key.result.now c.index-progress-place.result c.loop-place.found.entries
           c.requires.many c.loop-place-test.true c.key.ensures c.index-progress-place.is old.found;
       room = omega (arith, old.room, c.add_value.ensures.room);
     }

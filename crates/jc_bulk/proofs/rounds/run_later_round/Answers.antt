@@ -11,8 +11,8 @@ use Rattle.jc_bulk.proofs.OneRound.{rest_goes, rest_starts}
 use Rattle.jc_bulk.proofs.Underway.{place_near}
 use Rattle.jc_bulk.proofs.rounds.run_later_round.Goals as goal
 
-pub at-requires : goal.at-requires
-at-requires g c =
+pub key-requires : goal.key-requires
+key-requires g c =
     let many = c.requires.underway.4.so_far.many in
     let near = place_near c.args.progress.now c.args.place _ c.requires.waits in
     omega arith
