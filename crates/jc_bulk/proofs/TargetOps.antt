@@ -2,7 +2,7 @@
 --     op_at      the operation at a place whose key is known
 --     same_op    that of a call that does the same at each key
 --     put_at     the entry at a place is put there
-use Rattle.std.proofs.Common.{◌≡◌, ℕ, zero, suc, List, [], ◌∷◌, map, Some, option_map, slice_get, sym, ap, subst, ◌∙◌}
+use Rattle.std.proofs.Common.{◌≡◌, ℕ, zero, suc, List, [], ◌∷◌, map, Some, option_map, slice_get, sym, ap, ◌∙◌}
 use Rattle.std.proofs.lemmas.Option.{same_Some, slice_get-map}
 use Rattle.std.specs.Map.{keys_of}
 use Rattle.jc_model.specs.Cache.{Bytes}
