@@ -1,5 +1,5 @@
 //! A stripe and its phases.
-ghost use Rattle.std.specs.Prelude.{◌≡◌, ◌≤◌, ◌<◌, ◌+◌, ◌++◌, ◌↔◌, [], true, false, IsTrue, IfOk, IsOk, OnOk, OnErr, IfSome, IfNone, Ok, None};
+ghost use Rattle.std.specs.Prelude.{◌≡◌, ◌≤◌, ◌<◌, ◌+◌, ◌++◌, ◌↔◌, ◌⊎◌, [], true, false, IsTrue, IfOk, IsOk, OnOk, OnErr, IfSome, IfNone, Ok, None};
 ghost use Rattle.std.specs.Prelude.{Some, is_some, length, nat_le, slice_get, slice_range, vec_len, vec_capacity};
 ghost use Rattle.std.specs.FinMap as map;
 ghost use Rattle.jc_types.specs.Limits.{check};
@@ -12,9 +12,10 @@ ghost use Rattle.jc_model.specs.Table.{is_write_given};
 ghost use Rattle.jc_model.specs.Group.{load_only, write_only};
 ghost use Rattle.jc_model.specs.Legal.{Legal};
 ghost use Rattle.jc_stripe.specs.Tickets.{JoinClaim, asks_loader, asks_writer, asks_processor, claim_of};
-ghost use Rattle.jc_types.specs.declared.limits.TheConstants.{RESERVATIONS_MAX, JOINERS_MAX};
+ghost use Rattle.jc_types.specs.declared.limits.TheConstants.{RESERVATIONS_MAX, JOINERS_MAX, HIT_PLACES};
 ghost use Rattle.jc_stripe.specs.State.{IsOut, IsJoined, IsIdle};
 ghost use Rattle.jc_stripe.specs.OrderOfUse.{by_use};
+ghost use Rattle.jc_stripe.specs.Refusals.{has_room};
 ghost use Rattle.jc_stripe.specs.Appending.{AnswersFirst, HasToldStep, after_pick_up};
 ghost use Rattle.jc_stripe.specs.Phases.{MayBegin, Begins, hit_done, Commits, Withdraws, PicksUp, told_to};
 ghost use Rattle.jc_stripe.specs.Effects.{HasReport, change_due, report_answer, process_out};
@@ -185,12 +186,13 @@ impl Stripe {
     }
 
     /// A `get` that finds its entry, as [`begin`](Stripe::begin) makes it, and gives its value. None says that the entry is missing,
-    /// or that the history lacks the place or a number is at its end; then nothing is done.
+    /// or that the history lacks the place or a number is at its end, and nothing else; then nothing is done.
     ///
     /// Conditions: those of [`begin`](Stripe::begin).
     pub fn hit(&mut self, caller: Caller, key: &Key) -> Option<Value>
         requires begins { MayBegin self.old caller key.now }
         ensures none { IfNone result (self.new ≡ self.old) }
+        ensures missing { IfNone result ((has_room self.old caller.call HIT_PLACES ≡ false) ⊎ (entry_at self.old.cache key.now ≡ None)) }
         ensures some { IfSome result (λ value. Begins self.old caller key.now Get
             (Done (hit_done (length self.old.history) value)) self.new) }
     {
