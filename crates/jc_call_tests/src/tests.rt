@@ -11,14 +11,13 @@ macro_rules! boxed {
     }};
 }
 
-/// One more session on a stage, with a loader and a writer of its own; without others those of a desk, which count their calls.
+/// One more session on a stage, whose loader and writer call those of a desk, and behave as these manners say.
 macro_rules! enter {
-    ($rt:expr, $stage:expr, $desk:expr) => {
-        enter!($rt, $stage, $desk.loader($rt), $desk.writer($rt))
-    };
-    ($rt:expr, $stage:expr, $loader:expr, $writer:expr) => {{
-        let loader = boxed!($rt, Loader, $loader);
-        let writer = boxed!($rt, Writer, $writer);
+    ($rt:expr, $stage:expr, $desk:expr, $manners:expr) => {{
+        let manners: Manners = $manners;
+        let loader = $desk.acting(&$rt, manners.loader, $desk.loader($rt));
+        let writer = $desk.acting(&$rt, manners.writer, $desk.writer($rt));
+        let (loader, writer) = (boxed!($rt, Loader, loader), boxed!($rt, Writer, writer));
         $stage.enter(&$rt, $rt.alloc(), loader, writer)
     }};
 }
@@ -26,7 +25,6 @@ macro_rules! enter {
 mod answers;
 mod asking;
 mod asking_all;
-mod before_store;
 mod beside;
 mod by_hand;
 mod bytes;
@@ -38,11 +36,13 @@ mod histories;
 mod invoking;
 mod limits;
 mod lines;
+mod manners;
 mod meeting;
 mod mutexed;
 mod outside;
 mod phases;
 mod random;
+mod scenes;
 mod scripted;
 mod signals;
 mod stage;
@@ -54,6 +54,7 @@ use desk::Desk;
 use jc_cache::{Cache, CacheOwner, Session};
 use jc_outside::{CacheLoader, CacheWriter};
 use jc_types::{Config, Key, Refusal, Value};
+use manners::{Manner, Manners};
 use stage::{Loader, Stage, Writer};
 use std::alloc::Global;
 use std::fmt::Debug;

@@ -4,7 +4,6 @@ ghost use Rattle.jc_cache.specs.Sessions.{IsOf, MayCall};
 
 use super::closing::closed;
 use super::histories::are_steps;
-use super::outside::Failing;
 use super::phases::{
     ask_loader, ask_writer, is_busy, join_load, not_yet, picks, replies, report, reserve, run, sees,
 };
@@ -31,6 +30,8 @@ enum Call {
 
 /// What is to come of it.
 struct Story {
+    /// How the first session's loader and writer behave.
+    with: &'static str,
     call: Call,
     /// What it is answered.
     reply: &'static str,
@@ -39,7 +40,7 @@ struct Story {
     between: &'static str,
     then: &'static str,
     /// The steps of the stripe.
-    steps: [&'static str; 4],
+    steps: &'static str,
 }
 
 /// A load, phase by phase: it holds no stripe, and a second session joins it and has its answer. Before its commit nobody sees its
@@ -233,102 +234,87 @@ fn tell<R: Abort + Wait>(rt: &R, alloc: Global, desk: &Desk, stage: Stage, story
 {
     let (owner, sessions) = stage.into_parts();
     let sessions = played(rt, alloc, desk, owner.cache(), sessions, story);
-    let mut stripes = closed(rt, alloc, owner, sessions);
-    are_steps(
-        rt,
-        alloc,
-        &stripes.pop().expect(rt, "a stripe"),
-        &story.steps,
-    );
+    let stripes = closed(rt, alloc, owner, sessions);
+    let first = stripes.first().expect(rt, "a stripe");
+    are_steps(rt, alloc, first, story.steps);
 }
 
-/// A store with a=1 and b=2.
-fn stored(rt: &impl Abort, alloc: Global) -> Desk {
-    let entries = [
-        (key(rt, "a"), value(rt, "1")),
-        (key(rt, "b"), value(rt, "2")),
-    ];
-    Desk::of(rt, alloc, &entries)
-}
-
-const STORIES: [Story; 3] = [
+/// The first session's loader fails with 7, and its writer with 9, in the second three. A load that failed is also the answer of who
+/// has joined it; a write that failed leaves the entry.
+const STORIES: [Story; 6] = [
     Story {
+        with: "plain plain",
         call: Call::Get,
         reply: "1",
         first: "",
-        between: "get b = 2 | 1 0 0\ntryput a 5 = Busy\n",
-        then: "get a = 1 | 2 0 0\n",
-        steps: ["2 b 2", "0 a 1", "1 a 1", "2 a 1"],
+        between: "get b = 2 | 1 0 0; tryput a 5 = Busy",
+        then: "get a = 1 | 2 0 0",
+        steps: "2 b 2, 0 a 1, 1 a 1, 2 a 1",
     },
     Story {
+        with: "plain plain",
         call: Call::Put,
         reply: "ok",
-        first: "get a = 1 | 1 0 0\n",
-        between: "stored a=5 b=2\nget a = 1 | 1 1 0\n",
-        then: "get a = 5 | 1 1 0\n",
-        steps: ["2 a 1", "2 a 1", "0 a ok", "2 a 5"],
+        first: "get a = 1 | 1 0 0",
+        between: "stored a=5 b=2; get a = 1 | 1 1 0",
+        then: "get a = 5 | 1 1 0",
+        steps: "2 a 1, 2 a 1, 0 a ok, 2 a 5",
     },
     Story {
+        with: "plain plain",
         call: Call::Invoke("get set=4"),
         reply: "1",
-        first: "get b = 2 | 1 0 0\n",
-        between: "stored a=4 b=2\ncontains a = false | 2 1 0\n",
-        then: "get a = 4 | 2 1 0\n",
-        steps: ["2 b 2", "2 a false", "0 a 1", "2 a 4"],
+        first: "get b = 2 | 1 0 0",
+        between: "stored a=4 b=2; contains a = false | 2 1 0",
+        then: "get a = 4 | 2 1 0",
+        steps: "2 b 2, 2 a false, 0 a 1, 2 a 4",
+    },
+    Story {
+        with: "fails7 fails9",
+        call: Call::Get,
+        reply: "LoaderFailed 7",
+        first: "",
+        between: "get b = 2 | 1 0 0; tryput a 5 = Busy",
+        then: "get a = 1 | 2 0 0",
+        steps: "2 b 2, 0 a LoaderFailed 7, 1 a LoaderFailed 7, 2 a 1",
+    },
+    Story {
+        with: "fails7 fails9",
+        call: Call::Put,
+        reply: "WriterFailed 9",
+        first: "get a = 1 | 1 0 0",
+        between: "stored a=1 b=2; get a = 1 | 1 0 0",
+        then: "get a = 1 | 1 0 0",
+        steps: "2 a 1, 2 a 1, 0 a WriterFailed 9, 2 a 1",
+    },
+    Story {
+        with: "fails7 fails9",
+        call: Call::Invoke("set=4 get"),
+        reply: "WriterFailed 9",
+        first: "get b = 2 | 1 0 0",
+        between: "stored a=1 b=2; contains a = false | 1 0 0",
+        then: "get a = 1 | 2 0 0",
+        steps: "2 b 2, 2 a false, 0 a WriterFailed 9, 2 a 1",
     },
 ];
+
+/// How the loader and the writer of the session at this place behave.
+fn manners(rt: &impl Abort, story: &Story, place: usize) -> Manners {
+    if place > 0 {
+        return Manners::PLAIN;
+    }
+    Manners::of(rt, story.with)
+}
 
 #[test]
 fn makes_calls_by_hand(rt: HostRuntime) {
     let alloc = rt.alloc();
     for story in &STORIES {
-        let desk = stored(&rt, alloc);
+        let desk = Desk::of(&rt, alloc, "a=1 b=2");
         let mut stage = Stage::new(&rt, alloc, &config(100, true, true));
-        enter!(rt, stage, desk);
-        enter!(rt, stage, desk);
-        enter!(rt, stage, desk);
-        tell(&rt, alloc, &desk, stage, story);
-    }
-}
-
-/// The first session's loader fails with 7, and its writer with 9. A load that failed is also the answer of who has joined it; a
-/// write that failed leaves the entry.
-const FAILURES: [Story; 3] = [
-    Story {
-        call: Call::Get,
-        reply: "LoaderFailed 7",
-        first: "",
-        between: "get b = 2 | 1 0 0\ntryput a 5 = Busy\n",
-        then: "get a = 1 | 2 0 0\n",
-        steps: ["2 b 2", "0 a LoaderFailed 7", "1 a LoaderFailed 7", "2 a 1"],
-    },
-    Story {
-        call: Call::Put,
-        reply: "WriterFailed 9",
-        first: "get a = 1 | 1 0 0\n",
-        between: "stored a=1 b=2\nget a = 1 | 1 0 0\n",
-        then: "get a = 1 | 1 0 0\n",
-        steps: ["2 a 1", "2 a 1", "0 a WriterFailed 9", "2 a 1"],
-    },
-    Story {
-        call: Call::Invoke("set=4 get"),
-        reply: "WriterFailed 9",
-        first: "get b = 2 | 1 0 0\n",
-        between: "stored a=1 b=2\ncontains a = false | 1 0 0\n",
-        then: "get a = 1 | 2 0 0\n",
-        steps: ["2 b 2", "2 a false", "0 a WriterFailed 9", "2 a 1"],
-    },
-];
-
-#[test]
-fn fails_by_hand(rt: HostRuntime) {
-    let alloc = rt.alloc();
-    for story in &FAILURES {
-        let desk = stored(&rt, alloc);
-        let mut stage = Stage::new(&rt, alloc, &config(100, true, true));
-        enter!(rt, stage, Failing { code: 7 }, Failing { code: 9 });
-        enter!(rt, stage, desk);
-        enter!(rt, stage, desk);
+        'entering: for place in 0..3 {
+            enter!(rt, stage, desk, manners(&rt, story, place));
+        }
         tell(&rt, alloc, &desk, stage, story);
     }
 }

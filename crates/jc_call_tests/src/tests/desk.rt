@@ -1,6 +1,8 @@
 //! A store whose loaders and writers count their calls, with signals between threads.
+use super::manners::Acting;
 use super::signals::Signals;
 use super::*;
+use jc_cache::ClosedStripe;
 use jc_store::{Counting, SharedCounts, SharedStore, Store, StoreLoader, StoreWriter};
 
 /// A store with a=1, and the counts of its loaders' and writers' calls.
@@ -12,19 +14,19 @@ pub struct Desk {
 }
 
 impl Desk {
-    pub fn new(rt: &impl Abort, alloc: Global) -> Self {
-        let entries = [(key(rt, "a"), value(rt, "1"))];
-        Desk::of(rt, alloc, &entries)
-    }
-
-    /// A desk whose store has these entries.
-    pub fn of(rt: &impl Abort, alloc: Global, entries: &[(Key, Value)]) -> Self {
-        let store = Store::of(alloc, entries).expect(rt, "memory");
+    /// A desk whose store has these entries, as `a=1 b=2`.
+    pub fn of(rt: &impl Abort, alloc: Global, entries: &str) -> Self {
+        let store = Store::of(alloc, &entries_of(rt, alloc, entries)).expect(rt, "memory");
         Desk {
             store: SharedStore::new(alloc, store).expect(rt, "memory"),
             signals: Signals::new(alloc).expect(rt, "memory"),
             counts: SharedCounts::new(alloc).expect(rt, "memory"),
         }
+    }
+
+    /// A loader or a writer that makes the calls of this one, and behaves so.
+    pub fn acting<T: Drop>(&self, rt: &impl Abort, manner: Manner, inner: T) -> Acting<T> {
+        Acting::new(manner, self.signals.again(rt), inner)
     }
 
     /// A loader from the store, which counts its calls.
@@ -65,4 +67,25 @@ impl Desk {
         }
         is(rt, pairs.next(), None);
     }
+
+    /// Each entry of a closed stripe is the store's.
+    pub fn has_entries_of<R: Abort + Wait>(&self, rt: &R, alloc: Global, stripe: &ClosedStripe) {
+        let mut entries = Vec::new(alloc);
+        stripe.append_entries(&mut entries).expect(rt, "memory");
+        for (key, value) in &entries {
+            is(rt, self.store.read(rt, key), Some(*value));
+        }
+    }
+}
+
+/// The entries that a text names. A dash names none.
+fn entries_of(rt: &impl Abort, alloc: Global, text: &str) -> Vec<(Key, Value)> {
+    let mut entries = Vec::new(alloc);
+    for pair in text.split(' ') {
+        if let Some((at, word)) = pair.split_once('=') {
+            let entry = (key(rt, at), value(rt, word));
+            entries.push(entry).ok().expect(rt, "memory");
+        }
+    }
+    entries
 }

@@ -1,6 +1,5 @@
 //! What calls leave in a stripe's history.
 use super::answers::replied_as;
-use super::outside::Rising;
 use super::*;
 use jc_cache::ClosedStripe;
 use jc_model::{Event, LoadAnswer};
@@ -14,71 +13,67 @@ pub fn events(alloc: Global, stripe: &ClosedStripe) -> Result<Vec<Event>, AllocE
     Ok(events)
 }
 
-/// The events of a stripe are these steps, each as its session, its key and its reply, as in `0 a 1`.
-pub fn are_steps(rt: &impl Abort, alloc: Global, stripe: &ClosedStripe, steps: &[&str]) {
+/// The events of a stripe are these steps, with a comma between two: of each its session, perhaps with the number of its call, its
+/// key and its reply, and perhaps what was loaded, as in `0 a 1, 0#2 a - < -`.
+pub fn are_steps(rt: &impl Abort, alloc: Global, stripe: &ClosedStripe, steps: &str) {
     let events = events(alloc, stripe).expect(rt, "memory");
-    is(rt, events.len(), steps.len());
-    for (event, step) in events.iter().zip(steps) {
-        is_step(rt, event, step);
+    let mut texts = steps.split(", ");
+    for event in &events {
+        is_step(rt, event, texts.next().unwrap_or("no step"));
     }
+    is(rt, texts.next(), None);
 }
 
 /// An event is the step that a text says.
 fn is_step(rt: &impl Abort, event: &Event, text: &str) {
-    let (session, text) = first_word(text);
-    let (at, reply) = first_word(text);
+    let (said, load) = match text.split_once(" < ") {
+        Some((said, load)) => (said, Some(load)),
+        None => (text, None),
+    };
+    let (who, said) = first_word(said);
+    let (at, reply) = first_word(said);
     match event {
         Event::Step {
             caller,
             key: found,
             reply: replied,
+            out,
             ..
         } => {
-            is(rt, Some(caller.session), session.parse().ok());
+            is_caller(rt, caller, who);
             is(rt, *found, key(rt, at));
             is_at(rt, text, replied_as(*replied), answer_of(rt, reply));
+            is_loaded(rt, out.load, load);
         }
         Event::Evict { .. } => panic!(rt; "{text} is an eviction"),
     }
 }
 
-/// Whose call an event is of, if it is a step, and what its loader answered.
-fn step(event: &Event) -> Option<(Caller, LoadAnswer)> {
-    match event {
-        Event::Step { caller, out, .. } => Some((*caller, out.load)),
-        Event::Evict { .. } => None,
+/// A session, and its call if the text says which.
+fn is_caller(rt: &impl Abort, caller: &Caller, text: &str) {
+    let (session, call) = text.split_once('#').unwrap_or((text, ""));
+    is(rt, Some(caller.session), session.parse().ok());
+    if !call.is_empty() {
+        is(rt, Some(caller.call), call.parse().ok());
     }
 }
 
-const CALLS: &str = "\
+/// A loader's answer, if a text says which: a dash if it wasn't asked.
+fn is_loaded(rt: &impl Abort, found: LoadAnswer, text: Option<&str>) {
+    match text {
+        None => {}
+        Some("-") => is(rt, found, LoadAnswer::NotAsked),
+        Some(word) => is(rt, found, LoadAnswer::Found(value(rt, word))),
+    }
+}
+
+/// A session that loads another value each time. The history says whose call each step is of, by its number, and what was loaded.
+pub const LOADED: &str = "\
+open 1 4 100 read
+with first rises plain
 get a = 1 | 0 0 0
 remove a = true | 0 0 0
 get a = 2 | 0 0 0
 get a = 2 | 0 0 0
+steps 0#1 a 1 < 1, 0#2 a true < -, 0#3 a 2 < 2, 0#4 a 2 < -
 ";
-
-/// A session that loads another value each time. The history says whose call each step is of, by its number, and what was loaded.
-#[test]
-fn says_who_called_and_what_was_loaded(rt: HostRuntime) {
-    let alloc = rt.alloc();
-    let desk = Desk::new(&rt, alloc);
-    let mut stage = Stage::new(&rt, alloc, &config(100, true, false));
-    enter!(rt, stage, Rising { calls: 0 }, desk.writer(rt));
-    stage.plays(&rt, alloc, &desk, CALLS);
-    let mut stripes = stage.close(&rt, alloc);
-    let events = events(alloc, &stripes.pop().expect(&rt, "a stripe")).expect(&rt, "memory");
-    let steps = [
-        (1, LoadAnswer::Found(value(&rt, "1"))),
-        (2, LoadAnswer::NotAsked),
-        (3, LoadAnswer::Found(value(&rt, "2"))),
-        (4, LoadAnswer::NotAsked),
-    ];
-    is(&rt, events.len(), steps.len());
-    for (event, (call, answer)) in events.iter().zip(steps) {
-        is(
-            &rt,
-            step(event),
-            Some((Caller { session: 0, call }, answer)),
-        );
-    }
-}

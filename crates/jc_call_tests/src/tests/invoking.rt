@@ -5,7 +5,6 @@
 ghost use Rattle.jc_cache.specs.Sessions.{MayCall};
 
 use super::answers::entry;
-use super::outside::Failing;
 use super::scripted::processor_of;
 use super::*;
 
@@ -64,21 +63,14 @@ stored a=1
 
 /// A processor that continues after a failed load: the loader isn't called again, nothing is written, and its failure is the
 /// answer.
-const FAILED_LOADS: &str = "\
+pub const FAILED_LOADS: &str = "\
+open 1 4 100 read write
+with first fails7 plain
 invoke b get set=7 get exists = LoaderFailed 7 | 0 0 0
 invoke b get get fail=3 = LoaderFailed 7 | 0 0 0
 contains b = false | 0 0 0
 stored a=1
 ";
-
-#[test]
-fn goes_on_after_a_failed_load(rt: HostRuntime) {
-    let alloc = rt.alloc();
-    let desk = Desk::new(&rt, alloc);
-    let mut stage = Stage::new(&rt, alloc, &config(100, true, true));
-    enter!(rt, stage, Failing { code: 7 }, desk.writer(rt));
-    stage.plays(&rt, alloc, &desk, FAILED_LOADS);
-}
 
 /// A processor that calls nothing asks nobody, leaves the entry as it is, and returns none. It is a step all the same.
 pub const SILENT: &str = "\
@@ -93,18 +85,11 @@ stored a=2
 ";
 
 /// On a store without entries the first increment gives 1, and the second one 2, which loads nothing.
-const FIRST_INCREMENTS: &str = "\
+pub const FIRST_INCREMENTS: &str = "\
+open 1 4 100 read write
+store -
 invoke a get next get = 1 | 1 1 0
 invoke a get next get = 2 | 1 2 0
 own 2
 stored a=2
 ";
-
-#[test]
-fn increments_on_an_empty_store(rt: HostRuntime) {
-    let alloc = rt.alloc();
-    let desk = Desk::of(&rt, alloc, &[]);
-    let mut stage = Stage::new(&rt, alloc, &config(100, true, true));
-    enter!(rt, stage, desk);
-    stage.plays(&rt, alloc, &desk, FIRST_INCREMENTS);
-}

@@ -92,7 +92,7 @@ fn is_refused(
 #[test]
 fn wants_a_loader_and_a_writer(rt: HostRuntime) {
     let alloc = rt.alloc();
-    let desk = Desk::new(&rt, alloc);
+    let desk = Desk::of(&rt, alloc, "a=1");
     let mut owner = opened(&rt, alloc, &config(100, true, true));
     is_refused(&rt, alloc, &mut owner, None, None, Refusal::NoLoader);
     let writer = boxed!(rt, Writer, desk.writer(rt));
@@ -107,7 +107,7 @@ fn wants_a_loader_and_a_writer(rt: HostRuntime) {
 #[test]
 fn gives_out_so_many_sessions(rt: HostRuntime) {
     let alloc = rt.alloc();
-    let desk = Desk::new(&rt, alloc);
+    let desk = Desk::of(&rt, alloc, "a=1");
     let mut owner = opened(&rt, alloc, &config(100, true, true));
     for session in 0..SESSIONS_MAX {
         let loader = boxed!(rt, Loader, desk.loader(rt));

@@ -60,7 +60,7 @@ impl Desk {
     {
         let (word, rest) = first_word(line);
         match word {
-            "#" => {}
+            "" => {}
             "stored" => self.holds(rt, alloc, rest),
             "own" => is(rt, Some(session.own()), rest.parse().ok()),
             "skip" => session.skip_to(rest.parse().ok().expect(rt, rest)),
@@ -71,7 +71,7 @@ impl Desk {
         }
     }
 
-    /// Does what each line of a text says.
+    /// Does what each part of a line says, which has a semicolon between two of them.
     pub fn plays<R: Abort + Wait>(
         &self,
         rt: &R,
@@ -83,7 +83,7 @@ impl Desk {
         requires { MayCall cache.now session.old }
         ensures { MayCall cache.now session.new }
     {
-        for line in text.split_terminator('\n') {
+        for line in text.split("; ") {
             self.play(rt, alloc, cache, session, line);
         }
     }

@@ -1,7 +1,5 @@
 //! Signals between threads, and a loader and a writer that wait for one.
 use super::*;
-use indexmap::{IndexMap, IndexSet};
-use jc_outside::Answers;
 use std::alloc::AllocError;
 use std::sync::Arc;
 use std::sync::atomic::AtomicBool;
@@ -41,6 +39,23 @@ impl Signals {
         })
     }
 
+    /// The same signals, for one more.
+    pub fn again(&self, rt: &impl Abort) -> Signals {
+        Signals {
+            flags: Arc::try_clone(&self.flags).expect(rt, "memory"),
+        }
+    }
+
+    /// Says that somebody was asked, and waits until he may answer.
+    pub fn wait_as_asked(&self) -> Result<(), u32> {
+        self.flags.asked.store(true, SeqCst);
+        if is_seen(&self.flags.raised) {
+            Ok(())
+        } else {
+            Err(GAVE_UP)
+        }
+    }
+
     /// Lets the loaders and writers that wait answer.
     pub fn raise(&self) {
         self.flags.raised.store(true, SeqCst);
@@ -67,78 +82,5 @@ fn is_seen(flag: &AtomicBool) -> bool {
 pub fn rest() {
     for _ in 0..REST {
         yield_now();
-    }
-}
-
-/// A loader or a writer that says that it was asked, waits until it may answer, and then asks another one.
-#[derive(Drop)]
-pub struct Patient<T> {
-    flags: Arc<Flags>,
-    inner: T,
-}
-
-impl<T: Drop> Patient<T> {
-    pub fn new(rt: &impl Abort, signals: &Signals, inner: T) -> Self {
-        Patient {
-            flags: Arc::try_clone(&signals.flags).expect(rt, "memory"),
-            inner,
-        }
-    }
-}
-
-impl<T> Patient<T> {
-    /// Says that it was asked, and waits until it may answer.
-    fn wait(&self) -> Result<(), u32> {
-        self.flags.asked.store(true, SeqCst);
-        if is_seen(&self.flags.raised) {
-            Ok(())
-        } else {
-            Err(GAVE_UP)
-        }
-    }
-}
-
-impl<L: CacheLoader> CacheLoader for Patient<L> {
-    ghost load_state = { λ l. L.load_state l.inner };
-
-    ghost loads = { λ l key answer after. Unit {0} };
-
-    ghost loads_all = { λ l keys answer answers after. Unit {0} };
-
-    fn load(&mut self, key: &Key) -> Result<Option<Value>, u32> {
-        self.wait()?;
-        self.inner.load(key)
-    }
-
-    fn load_all(&mut self, keys: &[Key], answers: &mut Answers) -> Result<(), u32> {
-        self.inner.load_all(keys, answers)
-    }
-}
-
-impl<W: CacheWriter> CacheWriter for Patient<W> {
-    ghost write_state = { λ w. W.write_state w.inner };
-
-    ghost writes = { λ w key change answer after. Unit {0} };
-
-    ghost writes_all = { λ w entries answer left after. Unit {0} };
-
-    ghost deletes_all = { λ w keys answer left after. Unit {0} };
-
-    fn write(&mut self, key: &Key, value: &Value) -> Result<(), u32> {
-        self.wait()?;
-        self.inner.write(key, value)
-    }
-
-    fn delete(&mut self, key: &Key) -> Result<(), u32> {
-        self.wait()?;
-        self.inner.delete(key)
-    }
-
-    fn write_all(&mut self, entries: &mut IndexMap<Key, Value>) -> Result<(), u32> {
-        self.inner.write_all(entries)
-    }
-
-    fn delete_all(&mut self, keys: &mut IndexSet<Key>) -> Result<(), u32> {
-        self.inner.delete_all(keys)
     }
 }

@@ -1,4 +1,9 @@
-//! A cache with its sessions.
+//! A cache with its sessions. A line names its session, by its place; without a name it is the first. Besides the lines of a session
+//! there are
+//!
+//!     beside get a = 1 / await; get b = 2     what sessions do beside each other, each on a thread of its own
+//!     random                                  random calls of all sessions beside each other
+//!     meet                                    the first session tells the last one what it has seen
 ghost use Rattle.std.specs.Prelude.{◌≡◌, ◌++◌, ◌∷◌, [], All};
 ghost use Rattle.jc_cache.specs.Sessions.{MayCall};
 
@@ -28,6 +33,7 @@ pub fn by_session(line: &str) -> (usize, &str) {
         "s1" => (0, rest),
         "s2" => (1, rest),
         "s3" => (2, rest),
+        "s4" => (3, rest),
         _ => (0, line),
     }
 }
@@ -49,14 +55,23 @@ fn play_at<R: Abort + Wait>(
     desk.play(rt, alloc, cache, &mut sessions[at], line);
 }
 
-/// Plays texts beside each other, each by a session of its own on a thread of its own.
+/// The part at this place of a line that has ` / ` between two of them; after the last one it is empty.
+fn part_at(line: &str, place: usize) -> &str {
+    let mut parts = line.split(" / ");
+    for _ in 0..place {
+        let _before = parts.next();
+    }
+    parts.next().unwrap_or("")
+}
+
+/// Plays the parts of a line beside each other, each by a session of its own on a thread of its own.
 fn play_beside<R: Abort + Wait + Threads + Sync>(
     rt: &R,
     alloc: Global,
     desk: &Desk,
     cache: &Cache,
     sessions: &mut Vec<Session>,
-    texts: &[&str],
+    line: &str,
 )
     requires { All (MayCall cache.now) sessions.old.items }
     ensures { All (MayCall cache.now) sessions.new.items }
@@ -70,10 +85,7 @@ fn play_beside<R: Abort + Wait + Threads + Sync>(
         &|i, session: &mut Session|
             requires { MayCall cache.now session.old }
             ensures { MayCall cache.entry.now session.new }
-        {
-            let text = texts.get(i).copied().unwrap_or("");
-            desk.plays(rt, alloc, cache, session, text);
-        },
+        { desk.plays(rt, alloc, cache, session, part_at(line, i)) },
     );
 }
 
@@ -108,6 +120,47 @@ fn call_beside<R: Abort + Wait + Threads + Sync>(rt: &R, cache: &Cache, sessions
     );
 }
 
+/// Does what a line says.
+fn play_line<R: Abort + Wait + Threads + Sync>(
+    rt: &R,
+    alloc: Global,
+    desk: &Desk,
+    cache: &Cache,
+    sessions: &mut Vec<Session>,
+    line: &str,
+)
+    requires { All (MayCall cache.now) sessions.old.items }
+    ensures { All (MayCall cache.now) sessions.new.items }
+{
+    let (word, rest) = first_word(line);
+    match word {
+        "beside" => play_beside(rt, alloc, desk, cache, sessions, rest),
+        "random" => call_beside(rt, cache, sessions),
+        "meet" => tell_last(rt, cache, sessions),
+        _ => {
+            let (at, rest) = by_session(line);
+            play_at(rt, alloc, desk, cache, sessions, at, rest);
+        }
+    }
+}
+
+/// Does what each line of a text says.
+fn play_lines<R: Abort + Wait + Threads + Sync>(
+    rt: &R,
+    alloc: Global,
+    desk: &Desk,
+    cache: &Cache,
+    sessions: &mut Vec<Session>,
+    text: &str,
+)
+    requires { All (MayCall cache.now) sessions.old.items }
+    ensures { All (MayCall cache.now) sessions.new.items }
+{
+    for line in text.split_terminator('\n') {
+        play_line(rt, alloc, desk, cache, sessions, line);
+    }
+}
+
 pub fn push(rt: &impl Abort, sessions: &mut Vec<Session>, session: Session)
     ensures { sessions.new.items ≡ sessions.old.items ++ session ∷ [] }
 {
@@ -139,62 +192,19 @@ impl Stage {
         push(rt, &mut self.sessions, session);
     }
 
-    /// Does what a line says, by the session that it names.
-    fn play<R: Abort + Wait>(&mut self, rt: &R, alloc: Global, desk: &Desk, line: &str)
-        requires { All (MayCall self.old.owner.cache) self.old.sessions.items }
-        ensures { All (MayCall self.new.owner.cache) self.new.sessions.items }
-    {
-        let (at, rest) = by_session(line);
-        let sessions = &mut self.sessions;
-        play_at(rt, alloc, desk, self.owner.cache(), sessions, at, rest);
-    }
-
     /// Does what each line of a text says.
-    pub fn plays<R: Abort + Wait>(&mut self, rt: &R, alloc: Global, desk: &Desk, text: &str)
-        requires { All (MayCall self.old.owner.cache) self.old.sessions.items }
-        ensures { All (MayCall self.new.owner.cache) self.new.sessions.items }
-    {
-        for line in text.split_terminator('\n') {
-            self.play(rt, alloc, desk, line);
-        }
-    }
-
-    /// Plays texts beside each other, each by a session of its own on a thread of its own.
-    pub fn plays_beside<R: Abort + Wait + Threads + Sync>(
+    pub fn plays<R: Abort + Wait + Threads + Sync>(
         &mut self,
         rt: &R,
         alloc: Global,
         desk: &Desk,
-        texts: &[&str],
+        text: &str,
     )
         requires { All (MayCall self.old.owner.cache) self.old.sessions.items }
         ensures { All (MayCall self.new.owner.cache) self.new.sessions.items }
     {
         let sessions = &mut self.sessions;
-        play_beside(rt, alloc, desk, self.owner.cache(), sessions, texts);
-    }
-
-    /// The first session tells the last one what it has seen.
-    pub fn first_tells_last<R: Abort + Wait>(&mut self, rt: &R)
-        requires { All (MayCall self.old.owner.cache) self.old.sessions.items }
-        ensures { All (MayCall self.new.owner.cache) self.new.sessions.items }
-    {
-        tell_last(rt, self.owner.cache(), &mut self.sessions);
-    }
-
-    /// Random calls of all sessions beside each other, each on a thread of its own.
-    pub fn calls_at_random<R: Abort + Wait + Threads + Sync>(&mut self, rt: &R)
-        requires { All (MayCall self.old.owner.cache) self.old.sessions.items }
-        ensures { All (MayCall self.new.owner.cache) self.new.sessions.items }
-    {
-        call_beside(rt, self.owner.cache(), &mut self.sessions);
-    }
-
-    /// Each session has made so many steps.
-    pub fn all_made(&self, rt: &impl Abort, steps: u64) {
-        for session in &self.sessions {
-            is(rt, session.own(), steps);
-        }
+        play_lines(rt, alloc, desk, self.owner.cache(), sessions, text);
     }
 
     /// Ends the cache with all of its sessions.
