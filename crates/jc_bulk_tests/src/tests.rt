@@ -12,20 +12,13 @@ macro_rules! boxed {
     }};
 }
 
-/// One more session on a stage, with a loader and a writer of its own.
-macro_rules! enter {
-    ($rt:expr, $stage:expr, $loader:expr, $writer:expr) => {{
-        let loader = boxed!($rt, Loader, $loader);
-        let writer = boxed!($rt, Writer, $writer);
-        $stage.enter(&$rt, $rt.alloc(), loader, writer)
-    }};
-}
-
 mod closing;
 mod lines;
 mod outside;
+mod play;
 mod random;
 mod results;
+mod scene;
 mod side_by_side;
 mod signals;
 mod stage;
@@ -50,15 +43,4 @@ pub type Processor = Box<dyn EntryProcessor + Send + Drop>;
 
 fn is<T: Copy + Debug + PartialEq>(rt: &impl Abort, found: T, want: T) {
     assert_eq!(rt; found, want);
-}
-
-/// Both options are on.
-const fn config(stripes: usize, capacity: usize, history: usize) -> Config {
-    Config {
-        stripes,
-        capacity,
-        history,
-        read_through: true,
-        write_through: true,
-    }
 }

@@ -1,4 +1,11 @@
-//! The end of a cache: its histories are legal, and have the steps that its sessions have made.
+//! The end of a cache: its histories are legal, and have the steps that its sessions have made. Lines say what there is then:
+//!
+//!     stripes 6 a=1, 6            how many events each stripe has, and which entries, the most recently used first
+//!     number 2                    how many stripes there are
+//!     shared 1                    how many steps of the second session in the first stripe share another session's load
+//!     coherent                    what is cached is what the store has
+//!     counts 0 1 0 1 0 0          as in the lines of a session
+//!     stored a=1
 ghost use Rattle.std.specs.Prelude.{All};
 ghost use Rattle.jc_cache.specs.Sessions.{IsOf};
 
@@ -29,7 +36,7 @@ fn own_of(rt: &impl Abort, alloc: Global, sessions: &[Session]) -> Vec<OwnSteps>
 }
 
 /// The events of one stripe.
-pub fn events(rt: &impl Abort, alloc: Global, stripe: &ClosedStripe) -> Vec<Event> {
+fn events(rt: &impl Abort, alloc: Global, stripe: &ClosedStripe) -> Vec<Event> {
     let mut events = Vec::new(alloc);
     stripe.append_events(&mut events).expect(rt, "memory");
     events
@@ -96,7 +103,7 @@ fn entries(rt: &impl Abort, alloc: Global, stripe: &ClosedStripe) -> Vec<(Key, V
 }
 
 /// Each stripe has so many events, and these entries, the most recently used first: `6 a=1, 6` of two.
-pub fn are_stripes(rt: &impl Abort, alloc: Global, stripes: &[ClosedStripe], wanted: &str) {
+fn are_stripes(rt: &impl Abort, alloc: Global, stripes: &[ClosedStripe], wanted: &str) {
     let mut parts = wanted.split(", ");
     for stripe in stripes {
         let (count, pairs) = first_word(parts.next().expect(rt, wanted));
@@ -107,7 +114,7 @@ pub fn are_stripes(rt: &impl Abort, alloc: Global, stripes: &[ClosedStripe], wan
 }
 
 /// What is cached is what the store has.
-pub fn are_coherent<R: Abort + Wait>(
+fn are_coherent<R: Abort + Wait>(
     rt: &R,
     alloc: Global,
     outside: &Outside,
@@ -121,7 +128,7 @@ pub fn are_coherent<R: Abort + Wait>(
 }
 
 /// The steps of one session in a stripe that share another session's load.
-pub fn shared_by(rt: &impl Abort, alloc: Global, stripe: &ClosedStripe, session: u32) -> u64 {
+fn shared_by(rt: &impl Abort, alloc: Global, stripe: &ClosedStripe, session: u32) -> u64 {
     let mut shared = 0u64;
     for event in &events(rt, alloc, stripe) {
         if is_shared_by(event, session) {
@@ -140,5 +147,41 @@ fn is_shared_by(event: &Event, session: u32) -> bool {
             ..
         } => caller.session == session && shared_with.is_some(),
         Event::Evict { .. } => false,
+    }
+}
+
+/// What a line says is so.
+fn is_so<R: Abort + Wait>(
+    rt: &R,
+    alloc: Global,
+    outside: &Outside,
+    stripes: &[ClosedStripe],
+    line: &str,
+) {
+    let (word, rest) = first_word(line);
+    match word {
+        "stripes" => are_stripes(rt, alloc, stripes, rest),
+        "number" => is(rt, Some(stripes.len()), rest.parse().ok()),
+        "shared" => {
+            let first = stripes.first().expect(rt, "a stripe");
+            is(rt, Some(shared_by(rt, alloc, first, 1)), rest.parse().ok());
+        }
+        "coherent" => are_coherent(rt, alloc, outside, stripes),
+        "counts" => outside.counted(rt, rest),
+        "stored" => outside.holds(rt, alloc, rest),
+        _ => panic!(rt; "no line {line}"),
+    }
+}
+
+/// What each of these lines says is so. They have a `;` between.
+pub fn are_so<R: Abort + Wait>(
+    rt: &R,
+    alloc: Global,
+    outside: &Outside,
+    stripes: &[ClosedStripe],
+    text: &str,
+) {
+    for line in text.split_terminator(';') {
+        is_so(rt, alloc, outside, stripes, line);
     }
 }

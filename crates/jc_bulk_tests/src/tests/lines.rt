@@ -5,9 +5,11 @@
 //!     told 1 0                    how often a listener was told of success, and of a failure
 //!     own 2                       how many steps the session has made
 //!     await                       waits for the first signal
+//!     random 2                    makes random calls as the session at this place, counted from 0
 ghost use Rattle.jc_cache.specs.Sessions.{MayCall};
 
 use super::outside::Outside;
+use super::random::call_often;
 use super::results::{ended, got, invoked};
 use super::words::{first_word, key, keys_of, many, pairs_of, value};
 use super::*;
@@ -122,12 +124,13 @@ pub fn play<R: Abort + Wait>(
         "counts" => outside.counted(rt, rest),
         "told" => outside.has_told(rt, rest),
         "await" => outside.signals.wait_for_first(rt),
+        "random" => call_often(rt, alloc, cache, session, outside, rest),
         "own" => is(rt, Some(session.own()), rest.parse().ok()),
         _ => call(rt, alloc, cache, session, line),
     }
 }
 
-/// Does what each line of a text says.
+/// Does what each of these lines says, which have a `;` between.
 pub fn plays<R: Abort + Wait>(
     rt: &R,
     alloc: Global,
@@ -139,7 +142,7 @@ pub fn plays<R: Abort + Wait>(
     requires { MayCall cache.now session.old }
     ensures { MayCall cache.now session.new }
 {
-    for line in text.split_terminator('\n') {
+    for line in text.split_terminator(';') {
         play(rt, alloc, outside, cache, session, line);
     }
 }

@@ -1,5 +1,7 @@
-//! What is outside a cache: a store, the counts of its loaders' and writers' calls, a listener, and signals.
+//! What is outside a cache: a store, the counts of its loaders' and writers' calls and their failures, a listener, and signals.
+use super::scene::Scene;
 use super::signals::Signals;
+use super::unreliable::{Failures, Manner, Unreliable};
 use super::*;
 use jc_outside::CompletionListener;
 use jc_store::{
@@ -39,25 +41,23 @@ impl CompletionListener for Listening {
     }
 }
 
-/// A store with some entries, and the counts of its loaders' and writers' calls.
+/// How many sessions may have loaders and writers.
+const MOST: usize = 4;
+
+/// A store with some entries, the counts of its loaders' and writers' calls, and the failures of each session's loader and writer.
 #[derive(Drop)]
 pub struct Outside {
     pub store: SharedStore,
     pub signals: Signals,
     counts: SharedCounts,
+    failures: Vec<Failures>,
     told: Arc<Told>,
 }
 
 impl Outside {
     /// A store with these entries.
     pub fn of(rt: &impl Abort, alloc: Global, pairs: &str) -> Self {
-        let mut entries = Vec::new(alloc);
-        for word in pairs.split_whitespace() {
-            entries
-                .push(words::pair(rt, word))
-                .ok()
-                .expect(rt, "memory");
-        }
+        let entries = pairs_in(rt, alloc, pairs);
         let store = Store::of(alloc, &entries).expect(rt, "memory");
         let told = Told {
             completions: AtomicU64::new(0),
@@ -67,32 +67,58 @@ impl Outside {
             store: SharedStore::new(alloc, store).expect(rt, "memory"),
             signals: Signals::new(alloc).expect(rt, "memory"),
             counts: SharedCounts::new(alloc).expect(rt, "memory"),
+            failures: no_failures(rt, alloc),
             told: Arc::new(alloc, told).ok().expect(rt, "memory"),
         }
     }
 
+    /// The failures of the loader and the writer of the session at this place.
+    pub fn failures(&self, rt: &impl Abort, place: usize) -> &Failures {
+        self.failures.get(place).expect(rt, "failures")
+    }
+
+    /// This loader or writer, as it is to go on in the session at this place.
+    fn acting<T: Drop>(
+        &self,
+        rt: &impl Abort,
+        every: u32,
+        waits: bool,
+        place: usize,
+        inner: T,
+    ) -> Unreliable<T> {
+        let manner = Manner {
+            every,
+            waits,
+            is_first: place == 0,
+        };
+        Unreliable::new(rt, manner, &self.signals, self.failures(rt, place), inner)
+    }
+
     /// A loader from the store, which counts its calls.
-    pub fn loader<R: Abort + Wait + Drop + Copy>(&self, rt: R) -> Counting<StoreLoader<R>, R> {
-        let loader = self.store.loader(rt).expect(&rt, "memory");
-        self.counts.counting(rt, loader).expect(&rt, "memory")
-    }
-
-    /// A writer to the store, which counts its calls.
-    pub fn writer<R: Abort + Wait + Drop + Copy>(&self, rt: R) -> Counting<StoreWriter<R>, R> {
-        let writer = self.store.writer(rt).expect(&rt, "memory");
-        self.counts.counting(rt, writer).expect(&rt, "memory")
-    }
-
-    /// A writer to the store, which counts its calls, and has this fault at its call with this number.
-    pub fn failing_writer<R: Abort + Wait + Drop + Copy>(
+    pub fn loader<R: Abort + Wait + Drop + Copy>(
         &self,
         rt: R,
-        call: u64,
-        fault: WriteFault,
-    ) -> Counting<ScheduledWriter<StoreWriter<R>>, R> {
+        scene: &Scene,
+        place: usize,
+    ) -> Unreliable<Counting<StoreLoader<R>, R>> {
+        let loader = self.store.loader(rt).expect(&rt, "memory");
+        let loader = self.counts.counting(rt, loader).expect(&rt, "memory");
+        self.acting(&rt, scene.every, scene.loaders_wait, place, loader)
+    }
+
+    /// A writer to the store, which counts its calls, and has the scene's fault.
+    pub fn writer<R: Abort + Wait + Drop + Copy>(
+        &self,
+        rt: R,
+        alloc: Global,
+        scene: &Scene,
+        place: usize,
+    ) -> Unreliable<Counting<ScheduledWriter<StoreWriter<R>>, R>> {
         let writer = self.store.writer(rt).expect(&rt, "memory");
+        let (call, fault) = fault_of(&rt, alloc, scene.fault);
         let writer = ScheduledWriter::new(writer, call, fault);
-        self.counts.counting(rt, writer).expect(&rt, "memory")
+        let writer = self.counts.counting(rt, writer).expect(&rt, "memory");
+        self.acting(&rt, scene.every, scene.writers_wait, place, writer)
     }
 
     /// A listener that counts what it is told.
@@ -148,4 +174,44 @@ pub fn are_entries(rt: &impl Abort, entries: &[(Key, Value)], wanted: &str) {
         is(rt, (*k, *v), words::pair(rt, word));
     }
     is(rt, words.next(), None);
+}
+
+/// The pairs that a text names, as a list.
+fn pairs_in(rt: &impl Abort, alloc: Global, text: &str) -> Vec<(Key, Value)> {
+    let mut pairs = Vec::new(alloc);
+    for word in text.split_whitespace() {
+        pairs.push(words::pair(rt, word)).ok().expect(rt, "memory");
+    }
+    pairs
+}
+
+/// The keys that a text names, as a list.
+fn keys_in(rt: &impl Abort, alloc: Global, text: &str) -> Vec<Key> {
+    let mut keys = Vec::new(alloc);
+    for word in text.split_whitespace() {
+        keys.push(words::key(rt, word)).ok().expect(rt, "memory");
+    }
+    keys
+}
+
+/// The fault that a text tells: at which call, if any, with which code, if any, and which keys are left. It adds z=9.
+fn fault_of(rt: &impl Abort, alloc: Global, text: &str) -> (u64, WriteFault) {
+    let (call, rest) = words::first_word(text);
+    let (code, left) = words::first_word(rest);
+    let fault = WriteFault {
+        leaves: keys_in(rt, alloc, left),
+        code: code.parse().ok(),
+        adds: pairs_in(rt, alloc, "z=9"),
+    };
+    (call.parse().ok().unwrap_or(0), fault)
+}
+
+/// No failures yet, of each session.
+fn no_failures(rt: &impl Abort, alloc: Global) -> Vec<Failures> {
+    let mut failures = Vec::new(alloc);
+    for _ in 0..MOST {
+        let none = Failures::new(alloc).expect(rt, "memory");
+        failures.push(none).ok().expect(rt, "memory");
+    }
+    failures
 }

@@ -1,13 +1,11 @@
 //! Random calls with many keys of four sessions, each on a thread of its own, on a cache that is too small for their keys, before
 //! loaders and writers that fail now and then.
-ghost use Rattle.std.specs.Prelude.{◌<◌, All};
+ghost use Rattle.std.specs.Prelude.{◌<◌};
 ghost use Rattle.jc_cache.specs.Sessions.{MayCall};
 
-use super::closing::are_coherent;
 use super::lines::increment;
 use super::outside::Outside;
-use super::stage::Stage;
-use super::unreliable::{DOWN, Failures, Keys, Unreliable};
+use super::unreliable::{DOWN, Failures, Keys};
 use super::*;
 use indexmap::{IndexMap, IndexSet};
 use jc_bulk::{BulkFault, clear, get_all, load_keys, put_all, remove_all, remove_every};
@@ -113,18 +111,23 @@ fn is_written(rt: &impl Abort, returned: Result<(), BulkFault>, left: Keys) {
 
 /// A call that loads failed at the keys for which its own loader has failed, and at none that it doesn't name. At others it may have
 /// joined a load that failed.
-fn is_loaded(rt: &impl Abort, fault: Option<&BulkFault>, keys: Keys, down_at: Keys) -> Keys {
+fn is_loaded(rt: &impl Abort, fault: &BulkFault, keys: Keys, down_at: Keys) -> Keys {
     let down = Refusal::LoaderFailed(DOWN);
-    let failed = match fault {
-        None => Keys::NONE,
-        Some(fault) => {
-            is(rt, fault.cause, down);
-            failed_of(rt, &fault.failed, down)
-        }
-    };
+    is(rt, fault.cause, down);
+    let failed = failed_of(rt, &fault.failed, down);
     assert!(rt; down_at.are_among(failed));
     assert!(rt; failed.are_among(keys));
     failed
+}
+
+/// The same of a call that may have failed.
+fn is_loaded_or_well(rt: &impl Abort, returned: Result<(), BulkFault>, keys: Keys, down_at: Keys) {
+    match returned {
+        Ok(()) => assert!(rt; down_at.are_among(Keys::NONE)),
+        Err(fault) => {
+            let _failed = is_loaded(rt, &fault, keys, down_at);
+        }
+    }
 }
 
 fn put_some<R: Abort + Wait>(
@@ -164,6 +167,29 @@ fn remove_some<R: Abort + Wait>(
 }
 
 /// What was found is among the keys, and didn't fail.
+fn is_got(
+    rt: &impl Abort,
+    returned: Result<IndexMap<Key, Value>, BulkFault>,
+    keys: Keys,
+    down_at: Keys,
+) {
+    match returned {
+        Ok(found) => {
+            assert!(rt; down_at.are_among(Keys::NONE));
+            assert!(rt; found_of(&found).are_among(keys));
+        }
+        Err(fault) => are_apart(rt, &fault, keys, down_at),
+    }
+}
+
+/// The same of a call that failed.
+fn are_apart(rt: &impl Abort, fault: &BulkFault, keys: Keys, down_at: Keys) {
+    let failed = is_loaded(rt, fault, keys, down_at);
+    let found = found_of(&fault.found);
+    assert!(rt; found.are_among(keys));
+    assert!(rt; found.are_apart_from(failed));
+}
+
 fn get_some<R: Abort + Wait>(
     rt: &R,
     alloc: Global,
@@ -177,17 +203,8 @@ fn get_some<R: Abort + Wait>(
 {
     let keys = drawn_keys(rt, alloc, random);
     let own = session.own();
-    match get_all(alloc, rt, cache, session, &keys) {
-        Ok(found) => {
-            is_loaded(rt, None, set_of(&keys), failures.take());
-            assert!(rt; found_of(&found).are_among(set_of(&keys)));
-        }
-        Err(fault) => {
-            let failed = is_loaded(rt, Some(&fault), set_of(&keys), failures.take());
-            assert!(rt; found_of(&fault.found).are_among(set_of(&keys)));
-            assert!(rt; found_of(&fault.found).are_apart_from(failed));
-        }
-    }
+    let returned = get_all(alloc, rt, cache, session, &keys);
+    is_got(rt, returned, set_of(&keys), failures.take());
     is(rt, session.own().wrapping_sub(own), keys.len() as u64);
 }
 
@@ -205,8 +222,8 @@ fn load_some<R: Abort + Wait>(
     let keys = drawn_keys(rt, alloc, random);
     let replace = random.below(2) == 0;
     let own = session.own();
-    let fault = load_keys(alloc, rt, cache, session, &keys, replace).err();
-    let _failed = is_loaded(rt, fault.as_ref(), set_of(&keys), failures.take());
+    let returned = load_keys(alloc, rt, cache, session, &keys, replace);
+    is_loaded_or_well(rt, returned, set_of(&keys), failures.take());
     is(rt, session.own().wrapping_sub(own), keys.len() as u64);
 }
 
@@ -223,6 +240,17 @@ fn down_in(rt: &impl Abort, results: &IndexMap<Key, Result<Value, Refusal>>) -> 
 }
 
 /// Each key has a result, and just those are faults for which the loader or the writer has failed.
+fn is_invoked(
+    rt: &impl Abort,
+    returned: Result<IndexMap<Key, Result<Value, Refusal>>, Refusal>,
+    down_at: Keys,
+    count: usize,
+) {
+    let results = returned.ok().expect(rt, "results");
+    is(rt, down_in(rt, &results), down_at);
+    is(rt, results.len(), count);
+}
+
 fn invoke_some<R: Abort + Wait>(
     rt: &R,
     alloc: Global,
@@ -238,9 +266,7 @@ fn invoke_some<R: Abort + Wait>(
     let mut processor = increment(rt, alloc);
     let own = session.own();
     let returned = invoke_all(alloc, rt, cache, session, &keys, &mut processor, &[]);
-    let results = returned.ok().expect(rt, "results");
-    is(rt, down_in(rt, &results), failures.take());
-    is(rt, results.len(), keys.len());
+    is_invoked(rt, returned, failures.take(), keys.len());
     is(rt, session.own().wrapping_sub(own), keys.len() as u64);
 }
 
@@ -286,41 +312,42 @@ fn call_once<R: Abort + Wait>(
     }
 }
 
-/// Makes random calls, always the same ones for a place. The place's loader and writer note their failures in the list.
+/// Makes random calls, always the same ones for a place. The place's loader and writer note their failures.
 pub fn call_often<R: Abort + Wait>(
     rt: &R,
     alloc: Global,
     cache: &Cache,
     session: &mut Session,
-    failures: &[Failures],
-    place: usize,
+    outside: &Outside,
+    place: &str,
 )
     requires { MayCall cache.now session.old }
     ensures { MayCall cache.now session.new }
 {
-    let failures = failures.get(place).expect(rt, "failures");
-    let mut random = Random(place as u64);
+    let place: u32 = place.parse().ok().expect(rt, "a place");
+    let failures = outside.failures(rt, place as usize);
+    let mut random = Random(u64::from(place));
     'calling: for _ in 0..CALLS {
         call_once(rt, alloc, cache, session, failures, &mut random);
     }
 }
 
-/// Loaders and writers that never fail, and some that fail at each fifth call.
-#[test]
-fn four_sessions_call_at_random(rt: HostRuntime) {
-    let alloc = rt.alloc();
-    for every in [0, 5] {
-        let outside = Outside::of(&rt, alloc, "00=1 07=2 12=3 39=4");
-        let mut stage = Stage::new(&rt, alloc, &config(4, 3, 16_384));
-        let mut noted = Vec::new(alloc);
-        'entering: for _ in 0..4 {
-            let failures = Failures::new(alloc).expect(&rt, "memory");
-            let loader = Unreliable::new(&rt, every, &failures, outside.loader(rt));
-            let writer = Unreliable::new(&rt, every, &failures, outside.writer(rt));
-            enter!(rt, stage, loader, writer);
-            noted.push(failures).ok().expect(&rt, "memory");
-        }
-        stage.calls_at_random(&rt, alloc, &noted);
-        are_coherent(&rt, alloc, &outside, &stage.close(&rt, alloc));
-    }
-}
+/// Loaders and writers that never fail.
+pub const RELIABLE: &str = "\
+open 4 3 16384
+before 00=1 07=2 12=3 39=4
+sessions 4
+fault none
+end coherent
+beside random 0 | random 1 | random 2 | random 3
+";
+
+/// Some that fail at each fifth call.
+pub const UNRELIABLE: &str = "\
+open 4 3 16384
+before 00=1 07=2 12=3 39=4
+sessions 4 every 5
+fault none
+end coherent
+beside random 0 | random 1 | random 2 | random 3
+";

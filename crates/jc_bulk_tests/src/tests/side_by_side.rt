@@ -3,10 +3,9 @@ ghost use Rattle.std.specs.Prelude.{◌≡◌, true, false, All};
 ghost use Rattle.jc_cache.specs.Sessions.{IsOf, MayCall};
 ghost use Rattle.jc_stripe.specs.Tickets.{asks_writer};
 
-use super::closing::{are_stripes, closed, shared_by};
+use super::closing::closed;
 use super::lines::plays;
 use super::outside::Outside;
-use super::signals::Paired;
 use super::stage::Stage;
 use super::words::{key, value};
 use super::*;
@@ -16,7 +15,12 @@ use std::thread;
 use std::thread::Threads;
 
 /// A `loadAll` by two sessions, whose loaders wait for each other: so both load some of the keys.
-const LOADED: &str = "\
+pub const LOADED: &str = "\
+open 2 64 400
+before
+sessions 2 loaders
+fault none
+end stripes 16, 16
 loadmany 32 = ok
 told 1 0
 counts 0 2 0 0 0 0
@@ -24,63 +28,42 @@ own 16
 s2 own 16
 ";
 
-#[test]
-fn loads_side_by_side(rt: HostRuntime) {
-    let alloc = rt.alloc();
-    let outside = Outside::of(&rt, alloc, "");
-    let mut stage = Stage::new(&rt, alloc, &config(2, 64, 400));
-    let first = Paired::first(&rt, &outside.signals, outside.loader(rt));
-    let second = Paired::second(&rt, &outside.signals, outside.loader(rt));
-    enter!(rt, stage, first, outside.writer(rt));
-    enter!(rt, stage, second, outside.writer(rt));
-    stage.plays(&rt, alloc, &outside, LOADED);
-    are_stripes(&rt, alloc, &stage.close(&rt, alloc), "16, 16");
-}
-
 /// A `get_all` joins a load that another thread has under way, and calls its own loader for the other key alone. The first loader
 /// answers only after the second was called.
-#[test]
-fn joins_a_load_of_another_thread(rt: HostRuntime) {
-    let alloc = rt.alloc();
-    let outside = Outside::of(&rt, alloc, "a=1 b=2");
-    let mut stage = Stage::new(&rt, alloc, &config(1, 4, 100));
-    let first = Paired::first(&rt, &outside.signals, outside.loader(rt));
-    let second = Paired::second(&rt, &outside.signals, outside.loader(rt));
-    enter!(rt, stage, first, outside.writer(rt));
-    enter!(rt, stage, second, outside.writer(rt));
-    let texts = ["get a = 1\n", "await\ngetall a b = a=1 b=2\nown 2\n"];
-    stage.plays_beside(&rt, alloc, &outside, &texts);
-    outside.counted(&rt, "1 1 0 0 0 0");
-    let stripes = stage.close(&rt, alloc);
-    is(
-        &rt,
-        shared_by(&rt, alloc, stripes.first().expect(&rt, "a stripe"), 1),
-        1,
-    );
-}
+pub const JOINED: &str = "\
+open 1 4 100
+before a=1 b=2
+sessions 2 loaders
+fault none
+end shared 1
+beside get a = 1 | await;getall a b = a=1 b=2;own 2
+counts 1 1 0 0 0 0
+";
 
-/// What two sessions do, each on a thread of its own, before and after they meet.
-const PREPARED: [&str; 2] = ["putall a=1 b=2 c=3 = ok\n", "putall d=4 e=5 = ok\n"];
+/// Two sessions, each on a thread of its own, meet between: one thread's session goes on where another thread's has left off.
+pub const MET: &str = "\
+open 2 8 100
+before
+sessions 2
+fault none
+end number 2
+beside putall a=1 b=2 c=3 = ok | putall d=4 e=5 = ok
+meet
+own 3
+s2 own 2
+beside getall d e = d=4 e=5;putall f=6 = ok;own 6 | getall a b c = a=1 b=2 c=3;own 5
+counts 0 0 0 3 0 0
+";
 
-const TAKEN_OVER: [&str; 2] = [
-    "getall d e = d=4 e=5\nputall f=6 = ok\nown 6\n",
-    "getall a b c = a=1 b=2 c=3\nown 5\n",
-];
-
-/// One thread's session goes on where another thread's has left off.
-#[test]
-fn meets_between_threads(rt: HostRuntime) {
-    let alloc = rt.alloc();
-    let outside = Outside::of(&rt, alloc, "");
-    let mut stage = Stage::new(&rt, alloc, &config(2, 8, 100));
-    enter!(rt, stage, outside.loader(rt), outside.writer(rt));
-    enter!(rt, stage, outside.loader(rt), outside.writer(rt));
-    stage.plays_beside(&rt, alloc, &outside, &PREPARED);
-    stage.plays(&rt, alloc, &outside, "meet\nown 3\ns2 own 2\n");
-    stage.plays_beside(&rt, alloc, &outside, &TAKEN_OVER);
-    outside.counted(&rt, "0 0 0 3 0 0");
-    is(&rt, stage.close(&rt, alloc).len(), 2);
-}
+/// A put is put off: the first session's key is reserved while the second one's writer is called.
+pub const RESERVED: &str = "\
+open 1 4 100
+before
+sessions 2 writers
+fault none
+end counts 0 0 1 2 0 0;stored a=1 b=2 c=3;stripes 4 c=3 b=2 a=1
+putlate
+";
 
 fn is_writer(first: &First) -> bool
     ensures { result ≡ asks_writer first.now }
@@ -130,11 +113,7 @@ fn put_late<R: Abort + Wait>(rt: &R, outside: &Outside, cache: &Cache, session: 
 }
 
 /// What the second session does meanwhile: `c` is put off, and written in a later round.
-const PUT_OFF: &str = "\
-await
-putall a=1 b=2 c=3 = ok
-own 3
-";
+const PUT_OFF: &str = "await;putall a=1 b=2 c=3 = ok;own 3";
 
 /// What the session at this place does.
 fn act<R: Abort + Wait>(
@@ -180,7 +159,7 @@ fn act_beside<R: Abort + Wait + Threads + Sync>(
 }
 
 /// Plays it on a stage of two sessions, and ends the cache.
-fn put_off<R: Abort + Wait + Threads + Sync>(
+pub fn put_off<R: Abort + Wait + Threads + Sync>(
     rt: &R,
     alloc: Global,
     outside: &Outside,
@@ -191,18 +170,4 @@ fn put_off<R: Abort + Wait + Threads + Sync>(
     let (owner, mut sessions) = stage.into_parts();
     act_beside(rt, alloc, outside, owner.cache(), &mut sessions);
     closed(rt, alloc, owner, sessions)
-}
-
-#[test]
-fn puts_a_reserved_key_off(rt: HostRuntime) {
-    let alloc = rt.alloc();
-    let outside = Outside::of(&rt, alloc, "");
-    let mut stage = Stage::new(&rt, alloc, &config(1, 4, 100));
-    let second = Paired::second(&rt, &outside.signals, outside.writer(rt));
-    enter!(rt, stage, outside.loader(rt), outside.writer(rt));
-    enter!(rt, stage, outside.loader(rt), second);
-    let stripes = put_off(&rt, alloc, &outside, stage);
-    outside.counted(&rt, "0 0 1 2 0 0");
-    outside.holds(&rt, alloc, "a=1 b=2 c=3");
-    are_stripes(&rt, alloc, &stripes, "4 c=3 b=2 a=1");
 }

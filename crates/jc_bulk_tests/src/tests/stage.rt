@@ -4,15 +4,14 @@
 //!     loadall a c = ok            a `loadAll` by all sessions side by side
 //!     loadmany 32 = ok            the same with so many keys
 //!     meet                        the first session tells the last one what it has seen
+//!     beside get a = 1 | own 0    what each session does, on a thread of its own, with `;` between its lines
 ghost use Rattle.std.specs.Prelude.{◌≡◌, ◌++◌, ◌∷◌, [], All};
 ghost use Rattle.jc_cache.specs.Sessions.{MayCall};
 
 use super::closing::closed;
 use super::lines::{play, plays};
 use super::outside::Outside;
-use super::random::call_often;
 use super::results::ended;
-use super::unreliable::Failures;
 use super::words::{first_word, keys_of, many};
 use super::*;
 use indexmap::IndexSet;
@@ -97,6 +96,43 @@ fn push(rt: &impl Abort, sessions: &mut Vec<Session>, session: Session)
     }
 }
 
+/// The part at a place of a text whose parts have ` | ` between, or nothing.
+fn part_of(text: &str, at: usize) -> &str {
+    let mut parts = text.split(" | ");
+    for _ in 0..at {
+        let _before = parts.next();
+    }
+    parts.next().unwrap_or("")
+}
+
+/// Plays texts beside each other, each by a session of its own on a thread of its own.
+fn play_beside<R: Abort + Wait + Threads + Sync>(
+    rt: &R,
+    alloc: Global,
+    outside: &Outside,
+    cache: &Cache,
+    sessions: &mut Vec<Session>,
+    texts: &str,
+)
+    requires { All (MayCall cache.now) sessions.old.items }
+    ensures { All (MayCall cache.now) sessions.new.items }
+{
+    let threads = sessions.len();
+    assert!(rt; threads > 0, "no session");
+    thread::for_each_mut(
+        rt,
+        sessions.as_mut_slice(),
+        threads,
+        &|i, session: &mut Session|
+            requires { MayCall cache.now session.old }
+            ensures { MayCall cache.entry.now session.new }
+        {
+            let text = part_of(texts, i);
+            plays(rt, alloc, outside, cache, session, text);
+        },
+    );
+}
+
 /// Does what a line says.
 fn play_line<R: Abort + Wait + Threads + Sync>(
     rt: &R,
@@ -121,6 +157,10 @@ fn play_line<R: Abort + Wait + Threads + Sync>(
             load(rt, alloc, outside, cache, sessions, &keys, wanted);
         }
         "meet" => tell_last(rt, cache, sessions),
+        "beside" => {
+            let (_word, texts) = first_word(line);
+            play_beside(rt, alloc, outside, cache, sessions, texts);
+        }
         _ => {
             let (at, rest) = by_session(line);
             play_at(rt, alloc, outside, cache, sessions, at, rest);
@@ -143,58 +183,6 @@ fn play_lines<R: Abort + Wait + Threads + Sync>(
     for line in text.split_terminator('\n') {
         play_line(rt, alloc, outside, cache, sessions, line);
     }
-}
-
-/// Plays texts beside each other, each by a session of its own on a thread of its own.
-fn play_beside<R: Abort + Wait + Threads + Sync>(
-    rt: &R,
-    alloc: Global,
-    outside: &Outside,
-    cache: &Cache,
-    sessions: &mut Vec<Session>,
-    texts: &[&str],
-)
-    requires { All (MayCall cache.now) sessions.old.items }
-    ensures { All (MayCall cache.now) sessions.new.items }
-{
-    let threads = sessions.len();
-    assert!(rt; threads > 0, "no session");
-    thread::for_each_mut(
-        rt,
-        sessions.as_mut_slice(),
-        threads,
-        &|i, session: &mut Session|
-            requires { MayCall cache.now session.old }
-            ensures { MayCall cache.entry.now session.new }
-        {
-            let text = texts.get(i).copied().unwrap_or("");
-            plays(rt, alloc, outside, cache, session, text);
-        },
-    );
-}
-
-/// Random calls of all sessions beside each other, each on a thread of its own.
-fn call_beside<R: Abort + Wait + Threads + Sync>(
-    rt: &R,
-    alloc: Global,
-    cache: &Cache,
-    sessions: &mut Vec<Session>,
-    failures: &[Failures],
-)
-    requires { All (MayCall cache.now) sessions.old.items }
-    ensures { All (MayCall cache.now) sessions.new.items }
-{
-    let threads = sessions.len();
-    assert!(rt; threads > 0, "no session");
-    thread::for_each_mut(
-        rt,
-        sessions.as_mut_slice(),
-        threads,
-        &|place, session: &mut Session|
-            requires { MayCall cache.now session.old }
-            ensures { MayCall cache.entry.now session.new }
-        { call_often(rt, alloc, cache, session, failures, place) },
-    );
 }
 
 impl Stage {
@@ -232,36 +220,6 @@ impl Stage {
     {
         let sessions = &mut self.sessions;
         play_lines(rt, alloc, outside, self.owner.cache(), sessions, text);
-    }
-
-    /// Plays texts beside each other, each by a session of its own on a thread of its own.
-    pub fn plays_beside<R: Abort + Wait + Threads + Sync>(
-        &mut self,
-        rt: &R,
-        alloc: Global,
-        outside: &Outside,
-        texts: &[&str],
-    )
-        requires { All (MayCall self.old.owner.cache) self.old.sessions.items }
-        ensures { All (MayCall self.new.owner.cache) self.new.sessions.items }
-    {
-        let sessions = &mut self.sessions;
-        play_beside(rt, alloc, outside, self.owner.cache(), sessions, texts);
-    }
-
-    /// Random calls of all sessions beside each other, each on a thread of its own. Their loaders and writers note their failures in
-    /// this list.
-    pub fn calls_at_random<R: Abort + Wait + Threads + Sync>(
-        &mut self,
-        rt: &R,
-        alloc: Global,
-        failures: &[Failures],
-    )
-        requires { All (MayCall self.old.owner.cache) self.old.sessions.items }
-        ensures { All (MayCall self.new.owner.cache) self.new.sessions.items }
-    {
-        let sessions = &mut self.sessions;
-        call_beside(rt, alloc, self.owner.cache(), sessions, failures);
     }
 
     /// Who owns the cache, and its sessions.

@@ -1,4 +1,5 @@
-//! Loaders and writers that fail now and then, and note for which keys they have failed.
+//! Loaders and writers that fail now and then, and note for which keys they have failed; or that wait for each other.
+use super::signals::Signals;
 use super::*;
 use indexmap::{IndexMap, IndexSet};
 use jc_cache::Answers;
@@ -9,6 +10,9 @@ use std::sync::atomic::Ordering::SeqCst;
 
 /// The code of a loader or a writer that fails.
 pub const DOWN: u32 = 7;
+
+/// The code of one that has waited in vain.
+const GAVE_UP: u32 = 99;
 
 /// A set of the keys `00` to `63`, a bit for each.
 #[derive(Clone, Copy, PartialEq, Eq, Debug)]
@@ -76,21 +80,39 @@ impl Failures {
     }
 }
 
-/// A loader or a writer that fails once in so many calls, and otherwise does what another one does. A writer that fails at a batch has
-/// the other do the first half of it, and leaves the rest.
+/// How a loader or a writer goes on at each call.
+#[derive(Clone, Copy)]
+pub struct Manner {
+    /// It fails once in so many calls, or never.
+    pub every: u32,
+    /// It says that it was called, and waits until its partner was. Of the two it is the first, or the second.
+    pub waits: bool,
+    pub is_first: bool,
+}
+
+/// A loader or a writer that waits for its partner or fails now and then, and otherwise does what another one does. A writer that
+/// fails at a batch has the other do the first half of it, and leaves the rest.
 #[derive(Drop)]
 pub struct Unreliable<T> {
-    every: u32,
+    manner: Manner,
     calls: u32,
+    signals: Signals,
     failures: Failures,
     inner: T,
 }
 
 impl<T: Drop> Unreliable<T> {
-    pub fn new(rt: &impl Abort, every: u32, failures: &Failures, inner: T) -> Self {
+    pub fn new(
+        rt: &impl Abort,
+        manner: Manner,
+        signals: &Signals,
+        failures: &Failures,
+        inner: T,
+    ) -> Self {
         Unreliable {
-            every,
+            manner,
             calls: 0,
+            signals: signals.share(rt),
             failures: failures.share(rt),
             inner,
         }
@@ -98,32 +120,30 @@ impl<T: Drop> Unreliable<T> {
 }
 
 impl<T> Unreliable<T> {
-    /// Counts a call, and says whether it is to fail.
-    fn is_down(&mut self) -> bool {
+    /// Waits if it is to wait, counts the call, and says with which code it is to fail, if it is.
+    fn begin(&mut self) -> Option<u32> {
+        if self.manner.waits && !self.signals.meet(self.manner.is_first) {
+            return Some(GAVE_UP);
+        }
         self.calls = self.calls.wrapping_add(1);
-        self.every > 0 && self.calls % self.every == 0
+        if self.manner.every > 0 && self.calls % self.manner.every == 0 {
+            return Some(DOWN);
+        }
+        None
     }
 
-    /// Fails for one key.
-    fn fail(&self, key: &Key) -> u32 {
-        self.failures.note(key);
-        DOWN
-    }
-
-    /// Fails for these keys.
-    fn fail_all(&self, keys: &[Key]) -> u32 {
+    /// The call failed for these keys.
+    fn note_all(&self, keys: &[Key]) {
         for key in keys {
             self.failures.note(key);
         }
-        DOWN
     }
 
-    /// Fails for the keys of these entries.
-    fn fail_entries(&self, entries: &IndexMap<Key, Value>) -> u32 {
+    /// The call failed for the keys of these entries.
+    fn note_entries(&self, entries: &IndexMap<Key, Value>) {
         for (key, _value) in entries {
             self.failures.note(key);
         }
-        DOWN
     }
 }
 
@@ -135,15 +155,17 @@ impl<L: CacheLoader> CacheLoader for Unreliable<L> {
     ghost loads_all = { λ l keys answer answers after. Unit {0} };
 
     fn load(&mut self, key: &Key) -> Result<Option<Value>, u32> {
-        if self.is_down() {
-            return Err(self.fail(key));
+        if let Some(code) = self.begin() {
+            self.failures.note(key);
+            return Err(code);
         }
         self.inner.load(key)
     }
 
     fn load_all(&mut self, keys: &[Key], answers: &mut Answers) -> Result<(), u32> {
-        if self.is_down() {
-            return Err(self.fail_all(keys));
+        if let Some(code) = self.begin() {
+            self.note_all(keys);
+            return Err(code);
         }
         self.inner.load_all(keys, answers)
     }
@@ -183,37 +205,41 @@ impl<W: CacheWriter> CacheWriter for Unreliable<W> {
     ghost deletes_all = { λ w keys answer left after. Unit {0} };
 
     fn write(&mut self, key: &Key, value: &Value) -> Result<(), u32> {
-        if self.is_down() {
-            return Err(self.fail(key));
+        if let Some(code) = self.begin() {
+            self.failures.note(key);
+            return Err(code);
         }
         self.inner.write(key, value)
     }
 
     fn delete(&mut self, key: &Key) -> Result<(), u32> {
-        if self.is_down() {
-            return Err(self.fail(key));
+        if let Some(code) = self.begin() {
+            self.failures.note(key);
+            return Err(code);
         }
         self.inner.delete(key)
     }
 
     fn write_all(&mut self, entries: &mut IndexMap<Key, Value>) -> Result<(), u32> {
-        if !self.is_down() {
+        let Some(code) = self.begin() else {
             return self.inner.write_all(entries);
-        }
+        };
         let written = write_half(&mut self.inner, entries);
         let left = entries.len().saturating_sub(written);
         keep_last(entries, left);
-        Err(self.fail_entries(entries))
+        self.note_entries(entries);
+        Err(code)
     }
 
     fn delete_all(&mut self, keys: &mut IndexSet<Key>) -> Result<(), u32> {
-        if !self.is_down() {
+        let Some(code) = self.begin() else {
             return self.inner.delete_all(keys);
-        }
+        };
         let deleted = delete_half(&mut self.inner, keys.as_slice());
         let left = keys.len().saturating_sub(deleted);
         keep_last_keys(keys, left);
-        Err(self.fail_all(keys.as_slice()))
+        self.note_all(keys.as_slice());
+        Err(code)
     }
 }
 

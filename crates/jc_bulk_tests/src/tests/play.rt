@@ -1,0 +1,74 @@
+//! All scenes, each with a cache of its own.
+ghost use Rattle.std.specs.Prelude.{All};
+ghost use Rattle.jc_cache.specs.Sessions.{MayCall};
+
+use super::closing::are_so;
+use super::outside::Outside;
+use super::random::{RELIABLE, UNRELIABLE};
+use super::scene::{Scene, scene_of};
+use super::side_by_side::{JOINED, LOADED, MET, RESERVED, put_off};
+use super::stage::Stage;
+use super::whole::{
+    LEFT_IN_PART, LEFT_NORMALLY, LEFT_NOTHING, MANY, NEARLY_FULL, PROCESSED_IN_PART, TOUR,
+};
+use super::*;
+use jc_cache::ClosedStripe;
+use std::thread::Threads;
+
+const SCENES: [&str; 13] = [
+    TOUR,
+    LEFT_IN_PART,
+    LEFT_NOTHING,
+    LEFT_NORMALLY,
+    NEARLY_FULL,
+    PROCESSED_IN_PART,
+    MANY,
+    LOADED,
+    JOINED,
+    MET,
+    RESERVED,
+    RELIABLE,
+    UNRELIABLE,
+];
+
+const COUNT: usize = SCENES.len();
+
+/// The scene at a place. A body that has much to drop doesn't name the table itself: its proof would be dear.
+fn scene_at(rt: &impl Abort, at: usize) -> Scene<'static> {
+    scene_of(rt, *SCENES.get(at).expect(rt, "a scene"))
+}
+
+/// Plays the lines of a scene, and ends its cache.
+fn played<R: Abort + Wait + Threads + Sync>(
+    rt: &R,
+    alloc: Global,
+    outside: &Outside,
+    lines: &str,
+    stage: Stage,
+) -> Vec<ClosedStripe>
+    requires { All (MayCall stage.owner.cache) stage.sessions.items }
+{
+    if lines == "putlate\n" {
+        return put_off(rt, alloc, outside, stage);
+    }
+    let mut stage = stage;
+    stage.plays(rt, alloc, outside, lines);
+    stage.close(rt, alloc)
+}
+
+#[test]
+fn plays_each_scene(rt: HostRuntime) {
+    let alloc = rt.alloc();
+    for at in 0..COUNT {
+        let scene = scene_at(&rt, at);
+        let outside = Outside::of(&rt, alloc, scene.before);
+        let mut stage = Stage::new(&rt, alloc, &scene.shape);
+        'entering: for place in 0..scene.sessions {
+            let loader = boxed!(rt, Loader, outside.loader(rt, &scene, place));
+            let writer = boxed!(rt, Writer, outside.writer(rt, alloc, &scene, place));
+            stage.enter(&rt, alloc, loader, writer);
+        }
+        let stripes = played(&rt, alloc, &outside, scene.lines, stage);
+        are_so(&rt, alloc, &outside, &stripes, scene.end);
+    }
+}
