@@ -15,6 +15,7 @@ macro_rules! boxed {
 mod closing;
 mod lines;
 mod outside;
+mod pieces;
 mod play;
 mod random;
 mod results;

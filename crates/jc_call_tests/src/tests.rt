@@ -15,8 +15,8 @@ macro_rules! boxed {
 macro_rules! enter {
     ($rt:expr, $stage:expr, $desk:expr, $manners:expr) => {{
         let manners: Manners = $manners;
-        let loader = $desk.acting(&$rt, manners.loader, $desk.loader($rt));
-        let writer = $desk.acting(&$rt, manners.writer, $desk.writer($rt));
+        let loader = $desk.actor(&$rt, manners.loader, $desk.loader($rt));
+        let writer = $desk.actor(&$rt, manners.writer, $desk.writer($rt));
         let (loader, writer) = (boxed!($rt, Loader, loader), boxed!($rt, Writer, writer));
         $stage.enter(&$rt, $rt.alloc(), loader, writer)
     }};
@@ -36,6 +36,7 @@ mod histories;
 mod invoking;
 mod limits;
 mod lines;
+mod locks;
 mod manners;
 mod meeting;
 mod mutexed;

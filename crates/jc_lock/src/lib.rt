@@ -9,8 +9,6 @@
 
 mod lock;
 mod rule;
-#[cfg(test)]
-mod tests;
 mod view;
 
 pub use lock::{HistLock, Seat};

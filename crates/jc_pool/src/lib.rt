@@ -4,7 +4,7 @@
 //! pieces. Each worker claims the next piece, does it, and claims again, until none is left. So a slow piece holds up one worker,
 //! and the others do more. The call returns once all have ended.
 //!
-//! A worker keeps in its own fields what it did, and what came of it: `Tally` in `src/tests.rt` is a small one. Workers share
+//! A worker keeps in its own fields what it did, and what came of it: `Tally` in the tests (`jc_bulk_tests`) is a small one. Workers share
 //! nothing that they write. If each of them needs something of the caller's, as a session, it is a [`WorkWith`], and
 //! [`run_pieces_with`] lends each worker the tool at its own place.
 //!
@@ -39,8 +39,6 @@
 mod counter;
 mod pool;
 mod rule;
-#[cfg(test)]
-mod tests;
 mod view;
 mod work;
 

@@ -9,14 +9,12 @@ mod ending;
 mod visiting;
 mod working;
 
-use jc_cache::{
-    Cache, CacheLoader, CacheOwner, CacheWriter, Config, EntryProcessor, Key, Session, Value,
-};
-use jc_store::{Increment, SharedCounts, SharedStore, Store};
+use jc_cache::{Cache, CacheLoader, CacheOwner, CacheWriter, Config, Key, Session, Value};
+use jc_store::{SharedCounts, SharedStore, Store};
 use std::alloc::Global;
 use std::sync::Wait;
 use std::thread::Threads;
-use working::Worker;
+use working::{Boxes, Worker};
 
 /// The shape of the cache: no entry is evicted, and no history is full.
 const CONFIG: Config = Config {
@@ -34,11 +32,10 @@ fn main(rt: HostRuntime) -> anyhow::Result<()> {
     let alloc = rt.alloc();
     let store = stocked(alloc)?;
     let counts = SharedCounts::new(alloc)?;
-    let mut owner = CacheOwner::new(alloc, &CONFIG)?;
 
-    // Each has a session, with a loader and a writer of its own. The calls of all loaders and writers are counted together.
-    let mut workers = Vec::new(alloc);
-    for name in &NAMES {
+    // Each session has a loader and a writer of its own. The calls of all loaders and writers are counted together.
+    let mut boxes = Vec::new(alloc);
+    for _ in &NAMES {
         let loader: Box<dyn CacheLoader + Send + Drop> = Box::new(
             alloc,
             counts.counting(rt, store.loader(rt)?)?,
@@ -47,18 +44,9 @@ fn main(rt: HostRuntime) -> anyhow::Result<()> {
             alloc,
             counts.counting(rt, store.writer(rt)?)?,
         )?;
-        let increment: Box<dyn EntryProcessor + Send + Drop> = Box::new(alloc, Increment)?;
-        working::enlist(
-            alloc,
-            &mut owner,
-            &mut workers,
-            name,
-            loader,
-            writer,
-            increment,
-        )?;
+        boxes.push(Boxes { loader, writer })?;
     }
-    tour(&rt, alloc, &store, &counts, owner, workers)
+    tour(&rt, alloc, &store, &counts, boxes)
 }
 
 /// The store of record, with two entries.
@@ -70,17 +58,16 @@ fn stocked(alloc: Global) -> anyhow::Result<SharedStore> {
     Ok(SharedStore::new(alloc, Store::of(alloc, &entries)?)?)
 }
 
-/// All call the cache, and then it is closed.
+/// A cache is opened, all call it, and then it is closed.
 fn tour<R: Print + Threads + Wait + Sync>(
     rt: &R,
     alloc: Global,
     store: &SharedStore,
     counts: &SharedCounts,
-    owner: CacheOwner,
-    workers: Vec<Worker>,
-) -> anyhow::Result<()>
-    requires { All (λ w. MayCall owner.cache w.session) workers.items }
-{
+    boxes: Vec<Boxes>,
+) -> anyhow::Result<()> {
+    let mut owner = CacheOwner::new(alloc, &CONFIG)?;
+    let workers = working::enlist_all(alloc, &mut owner, &NAMES, boxes)?;
     let sessions = call_all(rt, alloc, store, counts, owner.cache(), workers)?;
     ending::close(rt, alloc, owner, sessions)
 }

@@ -5,6 +5,7 @@ ghost use Rattle.jc_cache.specs.Sessions.{MayCall};
 use jc_cache::{
     Cache, CacheLoader, CacheOwner, CacheWriter, EntryProcessor, Key, Refusal, Session, Value,
 };
+use jc_store::Increment;
 use std::alloc::Global;
 use std::sync::Wait;
 use std::thread::{self, Threads};
@@ -28,23 +29,29 @@ pub struct Worker {
     pub outcome: Result<(), Refusal>,
 }
 
+/// What a session brings.
+#[derive(Drop)]
+pub struct Boxes {
+    pub loader: Box<dyn CacheLoader + Send + Drop>,
+    pub writer: Box<dyn CacheWriter + Send + Drop>,
+}
+
 impl Worker {
     /// A worker who hasn't begun. The cache stays as it was, so whoever could call it still can.
     pub fn new(
         alloc: Global,
         owner: &mut CacheOwner,
         name: &str,
-        loader: Box<dyn CacheLoader + Send + Drop>,
-        writer: Box<dyn CacheWriter + Send + Drop>,
-        increment: Box<dyn EntryProcessor + Send + Drop>,
+        boxes: Boxes,
     ) -> anyhow::Result<Worker>
         requires { Unit {0} }
         ensures cache { OnOk result (owner.new.cache ≡ owner.old.cache) }
         ensures may { IfOk result (λ w. MayCall owner.old.cache w.session) }
     {
-        // The empty condition above has this proved for whatever loader, writer and processor it is handed.
+        // The empty condition above has this proved for whatever loader and writer it is handed.
         let name = Key::new(name.as_bytes())?;
-        match owner.session(alloc, Some(loader), Some(writer)) {
+        let increment: Box<dyn EntryProcessor + Send + Drop> = Box::new(alloc, Increment)?;
+        match owner.session(alloc, Some(boxes.loader), Some(boxes.writer)) {
             Ok(session) => Ok(Worker {
                 name,
                 session,
@@ -56,20 +63,37 @@ impl Worker {
     }
 }
 
+/// A worker for each name, who can call the cache. An `Err` says why there is no further one.
+pub fn enlist_all(
+    alloc: Global,
+    owner: &mut CacheOwner,
+    names: &[&str],
+    boxes: Vec<Boxes>,
+) -> anyhow::Result<Vec<Worker>>
+    ensures { IfOk result (λ workers. All (λ w. MayCall owner.new.cache w.session) workers.items) }
+{
+    let mut boxes = boxes;
+    let mut workers = Vec::new(alloc);
+    for name in names {
+        if let Some(boxes) = boxes.pop() {
+            enlist(alloc, owner, &mut workers, name, boxes)?;
+        }
+    }
+    Ok(workers)
+}
+
 /// Adds a worker to those who can call the cache. An `Err` says why there is no further one.
-pub fn enlist(
+fn enlist(
     alloc: Global,
     owner: &mut CacheOwner,
     workers: &mut Vec<Worker>,
     name: &str,
-    loader: Box<dyn CacheLoader + Send + Drop>,
-    writer: Box<dyn CacheWriter + Send + Drop>,
-    increment: Box<dyn EntryProcessor + Send + Drop>,
+    boxes: Boxes,
 ) -> anyhow::Result<()>
     requires { All (λ w. MayCall owner.old.cache w.session) workers.old.items }
     ensures { OnOk result (All (λ w. MayCall owner.new.cache w.session) workers.new.items) }
 {
-    let worker = Worker::new(alloc, owner, name, loader, writer, increment)?;
+    let worker = Worker::new(alloc, owner, name, boxes)?;
     workers.push(worker)?;
     Ok(())
 }

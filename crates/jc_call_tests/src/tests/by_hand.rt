@@ -20,27 +20,23 @@ struct Three {
     third: Session,
 }
 
-/// Which call the first session makes, on `a`.
-enum Call {
-    Get,
-    Put,
-    /// With a processor that makes these calls.
-    Invoke(&'static str),
-}
-
-/// What is to come of it.
-struct Story {
-    /// How the first session's loader and writer behave.
-    with: &'static str,
-    call: Call,
-    /// What it is answered.
-    reply: &'static str,
-    /// What a third session does before its first phase, between its phases, and after its last one.
-    first: &'static str,
-    between: &'static str,
-    then: &'static str,
-    /// The steps of the stripe.
-    steps: &'static str,
+/// A story is a text of lines, each a part's name and what it says:
+///
+/// - `with`: how the first session's loader and writer behave;
+/// - `call`: which call the first session makes phase by phase, on `a`: `get`, `put`, or `invoke` with the processor's calls;
+/// - `reply`: what it is answered;
+/// - `first`, `between`, `then`: what a third session does before the first phase, between the phases, and after the last one;
+/// - `steps`: the steps of the stripe.
+///
+/// A part that is missing says nothing.
+fn part<'a>(story: &'a str, name: &str) -> &'a str {
+    for line in story.lines() {
+        let (first, rest) = first_word(line);
+        if first == name {
+            return rest;
+        }
+    }
+    ""
 }
 
 /// A load, phase by phase: it holds no stripe, and a second session joins it and has its answer. Before its commit nobody sees its
@@ -51,7 +47,7 @@ fn load<R: Abort + Wait>(
     desk: &Desk,
     cache: &Cache,
     sessions: &mut Three,
-    story: &Story,
+    story: &str,
 )
     requires first { MayCall cache.now sessions.old.first }
     requires second { MayCall cache.now sessions.old.second }
@@ -68,14 +64,14 @@ fn load<R: Abort + Wait>(
     let a = key(rt, "a");
     let mut ticket = reserve(rt, cache, first, &a, &Op::Get);
     let join = join_load(rt, cache, second, &a);
-    desk.plays(rt, alloc, cache, third, story.between);
+    desk.plays(rt, alloc, cache, third, part(story, "between"));
     let done = ask_loader(rt, cache, first, &mut ticket);
     let join = not_yet(rt, cache, second, join);
     sees(rt, alloc, cache, first, 1);
     let step = cache.commit_load(rt, first, ticket, done);
-    replies(rt, step.reply, story.reply);
-    picks(rt, cache, second, join, step.place, story.reply);
-    desk.plays(rt, alloc, cache, third, story.then);
+    replies(rt, step.reply, part(story, "reply"));
+    picks(rt, cache, second, join, step.place, part(story, "reply"));
+    desk.plays(rt, alloc, cache, third, part(story, "then"));
 }
 
 /// A write, phase by phase. Nobody else can change the entry meanwhile, and until the commit it is the old one.
@@ -85,7 +81,7 @@ fn write<R: Abort + Wait>(
     desk: &Desk,
     cache: &Cache,
     sessions: &mut Three,
-    story: &Story,
+    story: &str,
 )
     requires first { MayCall cache.now sessions.old.first }
     requires second { MayCall cache.now sessions.old.second }
@@ -100,14 +96,14 @@ fn write<R: Abort + Wait>(
         third,
     } = sessions;
     let a = key(rt, "a");
-    desk.plays(rt, alloc, cache, third, story.first);
+    desk.plays(rt, alloc, cache, third, part(story, "first"));
     let mut ticket = reserve(rt, cache, first, &a, &Op::Put(value(rt, "5")));
     is_busy(rt, cache, second, &a, &Op::Remove);
     let done = ask_writer(rt, cache, first, &mut ticket);
-    desk.plays(rt, alloc, cache, third, story.between);
+    desk.plays(rt, alloc, cache, third, part(story, "between"));
     let step = cache.commit_write(rt, first, ticket, done);
-    replies(rt, step.reply, story.reply);
-    desk.plays(rt, alloc, cache, third, story.then);
+    replies(rt, step.reply, part(story, "reply"));
+    desk.plays(rt, alloc, cache, third, part(story, "then"));
 }
 
 /// A processor and its writer, phase by phase.
@@ -117,7 +113,7 @@ fn process<R: Abort + Wait>(
     desk: &Desk,
     cache: &Cache,
     sessions: &mut Three,
-    story: &Story,
+    story: &str,
     calls: &str,
 )
     requires first { MayCall cache.now sessions.old.first }
@@ -133,16 +129,16 @@ fn process<R: Abort + Wait>(
         third,
     } = sessions;
     let a = key(rt, "a");
-    desk.plays(rt, alloc, cache, third, story.first);
+    desk.plays(rt, alloc, cache, third, part(story, "first"));
     let mut ticket = reserve(rt, cache, first, &a, &Op::Invoke);
     is_busy(rt, cache, second, &a, &Op::Put(value(rt, "5")));
     let mut processor = processor_of(rt, alloc, calls);
     let done = run(rt, cache, first, &mut ticket, &mut processor);
     let report = report(rt, cache, first, &mut ticket, &done);
-    desk.plays(rt, alloc, cache, third, story.between);
+    desk.plays(rt, alloc, cache, third, part(story, "between"));
     let step = cache.commit_process(rt, first, ticket, done, report);
-    replies(rt, step.reply, story.reply);
-    desk.plays(rt, alloc, cache, third, story.then);
+    replies(rt, step.reply, part(story, "reply"));
+    desk.plays(rt, alloc, cache, third, part(story, "then"));
 }
 
 /// The first session makes the story's call by hand, with other sessions' calls between its phases.
@@ -152,7 +148,7 @@ fn play<R: Abort + Wait>(
     desk: &Desk,
     cache: &Cache,
     sessions: &mut Three,
-    story: &Story,
+    story: &str,
 )
     requires first { MayCall cache.now sessions.old.first }
     requires second { MayCall cache.now sessions.old.second }
@@ -161,10 +157,11 @@ fn play<R: Abort + Wait>(
     ensures second { IsOf cache.now sessions.new.second }
     ensures third { IsOf cache.now sessions.new.third }
 {
-    match story.call {
-        Call::Get => load(rt, alloc, desk, cache, sessions, story),
-        Call::Put => write(rt, alloc, desk, cache, sessions, story),
-        Call::Invoke(calls) => process(rt, alloc, desk, cache, sessions, story, calls),
+    match first_word(part(story, "call")) {
+        ("get", _) => load(rt, alloc, desk, cache, sessions, story),
+        ("put", _) => write(rt, alloc, desk, cache, sessions, story),
+        ("invoke", calls) => process(rt, alloc, desk, cache, sessions, story, calls),
+        (other, _) => panic!(rt; "no call: {other}"),
     }
 }
 
@@ -218,7 +215,7 @@ fn played<R: Abort + Wait>(
     desk: &Desk,
     cache: &Cache,
     sessions: Vec<Session>,
-    story: &Story,
+    story: &str,
 ) -> Vec<Session>
     requires { All (MayCall cache.now) sessions.items }
     ensures { All (λ s. IsOf cache.now s) result.items }
@@ -229,81 +226,79 @@ fn played<R: Abort + Wait>(
 }
 
 /// Plays a story on a stage of three sessions, and ends the cache.
-fn tell<R: Abort + Wait>(rt: &R, alloc: Global, desk: &Desk, stage: Stage, story: &Story)
+fn tell<R: Abort + Wait>(rt: &R, alloc: Global, desk: &Desk, stage: Stage, story: &str)
     requires { All (MayCall stage.owner.cache) stage.sessions.items }
 {
     let (owner, sessions) = stage.into_parts();
     let sessions = played(rt, alloc, desk, owner.cache(), sessions, story);
     let stripes = closed(rt, alloc, owner, sessions);
     let first = stripes.first().expect(rt, "a stripe");
-    are_steps(rt, alloc, first, story.steps);
+    are_steps(rt, alloc, first, part(story, "steps"));
 }
 
 /// The first session's loader fails with 7, and its writer with 9, in the second three. A load that failed is also the answer of who
 /// has joined it; a write that failed leaves the entry.
-const STORIES: [Story; 6] = [
-    Story {
-        with: "plain plain",
-        call: Call::Get,
-        reply: "1",
-        first: "",
-        between: "get b = 2 | 1 0 0; tryput a 5 = Busy",
-        then: "get a = 1 | 2 0 0",
-        steps: "2 b 2, 0 a 1, 1 a 1, 2 a 1",
-    },
-    Story {
-        with: "plain plain",
-        call: Call::Put,
-        reply: "ok",
-        first: "get a = 1 | 1 0 0",
-        between: "stored a=5 b=2; get a = 1 | 1 1 0",
-        then: "get a = 5 | 1 1 0",
-        steps: "2 a 1, 2 a 1, 0 a ok, 2 a 5",
-    },
-    Story {
-        with: "plain plain",
-        call: Call::Invoke("get set=4"),
-        reply: "1",
-        first: "get b = 2 | 1 0 0",
-        between: "stored a=4 b=2; contains a = false | 2 1 0",
-        then: "get a = 4 | 2 1 0",
-        steps: "2 b 2, 2 a false, 0 a 1, 2 a 4",
-    },
-    Story {
-        with: "fails7 fails9",
-        call: Call::Get,
-        reply: "LoaderFailed 7",
-        first: "",
-        between: "get b = 2 | 1 0 0; tryput a 5 = Busy",
-        then: "get a = 1 | 2 0 0",
-        steps: "2 b 2, 0 a LoaderFailed 7, 1 a LoaderFailed 7, 2 a 1",
-    },
-    Story {
-        with: "fails7 fails9",
-        call: Call::Put,
-        reply: "WriterFailed 9",
-        first: "get a = 1 | 1 0 0",
-        between: "stored a=1 b=2; get a = 1 | 1 0 0",
-        then: "get a = 1 | 1 0 0",
-        steps: "2 a 1, 2 a 1, 0 a WriterFailed 9, 2 a 1",
-    },
-    Story {
-        with: "fails7 fails9",
-        call: Call::Invoke("set=4 get"),
-        reply: "WriterFailed 9",
-        first: "get b = 2 | 1 0 0",
-        between: "stored a=1 b=2; contains a = false | 1 0 0",
-        then: "get a = 1 | 2 0 0",
-        steps: "2 b 2, 2 a false, 0 a WriterFailed 9, 2 a 1",
-    },
+const STORIES: [&str; 6] = [
+    "\
+with plain plain
+call get
+reply 1
+between get b = 2 | 1 0 0; tryput a 5 = Busy
+then get a = 1 | 2 0 0
+steps 2 b 2, 0 a 1, 1 a 1, 2 a 1
+",
+    "\
+with plain plain
+call put
+reply ok
+first get a = 1 | 1 0 0
+between stored a=5 b=2; get a = 1 | 1 1 0
+then get a = 5 | 1 1 0
+steps 2 a 1, 2 a 1, 0 a ok, 2 a 5
+",
+    "\
+with plain plain
+call invoke get set=4
+reply 1
+first get b = 2 | 1 0 0
+between stored a=4 b=2; contains a = false | 2 1 0
+then get a = 4 | 2 1 0
+steps 2 b 2, 2 a false, 0 a 1, 2 a 4
+",
+    "\
+with fails7 fails9
+call get
+reply LoaderFailed 7
+between get b = 2 | 1 0 0; tryput a 5 = Busy
+then get a = 1 | 2 0 0
+steps 2 b 2, 0 a LoaderFailed 7, 1 a LoaderFailed 7, 2 a 1
+",
+    "\
+with fails7 fails9
+call put
+reply WriterFailed 9
+first get a = 1 | 1 0 0
+between stored a=1 b=2; get a = 1 | 1 0 0
+then get a = 1 | 1 0 0
+steps 2 a 1, 2 a 1, 0 a WriterFailed 9, 2 a 1
+",
+    "\
+with fails7 fails9
+call invoke set=4 get
+reply WriterFailed 9
+first get b = 2 | 1 0 0
+between stored a=1 b=2; contains a = false | 1 0 0
+then get a = 1 | 2 0 0
+steps 2 b 2, 2 a false, 0 a WriterFailed 9, 2 a 1
+",
 ];
 
 /// How the loader and the writer of the session at this place behave.
-fn manners(rt: &impl Abort, story: &Story, place: usize) -> Manners {
+fn manners(rt: &impl Abort, story: &str, place: usize) -> Manners {
     if place > 0 {
         return Manners::PLAIN;
     }
-    Manners::of(rt, story.with)
+    Manners::of(rt, part(story, "with"))
 }
 
 #[test]

@@ -1,5 +1,5 @@
 //! A store whose loaders and writers count their calls, with signals between threads.
-use super::manners::Acting;
+use super::manners::Actor;
 use super::signals::Signals;
 use super::*;
 use jc_cache::ClosedStripe;
@@ -25,8 +25,8 @@ impl Desk {
     }
 
     /// A loader or a writer that makes the calls of this one, and behaves so.
-    pub fn acting<T: Drop>(&self, rt: &impl Abort, manner: Manner, inner: T) -> Acting<T> {
-        Acting::new(manner, self.signals.again(rt), inner)
+    pub fn actor<T: Drop>(&self, rt: &impl Abort, manner: Manner, inner: T) -> Actor<T> {
+        Actor::new(manner, self.signals.again(rt), inner)
     }
 
     /// A loader from the store, which counts its calls.

@@ -69,16 +69,16 @@ impl Manner {
 
 /// A loader or a writer that makes the calls of another one, as its manner allows.
 #[derive(Drop)]
-pub struct Acting<T> {
+pub struct Actor<T> {
     manner: Manner,
     signals: Signals,
     calls: u32,
     inner: T,
 }
 
-impl<T> Acting<T> {
+impl<T> Actor<T> {
     pub fn new(manner: Manner, signals: Signals, inner: T) -> Self {
-        Acting {
+        Actor {
             manner,
             signals,
             calls: 0,
@@ -112,7 +112,7 @@ impl<T> Acting<T> {
     }
 }
 
-impl<L: CacheLoader> CacheLoader for Acting<L> {
+impl<L: CacheLoader> CacheLoader for Actor<L> {
     ghost load_state = { λ l. L.load_state l.inner };
 
     ghost loads = { λ l key answer after. Unit {0} };
@@ -133,7 +133,7 @@ impl<L: CacheLoader> CacheLoader for Acting<L> {
     }
 }
 
-impl<W: CacheWriter> CacheWriter for Acting<W> {
+impl<W: CacheWriter> CacheWriter for Actor<W> {
     ghost write_state = { λ w. W.write_state w.inner };
 
     ghost writes = { λ w key change answer after. Unit {0} };

@@ -1,4 +1,6 @@
 //! A stripe under a `Mutex`, whose threads make calls of phases of their own.
+ghost use Rattle.std.specs.Prelude.{◌≡◌, []};
+
 use super::*;
 use jc_gate::{Gate, MutexGate};
 use jc_model::{Op, legal};
@@ -9,11 +11,13 @@ use std::thread;
 /// How many calls each session makes.
 const CALLS: u64 = 300;
 
-/// A stripe under a `Mutex`, in the shape that is checked.
-fn gated(rt: &impl Abort, alloc: Global, config: &Config) -> MutexGate {
+/// A stripe of this shape, with nothing in it.
+pub fn new_stripe(rt: &impl Abort, alloc: Global, config: &Config) -> Box<Stripe>
+    ensures { result.value.history ≡ [] }
+{
     config.check().expect(rt, "a shape");
     let stripe = Stripe::new(alloc, config, 0, Origin::Live).expect(rt, "memory");
-    MutexGate::new(Box::new(alloc, stripe).expect(rt, "memory"))
+    Box::new(alloc, stripe).expect(rt, "memory")
 }
 
 /// Takes the stripe, puts a value, and gives the stripe back.
@@ -42,7 +46,7 @@ fn put_often<R: Abort + Wait>(rt: &R, gate: &MutexGate, session: u32) {
 fn threads_put_under_a_mutex(rt: HostRuntime) {
     let alloc = rt.alloc();
     let config = config(2_000, false, false);
-    let gate = gated(&rt, alloc, &config);
+    let gate = MutexGate::new(new_stripe(&rt, alloc, &config));
     let mut sessions = [0u32, 1, 2];
     thread::for_each_mut(
         &rt,

@@ -1,7 +1,7 @@
 use Rattle.std.proofs.Common.{◌<◌, ◌≤◌, All, vec_len, vec_capacity, sym, subst}
-use Rattle.jc_pool.specs.declared.tests.Tally.{Tally}
+use Rattle.jc_bulk_tests.specs.declared.tests.pieces.Tally.{Tally}
 use Rattle.jc_pool.specs.Shares.{CanDoAll}
-use Rattle.jc_pool.proofs.tests.share.Goals as goal
+use Rattle.jc_bulk_tests.proofs.tests.pieces.share.Goals as goal
 
 pub run_pieces-requires-clause-able : goal.run_pieces-requires-clause-able
 run_pieces-requires-clause-able g c κs within =

@@ -1,8 +1,8 @@
 use Rattle.std.proofs.Common.{◌≡◌, ◌<◌, ◌≤◌, [], ◌∷◌, ◌++◌, All, vec_len, vec_capacity, sym, subst, rules}
 use Rattle.std.proofs.lemmas.List.Elements.{All-push}
-use Rattle.jc_pool.specs.declared.tests.Tally.{Tally}
+use Rattle.jc_bulk_tests.specs.declared.tests.pieces.Tally.{Tally}
 use Rattle.jc_pool.specs.Shares.{CanDoAll}
-use Rattle.jc_pool.proofs.tests.team.Goals as goal
+use Rattle.jc_bulk_tests.proofs.tests.pieces.team.Goals as goal
 
 pub making-preserved : goal.making-preserved
 making-preserved g c =

@@ -1,8 +1,8 @@
 use Rattle.std.proofs.Common.{◌<◌, ◌≤◌, All, vec_len, vec_capacity, sym, subst, rules}
-use Rattle.jc_pool.specs.declared.tests.Tally.{Tally}
+use Rattle.jc_bulk_tests.specs.declared.tests.pieces.Tally.{Tally}
 use Rattle.jc_pool.specs.Shares.{CanDoAll}
-use Rattle.jc_pool.proofs.Shares.{all_with_tools}
-use Rattle.jc_pool.proofs.tests.share_with_tools.Goals as goal
+use Rattle.jc_pool.proofs.CallerLemmas.{all_with_tools}
+use Rattle.jc_bulk_tests.proofs.tests.pieces.share_with_tools.Goals as goal
 
 pub run_pieces_with-requires-clause-able : goal.run_pieces_with-requires-clause-able
 run_pieces_with-requires-clause-able g c κs within =

@@ -1,11 +1,9 @@
-//! Workers on threads.
+//! Workers on threads, each of which notes the pieces of a job that it was given.
 ghost use Rattle.std.specs.Prelude.{◌≡◌, ℕ, ◌+◌, ◌^◌, ◌<◌, ◌≤◌, ◌++◌, [], ◌∷◌, All, vec_len, vec_capacity};
 ghost use Rattle.jc_pool.specs.Shares.{CanDoAll};
 
-use crate::{Work, WorkWith, run_pieces, run_pieces_with};
-use std::alloc::Global;
-use std::process::Abort;
-use std::test::Fail;
+use super::*;
+use jc_pool::{Work, WorkWith, run_pieces, run_pieces_with};
 use std::thread::Threads;
 
 /// Does nothing but note which pieces it is given.
@@ -82,7 +80,7 @@ fn share<R: Abort + Threads + Sync>(rt: &R, alloc: Global, workers: usize, piece
     let done = team
         .iter()
         .fold(0usize, |n, w| n.saturating_add(w.done.len()));
-    assert_eq!(rt; done, pieces);
+    is(rt, done, pieces);
 }
 
 /// The same with a tool for each worker.
@@ -96,26 +94,15 @@ fn share_with_tools<R: Abort + Threads + Sync>(rt: &R, alloc: Global, workers: u
         rt, "memory",
     );
     let all = turns.iter().fold(0u64, |n, t| n.saturating_add(*t));
-    assert_eq!(rt; all, pieces as u64);
+    is(rt, all, pieces as u64);
 }
 
+/// Several workers; one; nothing to do; more workers than pieces.
 #[test]
-fn three_workers_share_twenty_pieces(rt: HostRuntime) {
+fn each_piece_is_done_by_one_worker(rt: HostRuntime) {
     share(&rt, rt.alloc(), 3, 20);
-}
-
-#[test]
-fn one_worker_does_all_pieces(rt: HostRuntime) {
     share(&rt, rt.alloc(), 1, 500);
-}
-
-#[test]
-fn there_may_be_no_pieces(rt: HostRuntime) {
     share(&rt, rt.alloc(), 4, 0);
-}
-
-#[test]
-fn there_may_be_more_workers_than_pieces(rt: HostRuntime) {
     share(&rt, rt.alloc(), 9, 2);
 }
 
