@@ -7,6 +7,7 @@ use crate::pairs::Pairs;
 use jc_model::Op;
 use jc_types::{Config, Key, Value};
 use jc_world::process::{EntryCalls, LoadSource};
+use std::mem;
 
 /// One operation on one key.
 #[derive(Clone, Copy, Debug, PartialEq, Eq)]
@@ -94,10 +95,13 @@ pub enum Line {
     Audit,
 }
 
-/// Leaves `new` in `line`. What was there is let go of, in this one function: a line owns memory, and the prover would go through all its
-/// variants at each place that overwrites one.
+/// Leaves `new` in `line`, and lets go of what was there.
 pub(crate) fn put_line(line: &mut Line, new: Line)
     ensures { line.new ≡ new }
 {
-    *line = new;
+    drop_line(mem::replace(line, new));
 }
+
+/// Lets go of a line, in this one function: a line owns memory, and the prover would go through all its variants at each place that drops
+/// one.
+pub(crate) fn drop_line(_line: Line) {}
