@@ -9,11 +9,12 @@ use super::{audits, differs, key_of, opened_world, value_of};
 use jc_model::{LoadAnswer, Op};
 use jc_types::Key;
 use jc_world::command::Command;
-use jc_world::event::{Outcome, Over, WorldEvent};
+use jc_world::event::{Outcome, Over, Shown, WorldEvent};
 use jc_world::reports::LeftKeys;
 use jc_world::world::World;
 use std::alloc::Global;
 use std::process::Abort;
+use std::slice;
 
 /// The events of a call that is under way.
 const EVENTS: &str = "start read say change report commit withdraw leave pickup";
@@ -99,18 +100,25 @@ fn word_of(outcome: &Outcome) -> &'static str {
     }
 }
 
+/// What one event shows.
+pub fn shown_of(rt: &impl Abort, alloc: Global, world: &mut World, event: &WorldEvent) -> Shown {
+    let mut seen = Vec::new(alloc);
+    world
+        .play(slice::from_ref(event), &mut seen)
+        .expect(rt, "memory");
+    seen.pop().expect(rt, "what is shown")
+}
+
 /// Plays one event, which is to show this. Gives the call that is over with it, if one is.
 pub fn shows(
     rt: &impl Abort,
     alloc: Global,
     world: &mut World,
-    event: WorldEvent,
+    event: &WorldEvent,
     word: &str,
     line: &str,
 ) -> Option<Over> {
-    let mut seen = Vec::new(alloc);
-    world.play(&[event], &mut seen).expect(rt, "memory");
-    let shown = seen.pop().expect(rt, "what is shown");
+    let shown = shown_of(rt, alloc, world, event);
     assert!(rt; word_of(&shown.outcome) == word, "{line}");
     shown.over
 }
@@ -130,7 +138,7 @@ fn fit(
         let fits = fitting.contains(name);
         assert!(rt; world.fits(&event) == fits, "{name} after {line}");
         if !fits {
-            shows(rt, alloc, world, event, "unfit", line);
+            shows(rt, alloc, world, &event, "unfit", line);
         }
     }
 }
@@ -144,14 +152,8 @@ pub fn plays(rt: &impl Abort, alloc: Global, world: &mut World, course: &str) ->
         let (name, event) = event.split_once(' ').expect(rt, "a name");
         let (number, key) = event.split_once(' ').expect(rt, "a number");
         let key = key_of(rt, key);
-        over = shows(
-            rt,
-            alloc,
-            world,
-            event_of(rt, alloc, name, number, key),
-            word,
-            line,
-        );
+        let event = event_of(rt, alloc, name, number, key);
+        over = shows(rt, alloc, world, &event, word, line);
         fit(rt, alloc, world, number, key, fitting, line);
     }
     over

@@ -15,7 +15,7 @@ fn clears(rt: &impl Abort, alloc: Global, world: &mut World) {
         session: 9,
         command: Command::Clear,
     };
-    shows(rt, alloc, world, begin, "begun", "the call");
+    shows(rt, alloc, world, &begin, "begun", "the call");
 }
 
 /// Call 9 looks at a stripe, which is to show this. Gives the call that is over with it, if one is.
@@ -26,14 +26,8 @@ fn looks(
     stripe: usize,
     word: &str,
 ) -> Option<Over> {
-    shows(
-        rt,
-        alloc,
-        world,
-        WorldEvent::Look { call: 9, stripe },
-        word,
-        "the look",
-    )
+    let look = WorldEvent::Look { call: 9, stripe };
+    shows(rt, alloc, world, &look, word, "the look")
 }
 
 /// Whether call 9 is still to look at a stripe.

@@ -1,4 +1,5 @@
 //! Long runs of random events with a fixed seed, compared with a plain reading of their order.
+use super::courses::shown_of;
 use super::{config, key_at, key_of, value_of};
 use indexmap::{IndexMap, IndexSet};
 use jc_model::{Event, LoadAnswer, Op, Out, Reply, legal};
@@ -387,17 +388,21 @@ impl Run {
         rt: &impl Abort,
         alloc: Global,
         world: &mut World,
-        event: WorldEvent,
+        event: &WorldEvent,
     ) -> Shown {
         let keys = self.pinned(rt, alloc, world);
-        let mut seen = Vec::new(alloc);
-        world.play(&[event], &mut seen).expect(rt, "memory");
-        let shown = seen.pop().expect(rt, "what is shown");
+        let shown = shown_of(rt, alloc, world, event);
         // No other event appends: what one did would be read as part of the next step, and not agree.
         if matches!(&shown.outcome, Outcome::Stepped(_)) {
             let order = world.order(alloc).expect(rt, "memory");
             self.shelf.reads_phase(rt, &order, &keys);
         }
+        self.counts(rt, world, &shown);
+        shown
+    }
+
+    /// Counts what was shown.
+    fn counts(&mut self, rt: &impl Abort, world: &World, shown: &Shown) {
         if let Some(count) = self.shown.get_mut(kind(&shown.outcome)) {
             *count = count.saturating_add(1);
         }
@@ -408,39 +413,58 @@ impl Run {
             assert!(rt; world.open_call(over.call).is_none(), "it is over");
             self.over = self.over.saturating_add(1);
         }
-        shown
     }
 
     /// The next event of a session: of its call, or a call with this number and a first phase.
     fn goes_on(&mut self, rt: &impl Abort, alloc: Global, world: &mut World, number: u64) {
         let place = self.rng.next(5);
-        let session = place as u32 + 1;
-        let any = self.rng.key(rt);
-        let slot = self.calls.get_mut(place as usize).expect(rt, "a session");
-        if world.is_busy(session) {
-            let (call, key) = *slot;
-            let event = self.rng.event(rt, alloc, call, key.unwrap_or(any));
-            let shown = self.plays(rt, alloc, world, event);
-            if key.is_none() && matches!(&shown.outcome, Outcome::Left) {
-                self.left = self.left.saturating_add(1);
-            }
-            return;
+        if world.is_busy(place as u32 + 1) {
+            self.continues(rt, alloc, world, place);
+        } else {
+            self.begins(rt, alloc, world, place, number);
         }
+    }
+
+    /// An event of the call that the session at this place has under way.
+    fn continues(&mut self, rt: &impl Abort, alloc: Global, world: &mut World, place: u8) {
+        let any = self.rng.key(rt);
+        let (call, key) = *self.calls.get(place as usize).expect(rt, "a session");
+        let event = self.rng.event(rt, alloc, call, key.unwrap_or(any));
+        let shown = self.plays(rt, alloc, world, &event);
+        if key.is_none() && matches!(&shown.outcome, Outcome::Left) {
+            self.left = self.left.saturating_add(1);
+        }
+    }
+
+    /// A call of the session at this place, with this number, and a first phase.
+    fn begins(
+        &mut self,
+        rt: &impl Abort,
+        alloc: Global,
+        world: &mut World,
+        place: u8,
+        number: u64,
+    ) {
+        let any = self.rng.key(rt);
         let command = self.rng.command(rt, alloc);
         let key = key_of_single(&command);
-        *slot = (number, key);
+        *self.calls.get_mut(place as usize).expect(rt, "a session") = (number, key);
         if key.is_none() {
             self.begun = self.begun.saturating_add(1);
         }
         let call = WorldEvent::Call {
             call: number,
-            session,
+            session: place as u32 + 1,
             command,
         };
-        let shown = self.plays(rt, alloc, world, call);
+        let shown = self.plays(rt, alloc, world, &call);
         assert!(rt; matches!(&shown.outcome, Outcome::Begun), "a call fits");
-        let key = key.unwrap_or(any);
-        self.plays(rt, alloc, world, WorldEvent::Start { call: number, key });
+        self.starts(rt, alloc, world, number, key.unwrap_or(any));
+    }
+
+    /// The first phase of a call at a key.
+    fn starts(&mut self, rt: &impl Abort, alloc: Global, world: &mut World, call: u64, key: Key) {
+        self.plays(rt, alloc, world, &WorldEvent::Start { call, key });
     }
 
     /// The history of each stripe is legal, and the entries are what is read of the order.
