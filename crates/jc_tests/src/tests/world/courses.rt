@@ -14,7 +14,6 @@ use jc_world::reports::LeftKeys;
 use jc_world::world::World;
 use std::alloc::Global;
 use std::process::Abort;
-use std::slice;
 
 /// The events of a call that is under way.
 const EVENTS: &str = "start read say change report commit withdraw leave pickup";
@@ -68,7 +67,7 @@ fn op_of(rt: &impl Abort, name: &str, number: &str) -> Op {
 }
 
 /// A word for an outcome.
-fn word_of(outcome: &Outcome) -> &'static str {
+pub fn word_of(outcome: &Outcome) -> &'static str {
     match outcome {
         Outcome::Begun => "begun",
         Outcome::Looked => "looked",
@@ -100,12 +99,10 @@ fn word_of(outcome: &Outcome) -> &'static str {
     }
 }
 
-/// What one event shows.
-pub fn shown_of(rt: &impl Abort, alloc: Global, world: &mut World, event: &WorldEvent) -> Shown {
+/// What one event shows. It is let go of here: an event owns memory, and the prover goes through all its variants where one is dropped.
+pub fn shown_of(rt: &impl Abort, alloc: Global, world: &mut World, event: WorldEvent) -> Shown {
     let mut seen = Vec::new(alloc);
-    world
-        .play(slice::from_ref(event), &mut seen)
-        .expect(rt, "memory");
+    world.play(&[event], &mut seen).expect(rt, "memory");
     seen.pop().expect(rt, "what is shown")
 }
 
@@ -114,7 +111,7 @@ pub fn shows(
     rt: &impl Abort,
     alloc: Global,
     world: &mut World,
-    event: &WorldEvent,
+    event: WorldEvent,
     word: &str,
     line: &str,
 ) -> Option<Over> {
@@ -122,6 +119,8 @@ pub fn shows(
     assert!(rt; word_of(&shown.outcome) == word, "{line}");
     shown.over
 }
+
+fn let_go(_event: WorldEvent) {}
 
 /// Of the events with this call and this key exactly these fit.
 fn fit(
@@ -137,8 +136,10 @@ fn fit(
         let event = event_of(rt, alloc, name, number, key);
         let fits = fitting.contains(name);
         assert!(rt; world.fits(&event) == fits, "{name} after {line}");
-        if !fits {
-            shows(rt, alloc, world, &event, "unfit", line);
+        if fits {
+            let_go(event);
+        } else {
+            shows(rt, alloc, world, event, "unfit", line);
         }
     }
 }
@@ -153,7 +154,7 @@ pub fn plays(rt: &impl Abort, alloc: Global, world: &mut World, course: &str) ->
         let (number, key) = event.split_once(' ').expect(rt, "a number");
         let key = key_of(rt, key);
         let event = event_of(rt, alloc, name, number, key);
-        over = shows(rt, alloc, world, &event, word, line);
+        over = shows(rt, alloc, world, event, word, line);
         fit(rt, alloc, world, number, key, fitting, line);
     }
     over

@@ -15,7 +15,7 @@ fn clears(rt: &impl Abort, alloc: Global, world: &mut World) {
         session: 9,
         command: Command::Clear,
     };
-    shows(rt, alloc, world, &begin, "begun", "the call");
+    shows(rt, alloc, world, begin, "begun", "the call");
 }
 
 /// Call 9 looks at a stripe, which is to show this. Gives the call that is over with it, if one is.
@@ -27,7 +27,7 @@ fn looks(
     word: &str,
 ) -> Option<Over> {
     let look = WorldEvent::Look { call: 9, stripe };
-    shows(rt, alloc, world, &look, word, "the look")
+    shows(rt, alloc, world, look, word, "the look")
 }
 
 /// Whether call 9 is still to look at a stripe.

@@ -26,7 +26,7 @@ fn begins(
         session: 1,
         command: Command::InvokeAll { keys },
     };
-    shows(rt, alloc, world, &begin, word, "the call");
+    shows(rt, alloc, world, begin, word, "the call");
 }
 
 /// The processor of call 1 makes this call at a key, which is to show this.
@@ -47,7 +47,7 @@ fn processes(
         calls,
         fail: None,
     };
-    shows(rt, alloc, world, &process, word, name);
+    shows(rt, alloc, world, process, word, name);
 }
 
 /// The processor of call 1 sets 7 at a key, which is to show this.
@@ -106,7 +106,7 @@ fn leaves(rt: &impl Abort, alloc: Global, world: &mut World, name: &str) {
         left,
         fault: None,
     };
-    shows(rt, alloc, world, &report, "undone", "the report");
+    shows(rt, alloc, world, report, "undone", "the report");
 }
 
 /// An `invokeAll` has the writer asked twice: for its writes, once each processor has run, and then for its deletes. What the first
@@ -161,7 +161,7 @@ fn commits_what_the_writer_did_not_leave(rt: HostRuntime) {
         session,
         command,
     };
-    shows(&rt, alloc, &mut world, &begin, "begun", "the call");
+    shows(&rt, alloc, &mut world, begin, "begun", "the call");
     plays(&rt, alloc, &mut world, BATCH_CHANGED);
     leaves(&rt, alloc, &mut world, "b");
     let over = plays(&rt, alloc, &mut world, BATCH_COMMITTED);

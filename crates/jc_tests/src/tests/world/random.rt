@@ -1,5 +1,5 @@
 //! Long runs of random events with a fixed seed, compared with a plain reading of their order.
-use super::courses::shown_of;
+use super::courses::{shown_of, word_of};
 use super::{config, key_at, key_of, value_of};
 use indexmap::{IndexMap, IndexSet};
 use jc_model::{Event, LoadAnswer, Op, Out, Reply, legal};
@@ -382,14 +382,14 @@ impl Run {
             .any(|(call, _key)| world.is_reserved(*call, key))
     }
 
-    /// Plays one event, reads what it appended, and counts what it shows.
+    /// Plays one event, reads what it appended, and counts what it shows. It gives a word for that.
     fn plays(
         &mut self,
         rt: &impl Abort,
         alloc: Global,
         world: &mut World,
-        event: &WorldEvent,
-    ) -> Shown {
+        event: WorldEvent,
+    ) -> &'static str {
         let keys = self.pinned(rt, alloc, world);
         let shown = shown_of(rt, alloc, world, event);
         // No other event appends: what one did would be read as part of the next step, and not agree.
@@ -398,7 +398,7 @@ impl Run {
             self.shelf.reads_phase(rt, &order, &keys);
         }
         self.counts(rt, world, &shown);
-        shown
+        word_of(&shown.outcome)
     }
 
     /// Counts what was shown.
@@ -430,8 +430,8 @@ impl Run {
         let any = self.rng.key(rt);
         let (call, key) = *self.calls.get(place as usize).expect(rt, "a session");
         let event = self.rng.event(rt, alloc, call, key.unwrap_or(any));
-        let shown = self.plays(rt, alloc, world, &event);
-        if key.is_none() && matches!(&shown.outcome, Outcome::Left) {
+        let word = self.plays(rt, alloc, world, event);
+        if key.is_none() && word == "left" {
             self.left = self.left.saturating_add(1);
         }
     }
@@ -457,14 +457,14 @@ impl Run {
             session: place as u32 + 1,
             command,
         };
-        let shown = self.plays(rt, alloc, world, &call);
-        assert!(rt; matches!(&shown.outcome, Outcome::Begun), "a call fits");
+        let word = self.plays(rt, alloc, world, call);
+        assert!(rt; word == "begun", "a call fits");
         self.starts(rt, alloc, world, number, key.unwrap_or(any));
     }
 
     /// The first phase of a call at a key.
     fn starts(&mut self, rt: &impl Abort, alloc: Global, world: &mut World, call: u64, key: Key) {
-        self.plays(rt, alloc, world, &WorldEvent::Start { call, key });
+        self.plays(rt, alloc, world, WorldEvent::Start { call, key });
     }
 
     /// The history of each stripe is legal, and the entries are what is read of the order.
