@@ -90,7 +90,7 @@ fn a_stripe_that_is_held_is_not_taken(rt: HostRuntime) {
     let (lock, mut first) = open(&rt, rt.alloc());
     let mut other = lock.split(&mut first);
     let stripe = lock.try_take(&mut first).expect(&rt, "a free stripe");
-    is(&rt, lock.try_take(&mut other).is_none(), true);
+    assert!(&rt; lock.try_take(&mut other).is_none(), "it is held");
     lock.give(&mut first, stripe);
     lock.tell(&mut first, &mut other);
     let stripe = lock.try_take(&mut other).expect(&rt, "a free stripe");
