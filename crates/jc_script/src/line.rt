@@ -95,13 +95,10 @@ pub enum Line {
     Audit,
 }
 
-/// Leaves `new` in `line`, and lets go of what was there.
+/// Leaves `new` in `line`, and lets go of what was there by `drop`: a line owns memory, and the prover would go through all its variants at
+/// each place that overwrites one.
 pub(crate) fn put_line(line: &mut Line, new: Line)
     ensures { line.new ≡ new }
 {
-    drop_line(mem::replace(line, new));
+    drop(mem::replace(line, new));
 }
-
-/// Lets go of a line, in this one function: a line owns memory, and the prover would go through all its variants at each place that drops
-/// one.
-pub(crate) fn drop_line(_line: Line) {}

@@ -16,7 +16,7 @@ use self::acting::act_on;
 use self::beginning::{play_begin, play_bulk};
 use crate::fault::{Fault, ReadError};
 use crate::grammar::read;
-use crate::line::{Line, drop_line};
+use crate::line::Line;
 use crate::print_audit::put_audit;
 use crate::print_lines::put_fault_code;
 use crate::print_shown::put_texts;
@@ -89,7 +89,7 @@ impl<'a> Player<'a> {
             line,
             buffers: _buffers,
         } = self;
-        drop_line(line);
+        drop(line);
         close(world);
     }
 }

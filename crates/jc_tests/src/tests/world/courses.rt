@@ -99,7 +99,7 @@ pub fn word_of(outcome: &Outcome) -> &'static str {
     }
 }
 
-/// What one event shows. It is let go of here: an event owns memory, and the prover goes through all its variants where one is dropped.
+/// What one event shows.
 pub fn shown_of(rt: &impl Abort, alloc: Global, world: &mut World, event: WorldEvent) -> Shown {
     let mut seen = Vec::new(alloc);
     world.play(&[event], &mut seen).expect(rt, "memory");
@@ -120,8 +120,6 @@ pub fn shows(
     shown.over
 }
 
-fn let_go(_event: WorldEvent) {}
-
 /// Of the events with this call and this key exactly these fit.
 fn fit(
     rt: &impl Abort,
@@ -137,7 +135,7 @@ fn fit(
         let fits = fitting.contains(name);
         assert!(rt; world.fits(&event) == fits, "{name} after {line}");
         if fits {
-            let_go(event);
+            drop(event);
         } else {
             shows(rt, alloc, world, event, "unfit", line);
         }
