@@ -34,7 +34,7 @@ module _ {A : Type 0} (key_of : A → Bytes) (left : List Bytes) (fault : Option
       → AreOutcomes left fault (key ∷ map key_of (reverse rest)) written failed
   next_outcomes before rest ask key written failed last is outcomes =
       subst (λ k. AreOutcomes left fault (k ∷ map key_of (reverse rest)) written failed) (sym is)
-          (subst (λ asks. AreOutcomes left fault (map key_of asks) written failed) (popped_first before rest ask last) outcomes)
+      (subst (λ asks. AreOutcomes left fault (map key_of asks) written failed) (popped_first before rest ask last) outcomes)
 
 module _ {A K N D : Type 0} (done_of : A → N → D) (key_of : A → K) (said : K → N) (asks : List A) (start : List D) where
   pub first_items : (reversed : List A) → reversed ≡ reverse asks
@@ -47,7 +47,7 @@ module _ {A K N D : Type 0} (done_of : A → N → D) (key_of : A → K) (said :
       → more ++ map (λ a. done_of a (said (key_of a))) (reverse rest) ≡ start ++ map (λ a. done_of a (said (key_of a))) asks
   one_more before rest ask key answer d done more last is told ended put whole =
       rw (put, append_assoc, ended, told, is)
-          (ap (λ left. done ++ map (λ a. done_of a (said (key_of a))) left) (sym (popped_first before rest ask last)) ∙ whole)
+      (ap (λ left. done ++ map (λ a. done_of a (said (key_of a))) left) (sym (popped_first before rest ask last)) ∙ whole)
 
   pub all_ended : (before : List A) (done : List D) (n : ℕ) → n ≡ length before → n ≡ 0
       → done ++ map (λ a. done_of a (said (key_of a))) (reverse before) ≡ start ++ map (λ a. done_of a (said (key_of a))) asks

@@ -45,7 +45,7 @@ destroy_empty-requires g c = c.in_default.ensures.cases.1
 pub returns-clause-items : goal.returns-clause-items
 returns-clause-items g c =
     all_ended done_of g.A.Ask.key (load_all_answer c.args.returned.now c.args.answers.now) c.args.asks.items c.args.done.now.items
-        c.ending.asks.items c.ending.done.items (vec_len c.ending.asks) c.ending.asks.ok.0 c.in_default.ensures.cases.0 c.ending.invariant.items
+    c.ending.asks.items c.ending.done.items (vec_len c.ending.asks) c.ending.asks.ok.0 c.in_default.ensures.cases.0 c.ending.invariant.items
 
 pub returns-clause-room : goal.returns-clause-room
 returns-clause-room g c = c.ending.invariant.capacity

@@ -46,8 +46,8 @@ pub ending-preserved : goal.ending-preserved
 ending-preserved g c =
     let left = g.C.Leftover.leftover_keys c.args.left.now in
     let now = c.next-answer.ensures.next left c.args.fault (map g.A.Ask.key (reverse c.pop.new.self.items))
-        (next_outcomes g.A.Ask.key left c.args.fault c.ending.asks.items c.pop.new.self.items c.in-Some.ask c.key.result.now
-            c.ending.outcomes.written.now c.ending.outcomes.failed.now c.in-Some.ensures.items c.key.ensures c.ending.invariant.outcomes) in
+    (next_outcomes g.A.Ask.key left c.args.fault c.ending.asks.items c.pop.new.self.items c.in-Some.ask c.key.result.now
+    c.ending.outcomes.written.now c.ending.outcomes.failed.now c.in-Some.ensures.items c.key.ensures c.ending.invariant.outcomes) in
     record {
       items = one_more done_of g.A.Ask.key (answer_in_batch left c.args.fault) c.args.asks.items c.args.done.now.items
           c.ending.asks.items c.pop.new.self.items c.in-Some.ask c.key.result.now c.next-answer.result c.new.result c.ending.done.items c.push_reserved.new.self.items
@@ -66,7 +66,7 @@ destroy_empty-requires g c = c.in_default.ensures.cases.1
 pub returns-clause-items : goal.returns-clause-items
 returns-clause-items g c =
     all_ended done_of g.A.Ask.key (answer_in_batch (g.C.Leftover.leftover_keys c.args.left.now) c.args.fault) c.args.asks.items c.args.done.now.items
-        c.ending.asks.items c.ending.done.items (vec_len c.ending.asks) c.ending.asks.ok.0 c.in_default.ensures.cases.0 c.ending.invariant.items
+    c.ending.asks.items c.ending.done.items (vec_len c.ending.asks) c.ending.asks.ok.0 c.in_default.ensures.cases.0 c.ending.invariant.items
 
 pub returns-clause-room : goal.returns-clause-room
 returns-clause-room g c = c.ending.invariant.capacity
