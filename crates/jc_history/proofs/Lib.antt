@@ -1,3 +1,5 @@
 pub mod RoundTrip
 pub mod Stored
 pub mod CallerLemmas
+mod Appended
+mod Places

@@ -1,5 +1,9 @@
 -- One call of the loader, or of the writer for a batch of either kind.
-use Rattle.std.proofs.Common.{◌≡◌, ℕ, List, Option, Some, Result, map, refl, sym, ap, subst, ◌∙◌}
+--     writes-batch, deletes-batch, loads-batch      what is called on the hands' own object is called for the batch
+--     written-keys, deleted-keys                    the asks of a batch have its keys
+--     reported                                      the fault is the code that was returned
+--     keeps_type                                    the object keeps its type
+use Rattle.std.proofs.Common.{◌≡◌, ◌++◌, ℕ, List, Option, Some, Result, map, refl, sym, ap, subst, ◌∙◌}
 use Rattle.std.specs.Map.{keys_of}
 use Rattle.std.proofs.lemmas.List.{map-id}
 use Rattle.std.proofs.lemmas.Simd.{map-map}
@@ -11,7 +15,10 @@ use Rattle.jc_batch.specs.Batch.{BatchState}
 use Rattle.jc_batch.specs.Changes.{changes_of}
 use Rattle.jc_batch.specs.declared.batch.Batch.{Batch}
 use Rattle.jc_batch.specs.declared.batch.Batch.TheVariants.{Writes, Deletes}
-use Rattle.jc_outside.specs.CallingAll.{LoadAllRelation, LoadsKeys, LoadsAllOnce, load_all_answer, WriteAllRelation, DeleteAllRelation, WritesEntries, DeletesKeys, WritesAllOnce, returned_fault, asked_changes}
+use Rattle.jc_outside.specs.CallingAll.{LoadAllRelation, LoadsKeys, LoadsAllOnce, load_all_answer, WriteAllRelation, DeleteAllRelation, WritesEntries, DeletesKeys, WritesAllOnce, returned_fault, writes_done, asked_changes}
+use Rattle.std.specs.declared.dyn_box.DynBox.{DynBox}
+use Rattle.jc_outside.specs.Calling.{KeepsType}
+use Rattle.jc_outside.specs.Done.{WriteResult}
 use Rattle.jc_batch.specs.Answers.{AnswersByKey}
 
 module _ {W : Type 0} (writes_all : WriteAllRelation W) (deletes_all : DeleteAllRelation W) (state : W → List ℕ)
@@ -63,3 +70,12 @@ module _ {L : Type 0} (loads_all : LoadAllRelation L) (state : L → List ℕ) w
     subst (λ o. LoadsKeys loads_all state o asked returned answers new) same
         (subst (λ ks. LoadsKeys loads_all state old ks returned answers new) is once),
   )
+
+pub reported : {A : Type 0} (key_of : A → Bytes) (left : List Bytes) (returned : Result (Unit {0}) ℕ) (fault : Option ℕ) → fault ≡ returned_fault returned
+    → (asks : List A) (before after : List (WriteResult A))
+    → after ≡ before ++ writes_done key_of (answer_in_batch left fault) asks
+    → after ≡ before ++ writes_done key_of (answer_in_batch left (returned_fault returned)) asks
+reported key_of left returned fault is asks before after ended = subst (λ f. after ≡ before ++ writes_done key_of (answer_in_batch left f) asks) is ended
+
+pub keeps_type : {I Z : Type 0} {D : I → Type 0} (old was : Option (DynBox I Z D)) → old ≡ was → (new : Option (DynBox I Z D)) → KeepsType old new → KeepsType was new
+keeps_type old was same new kept = subst (λ o. KeepsType o new) same kept

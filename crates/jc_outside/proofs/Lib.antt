@@ -1,2 +1,3 @@
 pub use Rattle.jc_batch.proofs.CallerLemmas
 mod Batches
+mod Ending
