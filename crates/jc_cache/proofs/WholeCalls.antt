@@ -1,5 +1,7 @@
 -- Whole calls of a session, from those of its agent over the lock of one seat.
 --     at_key, seat_at    the number of a key's stripe, and the session's seat there
+--     free_at            the seat is at the lock in its place, which it has not taken
+--     speaks_at          it is of the session that makes the next call
 --     may_begin          the seat's own steps let the next call come
 --     writer_there       if the stripe writes through, the session has a writer
 --     writes_as          the stripe writes through if the cache does
@@ -11,7 +13,7 @@ use Rattle.std.proofs.Common.{◌≡◌, ◌<◌, ℕ, List, length, sum, get_or
 use Rattle.std.proofs.Math.Nat.{mod-lt}
 use Rattle.std.proofs.lemmas.Bool.{and_parts, leb-true}
 use Rattle.std.proofs.lemmas.List.{length-map}
-use Rattle.std.proofs.lemmas.Option.{slice_get_read}
+use Rattle.std.proofs.lemmas.Option.{slice_get_read, slice_get_within}
 use Rattle.atomic_table.specs.Seated.{TableId}
 use Rattle.jc_types.specs.Limits.{check, is_between}
 use Rattle.jc_types.specs.Stripes.{stripe_of}
@@ -42,6 +44,7 @@ use Rattle.jc_cache.specs.Sessions.{IsOf, MayCall}
 use Rattle.jc_cache.specs.declared.session.Session.{Session}
 use Rattle.jc_cache.proofs.Lendings.{lock_takes, lock_gives, lock_finds}
 use Rattle.jc_cache.proofs.CallEnds.{CallLeft, call_left, tried_left}
+use Rattle.jc_cache.proofs.Rows.{length_locks, lock_there}
 use Rattle.jc_cache.proofs.Seats.{after_call, after_try, may_after}
 
 -- 1. The seat of a key.
@@ -70,6 +73,19 @@ module _ {I J : Type 0} {D : I → Type 0} {E : J → Type 0} where
       slice_get_read session.seats.items _ at t refl near read
 
   -- 2. What a call needs.
+
+  pub free_at : (cache : CacheState) (session : Session I J D E) (locks : List TableId) (at : ℕ) (t : TableId × View) (lock : TableId) → IsOf cache session → locks ≡ cache.locks → slice_get session.seats.items at ≡ Some t
+      → lock ≡ get_or locks at lock → (t.0 ≡ lock) × (t.1.holds ≡ false)
+  free_at cache session locks at t lock own are there read =
+      let near : at < length session.seats.items = slice_get_within session.seats.items at t there in
+      let seats : length session.seats.items ≡ length cache.locks = length_locks session.seats.items cache.locks own.locks in
+      let count : length locks ≡ length cache.locks = ap length are in
+      let within : at < length locks = omega arith in
+      let is : slice_get cache.locks at ≡ Some lock = ap (λ (ls : List TableId). slice_get ls at) (sym are) ∙ slice_get_read locks _ at lock refl within read in
+      (lock_there session.seats.items cache.locks at t lock own.locks there is, (own.seats at t there).free)
+
+  pub speaks_at : (cache : CacheState) (old : Session I J D E) (a : Agent I J D E) (at : ℕ) (t : TableId × View) → IsOf cache old → a ≡ (next_call old).agent → slice_get old.seats.items at ≡ Some t → t.1.session ≡ Some a.caller.session
+  speaks_at cache old a at t own is there = (own.seats at t there).of_session ∙ ap (λ (z : Agent I J D E). Some z.caller.session) (sym is)
 
   pub may_begin : OwnNumbers → (cache : CacheState) (old : Session I J D E) (a : Agent I J D E) (at : ℕ) (t : TableId × View) (key : Bytes) (state : State) → MayCall cache old → a ≡ (next_call old).agent → slice_get old.seats.items at ≡ Some t → Finds t.1 state
       → BeginsIfClear a.caller key state

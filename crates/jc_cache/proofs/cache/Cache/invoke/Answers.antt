@@ -1,7 +1,27 @@
 use Rattle.std.proofs.Common.{◌≡◌, ◌∙◌, ap, refl, sym, Some, slice_get}
 use Rattle.jc_cache.specs.Caches.{CacheState}
-use Rattle.jc_cache.proofs.WholeCalls.{at_key, seat_at, may_begin, writes_as, invoked}
+use Rattle.jc_cache.proofs.WholeCalls.{at_key, seat_at, free_at, speaks_at, may_begin, writes_as, invoked}
 use Rattle.jc_cache.proofs.cache.Cache.invoke.Goals as goal
+
+pub invoke-requires-clause-free : goal.invoke-requires-clause-free
+invoke-requires-clause-free g c =
+    let same : c.self.inside.config ≡ c.args.self.now.config = ap (λ (z : CacheState). z.config) c.self.view_is in
+    let there : slice_get c.args.session.now.seats.items c.stripe_of-at.result ≡ Some c.index_mut-seat.result.now =
+    seat_at c.args.self.now c.args.session.now _ c.args.key.now _ _ c.requires.may.own c.self.invariant.fits same c.stripe_of-at.ensures c.index_mut-seat.ensures.value in
+    free_at c.args.self.now c.args.session.now c.self.inside.locks.items c.stripe_of-at.result c.index_mut-seat.result.now c.index.result.now c.requires.may.own (ap (λ (z : CacheState). z.locks) c.self.view_is) there c.index.ensures
+
+pub invoke-requires-clause-speaks : goal.invoke-requires-clause-speaks
+invoke-requires-clause-speaks g c =
+    let same : c.self.inside.config ≡ c.args.self.now.config = ap (λ (z : CacheState). z.config) c.self.view_is in
+    let there : slice_get c.args.session.now.seats.items c.stripe_of-at.result ≡ Some c.index_mut-seat.result.now =
+    seat_at c.args.self.now c.args.session.now _ c.args.key.now _ _ c.requires.may.own c.self.invariant.fits same c.stripe_of-at.ensures c.index_mut-seat.ensures.value in
+    speaks_at c.args.self.now c.args.session.now c.next_call.new.self c.stripe_of-at.result c.index_mut-seat.result.now c.requires.may.own c.next_call.ensures.call there
+
+pub invoke-requires-clause-held : goal.invoke-requires-clause-held
+invoke-requires-clause-held g c = ap (λ a. a.hands.held) c.next_call.ensures.call ∙ c.requires.may.own.held
+
+pub invoke-requires-clause-none : goal.invoke-requires-clause-none
+invoke-requires-clause-none g c = (ap (λ a. a.counts.reservations) c.next_call.ensures.call ∙ c.requires.may.reservations, ap (λ a. a.counts.joins) c.next_call.ensures.call ∙ c.requires.may.joins)
 
 pub invoke-requires-clause-needs : goal.invoke-requires-clause-needs
 invoke-requires-clause-needs g c a finds =

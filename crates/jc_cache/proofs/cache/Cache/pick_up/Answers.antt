@@ -5,9 +5,29 @@ use Rattle.jc_stripe.specs.Phases.{PicksUp}
 use Rattle.jc_stripe.specs.State.{State}
 use Rattle.jc_session.specs.Counting.{counted_picked}
 use Rattle.jc_cache.specs.Caches.{CacheState}
-use Rattle.jc_cache.proofs.WholeCalls.{at_key, seat_at}
+use Rattle.jc_cache.proofs.WholeCalls.{at_key, seat_at, free_at}
 use Rattle.jc_cache.proofs.SessionPhases.{HasLonger, picked_longer, phase_left}
 use Rattle.jc_cache.proofs.cache.Cache.pick_up.Goals as goal
+
+pub make_phase-requires-clause-free : goal.make_phase-requires-clause-free
+make_phase-requires-clause-free g c =
+    let same = ap (λ (z : CacheState). z.config) c.self.view_is in
+    let there : slice_get c.args.session.now.seats.items c.stripe_of-at.result ≡ Some c.index_mut-seat.result.now =
+    seat_at c.args.self.now c.args.session.now _ c.key.result.now _ _ c.requires.own c.self.invariant.fits same c.stripe_of-at.ensures c.index_mut-seat.ensures.value in
+    free_at c.args.self.now c.args.session.now c.self.inside.locks.items c.stripe_of-at.result c.index_mut-seat.result.now c.index.result.now c.requires.own (ap (λ (z : CacheState). z.locks) c.self.view_is) there c.index.ensures
+
+pub make_phase-requires-clause-speaks : goal.make_phase-requires-clause-speaks
+make_phase-requires-clause-speaks g c =
+    let same = ap (λ (z : CacheState). z.config) c.self.view_is in
+    let there : slice_get c.args.session.now.seats.items c.stripe_of-at.result ≡ Some c.index_mut-seat.result.now =
+    seat_at c.args.self.now c.args.session.now _ c.key.result.now _ _ c.requires.own c.self.invariant.fits same c.stripe_of-at.ensures c.index_mut-seat.ensures.value in
+    (c.requires.own.seats c.stripe_of-at.result c.index_mut-seat.result.now there).of_session
+
+pub make_phase-requires-clause-held : goal.make_phase-requires-clause-held
+make_phase-requires-clause-held g c = c.requires.own.held
+
+pub make_phase-requires-clause-who : goal.make_phase-requires-clause-who
+make_phase-requires-clause-who g c = c.requires.caller
 
 pub returns-clause-own : goal.returns-clause-own
 returns-clause-own g c =
