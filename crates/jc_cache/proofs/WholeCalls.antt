@@ -1,4 +1,7 @@
 -- Whole calls of a session, from those of its agent over the lock of one seat.
+--     some_stripe        there is a stripe
+--     lock_near, seat_near
+--                        there is a lock, and a seat of the session, for a key's stripe
 --     at_key, seat_at    the number of a key's stripe, and the session's seat there
 --     free_at            the seat is at the lock in its place, which it has not taken
 --     speaks_at          it is of the session that makes the next call
@@ -39,6 +42,7 @@ use Rattle.jc_engine.specs.Asking.{own_after}
 use Rattle.jc_engine.specs.Needs.{BeginsIfClear}
 use Rattle.jc_engine.specs.Calls.{IsCall, IsInvocation, IsTried}
 use Rattle.jc_cache.specs.Caches.{CacheState}
+use Rattle.jc_cache.specs.CacheInside.{IsShaped}
 use Rattle.jc_cache.specs.Calls.{next_call, CallsAt, Tried, Invoked}
 use Rattle.jc_cache.specs.Sessions.{IsOf, MayCall}
 use Rattle.jc_cache.specs.declared.session.Session.{Session}
@@ -53,8 +57,14 @@ in_limits : (b : Bool) (more : Result (Unit {0}) Refusal) (refusal : Refusal) �
 in_limits true more refusal h = refl
 in_limits false more refusal h = cc
 
-some_stripe : (config : Config) → check config ≡ Ok tt → 0 < config.stripes
+pub some_stripe : (config : Config) → check config ≡ Ok tt → 0 < config.stripes
 some_stripe config h = leb-true 1 config.stripes ((and_parts (nat_le 1 config.stripes) (nat_le config.stripes STRIPES_MAX) (in_limits (is_between 1 STRIPES_MAX config.stripes) _ _ h)).0)
+
+below_stripes : (config : Config) (key : Bytes) (at : ℕ) → check config ≡ Ok tt → at ≡ stripe_of key config.stripes → at < config.stripes
+below_stripes config key at fits at_is = subst (λ (n : ℕ). n < config.stripes) (sym at_is) (mod-lt (sum key) (some_stripe config fits))
+
+pub lock_near : (config : Config) (locks : List TableId) (key : Bytes) (at : ℕ) → IsShaped config locks → at ≡ stripe_of key config.stripes → at < length locks
+lock_near config locks key at shaped at_is = subst (λ (n : ℕ). at < n) (sym shaped.count) (below_stripes config key at shaped.fits at_is)
 
 seat_is : (t u : TableId × View) → u.0 ≡ t.0 → u ≡ (t.0, u.1)
 seat_is t u same i = (same i, u.1)
@@ -63,14 +73,16 @@ pub at_key : (cache : CacheState) (config : Config) (key : Bytes) (at : ℕ) →
 at_key cache config key at is at_is = at_is ∙ ap (λ (c : Config). stripe_of key c.stripes) is
 
 module _ {I J : Type 0} {D : I → Type 0} {E : J → Type 0} where
-  pub seat_at : (cache : CacheState) (session : Session I J D E) (config : Config) (key : Bytes) (at : ℕ) (t : TableId × View) → IsOf cache session → check config ≡ Ok tt → config ≡ cache.config → at ≡ stripe_of key config.stripes
-      → t ≡ get_or session.seats.items at t → slice_get session.seats.items at ≡ Some t
-  seat_at cache session config key at t own fits is at_is read =
-      let below : stripe_of key config.stripes < config.stripes = mod-lt (sum key) (some_stripe config fits) in
+  pub seat_near : (cache : CacheState) (session : Session I J D E) (config : Config) (key : Bytes) (at : ℕ) → IsOf cache session → check config ≡ Ok tt → config ≡ cache.config → at ≡ stripe_of key config.stripes → at < length session.seats.items
+  seat_near cache session config key at own fits is at_is =
+      let below : at < config.stripes = below_stripes config key at fits at_is in
       let stripes : config.stripes ≡ cache.config.stripes = ap (λ (c : Config). c.stripes) is in
       let long : length session.seats.items ≡ cache.config.stripes = sym (length-map session.seats.items (λ (s : TableId × View). s.0)) ∙ ap length own.locks ∙ own.count in
-      let near : at < length session.seats.items = omega arith in
-      slice_get_read session.seats.items _ at t refl near read
+      omega arith
+
+  pub seat_at : (cache : CacheState) (session : Session I J D E) (config : Config) (key : Bytes) (at : ℕ) (t : TableId × View) → IsOf cache session → check config ≡ Ok tt → config ≡ cache.config → at ≡ stripe_of key config.stripes
+      → t ≡ get_or session.seats.items at t → slice_get session.seats.items at ≡ Some t
+  seat_at cache session config key at t own fits is at_is read = slice_get_read session.seats.items _ at t refl (seat_near cache session config key at own fits is at_is) read
 
   -- 2. What a call needs.
 
