@@ -1,5 +1,10 @@
 -- Whole calls of a session, from those of its agent over the lock of one seat.
+--     some_stripe        there is a stripe
+--     lock_near, seat_near
+--                        there is a lock, and a seat of the session, for a key's stripe
 --     at_key, seat_at    the number of a key's stripe, and the session's seat there
+--     free_at            the seat is at the lock in its place, which it has not taken
+--     speaks_at          it is of the session that makes the next call
 --     may_begin          the seat's own steps let the next call come
 --     writer_there       if the stripe writes through, the session has a writer
 --     writes_as          the stripe writes through if the cache does
@@ -11,7 +16,7 @@ use Rattle.std.proofs.Common.{◌≡◌, ◌<◌, ℕ, List, length, sum, get_or
 use Rattle.std.proofs.Math.Nat.{mod-lt}
 use Rattle.std.proofs.lemmas.Bool.{and_parts, leb-true}
 use Rattle.std.proofs.lemmas.List.{length-map}
-use Rattle.std.proofs.lemmas.Option.{slice_get_read}
+use Rattle.std.proofs.lemmas.Option.{slice_get_read, slice_get_within}
 use Rattle.atomic_table.specs.Seated.{TableId}
 use Rattle.jc_types.specs.Limits.{check, is_between}
 use Rattle.jc_types.specs.Stripes.{stripe_of}
@@ -37,11 +42,13 @@ use Rattle.jc_engine.specs.Asking.{own_after}
 use Rattle.jc_engine.specs.Needs.{BeginsIfClear}
 use Rattle.jc_engine.specs.Calls.{IsCall, IsInvocation, IsTried}
 use Rattle.jc_cache.specs.Caches.{CacheState}
+use Rattle.jc_cache.specs.CacheInside.{IsShaped}
 use Rattle.jc_cache.specs.Calls.{next_call, CallsAt, Tried, Invoked}
 use Rattle.jc_cache.specs.Sessions.{IsOf, MayCall}
 use Rattle.jc_cache.specs.declared.session.Session.{Session}
 use Rattle.jc_cache.proofs.Lendings.{lock_takes, lock_gives, lock_finds}
 use Rattle.jc_cache.proofs.CallEnds.{CallLeft, call_left, tried_left}
+use Rattle.jc_cache.proofs.Rows.{length_locks, lock_there}
 use Rattle.jc_cache.proofs.Seats.{after_call, after_try, may_after}
 
 -- 1. The seat of a key.
@@ -50,8 +57,14 @@ in_limits : (b : Bool) (more : Result (Unit {0}) Refusal) (refusal : Refusal) �
 in_limits true more refusal h = refl
 in_limits false more refusal h = cc
 
-some_stripe : (config : Config) → check config ≡ Ok tt → 0 < config.stripes
+pub some_stripe : (config : Config) → check config ≡ Ok tt → 0 < config.stripes
 some_stripe config h = leb-true 1 config.stripes ((and_parts (nat_le 1 config.stripes) (nat_le config.stripes STRIPES_MAX) (in_limits (is_between 1 STRIPES_MAX config.stripes) _ _ h)).0)
+
+below_stripes : (config : Config) (key : Bytes) (at : ℕ) → check config ≡ Ok tt → at ≡ stripe_of key config.stripes → at < config.stripes
+below_stripes config key at fits at_is = subst (λ (n : ℕ). n < config.stripes) (sym at_is) (mod-lt (sum key) (some_stripe config fits))
+
+pub lock_near : (config : Config) (locks : List TableId) (key : Bytes) (at : ℕ) → IsShaped config locks → at ≡ stripe_of key config.stripes → at < length locks
+lock_near config locks key at shaped at_is = subst (λ (n : ℕ). at < n) (sym shaped.count) (below_stripes config key at shaped.fits at_is)
 
 seat_is : (t u : TableId × View) → u.0 ≡ t.0 → u ≡ (t.0, u.1)
 seat_is t u same i = (same i, u.1)
@@ -60,16 +73,31 @@ pub at_key : (cache : CacheState) (config : Config) (key : Bytes) (at : ℕ) →
 at_key cache config key at is at_is = at_is ∙ ap (λ (c : Config). stripe_of key c.stripes) is
 
 module _ {I J : Type 0} {D : I → Type 0} {E : J → Type 0} where
-  pub seat_at : (cache : CacheState) (session : Session I J D E) (config : Config) (key : Bytes) (at : ℕ) (t : TableId × View) → IsOf cache session → check config ≡ Ok tt → config ≡ cache.config → at ≡ stripe_of key config.stripes
-      → t ≡ get_or session.seats.items at t → slice_get session.seats.items at ≡ Some t
-  seat_at cache session config key at t own fits is at_is read =
-      let below : stripe_of key config.stripes < config.stripes = mod-lt (sum key) (some_stripe config fits) in
+  pub seat_near : (cache : CacheState) (session : Session I J D E) (config : Config) (key : Bytes) (at : ℕ) → IsOf cache session → check config ≡ Ok tt → config ≡ cache.config → at ≡ stripe_of key config.stripes → at < length session.seats.items
+  seat_near cache session config key at own fits is at_is =
+      let below : at < config.stripes = below_stripes config key at fits at_is in
       let stripes : config.stripes ≡ cache.config.stripes = ap (λ (c : Config). c.stripes) is in
       let long : length session.seats.items ≡ cache.config.stripes = sym (length-map session.seats.items (λ (s : TableId × View). s.0)) ∙ ap length own.locks ∙ own.count in
-      let near : at < length session.seats.items = omega arith in
-      slice_get_read session.seats.items _ at t refl near read
+      omega arith
+
+  pub seat_at : (cache : CacheState) (session : Session I J D E) (config : Config) (key : Bytes) (at : ℕ) (t : TableId × View) → IsOf cache session → check config ≡ Ok tt → config ≡ cache.config → at ≡ stripe_of key config.stripes
+      → t ≡ get_or session.seats.items at t → slice_get session.seats.items at ≡ Some t
+  seat_at cache session config key at t own fits is at_is read = slice_get_read session.seats.items _ at t refl (seat_near cache session config key at own fits is at_is) read
 
   -- 2. What a call needs.
+
+  pub free_at : (cache : CacheState) (session : Session I J D E) (locks : List TableId) (at : ℕ) (t : TableId × View) (lock : TableId) → IsOf cache session → locks ≡ cache.locks → slice_get session.seats.items at ≡ Some t
+      → lock ≡ get_or locks at lock → (t.0 ≡ lock) × (t.1.holds ≡ false)
+  free_at cache session locks at t lock own are there read =
+      let near : at < length session.seats.items = slice_get_within session.seats.items at t there in
+      let seats : length session.seats.items ≡ length cache.locks = length_locks session.seats.items cache.locks own.locks in
+      let count : length locks ≡ length cache.locks = ap length are in
+      let within : at < length locks = omega arith in
+      let is : slice_get cache.locks at ≡ Some lock = ap (λ (ls : List TableId). slice_get ls at) (sym are) ∙ slice_get_read locks _ at lock refl within read in
+      (lock_there session.seats.items cache.locks at t lock own.locks there is, (own.seats at t there).free)
+
+  pub speaks_at : (cache : CacheState) (old : Session I J D E) (a : Agent I J D E) (at : ℕ) (t : TableId × View) → IsOf cache old → a ≡ (next_call old).agent → slice_get old.seats.items at ≡ Some t → t.1.session ≡ Some a.caller.session
+  speaks_at cache old a at t own is there = (own.seats at t there).of_session ∙ ap (λ (z : Agent I J D E). Some z.caller.session) (sym is)
 
   pub may_begin : OwnNumbers → (cache : CacheState) (old : Session I J D E) (a : Agent I J D E) (at : ℕ) (t : TableId × View) (key : Bytes) (state : State) → MayCall cache old → a ≡ (next_call old).agent → slice_get old.seats.items at ≡ Some t → Finds t.1 state
       → BeginsIfClear a.caller key state

@@ -5,6 +5,9 @@ ghost use Rattle.jc_types.specs.declared.refusal.Refusal.{Refusal};
 ghost use Rattle.jc_model.specs.Table.{is_invoke};
 ghost use Rattle.jc_model.specs.declared.event.Reply.{Reply};
 ghost use Rattle.jc_model.specs.declared.event.Op.TheVariants.{Get};
+ghost use Rattle.jc_stripe.specs.Laws.{ReachedIsLegal};
+ghost use Rattle.jc_stripe.specs.OnePhase.{OnePhase};
+ghost use Rattle.jc_stripe.specs.OwnSteps.{OwnSteps, OwnNumbers, StepsBehind};
 ghost use Rattle.jc_engine.specs.Values.{value_told};
 ghost use Rattle.jc_cache.specs.Sessions.{MayCall};
 ghost use Rattle.jc_cache.specs.Calls.{Called, Tried, Invoked, value_in};
@@ -77,11 +80,7 @@ impl Cache {
         ensures call { Called loads load_state writes write_state
             self.now session.old key.now op.now result session.new }
     {
-        is_uniform();
-        is_legal();
-        own_steps();
-        own_numbers();
-        steps_behind();
+        laws();
         let at = stripe_of(key, self.config.stripes);
         session.agent.next_call();
         let mut lock = &self.locks[at];
@@ -103,11 +102,7 @@ impl Cache {
             self.now session.old key.now Get ended session.new
             × (value_in ended ≡ value_told result value.new) }
     {
-        is_uniform();
-        is_legal();
-        own_steps();
-        own_numbers();
-        steps_behind();
+        laws();
         let at = stripe_of(key, self.config.stripes);
         session.agent.next_call();
         let mut lock = &self.locks[at];
@@ -126,10 +121,7 @@ impl Cache {
         ensures may { MayCall self.now session.new }
         ensures call { Tried self.now session.old key.now op.now result session.new }
     {
-        is_uniform();
-        is_legal();
-        own_steps();
-        own_numbers();
+        laws();
         let at = stripe_of(key, self.config.stripes);
         session.agent.next_call();
         let mut lock = &self.locks[at];
@@ -159,11 +151,7 @@ impl Cache {
             self.now session.old key.now args.now processor.old ended session.new processor.new
             × (result ≡ value_in ended) }
     {
-        is_uniform();
-        is_legal();
-        own_steps();
-        own_numbers();
-        steps_behind();
+        laws();
         let at = stripe_of(key, self.config.stripes);
         session.agent.next_call();
         let mut lock = &self.locks[at];
@@ -179,4 +167,19 @@ impl Cache {
             args,
         ))
     }
+}
+
+/// The laws of every stripe that a whole call of a session rests on, in one call.
+fn laws()
+    ensures uniform { OnePhase }
+    ensures legal { ReachedIsLegal }
+    ensures steps { OwnSteps }
+    ensures numbers { OwnNumbers }
+    ensures behind { StepsBehind }
+{
+    is_uniform();
+    is_legal();
+    own_steps();
+    own_numbers();
+    steps_behind();
 }

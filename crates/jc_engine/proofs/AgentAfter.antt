@@ -3,12 +3,14 @@
 --                    the session's number: of the same agent, after a join, after a first phase and an outside call
 --     writer_stays   the writer is there after a first phase
 --     after_first    after a first phase that ends the call: the counts are other ones
+--     after_begun    after a first phase of the same agent, whatever it is counted as
 --     after_both     after a first phase that reserves, an outside call, and a last phase
 --     after_answer   after a join and its answer
 --     after_retry    after a join that was told to retry
 use Rattle.std.proofs.Common.{◌≡◌, ◌-◌, IsSome, sym, ap, subst, ◌∙◌}
 use Rattle.jc_session.specs.Counting.{one_more, counts_after, counts_ended}
 use Rattle.jc_session.specs.declared.counts.Counts.{Counts}
+use Rattle.jc_session.specs.declared.counts.Counted.{Counted}
 use Rattle.jc_session.specs.declared.counts.Counted.TheVariants.{Joined, Answered, Retried}
 use Rattle.jc_session.specs.declared.agent.Agent.{Agent}
 
@@ -33,6 +35,9 @@ module _ {I J : Type 0} {D : I → Type 0} {E : J → Type 0} where
 
   pub after_first : (old new : Agent I J D E) (counts : Counts) → new ≡ record old { counts = counts } → new ≡ record old { counts = counts; hands = new.hands }
   after_first old new counts e = e ∙ sym (ap (λ (s : Agent I J D E). record old { counts = counts; hands = s.hands }) e)
+
+  pub after_begun : (old start new : Agent I J D E) (counted : Counted) → start ≡ old → new ≡ record start { counts = counts_after start.counts counted } → new ≡ record old { counts = counts_after old.counts counted }
+  after_begun old start new counted same first = first ∙ ap (λ (s : Agent I J D E). record s { counts = counts_after s.counts counted }) same
 
   pub after_both : (old mid asked new : Agent I J D E) → old.counts.reservations ≡ 0
       → mid ≡ record old { counts = record old.counts { reservations = one_more old.counts.reservations } } → asked ≡ record mid { hands = asked.hands } → new ≡ record asked { counts = counts_ended asked.counts }

@@ -2,20 +2,25 @@
 --     asks_one            a call that runs no processor asks the loader or the writer
 --     runs_processor      an `Invoke` asks its processor
 --     no_done, no_join    and it is given nothing else, unless it is refused
-use Rattle.std.proofs.Common.{◌≡◌, ◌||◌, Bool, true, false, refl, sym, ap}
+--     no_ticket, no_share
+--                         a call that asks nobody outside is given neither a ticket nor a join
+use Rattle.std.proofs.Common.{◌≡◌, ◌∙◌, ◌&&◌, ◌||◌, if◌then◌else◌, ℕ, Bool, true, false, Option, None, Some, is_none, refl, sym, ap}
 use Rattle.jc_types.specs.declared.caller.Caller.{Caller}
+use Rattle.jc_types.specs.declared.config.Config.{Config}
+use Rattle.jc_model.specs.declared.event.Change.{Change}
 use Rattle.jc_model.specs.declared.event.Op.{Op}
-use Rattle.jc_model.specs.declared.event.Op.TheVariants.{Invoke}
-use Rattle.jc_model.specs.Cache.{Bytes}
-use Rattle.jc_model.specs.Table.{is_invoke}
+use Rattle.jc_model.specs.declared.event.Op.TheVariants.{Get, ContainsKey, Put, GetAndPut, PutIfAbsent, Remove, RemoveIf, GetAndRemove, Replace, ReplaceIf, GetAndReplace, Clear, LoadAll, Invoke}
+use Rattle.jc_model.specs.Cache.{Bytes, entry_at}
+use Rattle.jc_model.specs.Table.{is_invoke, loader_ask}
 use Rattle.jc_stripe.specs.declared.begun.StepDone.{StepDone}
 use Rattle.jc_stripe.specs.declared.begun.Begun.TheVariants as begun
 use Rattle.jc_stripe.specs.declared.ticket.First.{First}
 use Rattle.jc_stripe.specs.declared.ticket.First.TheVariants.{Nobody, Loader, Writer, Processor}
-use Rattle.jc_stripe.specs.Refusals.{reserves}
+use Rattle.jc_stripe.specs.Refusals.{first_asked, first_by, may_join, reserves}
 use Rattle.jc_stripe.specs.Tickets.{TicketClaim, JoinClaim, asks_loader, asks_processor, asks_writer}
 use Rattle.jc_stripe.specs.State.{State}
 use Rattle.jc_stripe.specs.Phases.{Begins}
+use Rattle.jc_stripe.specs.Tests.{asks_outside}
 use Rattle.jc_stripe.proofs.CallerLemmas.{invokes}
 
 clash : (b : Bool) → b ≡ true → b ≡ false → ⊥
@@ -40,3 +45,33 @@ no_done old new caller key done h = clash true (λ i. true) (ap asks_processor h
 
 pub no_join : (old new : State) (caller : Caller) (key : Bytes) (join : JoinClaim) → Begins old caller key Invoke (begun.Joined join) new → ⊥
 no_join old new caller key join h = let none = h.1 in cc
+
+-- a call joins the load that it would else ask for
+get_asked : (read_through : Bool) (entry : Option Bytes) (change : Option Change) (found : Option ℕ) (load : ℕ) → (if read_through && is_none entry then found else None) ≡ Some load
+    → reserves (first_by (loader_ask read_through Get entry) change) ≡ true
+get_asked true None change found load joins = refl
+get_asked true (Some value) change found load joins = cc
+get_asked false entry change found load joins = cc
+
+load_asked : (config : Config) (op : Op) (entry : Option Bytes) (found : Option ℕ) (load : ℕ) → (if may_join op && config.read_through && is_none entry then found else None) ≡ Some load
+    → reserves (first_asked config op entry) ≡ true
+load_asked config Get entry found load joins = get_asked config.read_through entry _ found load joins
+load_asked config ContainsKey entry found load joins = cc
+load_asked config (Put value) entry found load joins = cc
+load_asked config (GetAndPut value) entry found load joins = cc
+load_asked config (PutIfAbsent value) entry found load joins = cc
+load_asked config Remove entry found load joins = cc
+load_asked config (RemoveIf old) entry found load joins = cc
+load_asked config GetAndRemove entry found load joins = cc
+load_asked config (Replace value) entry found load joins = cc
+load_asked config (ReplaceIf old new) entry found load joins = cc
+load_asked config (GetAndReplace value) entry found load joins = cc
+load_asked config Clear entry found load joins = cc
+load_asked config (LoadAll replace) entry found load joins = cc
+load_asked config Invoke entry found load joins = cc
+
+pub no_ticket : (old new : State) (caller : Caller) (key : Bytes) (op : Op) (ticket : TicketClaim) → asks_outside old key op ≡ false → Begins old caller key op (begun.Asks ticket) new → ⊥
+no_ticket old new caller key op ticket alone h = clash (asks_outside old key op) (ap reserves h.2 ∙ h.3) alone
+
+pub no_share : (old new : State) (caller : Caller) (key : Bytes) (op : Op) (join : JoinClaim) → asks_outside old key op ≡ false → Begins old caller key op (begun.Joined join) new → ⊥
+no_share old new caller key op join alone h = clash (asks_outside old key op) (load_asked old.config op (entry_at old.cache key) _ join.load h.1) alone

@@ -1,6 +1,37 @@
+use Rattle.std.proofs.Common.{◌∙◌, ◌<◌, ℕ, arith, refl, subst, sym}
 use Rattle.jc_cache.proofs.Rows.{length_locks}
 use Rattle.jc_cache.proofs.Meetings.{there_row, row_set, rest_set, tell_next, tell_all}
 use Rattle.jc_cache.proofs.meeting.tell_each.Goals as goal
+
+pub loop-i-init : goal.loop-i-init
+loop-i-init g c = record {
+  tellers = record { locks = refl; total = refl };
+  hearers = record { locks = refl; total = refl };
+  teller_rest = λ i le. refl;
+  hearer_rest = λ i le. refl;
+  told = λ i a b a' b' near. absurd (omega arith);
+}
+
+pub bounds-locks-i : goal.bounds-locks-i
+bounds-locks-i g c = c.loop-i-test.true
+
+pub index_mut-requires : goal.index_mut-requires
+index_mut-requires g c =
+    subst (λ (n : ℕ). c.loop-i.i < n) (sym (c.loop-i.tellers.ok.0 ∙ length_locks _ _ (c.loop-i.invariant.tellers.locks ∙ c.requires.tellers.0))) c.loop-i-test.true
+
+pub index_mut-requires-in-loop-i : goal.index_mut-requires-in-loop-i
+index_mut-requires-in-loop-i g c =
+    subst (λ (n : ℕ). c.loop-i.i < n) (sym (c.loop-i.hearers.ok.0 ∙ length_locks _ _ (c.loop-i.invariant.hearers.locks ∙ c.requires.hearers.0))) c.loop-i-test.true
+
+pub tell_at-requires-clause-teller : goal.tell_at-requires-clause-teller
+tell_at-requires-clause-teller g c =
+    let i = c.loop-i.invariant in
+    (there_row _ _ _ c.loop-i.i _ _ c.requires.tellers i.tellers i.teller_rest c.loop-i-test.true c.index_mut.ensures.value c.index-locks-i.is).1
+
+pub tell_at-requires-clause-hearer : goal.tell_at-requires-clause-hearer
+tell_at-requires-clause-hearer g c =
+    let i = c.loop-i.invariant in
+    (there_row _ _ _ c.loop-i.i _ _ c.requires.hearers i.hearers i.hearer_rest c.loop-i-test.true c.index_mut-in-loop-i.ensures.value c.index-locks-i.is).1
 
 pub loop-i-preserved : goal.loop-i-preserved
 loop-i-preserved g c =
@@ -15,6 +46,12 @@ loop-i-preserved g c =
       hearer_rest = rest_set _ _ c.loop-i.i _ i.hearer_rest;
       told = tell_next _ _ _ _ c.loop-i.i _ _ _ _ a b i.teller_rest i.hearer_rest tells.told i.told;
     }
+
+pub returns-clause-tellers : goal.returns-clause-tellers
+returns-clause-tellers g c = c.loop-i.invariant.tellers
+
+pub returns-clause-hearers : goal.returns-clause-hearers
+returns-clause-hearers g c = c.loop-i.invariant.hearers
 
 pub returns-clause-told : goal.returns-clause-told
 returns-clause-told g c =

@@ -1,14 +1,48 @@
-use Rattle.std.proofs.Common.{◌≡◌, ap, refl, Some, slice_get}
+use Rattle.std.proofs.Common.{◌≡◌, subst, sym, ℕ, ◌<◌, ◌∙◌, ap, refl, Some, slice_get}
 use Rattle.jc_cache.specs.Caches.{CacheState}
-use Rattle.jc_cache.proofs.WholeCalls.{at_key, seat_at, may_begin, writer_there, called}
+use Rattle.jc_cache.proofs.WholeCalls.{some_stripe, lock_near, seat_near, at_key, seat_at, free_at, speaks_at, may_begin, writer_there, called}
 use Rattle.jc_cache.proofs.cache.Cache.call.Goals as goal
+
+pub stripe_of-at-requires : goal.stripe_of-at-requires
+stripe_of-at-requires g c = some_stripe c.self.inside.config c.self.invariant.fits
+
+pub index-requires : goal.index-requires
+index-requires g c = subst (λ (n : ℕ). c.stripe_of-at.result < n) (sym c.self.inside.locks.ok.0) (lock_near c.self.inside.config c.self.inside.locks.items c.args.key.now _ c.self.invariant c.stripe_of-at.ensures)
+
+pub index_mut-seat-requires : goal.index_mut-seat-requires
+index_mut-seat-requires g c =
+    subst (λ (n : ℕ). c.stripe_of-at.result < n) (sym c.args.session.now.seats.ok.0)
+    (seat_near c.args.self.now c.args.session.now _ c.args.key.now _ c.requires.may.own c.self.invariant.fits (ap (λ (z : CacheState). z.config) c.self.view_is) c.stripe_of-at.ensures)
+
+pub call-requires-clause-free : goal.call-requires-clause-free
+call-requires-clause-free g c =
+    let same : c.self.inside.config ≡ c.args.self.now.config = ap (λ (z : CacheState). z.config) c.self.view_is in
+    let there : slice_get c.args.session.now.seats.items c.stripe_of-at.result ≡ Some c.index_mut-seat.result.now =
+    seat_at c.args.self.now c.args.session.now _ c.args.key.now _ _ c.requires.may.own c.self.invariant.fits same c.stripe_of-at.ensures c.index_mut-seat.ensures.value in
+    free_at c.args.self.now c.args.session.now c.self.inside.locks.items c.stripe_of-at.result c.index_mut-seat.result.now c.index.result.now c.requires.may.own (ap (λ (z : CacheState). z.locks) c.self.view_is) there c.index.ensures
+
+pub call-requires-clause-speaks : goal.call-requires-clause-speaks
+call-requires-clause-speaks g c =
+    let same : c.self.inside.config ≡ c.args.self.now.config = ap (λ (z : CacheState). z.config) c.self.view_is in
+    let there : slice_get c.args.session.now.seats.items c.stripe_of-at.result ≡ Some c.index_mut-seat.result.now =
+    seat_at c.args.self.now c.args.session.now _ c.args.key.now _ _ c.requires.may.own c.self.invariant.fits same c.stripe_of-at.ensures c.index_mut-seat.ensures.value in
+    speaks_at c.args.self.now c.args.session.now c.next_call.new.self c.stripe_of-at.result c.index_mut-seat.result.now c.requires.may.own c.next_call.ensures.call there
+
+pub call-requires-clause-held : goal.call-requires-clause-held
+call-requires-clause-held g c = ap (λ a. a.hands.held) c.next_call.ensures.call ∙ c.requires.may.own.held
+
+pub call-requires-clause-op : goal.call-requires-clause-op
+call-requires-clause-op g c = c.requires.op
+
+pub call-requires-clause-none : goal.call-requires-clause-none
+call-requires-clause-none g c = (ap (λ a. a.counts.reservations) c.next_call.ensures.call ∙ c.requires.may.reservations, ap (λ a. a.counts.joins) c.next_call.ensures.call ∙ c.requires.may.joins)
 
 pub call-requires-clause-needs : goal.call-requires-clause-needs
 call-requires-clause-needs g c a finds =
     let same : c.self.inside.config ≡ c.args.self.now.config = ap (λ (z : CacheState). z.config) c.self.view_is in
     let there : slice_get c.args.session.now.seats.items c.stripe_of-at.result ≡ Some c.index_mut-seat.result.now =
     seat_at c.args.self.now c.args.session.now _ c.args.key.now _ _ c.requires.may.own c.self.invariant.fits same c.stripe_of-at.ensures c.index_mut-seat.ensures.value in
-    may_begin c.own_numbers.ensures c.args.self.now c.args.session.now c.next_call.new.self c.stripe_of-at.result _ _ a c.requires.may c.next_call.ensures.call there finds
+    may_begin c.laws.ensures.numbers c.args.self.now c.args.session.now c.next_call.new.self c.stripe_of-at.result _ _ a c.requires.may c.next_call.ensures.call there finds
 
 pub call-requires-clause-writer : goal.call-requires-clause-writer
 call-requires-clause-writer g c a finds on =
@@ -22,7 +56,7 @@ returns-clause-may g c =
     let same : c.self.inside.config ≡ c.args.self.now.config = ap (λ (z : CacheState). z.config) c.self.view_is in
     let there : slice_get c.args.session.now.seats.items c.stripe_of-at.result ≡ Some c.index_mut-seat.result.now =
     seat_at c.args.self.now c.args.session.now _ c.args.key.now _ _ c.requires.may.own c.self.invariant.fits same c.stripe_of-at.ensures c.index_mut-seat.ensures.value in
-    (called _ _ _ _ c.is_uniform.ensures c.own_steps.ensures c.is_legal.ensures c.steps_behind.ensures c.own_numbers.ensures c.args.self.now c.args.session.now _ c.next_call.new.self c.args.key.now c.args.op.now c.stripe_of-at.result
+    (called _ _ _ _ c.laws.ensures.uniform c.laws.ensures.steps c.laws.ensures.legal c.laws.ensures.behind c.laws.ensures.numbers c.args.self.now c.args.session.now _ c.next_call.new.self c.args.key.now c.args.op.now c.stripe_of-at.result
     c.call.result _ c.index_mut-seat.result.now c.call.new.gate c.call.new.token c.requires.may c.next_call.ensures.call (at_key c.args.self.now _ c.args.key.now _ same c.stripe_of-at.ensures) there refl c.call.ensures.call).1
 
 pub returns-clause-call : goal.returns-clause-call
@@ -30,5 +64,5 @@ returns-clause-call g c =
     let same : c.self.inside.config ≡ c.args.self.now.config = ap (λ (z : CacheState). z.config) c.self.view_is in
     let there : slice_get c.args.session.now.seats.items c.stripe_of-at.result ≡ Some c.index_mut-seat.result.now =
     seat_at c.args.self.now c.args.session.now _ c.args.key.now _ _ c.requires.may.own c.self.invariant.fits same c.stripe_of-at.ensures c.index_mut-seat.ensures.value in
-    (called _ _ _ _ c.is_uniform.ensures c.own_steps.ensures c.is_legal.ensures c.steps_behind.ensures c.own_numbers.ensures c.args.self.now c.args.session.now _ c.next_call.new.self c.args.key.now c.args.op.now c.stripe_of-at.result
+    (called _ _ _ _ c.laws.ensures.uniform c.laws.ensures.steps c.laws.ensures.legal c.laws.ensures.behind c.laws.ensures.numbers c.args.self.now c.args.session.now _ c.next_call.new.self c.args.key.now c.args.op.now c.stripe_of-at.result
     c.call.result _ c.index_mut-seat.result.now c.call.new.gate c.call.new.token c.requires.may c.next_call.ensures.call (at_key c.args.self.now _ c.args.key.now _ same c.stripe_of-at.ensures) there refl c.call.ensures.call).0

@@ -1,4 +1,4 @@
-use Rattle.std.proofs.Common.{◌≡◌, ap, refl, sym, subst, ◌∙◌, ℕ, Some, length, slice_get, arith}
+use Rattle.std.proofs.Common.{◌≡◌, ◌<◌, ap, refl, sym, subst, ◌∙◌, ℕ, Some, length, slice_get, arith}
 use Rattle.std.proofs.lemmas.Option.{slice_get_read, slice_get_within}
 use Rattle.jc_types.specs.Stripes.{stripe_of}
 use Rattle.jc_stripe.specs.declared.ticket.Reservation.{Reservation}
@@ -8,9 +8,20 @@ use Rattle.jc_session.specs.declared.counts.Counted.TheVariants.{Committed}
 use Rattle.jc_engine.specs.Answered.{out_of}
 use Rattle.jc_cache.specs.Caches.{CacheState}
 use Rattle.jc_cache.proofs.Rows.{length_locks, lock_there}
-use Rattle.jc_cache.proofs.WholeCalls.{at_key, seat_at}
+use Rattle.jc_cache.proofs.WholeCalls.{some_stripe, lock_near, seat_near, at_key, seat_at}
 use Rattle.jc_cache.proofs.SessionPhases.{HasLonger, committed_longer, commit_needs, phase_left}
 use Rattle.jc_cache.proofs.cache.Cache.commit.Goals as goal
+
+pub stripe_of-at-requires : goal.stripe_of-at-requires
+stripe_of-at-requires g c = some_stripe c.self.inside.config c.self.invariant.fits
+
+pub index-requires : goal.index-requires
+index-requires g c = subst (λ (n : ℕ). c.stripe_of-at.result < n) (sym c.self.inside.locks.ok.0) (lock_near c.self.inside.config c.self.inside.locks.items c.reservation.result.now.key _ c.self.invariant c.stripe_of-at.ensures)
+
+pub index_mut-seat-requires : goal.index_mut-seat-requires
+index_mut-seat-requires g c =
+    subst (λ (n : ℕ). c.stripe_of-at.result < n) (sym c.args.session.now.seats.ok.0)
+    (seat_near c.args.self.now c.args.session.now _ c.reservation.result.now.key _ c.requires.own c.self.invariant.fits (ap (λ (z : CacheState). z.config) c.self.view_is) c.stripe_of-at.ensures)
 
 pub make_phase-requires-clause-needs : goal.make_phase-requires-clause-needs
 make_phase-requires-clause-needs g c a finds =

@@ -1,15 +1,46 @@
-use Rattle.std.proofs.Common.{◌≡◌, ap, refl, Some, slice_get}
+use Rattle.std.proofs.Common.{◌≡◌, subst, sym, ℕ, ◌<◌, ◌∙◌, ap, refl, Some, slice_get}
 use Rattle.jc_model.specs.declared.event.Op.TheVariants.{Get}
 use Rattle.jc_cache.specs.Caches.{CacheState}
-use Rattle.jc_cache.proofs.WholeCalls.{at_key, seat_at, may_begin, writer_there, called}
+use Rattle.jc_cache.proofs.WholeCalls.{some_stripe, lock_near, seat_near, at_key, seat_at, free_at, speaks_at, may_begin, writer_there, called}
 use Rattle.jc_cache.proofs.cache.Cache.get_into.Goals as goal
+
+pub stripe_of-at-requires : goal.stripe_of-at-requires
+stripe_of-at-requires g c = some_stripe c.self.inside.config c.self.invariant.fits
+
+pub index-requires : goal.index-requires
+index-requires g c = subst (λ (n : ℕ). c.stripe_of-at.result < n) (sym c.self.inside.locks.ok.0) (lock_near c.self.inside.config c.self.inside.locks.items c.args.key.now _ c.self.invariant c.stripe_of-at.ensures)
+
+pub index_mut-seat-requires : goal.index_mut-seat-requires
+index_mut-seat-requires g c =
+    subst (λ (n : ℕ). c.stripe_of-at.result < n) (sym c.args.session.now.seats.ok.0)
+    (seat_near c.args.self.now c.args.session.now _ c.args.key.now _ c.requires.may.own c.self.invariant.fits (ap (λ (z : CacheState). z.config) c.self.view_is) c.stripe_of-at.ensures)
+
+pub get-requires-clause-free : goal.get-requires-clause-free
+get-requires-clause-free g c =
+    let same : c.self.inside.config ≡ c.args.self.now.config = ap (λ (z : CacheState). z.config) c.self.view_is in
+    let there : slice_get c.args.session.now.seats.items c.stripe_of-at.result ≡ Some c.index_mut-seat.result.now =
+    seat_at c.args.self.now c.args.session.now _ c.args.key.now _ _ c.requires.may.own c.self.invariant.fits same c.stripe_of-at.ensures c.index_mut-seat.ensures.value in
+    free_at c.args.self.now c.args.session.now c.self.inside.locks.items c.stripe_of-at.result c.index_mut-seat.result.now c.index.result.now c.requires.may.own (ap (λ (z : CacheState). z.locks) c.self.view_is) there c.index.ensures
+
+pub get-requires-clause-speaks : goal.get-requires-clause-speaks
+get-requires-clause-speaks g c =
+    let same : c.self.inside.config ≡ c.args.self.now.config = ap (λ (z : CacheState). z.config) c.self.view_is in
+    let there : slice_get c.args.session.now.seats.items c.stripe_of-at.result ≡ Some c.index_mut-seat.result.now =
+    seat_at c.args.self.now c.args.session.now _ c.args.key.now _ _ c.requires.may.own c.self.invariant.fits same c.stripe_of-at.ensures c.index_mut-seat.ensures.value in
+    speaks_at c.args.self.now c.args.session.now c.next_call.new.self c.stripe_of-at.result c.index_mut-seat.result.now c.requires.may.own c.next_call.ensures.call there
+
+pub get-requires-clause-held : goal.get-requires-clause-held
+get-requires-clause-held g c = ap (λ a. a.hands.held) c.next_call.ensures.call ∙ c.requires.may.own.held
+
+pub get-requires-clause-none : goal.get-requires-clause-none
+get-requires-clause-none g c = (ap (λ a. a.counts.reservations) c.next_call.ensures.call ∙ c.requires.may.reservations, ap (λ a. a.counts.joins) c.next_call.ensures.call ∙ c.requires.may.joins)
 
 pub get-requires-clause-needs : goal.get-requires-clause-needs
 get-requires-clause-needs g c a finds =
     let same : c.self.inside.config ≡ c.args.self.now.config = ap (λ (z : CacheState). z.config) c.self.view_is in
     let there : slice_get c.args.session.now.seats.items c.stripe_of-at.result ≡ Some c.index_mut-seat.result.now =
     seat_at c.args.self.now c.args.session.now _ c.args.key.now _ _ c.requires.may.own c.self.invariant.fits same c.stripe_of-at.ensures c.index_mut-seat.ensures.value in
-    may_begin c.own_numbers.ensures c.args.self.now c.args.session.now c.next_call.new.self c.stripe_of-at.result _ _ a c.requires.may c.next_call.ensures.call there finds
+    may_begin c.laws.ensures.numbers c.args.self.now c.args.session.now c.next_call.new.self c.stripe_of-at.result _ _ a c.requires.may c.next_call.ensures.call there finds
 
 pub get-requires-clause-writer : goal.get-requires-clause-writer
 get-requires-clause-writer g c a finds on =
@@ -23,7 +54,7 @@ returns-clause-may g c =
     let same : c.self.inside.config ≡ c.args.self.now.config = ap (λ (z : CacheState). z.config) c.self.view_is in
     let there : slice_get c.args.session.now.seats.items c.stripe_of-at.result ≡ Some c.index_mut-seat.result.now =
     seat_at c.args.self.now c.args.session.now _ c.args.key.now _ _ c.requires.may.own c.self.invariant.fits same c.stripe_of-at.ensures c.index_mut-seat.ensures.value in
-    (called _ _ _ _ c.is_uniform.ensures c.own_steps.ensures c.is_legal.ensures c.steps_behind.ensures c.own_numbers.ensures c.args.self.now c.args.session.now _ c.next_call.new.self c.args.key.now Get c.stripe_of-at.result
+    (called _ _ _ _ c.laws.ensures.uniform c.laws.ensures.steps c.laws.ensures.legal c.laws.ensures.behind c.laws.ensures.numbers c.args.self.now c.args.session.now _ c.next_call.new.self c.args.key.now Get c.stripe_of-at.result
     c.get.ensures.call.0 _ c.index_mut-seat.result.now c.get.new.gate c.get.new.token c.requires.may c.next_call.ensures.call (at_key c.args.self.now _ c.args.key.now _ same c.stripe_of-at.ensures) there refl c.get.ensures.call.1).1
 
 pub returns-clause-call : goal.returns-clause-call
@@ -32,7 +63,7 @@ returns-clause-call g c =
     let there : slice_get c.args.session.now.seats.items c.stripe_of-at.result ≡ Some c.index_mut-seat.result.now =
     seat_at c.args.self.now c.args.session.now _ c.args.key.now _ _ c.requires.may.own c.self.invariant.fits same c.stripe_of-at.ensures c.index_mut-seat.ensures.value in (
       c.get.ensures.call.0,
-      (called _ _ _ _ c.is_uniform.ensures c.own_steps.ensures c.is_legal.ensures c.steps_behind.ensures c.own_numbers.ensures c.args.self.now c.args.session.now _ c.next_call.new.self c.args.key.now Get c.stripe_of-at.result
+      (called _ _ _ _ c.laws.ensures.uniform c.laws.ensures.steps c.laws.ensures.legal c.laws.ensures.behind c.laws.ensures.numbers c.args.self.now c.args.session.now _ c.next_call.new.self c.args.key.now Get c.stripe_of-at.result
           c.get.ensures.call.0 _ c.index_mut-seat.result.now c.get.new.gate c.get.new.token c.requires.may c.next_call.ensures.call (at_key c.args.self.now _ c.args.key.now _ same c.stripe_of-at.ensures) there refl c.get.ensures.call.1).0,
       c.get.ensures.call.2,
     )

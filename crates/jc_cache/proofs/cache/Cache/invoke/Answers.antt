@@ -1,14 +1,45 @@
-use Rattle.std.proofs.Common.{◌≡◌, ◌∙◌, ap, refl, sym, Some, slice_get}
+use Rattle.std.proofs.Common.{◌≡◌, subst, ℕ, ◌<◌, ◌∙◌, ap, refl, sym, Some, slice_get}
 use Rattle.jc_cache.specs.Caches.{CacheState}
-use Rattle.jc_cache.proofs.WholeCalls.{at_key, seat_at, may_begin, writes_as, invoked}
+use Rattle.jc_cache.proofs.WholeCalls.{some_stripe, lock_near, seat_near, at_key, seat_at, free_at, speaks_at, may_begin, writes_as, invoked}
 use Rattle.jc_cache.proofs.cache.Cache.invoke.Goals as goal
+
+pub stripe_of-at-requires : goal.stripe_of-at-requires
+stripe_of-at-requires g c = some_stripe c.self.inside.config c.self.invariant.fits
+
+pub index-requires : goal.index-requires
+index-requires g c = subst (λ (n : ℕ). c.stripe_of-at.result < n) (sym c.self.inside.locks.ok.0) (lock_near c.self.inside.config c.self.inside.locks.items c.args.key.now _ c.self.invariant c.stripe_of-at.ensures)
+
+pub index_mut-seat-requires : goal.index_mut-seat-requires
+index_mut-seat-requires g c =
+    subst (λ (n : ℕ). c.stripe_of-at.result < n) (sym c.args.session.now.seats.ok.0)
+    (seat_near c.args.self.now c.args.session.now _ c.args.key.now _ c.requires.may.own c.self.invariant.fits (ap (λ (z : CacheState). z.config) c.self.view_is) c.stripe_of-at.ensures)
+
+pub invoke-requires-clause-free : goal.invoke-requires-clause-free
+invoke-requires-clause-free g c =
+    let same : c.self.inside.config ≡ c.args.self.now.config = ap (λ (z : CacheState). z.config) c.self.view_is in
+    let there : slice_get c.args.session.now.seats.items c.stripe_of-at.result ≡ Some c.index_mut-seat.result.now =
+    seat_at c.args.self.now c.args.session.now _ c.args.key.now _ _ c.requires.may.own c.self.invariant.fits same c.stripe_of-at.ensures c.index_mut-seat.ensures.value in
+    free_at c.args.self.now c.args.session.now c.self.inside.locks.items c.stripe_of-at.result c.index_mut-seat.result.now c.index.result.now c.requires.may.own (ap (λ (z : CacheState). z.locks) c.self.view_is) there c.index.ensures
+
+pub invoke-requires-clause-speaks : goal.invoke-requires-clause-speaks
+invoke-requires-clause-speaks g c =
+    let same : c.self.inside.config ≡ c.args.self.now.config = ap (λ (z : CacheState). z.config) c.self.view_is in
+    let there : slice_get c.args.session.now.seats.items c.stripe_of-at.result ≡ Some c.index_mut-seat.result.now =
+    seat_at c.args.self.now c.args.session.now _ c.args.key.now _ _ c.requires.may.own c.self.invariant.fits same c.stripe_of-at.ensures c.index_mut-seat.ensures.value in
+    speaks_at c.args.self.now c.args.session.now c.next_call.new.self c.stripe_of-at.result c.index_mut-seat.result.now c.requires.may.own c.next_call.ensures.call there
+
+pub invoke-requires-clause-held : goal.invoke-requires-clause-held
+invoke-requires-clause-held g c = ap (λ a. a.hands.held) c.next_call.ensures.call ∙ c.requires.may.own.held
+
+pub invoke-requires-clause-none : goal.invoke-requires-clause-none
+invoke-requires-clause-none g c = (ap (λ a. a.counts.reservations) c.next_call.ensures.call ∙ c.requires.may.reservations, ap (λ a. a.counts.joins) c.next_call.ensures.call ∙ c.requires.may.joins)
 
 pub invoke-requires-clause-needs : goal.invoke-requires-clause-needs
 invoke-requires-clause-needs g c a finds =
     let same : c.self.inside.config ≡ c.args.self.now.config = ap (λ (z : CacheState). z.config) c.self.view_is in
     let there : slice_get c.args.session.now.seats.items c.stripe_of-at.result ≡ Some c.index_mut-seat.result.now =
     seat_at c.args.self.now c.args.session.now _ c.args.key.now _ _ c.requires.may.own c.self.invariant.fits same c.stripe_of-at.ensures c.index_mut-seat.ensures.value in
-    may_begin c.own_numbers.ensures c.args.self.now c.args.session.now c.next_call.new.self c.stripe_of-at.result _ _ a c.requires.may c.next_call.ensures.call there finds
+    may_begin c.laws.ensures.numbers c.args.self.now c.args.session.now c.next_call.new.self c.stripe_of-at.result _ _ a c.requires.may c.next_call.ensures.call there finds
 
 pub invoke-requires-clause-through : goal.invoke-requires-clause-through
 invoke-requires-clause-through g c a finds =
@@ -22,7 +53,7 @@ returns-clause-may g c =
     let same : c.self.inside.config ≡ c.args.self.now.config = ap (λ (z : CacheState). z.config) c.self.view_is in
     let there : slice_get c.args.session.now.seats.items c.stripe_of-at.result ≡ Some c.index_mut-seat.result.now =
     seat_at c.args.self.now c.args.session.now _ c.args.key.now _ _ c.requires.may.own c.self.invariant.fits same c.stripe_of-at.ensures c.index_mut-seat.ensures.value in
-    (invoked _ _ _ _ c.is_uniform.ensures c.own_steps.ensures c.is_legal.ensures c.steps_behind.ensures c.own_numbers.ensures _ _ c.args.self.now c.args.session.now _ c.next_call.new.self c.args.key.now c.args.args.now
+    (invoked _ _ _ _ c.laws.ensures.uniform c.laws.ensures.steps c.laws.ensures.legal c.laws.ensures.behind c.laws.ensures.numbers _ _ c.args.self.now c.args.session.now _ c.next_call.new.self c.args.key.now c.args.args.now
     c.args.processor.now c.invoke.new.processor c.stripe_of-at.result c.invoke.result _ c.index_mut-seat.result.now c.invoke.new.gate c.invoke.new.token c.requires.may c.next_call.ensures.call
     (at_key c.args.self.now _ c.args.key.now _ same c.stripe_of-at.ensures) there refl c.invoke.ensures.call).1
 
@@ -32,7 +63,7 @@ returns-clause-call g c =
     let there : slice_get c.args.session.now.seats.items c.stripe_of-at.result ≡ Some c.index_mut-seat.result.now =
     seat_at c.args.self.now c.args.session.now _ c.args.key.now _ _ c.requires.may.own c.self.invariant.fits same c.stripe_of-at.ensures c.index_mut-seat.ensures.value in (
       c.invoke.result,
-      (invoked _ _ _ _ c.is_uniform.ensures c.own_steps.ensures c.is_legal.ensures c.steps_behind.ensures c.own_numbers.ensures _ _ c.args.self.now c.args.session.now _ c.next_call.new.self c.args.key.now c.args.args.now
+      (invoked _ _ _ _ c.laws.ensures.uniform c.laws.ensures.steps c.laws.ensures.legal c.laws.ensures.behind c.laws.ensures.numbers _ _ c.args.self.now c.args.session.now _ c.next_call.new.self c.args.key.now c.args.args.now
           c.args.processor.now c.invoke.new.processor c.stripe_of-at.result c.invoke.result _ c.index_mut-seat.result.now c.invoke.new.gate c.invoke.new.token c.requires.may c.next_call.ensures.call
           (at_key c.args.self.now _ c.args.key.now _ same c.stripe_of-at.ensures) there refl c.invoke.ensures.call).0,
       c.value_of.ensures,

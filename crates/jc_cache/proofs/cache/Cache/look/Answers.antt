@@ -1,10 +1,38 @@
-use Rattle.std.proofs.Common.{◌≡◌, ◌+◌, ◌≤◌, ap, inl, refl, subst, ◌∙◌, ℕ, vec_len}
+use Rattle.std.proofs.Common.{◌≡◌, ◌+◌, ◌≤◌, ap, inl, refl, subst, sym, ◌∙◌, ℕ, Some, vec_len, vec_capacity}
 use Rattle.jc_types.specs.declared.config.Config.{Config}
 use Rattle.jc_stripe.specs.Keys.{Looks}
 use Rattle.jc_stripe.specs.State.{State}
 use Rattle.jc_session.specs.declared.counts.Counted.TheVariants.{Nothing}
+use Rattle.jc_cache.specs.Caches.{CacheState}
+use Rattle.jc_cache.proofs.WholeCalls.{free_at}
 use Rattle.jc_cache.proofs.SessionPhases.{LooksSo, looked_longer, look_lent, number_at, shape_found, agent_same, phase_left}
 use Rattle.jc_cache.proofs.cache.Cache.look.Goals as goal
+
+pub take-stripe-requires-clause-held : goal.take-stripe-requires-clause-held
+take-stripe-requires-clause-held g c = c.requires.own.held
+
+pub take-stripe-requires-clause-free : goal.take-stripe-requires-clause-free
+take-stripe-requires-clause-free g c =
+    let t = c.index_mut-seat.result.now in
+    let there = number_at c.args.self.now c.args.session.now c.args.number t c.requires.own c.requires.stripe c.index_mut-seat.ensures.value in
+    free_at c.args.self.now c.args.session.now c.self.inside.locks.items c.args.number t c.index.result.now c.requires.own (ap (λ (z : CacheState). z.locks) c.self.view_is) there c.index.ensures
+
+pub keys-requires : goal.keys-requires
+keys-requires g c =
+    let t = c.index_mut-seat.result.now in
+    let there = number_at c.args.self.now c.args.session.now c.args.number t c.requires.own c.requires.stripe c.index_mut-seat.ensures.value in
+    let shape = shape_found c.args.self.now c.args.session.now c.args.number t c.take-stripe.result.value c.requires.own there c.take-stripe.ensures.found.0 in
+    let capacity : c.deref.result.now.config.capacity ≡ c.args.self.now.config.capacity = ap (λ (s : State). s.config.capacity) c.deref.ensures ∙ ap (λ (k : Config). k.capacity) shape in
+    subst (λ (n : ℕ). vec_len c.args.out.now + n ≤ vec_capacity c.args.out.now) (sym capacity) c.requires.room
+
+pub give-requires-clause-held : goal.give-requires-clause-held
+give-requires-clause-held g c = ap (λ a. a.hands.held) c.take-stripe.ensures.agent
+
+pub give-requires-clause-speaks : goal.give-requires-clause-speaks
+give-requires-clause-speaks g c =
+    let t = c.index_mut-seat.result.now in
+    let there = number_at c.args.self.now c.args.session.now c.args.number t c.requires.own c.requires.stripe c.index_mut-seat.ensures.value in
+    c.take-stripe.ensures.speaks _ (c.requires.own.seats c.args.number t there).of_session ∙ ap (λ a. Some a.caller.session) (sym c.take-stripe.ensures.agent)
 
 pub give-requires-clause-phase : goal.give-requires-clause-phase
 give-requires-clause-phase g c = (c.take-stripe.result.value, c.take-stripe.ensures.taken, inl (refl, refl))
@@ -40,3 +68,6 @@ returns-clause-phase g c = let old = c.args.session.now in
     (phase_left c.is_uniform.ensures c.args.self.now old _ c.args.number c.args.number Nothing makes makes c.take-stripe.new.gate t c.give.new.gate c.give.new.token c.requires.own refl there refl
     (agent_same old.agent c.take-stripe.new.self c.give.new.self c.requires.own.held c.take-stripe.ensures.agent c.give.ensures.agent) (λ x y reached m. m)
     (λ x y reached m. looked_longer old.agent.caller.session _ _ x y m) lent).0
+
+pub returns-clause-capacity : goal.returns-clause-capacity
+returns-clause-capacity g c = c.keys.ensures.capacity

@@ -1,21 +1,49 @@
-use Rattle.std.proofs.Common.{◌≡◌, ap, refl, Some, slice_get}
+use Rattle.std.proofs.Common.{◌≡◌, subst, sym, ℕ, ◌<◌, ◌∙◌, ap, refl, Some, slice_get}
 use Rattle.jc_cache.specs.Caches.{CacheState}
-use Rattle.jc_cache.proofs.WholeCalls.{at_key, seat_at, may_begin, tried}
+use Rattle.jc_cache.proofs.WholeCalls.{some_stripe, lock_near, seat_near, at_key, seat_at, free_at, speaks_at, may_begin, tried}
 use Rattle.jc_cache.proofs.cache.Cache.try_call.Goals as goal
+
+pub stripe_of-at-requires : goal.stripe_of-at-requires
+stripe_of-at-requires g c = some_stripe c.self.inside.config c.self.invariant.fits
+
+pub index-requires : goal.index-requires
+index-requires g c = subst (λ (n : ℕ). c.stripe_of-at.result < n) (sym c.self.inside.locks.ok.0) (lock_near c.self.inside.config c.self.inside.locks.items c.args.key.now _ c.self.invariant c.stripe_of-at.ensures)
+
+pub index_mut-seat-requires : goal.index_mut-seat-requires
+index_mut-seat-requires g c =
+    subst (λ (n : ℕ). c.stripe_of-at.result < n) (sym c.args.session.now.seats.ok.0)
+    (seat_near c.args.self.now c.args.session.now _ c.args.key.now _ c.requires.may.own c.self.invariant.fits (ap (λ (z : CacheState). z.config) c.self.view_is) c.stripe_of-at.ensures)
+
+pub try_call-requires-clause-free : goal.try_call-requires-clause-free
+try_call-requires-clause-free g c =
+    let same : c.self.inside.config ≡ c.args.self.now.config = ap (λ (z : CacheState). z.config) c.self.view_is in
+    let there : slice_get c.args.session.now.seats.items c.stripe_of-at.result ≡ Some c.index_mut-seat.result.now =
+    seat_at c.args.self.now c.args.session.now _ c.args.key.now _ _ c.requires.may.own c.self.invariant.fits same c.stripe_of-at.ensures c.index_mut-seat.ensures.value in
+    free_at c.args.self.now c.args.session.now c.self.inside.locks.items c.stripe_of-at.result c.index_mut-seat.result.now c.index.result.now c.requires.may.own (ap (λ (z : CacheState). z.locks) c.self.view_is) there c.index.ensures
+
+pub try_call-requires-clause-speaks : goal.try_call-requires-clause-speaks
+try_call-requires-clause-speaks g c =
+    let same : c.self.inside.config ≡ c.args.self.now.config = ap (λ (z : CacheState). z.config) c.self.view_is in
+    let there : slice_get c.args.session.now.seats.items c.stripe_of-at.result ≡ Some c.index_mut-seat.result.now =
+    seat_at c.args.self.now c.args.session.now _ c.args.key.now _ _ c.requires.may.own c.self.invariant.fits same c.stripe_of-at.ensures c.index_mut-seat.ensures.value in
+    speaks_at c.args.self.now c.args.session.now c.next_call.new.self c.stripe_of-at.result c.index_mut-seat.result.now c.requires.may.own c.next_call.ensures.call there
+
+pub try_call-requires-clause-held : goal.try_call-requires-clause-held
+try_call-requires-clause-held g c = ap (λ a. a.hands.held) c.next_call.ensures.call ∙ c.requires.may.own.held
 
 pub try_call-requires-clause-needs : goal.try_call-requires-clause-needs
 try_call-requires-clause-needs g c a finds =
     let same : c.self.inside.config ≡ c.args.self.now.config = ap (λ (z : CacheState). z.config) c.self.view_is in
     let there : slice_get c.args.session.now.seats.items c.stripe_of-at.result ≡ Some c.index_mut-seat.result.now =
     seat_at c.args.self.now c.args.session.now _ c.args.key.now _ _ c.requires.may.own c.self.invariant.fits same c.stripe_of-at.ensures c.index_mut-seat.ensures.value in
-    may_begin c.own_numbers.ensures c.args.self.now c.args.session.now c.next_call.new.self c.stripe_of-at.result _ _ a c.requires.may c.next_call.ensures.call there finds
+    may_begin c.laws.ensures.numbers c.args.self.now c.args.session.now c.next_call.new.self c.stripe_of-at.result _ _ a c.requires.may c.next_call.ensures.call there finds
 
 pub returns-clause-may : goal.returns-clause-may
 returns-clause-may g c =
     let same : c.self.inside.config ≡ c.args.self.now.config = ap (λ (z : CacheState). z.config) c.self.view_is in
     let there : slice_get c.args.session.now.seats.items c.stripe_of-at.result ≡ Some c.index_mut-seat.result.now =
     seat_at c.args.self.now c.args.session.now _ c.args.key.now _ _ c.requires.may.own c.self.invariant.fits same c.stripe_of-at.ensures c.index_mut-seat.ensures.value in
-    (tried c.is_uniform.ensures c.own_steps.ensures c.is_legal.ensures c.own_numbers.ensures c.args.self.now c.args.session.now _ c.next_call.new.self c.args.key.now c.args.op.now c.stripe_of-at.result
+    (tried c.laws.ensures.uniform c.laws.ensures.steps c.laws.ensures.legal c.laws.ensures.numbers c.args.self.now c.args.session.now _ c.next_call.new.self c.args.key.now c.args.op.now c.stripe_of-at.result
     c.try_call.result _ c.index_mut-seat.result.now c.try_call.new.gate c.try_call.new.token c.requires.may c.next_call.ensures.call (at_key c.args.self.now _ c.args.key.now _ same c.stripe_of-at.ensures) there refl
     c.try_call.ensures.agent c.try_call.ensures.tried).1
 
@@ -24,6 +52,6 @@ returns-clause-call g c =
     let same : c.self.inside.config ≡ c.args.self.now.config = ap (λ (z : CacheState). z.config) c.self.view_is in
     let there : slice_get c.args.session.now.seats.items c.stripe_of-at.result ≡ Some c.index_mut-seat.result.now =
     seat_at c.args.self.now c.args.session.now _ c.args.key.now _ _ c.requires.may.own c.self.invariant.fits same c.stripe_of-at.ensures c.index_mut-seat.ensures.value in
-    (tried c.is_uniform.ensures c.own_steps.ensures c.is_legal.ensures c.own_numbers.ensures c.args.self.now c.args.session.now _ c.next_call.new.self c.args.key.now c.args.op.now c.stripe_of-at.result
+    (tried c.laws.ensures.uniform c.laws.ensures.steps c.laws.ensures.legal c.laws.ensures.numbers c.args.self.now c.args.session.now _ c.next_call.new.self c.args.key.now c.args.op.now c.stripe_of-at.result
     c.try_call.result _ c.index_mut-seat.result.now c.try_call.new.gate c.try_call.new.token c.requires.may c.next_call.ensures.call (at_key c.args.self.now _ c.args.key.now _ same c.stripe_of-at.ensures) there refl
     c.try_call.ensures.agent c.try_call.ensures.tried).0
