@@ -75,3 +75,7 @@ ended_length old new r out done reached h =
 -- an order that has room for them has it for those that a stripe appends
 pub has_room : (n capacity before : ℕ) (from to : State) → n + (STEP_PLACES + JOINERS_MAX) ≤ capacity → before ≡ length from.history → IsLonger from to → n + (length to.history - before) ≤ capacity
 has_room n capacity before from to room is longer = let g = longer.grows in let w = longer.within in omega arith
+
+-- how long a history was is a place of it afterwards
+pub still_place : (before : ℕ) (from to : State) → before ≡ length from.history → IsLonger from to → before ≤ length to.history
+still_place before from to is longer = let g = longer.grows in omega arith

@@ -22,6 +22,7 @@ pub mod Places
 pub mod Entries
 pub mod Reservations
 pub mod Processors
+pub mod Committing
 pub mod Asked
 pub mod Dues
 pub mod Kept

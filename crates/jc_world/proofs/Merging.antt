@@ -5,8 +5,10 @@
 --     stays_merged       a stripe whose history stays: so does the order
 --     merged_next        one turn more: the next event of its stripe is at the end
 --     merged_length      there are as many events as turns
-use Rattle.jc_world.proofs.Common.{◌≡◌, ℕ, zero, suc, ◌+◌, ◌-◌, ◌<◌, ◌≤◌, Bool, true, false, cond, List, [], ◌∷◌, ◌++◌, length, get_or, take, drop, replicate, IsSomeAnd, ◌==◌, slice_get, slice_set, Some, Ok, sym, refl, ap, ◌∙◌, subst, append_assoc, append-nil, arith, length-append, drop-append_seam, eqb-true, nat_tests, nat_eq_equiv, take-append-drop, get_or-set_same, get_or-set_other, take_more, sum_by-cons, sum_by-append, count_by_more_yes, count_by_more_no, slice_get_read, check, Config, STRIPES_MAX, Event, Extends, PicksUp, State, JoinClaim, Picked, Inside, history_in, history_at, turns_of, after_turn, merge, OrderedStripes, IsPhase, IsQuietPhase, ordered_stripes, AreTurns, IsMergeable, empty_stripes}
-use Rattle.jc_world.proofs.Lemmas.{empty_count, stripe_put, few_stripes, at_index}
+use Rattle.std.proofs.Common.{Fits, w64}
+use Rattle.std.proofs.lemmas.List.Sums.{count_by-le-length}
+use Rattle.jc_world.proofs.Common.{◌≡◌, ℕ, zero, suc, ◌+◌, ◌-◌, ◌<◌, ◌≤◌, Bool, true, false, cond, List, [], ◌∷◌, ◌++◌, length, get_or, take, drop, replicate, IsSomeAnd, ◌==◌, slice_get, slice_set, Some, Option, vec_len, Ok, sym, refl, ap, ◌∙◌, subst, append_assoc, append-nil, arith, length-append, drop-append_seam, eqb-true, nat_tests, nat_eq_equiv, take-append-drop, get_or-set_same, get_or-set_other, take_more, sum_by-cons, sum_by-append, count_by_more_yes, count_by_more_no, slice_get_read, check, Config, STRIPES_MAX, Event, Extends, PicksUp, State, JoinClaim, Picked, Inside, history_in, history_at, turns_of, after_turn, merge, OrderedStripes, IsPhase, IsQuietPhase, ordered_stripes, AreTurns, IsMergeable, empty_stripes}
+use Rattle.jc_world.proofs.Lemmas.{empty_count, stripe_put, few_stripes, within, at_index}
 
 -- 1. Turns.
 
@@ -194,6 +196,19 @@ Meets P number v = IsSomeAnd (slice_get v.stripes number) P
 pub is_at : (s : Inside) (now : OrderedStripes) (number : ℕ) (from : State) (P : State → Type 0) → ordered_stripes s ≡ now → IsSomeAnd (slice_get now.stripes number) P → from ≡ get_or s.items.items number from → slice_get s.items.items number ≡ Some from
 is_at s now number from P is h read = at_index s.items.items number from P (subst (Meets P number) (sym is) h) read
 
+-- and meets what that stripe meets
+pub met_at : (s : Inside) (now : OrderedStripes) (number : ℕ) (from : State) (P : State → Type 0) → ordered_stripes s ≡ now → IsSomeAnd (slice_get now.stripes number) P → from ≡ get_or s.items.items number from → P from
+met_at s now number from P is h read =
+    let Q : Option State → Type 0 = λ o. IsSomeAnd o P in
+    subst Q (is_at s now number from P is h read) (subst (Meets P number) (sym is) h)
+
+-- the number is of a stripe that is there
+pub number_within : (s : Inside) (now : OrderedStripes) (number : ℕ) (P : State → Type 0) → ordered_stripes s ≡ now → IsSomeAnd (slice_get now.stripes number) P → number < vec_len s.items
+number_within s now number P is h = let few = within s.items.items number P (subst (Meets P number) (sym is) h) in let ok = s.items.ok in omega arith
+
+pub number_few : (s : Inside) (now : OrderedStripes) (number : ℕ) (P : State → Type 0) → ordered_stripes s ≡ now → IsMergeable s → IsSomeAnd (slice_get now.stripes number) P → number < STRIPES_MAX
+number_few s now number P is ok h = let few = within s.items.items number P (subst (Meets P number) (sym is) h) in let count = ok.count in omega arith
+
 -- a phase that appends
 pub phase_made : (s : Inside) (now : OrderedStripes) (number count : ℕ) (from to : State) (phase : State → State → Type 0) (turns : List ℕ) (next : OrderedStripes) → ordered_stripes s ≡ now → IsMergeable s → slice_get s.items.items number ≡ Some from → Extends from to → count ≡ length from.history → phase from to
     → turns ≡ s.turns.items ++ replicate (length to.history - count) number → next.stripes ≡ slice_set s.items.items number to → next.order ≡ merge (history_at (slice_set s.items.items number to)) turns → IsPhase now number phase next
@@ -282,6 +297,10 @@ some_turns : (n : ℕ) (turns : List ℕ) (i : ℕ) → turns_of n (take i turns
 some_turns n turns i =
     let e = ap (turns_of n) (sym (take-append-drop i turns)) ∙ sum_by-append (λ t. cond (t == n) 1 0) (take i turns) (drop i turns) in
     omega arith
+
+-- a number of them, and one more, is a number of 64 bits, since there is room for all
+pub next_place : (place n : ℕ) (turns : List ℕ) (i capacity : ℕ) → place ≡ turns_of n (take i turns) → length turns ≤ capacity → capacity < 9223372036854775808 → Fits w64 (place + 1)
+next_place place n turns i capacity is room small = let some = some_turns n turns i in let all = count_by-le-length (λ t. t == n) turns in omega arith
 
 in_list : (stripes : List State) (n : ℕ) → 1 ≤ length (history_at stripes n) → n < length stripes
 in_list [] n h = absurd (omega arith)

@@ -187,14 +187,20 @@ impl Machine {
                 call,
                 session,
                 command,
-            } => self.begin_call(*call, *session, command, seen)?,
-            WorldEvent::Look { call, stripe } => self.look(*call, *stripe, seen)?,
-            WorldEvent::Start { call, key } => self.start(*call, key, seen)?,
-            WorldEvent::Read { call, key } => self.read(*call, key, seen),
-            WorldEvent::Say { call, key, answer } => self.say(*call, key, *answer, seen),
-            WorldEvent::Change { call, key } => self.change(*call, key, seen)?,
+            } => self.begin_call(*call, *session, command, seen),
+            WorldEvent::Look { call, stripe } => self.look(*call, *stripe, seen),
+            WorldEvent::Start { call, key } => self.start(*call, key, seen),
+            WorldEvent::Read { call, key } => {
+                self.read(*call, key, seen);
+                Ok(())
+            }
+            WorldEvent::Say { call, key, answer } => {
+                self.say(*call, key, *answer, seen);
+                Ok(())
+            }
+            WorldEvent::Change { call, key } => self.change(*call, key, seen),
             WorldEvent::Report { call, left, fault } => {
-                self.writer_returns(*call, left, *fault, seen)?
+                self.writer_returns(*call, left, *fault, seen)
             }
             WorldEvent::Process {
                 call,
@@ -202,17 +208,20 @@ impl Machine {
                 load,
                 calls,
                 fail,
-            } => self.process(*call, key, load, calls, *fail, seen)?,
-            WorldEvent::Commit { call, key } => self.commit(*call, key, seen)?,
-            WorldEvent::Withdraw { call, key } => self.withdraw(*call, key, seen),
+            } => self.process(*call, key, load, calls, *fail, seen),
+            WorldEvent::Commit { call, key } => self.commit(*call, key, seen),
+            WorldEvent::Withdraw { call, key } => {
+                self.withdraw(*call, key, seen);
+                Ok(())
+            }
             WorldEvent::Leave { call } => {
                 drop_call(&mut self.calls, *call);
                 show(seen, Outcome::Left);
+                Ok(())
             }
-            WorldEvent::PickUp { call, key } => self.pick_up(*call, key, seen)?,
-            WorldEvent::Foreign { key, value } => self.foreign_write(key, *value, seen)?,
+            WorldEvent::PickUp { call, key } => self.pick_up(*call, key, seen),
+            WorldEvent::Foreign { key, value } => self.foreign_write(key, *value, seen),
         }
-        Ok(())
     }
 
     /// A call begins.

@@ -1,6 +1,8 @@
-use Rattle.jc_world.proofs.Common.{◌≡◌, ◌+◌, ◌<◌, [], ◌∷◌, ◌++◌, length, get_or, slice_get, Some, sym, refl, ap, ◌∙◌, subst, arith, get_or-replicate, slice_get_read, STRIPES_MAX, history_in, history_at}
+use Rattle.std.proofs.lemmas.List.{take_all}
+use Rattle.std.proofs.lemmas.Result.{IfOk-from_err}
+use Rattle.jc_world.proofs.Common.{◌≡◌, ◌+◌, ◌<◌, [], ◌∷◌, ◌++◌, length, get_or, slice_get, Some, sym, refl, ap, ◌∙◌, subst, arith, get_or-replicate, slice_get_read, STRIPES_MAX, history_in, history_at, merge}
 use Rattle.jc_world.proofs.Shares.{length-slice_set}
-use Rattle.jc_world.proofs.Merging.{has_next, counts_more, merged_next}
+use Rattle.jc_world.proofs.Merging.{has_next, counts_more, merged_next, next_place}
 use Rattle.jc_world.proofs.stripes.merge.Goals as goal
 
 pub loop-turn-init : goal.loop-turn-init
@@ -54,3 +56,25 @@ loop-turn-preserved c =
       count = length-slice_set c.loop-turn.taken number (place + 1) ∙ len;
       room = let r = i.room in let l = c.push_reserved.ensures.len in let k = c.push_reserved.ensures.capacity in omega arith;
     }
+
+pub returns-in_err-order : goal.returns-in_err-order
+returns-in_err-order c = IfOk-from_err c.from_residual.result _ c.from_residual.ensures.0
+
+pub bounds-turns-turn-index : goal.bounds-turns-turn-index
+bounds-turns-turn-index c = c.loop-turn-test.true
+
+pub push_reserved-requires : goal.push_reserved-requires
+push_reserved-requires c = let r = c.loop-turn.invariant.room in let t = c.loop-turn-test.true in omega arith
+
+pub returns : goal.returns
+returns c = c.loop-turn.invariant.made ∙ ap (merge (history_at c.args.stripes.now)) (take_all c.loop-turn.turn-index c.args.turns.now c.loop-turn-test.false)
+
+pub overflow_add-taken : goal.overflow_add-taken
+overflow_add-taken c =
+    let turns = c.args.turns.now in
+    let index = c.loop-turn.turn-index in
+    let number = get_or turns index 0 in
+    let within = (has_next c.args.stripes.now turns index c.requires.turns c.loop-turn-test.true).number in
+    let count = c.requires.count in
+    let few : number < STRIPES_MAX = omega arith in
+    next_place (get_or c.loop-turn.taken number 0) number turns index _ (c.loop-turn.invariant.counts number few) c.in_ok-order.ensures.capacity c.in_ok-order.order.small

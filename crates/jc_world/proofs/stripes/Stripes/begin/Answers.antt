@@ -1,8 +1,25 @@
 use Rattle.jc_world.proofs.Common.{slice_set, sym, refl, ap, subst, arith, MayBegin, Begins, OrderedStripes, AreTurns}
-use Rattle.jc_world.proofs.Lengths.{begun_length, has_room}
-use Rattle.jc_world.proofs.Merging.{is_at, phase_made, grows_turns}
+use Rattle.jc_world.proofs.Lengths.{begun_length, has_room, still_place}
+use Rattle.jc_world.proofs.Merging.{is_at, met_at, number_within, number_few, phase_made, grows_turns}
 use Rattle.jc_world.proofs.Shares.{length-slice_set}
 use Rattle.jc_world.proofs.stripes.Stripes.begin.Goals as goal
+
+pub index_mut-stripe-requires : goal.index_mut-stripe-requires
+index_mut-stripe-requires c = number_within c.self.inside c.args.self.now c.args.number (λ s. MayBegin s c.args.caller.now c.args.key.now) c.self.view_is c.requires.begins
+
+pub begin-begun-requires : goal.begin-begun-requires
+begin-begun-requires c = record {
+  begins = met_at c.self.inside c.args.self.now c.args.number c.index_mut-stripe.result.now (λ s. MayBegin s c.args.caller.now c.args.key.now) c.self.view_is c.requires.begins c.index_mut-stripe.ensures.value;
+}
+
+pub give_turns-requires-clause-number : goal.give_turns-requires-clause-number
+give_turns-requires-clause-number c = number_few c.self.inside c.args.self.now c.args.number (λ s. MayBegin s c.args.caller.now c.args.key.now) c.self.view_is c.self.invariant c.requires.begins
+
+pub give_turns-requires-clause-place : goal.give_turns-requires-clause-place
+give_turns-requires-clause-place c =
+    let from = c.index_mut-stripe.result.now in
+    let to = c.begin-begun.new.self in
+    still_place c.history_len-before.result from to c.history_len-before.ensures.len (begun_length from to c.args.caller.now c.args.key.now c.args.op.now _ c.begin-begun.ensures.begins)
 
 pub give_turns-requires-clause-room : goal.give_turns-requires-clause-room
 give_turns-requires-clause-room c =

@@ -1,8 +1,36 @@
-use Rattle.jc_world.proofs.Common.{◌≡◌, slice_set, sym, refl, ap, subst, arith, Played, Commits, IsOut, IsDue, OrderedStripes, AreTurns, out_of}
-use Rattle.jc_world.proofs.Lengths.{ended_length, has_room}
-use Rattle.jc_world.proofs.Merging.{is_at, phase_made, grows_turns}
+use Rattle.jc_world.proofs.Common.{◌≡◌, slice_set, sym, refl, ap, subst, arith, Played, Commits, IsOut, IsDue, State, OrderedStripes, AreTurns, out_of, Part}
+use Rattle.jc_world.proofs.Lengths.{ended_length, has_room, still_place}
+use Rattle.jc_world.proofs.Merging.{is_at, met_at, number_within, number_few, phase_made, grows_turns}
 use Rattle.jc_world.proofs.Shares.{length-slice_set}
 use Rattle.jc_world.proofs.stripes.Stripes.commit.Goals as goal
+
+-- what is known of the stripe from which the part is
+abbrev IsCommitted : Part → State → Type 0
+IsCommitted held s = IsOut s held.reservation × (s.origin ≡ Played) × IsDue s.config held
+
+pub index_mut-stripe-requires : goal.index_mut-stripe-requires
+index_mut-stripe-requires c = number_within c.self.inside c.args.self.now c.args.number (IsCommitted c.args.held) c.self.view_is c.requires.out
+
+pub commit-done-requires-clause-out : goal.commit-done-requires-clause-out
+commit-done-requires-clause-out c = (met_at c.self.inside c.args.self.now c.args.number c.index_mut-stripe.result.now (IsCommitted c.args.held) c.self.view_is c.requires.out c.index_mut-stripe.ensures.value).0
+
+pub commit-done-requires-clause-answered : goal.commit-done-requires-clause-answered
+commit-done-requires-clause-answered c = c.requires.answered
+
+pub commit-done-requires-clause-origin : goal.commit-done-requires-clause-origin
+commit-done-requires-clause-origin c = (met_at c.self.inside c.args.self.now c.args.number c.index_mut-stripe.result.now (IsCommitted c.args.held) c.self.view_is c.requires.out c.index_mut-stripe.ensures.value).1
+
+pub commit-done-requires-clause-due : goal.commit-done-requires-clause-due
+commit-done-requires-clause-due c = (met_at c.self.inside c.args.self.now c.args.number c.index_mut-stripe.result.now (IsCommitted c.args.held) c.self.view_is c.requires.out c.index_mut-stripe.ensures.value).2
+
+pub give_turns-requires-clause-number : goal.give_turns-requires-clause-number
+give_turns-requires-clause-number c = number_few c.self.inside c.args.self.now c.args.number (IsCommitted c.args.held) c.self.view_is c.self.invariant c.requires.out
+
+pub give_turns-requires-clause-place : goal.give_turns-requires-clause-place
+give_turns-requires-clause-place c =
+    let from = c.index_mut-stripe.result.now in
+    let to = c.commit-done.new.stripe in
+    still_place c.history_len-before.result from to c.history_len-before.ensures.len (ended_length from to c.args.held.reservation (out_of c.args.held) _ c.history_len-before.ensures.reached c.commit-done.ensures)
 
 pub give_turns-requires-clause-room : goal.give_turns-requires-clause-room
 give_turns-requires-clause-room c =

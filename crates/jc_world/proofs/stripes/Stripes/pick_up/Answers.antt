@@ -1,7 +1,13 @@
 use Rattle.jc_world.proofs.Common.{refl, arith, PicksUp, IsJoined}
-use Rattle.jc_world.proofs.Merging.{picked_same, is_at, quiet_made, stays_turns}
+use Rattle.jc_world.proofs.Merging.{picked_same, is_at, met_at, number_within, quiet_made, stays_turns}
 use Rattle.jc_world.proofs.Shares.{length-slice_set}
 use Rattle.jc_world.proofs.stripes.Stripes.pick_up.Goals as goal
+
+pub index_mut-stripe-requires : goal.index_mut-stripe-requires
+index_mut-stripe-requires c = number_within c.self.inside c.args.self.now c.args.number (λ s. IsJoined s c.args.join) c.self.view_is c.requires
+
+pub pick_up-requires : goal.pick_up-requires
+pick_up-requires c = met_at c.self.inside c.args.self.now c.args.number c.index_mut-stripe.result.now (λ s. IsJoined s c.args.join) c.self.view_is c.requires c.index_mut-stripe.ensures.value
 
 pub invariant_of-self : goal.invariant_of-self
 invariant_of-self c =
