@@ -1,19 +1,25 @@
-use Rattle.std.proofs.Common.{rules}
+use Rattle.std.proofs.Common.{◌∙◌}
 use Rattle.jc_bulk.specs.Ends.{key_ends}
 use Rattle.jc_bulk.specs.Targets.{ops_of}
 use Rattle.jc_bulk.proofs.CarriedOut.{end_err, end_ok}
+use Rattle.jc_bulk.proofs.Returning.{then_err, then_ok}
 use Rattle.jc_bulk.proofs.carrying.call_with.Goals as goal
 
-pub returns-in-None-clause-ok : goal.returns-in-None-clause-ok
-returns-in-None-clause-ok g c =
+pub returns-clause-ok : goal.returns-clause-ok
+returns-clause-ok g c =
     let ops = ops_of c.args.targets.now in
     let outcome = c.carry_out-outcome in
-    end_ok _ _ _ _ _ c.args.cache.now c.args.session.now outcome.new.session ops (key_ends ops outcome.result.progress.items) outcome.result.cause c.in-None.is outcome.ensures.carried
+    then_ok c.without_values.result
+    (λ done none. end_ok _ _ _ _ _ c.args.cache.now c.args.session.now outcome.new.session ops (key_ends ops outcome.result.progress.items) outcome.result.cause none outcome.ensures.carried)
+    c.without_values.ensures.ok
 
 pub returns-clause-err : goal.returns-clause-err
 returns-clause-err g c =
     let ops = ops_of c.args.targets.now in
-    let outcome = c.carry_out-outcome in (
-      end_err _ _ _ _ _ c.args.cache.now c.args.session.now outcome.new.session ops (key_ends ops outcome.result.progress.items) outcome.result.cause c.in-Some.cause _ c.in-Some.is outcome.ensures.failed outcome.ensures.carried,
-      search rules,
-    )
+    let outcome = c.carry_out-outcome in
+    then_err c.without_values.result
+    (λ fault e. (
+      end_err _ _ _ _ _ c.args.cache.now c.args.session.now outcome.new.session ops (key_ends ops outcome.result.progress.items) outcome.result.cause fault.cause _ e.0 (e.1 ∙ outcome.ensures.failed) outcome.ensures.carried,
+      e.2,
+    ))
+    c.without_values.ensures.err
