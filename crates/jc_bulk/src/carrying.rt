@@ -257,34 +257,14 @@ pub(crate) fn call_all<R: Wait>(
         × (fault.found.entries ≡ [])
         ⊎ IsOutOfMemory session.old fault.cause fault.failed.entries fault.found.entries session.new) }
 {
+    let _types: Option<&(Reply, Value)> = None;
     match Room::new(alloc, targets, cache.config().stripes) {
         Err(_failed) => Err(BulkFault::of_whole_call(alloc, Refusal::OutOfMemory)),
-        Ok(room) => call_with(alloc, rt, cache, session, targets, room),
+        Ok(room) => {
+            let outcome = carry_out(alloc, rt, cache, session, targets, room);
+            without_values(alloc, outcome)
+        }
     }
-}
-
-/// The call, once its memory is taken.
-fn call_with<R: Wait>(
-    alloc: Global,
-    rt: &R,
-    cache: &Cache,
-    session: &mut Session,
-    targets: &Targets<'_>,
-    room: Room,
-) -> Result<(), BulkFault>
-    requires may { MayCall cache.now session.old }
-    requires distinct { IsDistinct (pointwise ◌==◌) (keys_of (ops_of targets.now)) }
-    requires room { IsRoomOf (kind_for targets.now) (ops_of targets.now) room }
-    ensures may { MayCall cache.now session.new }
-    ensures ok { IfOk result (λ done. Succeeds loads_all load_state writes_all deletes_all write_state
-        cache.now session.old (ops_of targets.now) session.new) }
-    ensures err { IfErr result (λ fault. FailsInPart loads_all load_state writes_all deletes_all write_state
-        cache.now session.old (ops_of targets.now) fault.cause fault.failed.entries session.new
-        × (fault.found.entries ≡ [])) }
-{
-    let _types: Option<&(Reply, Value)> = None;
-    let outcome = carry_out(alloc, rt, cache, session, targets, room);
-    without_values(alloc, outcome)
 }
 
 /// What a call returns that has no values to return: if it has a cause, that and the keys that failed.
