@@ -68,42 +68,57 @@ impl Calls {
     pub fn loads(alloc: Global, n: usize) -> Result<Self, AllocError>
         ensures { IfOk result (λ calls. calls ≡ no_calls Load n) }
     {
-        let batch = LoadBatch::with_capacity(alloc, n)?;
         let (tickets, asks, done) = three_vectors(alloc, n)?;
-        Ok(Calls {
-            most: n,
-            tickets,
-            asks,
-            to_ask: ToAsk::Loads(batch, done),
-        })
+        match LoadBatch::with_capacity(alloc, n) {
+            Ok(batch) => Ok(Calls {
+                most: n,
+                tickets,
+                asks,
+                to_ask: ToAsk::Loads(batch, done),
+            }),
+            Err(failed) => {
+                end_vectors(tickets, asks, done);
+                Err(failed)
+            }
+        }
     }
 
     /// No calls, with room for `n` that write. An `Err` says that an allocation failed.
     pub fn writes(alloc: Global, n: usize) -> Result<Self, AllocError>
         ensures { IfOk result (λ calls. calls ≡ no_calls (Write false) n) }
     {
-        let batch = Batch::Writes(WriteBatch::with_capacity(alloc, n)?);
         let (tickets, asks, done) = three_vectors(alloc, n)?;
-        Ok(Calls {
-            most: n,
-            tickets,
-            asks,
-            to_ask: ToAsk::Writes(batch, done),
-        })
+        match WriteBatch::with_capacity(alloc, n) {
+            Ok(batch) => Ok(Calls {
+                most: n,
+                tickets,
+                asks,
+                to_ask: ToAsk::Writes(Batch::Writes(batch), done),
+            }),
+            Err(failed) => {
+                end_vectors(tickets, asks, done);
+                Err(failed)
+            }
+        }
     }
 
     /// No calls, with room for `n` that delete. An `Err` says that an allocation failed.
     pub fn deletes(alloc: Global, n: usize) -> Result<Self, AllocError>
         ensures { IfOk result (λ calls. calls ≡ no_calls (Write true) n) }
     {
-        let batch = Batch::Deletes(DeleteBatch::with_capacity(alloc, n)?);
         let (tickets, asks, done) = three_vectors(alloc, n)?;
-        Ok(Calls {
-            most: n,
-            tickets,
-            asks,
-            to_ask: ToAsk::Writes(batch, done),
-        })
+        match DeleteBatch::with_capacity(alloc, n) {
+            Ok(batch) => Ok(Calls {
+                most: n,
+                tickets,
+                asks,
+                to_ask: ToAsk::Writes(Batch::Deletes(batch), done),
+            }),
+            Err(failed) => {
+                end_vectors(tickets, asks, done);
+                Err(failed)
+            }
+        }
     }
 
     /// How many calls there are.
@@ -204,10 +219,7 @@ impl Calls {
         } = self;
         tickets.destroy_empty();
         asks.destroy_empty();
-        match to_ask {
-            ToAsk::Loads(_batch, done) => done.destroy_empty(),
-            ToAsk::Writes(_batch, done) => done.destroy_empty(),
-        }
+        to_ask.end();
     }
 }
 
@@ -330,6 +342,30 @@ impl ToAsk {
             ToAsk::Writes(batch, _) => insert_change(batch, *ask.key(), ask.change()),
         }
     }
+
+    /// Lets go of what was to be asked. Nothing was answered.
+    fn end(self)
+        requires { (n : ℕ) × HasSpace n self }
+    {
+        match self {
+            ToAsk::Loads(batch, done) => end_loads(batch, done),
+            ToAsk::Writes(batch, done) => end_writes(batch, done),
+        }
+    }
+}
+
+/// Lets go of a batch to be loaded, for which nothing was answered.
+fn end_loads(_batch: LoadBatch, done: Vec<LoadDone<Ask>>)
+    requires { done.items ≡ [] }
+{
+    done.destroy_empty();
+}
+
+/// Lets go of a batch for the writer, for which nothing was answered.
+fn end_writes(_batch: Batch, done: Vec<WriteDone<Ask>>)
+    requires { done.items ≡ [] }
+{
+    done.destroy_empty();
 }
 
 /// Adds a change to a batch of its kind.
@@ -374,4 +410,15 @@ fn three_vectors<A, B, C>(alloc: Global, n: usize) -> Result<(Vec<A>, Vec<B>, Ve
             Err(failed)
         }
     }
+}
+
+/// Ends three empty vectors of values that can't be dropped.
+fn end_vectors<A, B, C>(first: Vec<A>, second: Vec<B>, third: Vec<C>)
+    requires first { first.items ≡ [] }
+    requires second { second.items ≡ [] }
+    requires third { third.items ≡ [] }
+{
+    first.destroy_empty();
+    second.destroy_empty();
+    third.destroy_empty();
 }

@@ -1,5 +1,5 @@
 //! A call with many keys, as a whole: its memory, and how it is carried out.
-ghost use Rattle.std.specs.Prelude.{◌≡◌, ◌==◌, ◌≤◌, ◌<◌, ◌+◌, ◌*◌, ◌++◌, ◌⊎◌, List, [], length, false, option_map, IfOk, IfErr};
+ghost use Rattle.std.specs.Prelude.{◌≡◌, ◌==◌, ◌≤◌, ◌<◌, ◌+◌, ◌*◌, ◌++◌, ◌⊎◌, List, [], length, false, option_map, vec_capacity, None, Some, IfOk, IfErr};
 ghost use Rattle.std.specs.List.{IsDistinct, cons_option, list_any};
 ghost use Rattle.std.specs.Map.{keys_of};
 ghost use Rattle.std.specs.Cmp.Lexicographic.{pointwise};
@@ -52,22 +52,48 @@ impl Room {
         ensures { IfOk result (λ room. IsRoomOf (kind_for targets.now) (ops_of targets.now) room) }
     {
         let keys = targets.len();
-        let progress = all_waiting(alloc, keys)?;
-        let failed = IndexMap::with_capacity(alloc, keys)?;
+        let (progress, failed) = room_for_keys(alloc, keys)?;
         let most = most_calls(keys, stripes);
-        let calls = targets.no_calls(alloc, most)?;
-        match Vec::with_capacity(alloc, most_joins(keys, stripes)) {
-            Ok(joins) => Ok(Room {
-                progress,
-                failed,
-                calls,
-                most,
-                joins,
-            }),
-            Err(failed) => {
-                calls.end();
-                Err(failed)
-            }
+        let (calls, joins) = room_for_round(alloc, targets, most, most_joins(keys, stripes))?;
+        Ok(Room {
+            progress,
+            failed,
+            calls,
+            most,
+            joins,
+        })
+    }
+}
+
+/// How far so many keys are before the first round, and room for those that fail. An `Err` says that an allocation failed.
+fn room_for_keys(
+    alloc: Global,
+    keys: usize,
+) -> Result<(Vec<Progress>, IndexMap<Key, Refusal>), AllocError>
+    ensures progress { IfOk result (λ r. r.0.items ≡ all_waiting keys) }
+    ensures failed { IfOk result (λ r. (r.1.entries ≡ []) × (keys ≤ spare r.1)) }
+{
+    let progress = all_waiting(alloc, keys)?;
+    let failed = IndexMap::with_capacity(alloc, keys)?;
+    Ok((progress, failed))
+}
+
+/// No calls and no joins, with room for so many of a round. An `Err` says that an allocation failed.
+fn room_for_round(
+    alloc: Global,
+    targets: &Targets<'_>,
+    most: usize,
+    most_joins: usize,
+) -> Result<(Calls, Vec<Join>), AllocError>
+    ensures calls { IfOk result (λ r. r.0 ≡ no_calls (kind_for targets.now) most) }
+    ensures joins { IfOk result (λ r. (r.1.items ≡ []) × (most_joins ≤ vec_capacity r.1)) }
+{
+    let calls = targets.no_calls(alloc, most)?;
+    match Vec::with_capacity(alloc, most_joins) {
+        Ok(joins) => Ok((calls, joins)),
+        Err(failed) => {
+            calls.end();
+            Err(failed)
         }
     }
 }
@@ -231,33 +257,22 @@ pub(crate) fn call_all<R: Wait>(
         × (fault.found.entries ≡ [])
         ⊎ IsOutOfMemory session.old fault.cause fault.failed.entries fault.found.entries session.new) }
 {
+    let _types: Option<&(Reply, Value)> = None;
     match Room::new(alloc, targets, cache.config().stripes) {
         Err(_failed) => Err(BulkFault::of_whole_call(alloc, Refusal::OutOfMemory)),
-        Ok(room) => call_with(alloc, rt, cache, session, targets, room),
+        Ok(room) => {
+            let outcome = carry_out(alloc, rt, cache, session, targets, room);
+            without_values(alloc, outcome)
+        }
     }
 }
 
-/// The call, once its memory is taken.
-fn call_with<R: Wait>(
-    alloc: Global,
-    rt: &R,
-    cache: &Cache,
-    session: &mut Session,
-    targets: &Targets<'_>,
-    room: Room,
-) -> Result<(), BulkFault>
-    requires may { MayCall cache.now session.old }
-    requires distinct { IsDistinct (pointwise ◌==◌) (keys_of (ops_of targets.now)) }
-    requires room { IsRoomOf (kind_for targets.now) (ops_of targets.now) room }
-    ensures may { MayCall cache.now session.new }
-    ensures ok { IfOk result (λ done. Succeeds loads_all load_state writes_all deletes_all write_state
-        cache.now session.old (ops_of targets.now) session.new) }
-    ensures err { IfErr result (λ fault. FailsInPart loads_all load_state writes_all deletes_all write_state
-        cache.now session.old (ops_of targets.now) fault.cause fault.failed.entries session.new
-        × (fault.found.entries ≡ [])) }
+/// What a call returns that has no values to return: if it has a cause, that and the keys that failed.
+fn without_values(alloc: Global, outcome: CallEnd) -> Result<(), BulkFault>
+    ensures ok { IfOk result (λ done. outcome.cause ≡ None) }
+    ensures err { IfErr result (λ fault. (outcome.cause ≡ Some fault.cause)
+        × (fault.failed.entries ≡ outcome.failed.entries) × (fault.found.entries ≡ [])) }
 {
-    let _types: Option<&(Reply, Value)> = None;
-    let outcome = carry_out(alloc, rt, cache, session, targets, room);
     let CallEnd {
         cause,
         progress: _,

@@ -1,5 +1,5 @@
 //! `getAll`: the values of many keys.
-ghost use Rattle.std.specs.Prelude.{◌≡◌, ◌==◌, ◌≤◌, ◌<◌, ◌+◌, ◌⊎◌, ◌++◌, List, [], length, false, option_map, IfOk, IfErr};
+ghost use Rattle.std.specs.Prelude.{◌≡◌, ◌==◌, ◌≤◌, ◌<◌, ◌+◌, ◌⊎◌, ◌++◌, List, [], length, false, option_map, None, Some, IfOk, IfErr};
 ghost use Rattle.std.specs.List.{IsDistinct, cons_option, list_any};
 ghost use Rattle.std.specs.Map.{keys_of};
 ghost use Rattle.std.specs.Cmp.Lexicographic.{pointwise};
@@ -112,6 +112,19 @@ fn get_keys<R: Wait>(
         failed,
     } = outcome;
     add_found(targets, progress.as_slice(), &mut found);
+    with_values(cause, failed, found)
+}
+
+/// What a call returns that has found these values: them, or its cause with the keys that failed.
+fn with_values(
+    cause: Option<Refusal>,
+    failed: IndexMap<Key, Refusal>,
+    found: IndexMap<Key, Value>,
+) -> Result<IndexMap<Key, Value>, BulkFault>
+    ensures ok { IfOk result (λ values. (cause ≡ None) × (values.entries ≡ found.entries)) }
+    ensures err { IfErr result (λ fault. (cause ≡ Some fault.cause) × (fault.failed.entries ≡ failed.entries)
+        × (fault.found.entries ≡ found.entries)) }
+{
     match cause {
         None => Ok(found),
         Some(cause) => Err(BulkFault {

@@ -1,6 +1,25 @@
-use Rattle.std.proofs.Common.{inl}
-use Rattle.jc_bulk.proofs.Returning.{then_err}
+use Rattle.std.proofs.Common.{inl, ◌∙◌}
+use Rattle.jc_bulk.specs.Ends.{key_ends}
+use Rattle.jc_bulk.specs.Targets.{ops_of}
+use Rattle.jc_bulk.proofs.CarriedOut.{end_err, end_ok}
+use Rattle.jc_bulk.proofs.Returning.{then_err, then_ok}
 use Rattle.jc_bulk.proofs.carrying.call_all.Goals as goal
 
+pub returns-in-Ok-clause-ok : goal.returns-in-Ok-clause-ok
+returns-in-Ok-clause-ok g c =
+    let ops = ops_of c.args.targets.now in
+    let outcome = c.carry_out-outcome in
+    then_ok c.without_values.result
+    (λ done none. end_ok _ _ _ _ _ c.args.cache.now c.args.session.now outcome.new.session ops (key_ends ops outcome.result.progress.items) outcome.result.cause none outcome.ensures.carried)
+    c.without_values.ensures.ok
+
 pub returns-in-Ok-clause-err : goal.returns-in-Ok-clause-err
-returns-in-Ok-clause-err g c = then_err c.call_with.result (λ fault failed. inl failed) c.call_with.ensures.err
+returns-in-Ok-clause-err g c =
+    let ops = ops_of c.args.targets.now in
+    let outcome = c.carry_out-outcome in
+    then_err c.without_values.result
+    (λ fault e. inl (
+      end_err _ _ _ _ _ c.args.cache.now c.args.session.now outcome.new.session ops (key_ends ops outcome.result.progress.items) outcome.result.cause fault.cause _ e.0 (e.1 ∙ outcome.ensures.failed) outcome.ensures.carried,
+      e.2,
+    ))
+    c.without_values.ensures.err

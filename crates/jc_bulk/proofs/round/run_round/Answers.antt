@@ -11,6 +11,12 @@ use Rattle.jc_bulk.proofs.OneRound.{round_starts}
 use Rattle.jc_bulk.proofs.Underway.{stay_on}
 use Rattle.jc_bulk.proofs.round.run_round.Goals as goal
 
+pub start_round-requires-clause-distinct : goal.start_round-requires-clause-distinct
+start_round-requires-clause-distinct g c = c.requires.distinct
+
+pub start_round-requires-clause-kind : goal.start_round-requires-clause-kind
+start_round-requires-clause-kind g c = c.requires.kind
+
 pub start_round-requires-clause-settled : goal.start_round-requires-clause-settled
 start_round-requires-clause-settled g c =
     let r = c.requires.underway in
@@ -25,6 +31,9 @@ start_round-requires-clause-underway g c =
       subst (λ xs. IsUnderway c.args.cache.now r.0 (ops_of c.args.targets.now) r.1 r.2 c.args.session.now c.args.progress.now xs c.args.joins.now.items) (sym c.requires.none.0)
           (subst (λ ys. IsUnderway c.args.cache.now r.0 (ops_of c.args.targets.now) r.1 r.2 c.args.session.now c.args.progress.now [] ys) (sym c.requires.none.1) r.4),
     )
+
+pub end_calls-fault-requires-clause-distinct : goal.end_calls-fault-requires-clause-distinct
+end_calls-fault-requires-clause-distinct g c = c.requires.distinct
 
 pub end_calls-fault-requires-clause-kind : goal.end_calls-fault-requires-clause-kind
 end_calls-fault-requires-clause-kind g c = c.start_round.ensures.kind ∙ c.requires.kind
@@ -41,6 +50,9 @@ end_calls-fault-requires-clause-underway g c =
           (subst (λ ys. IsUnderway c.args.cache.now r.0 (ops_of c.args.targets.now) r.1 r.2 c.args.session.now c.args.progress.now [] ys) (sym c.requires.none.1) r.4)),
     )
 
+pub pick_round-requires-clause-distinct : goal.pick_round-requires-clause-distinct
+pick_round-requires-clause-distinct g c = c.requires.distinct
+
 pub pick_round-requires-clause-underway : goal.pick_round-requires-clause-underway
 pick_round-requires-clause-underway g c =
     let r = c.requires.underway in
@@ -53,6 +65,21 @@ pick_round-requires-clause-underway g c =
 
 pub returns-clause-goes : goal.returns-clause-goes
 returns-clause-goes g c = goes_both _ _ _ _ _ _ (goes_both _ _ _ _ _ _ c.start_round.ensures.goes c.end_calls-fault.ensures.goes) c.pick_round.ensures.goes
+
+pub returns-clause-agent : goal.returns-clause-agent
+returns-clause-agent g c =
+    let start = c.start_round.ensures.agent in
+    let end = c.end_calls-fault.ensures.agent in
+    let pick = c.pick_round.ensures.agent in
+    let counts = c.pick_round.new.session.agent.counts in
+    pick ∙ (λ i. record (end i) { counts = counts }) ∙ (λ i. record (start i) { counts = counts; hands = c.end_calls-fault.new.session.agent.hands })
+    ∙ (λ i. record c.args.session.now.agent { counts = counts; hands = sym (ap (λ a. a.hands) pick) i })
+
+pub returns-clause-none : goal.returns-clause-none
+returns-clause-none g c = c.pick_round.ensures.none
+
+pub returns-clause-room : goal.returns-clause-room
+returns-clause-room g c = c.pick_round.ensures.room ∙ c.start_round.ensures.room
 
 pub returns-clause-types : goal.returns-clause-types
 returns-clause-types g c =

@@ -1,4 +1,4 @@
-use Rattle.std.proofs.Common.{rules, ◌++◌, [], vec_capacity, sym, ap, subst, ◌∙◌}
+use Rattle.std.proofs.Common.{◌++◌, [], vec_capacity, sym, ap, subst, ◌∙◌}
 use Rattle.std.proofs.lemmas.List.Elements.{filter_map-append}
 use Rattle.jc_session.specs.Boxed.{boxed}
 use Rattle.jc_bulk.specs.KeyProgress.{IsCauseIn, failures}
@@ -15,6 +15,15 @@ pub run_round-requires-clause-underway : goal.run_round-requires-clause-underway
 run_round-requires-clause-underway g c =
     let r = c.requires.underway in
     (r.0, [], r.1, none_asked c.args.cache.now.config (ops_of c.args.targets.now) c.args.progress.now, r.2)
+
+pub run_round-requires-clause-distinct : goal.run_round-requires-clause-distinct
+run_round-requires-clause-distinct g c = c.requires.distinct
+
+pub run_round-requires-clause-kind : goal.run_round-requires-clause-kind
+run_round-requires-clause-kind g c = ap (λ s. s.kind) c.requires.calls
+
+pub run_round-requires-clause-none : goal.run_round-requires-clause-none
+run_round-requires-clause-none g c = (ap (λ s. s.items) c.requires.calls, c.requires.none)
 
 pub loop-init : goal.loop-init
 loop-init g c = (
@@ -36,6 +45,12 @@ loop-init g c = (
   c.run_round.ensures.room,
 )
 
+pub run_later_round-requires-clause-distinct : goal.run_later_round-requires-clause-distinct
+run_later_round-requires-clause-distinct g c = c.requires.distinct
+
+pub run_later_round-requires-clause-none : goal.run_later_round-requires-clause-none
+run_later_round-requires-clause-none g c = c.loop.invariant.0
+
 pub run_later_round-requires-clause-underway : goal.run_later_round-requires-clause-underway
 run_later_round-requires-clause-underway g c =
     let r = c.requires.underway in
@@ -45,7 +60,7 @@ run_later_round-requires-clause-underway g c =
 pub loop-preserved : goal.loop-preserved
 loop-preserved g c = (
   c.run_later_round.ensures.none,
-  search rules,
+  c.run_later_round.ensures.agent ∙ (λ i. record (c.loop.invariant.1 i) { counts = c.run_later_round.new.session.agent.counts; hands = c.run_later_round.new.session.agent.hands }),
   types_on c.args.session.now.agent c.loop.session.agent c.run_later_round.new.session.agent c.loop.invariant.2 c.run_later_round.ensures.types,
   (λ caller first u.
       let now = c.loop.invariant.3 caller first u in
@@ -63,6 +78,15 @@ loop-preserved g c = (
       )),
   c.run_later_round.ensures.room ∙ c.loop.invariant.4,
 )
+
+pub returns-in_default-clause-types : goal.returns-in_default-clause-types
+returns-in_default-clause-types g c = c.loop.invariant.2
+
+pub returns-in_default-clause-agent : goal.returns-in_default-clause-agent
+returns-in_default-clause-agent g c = c.loop.invariant.1
+
+pub returns-in_default-clause-none : goal.returns-in_default-clause-none
+returns-in_default-clause-none g c = c.loop.invariant.0
 
 pub returns-in_default-clause-underway : goal.returns-in_default-clause-underway
 returns-in_default-clause-underway g c caller first u =
