@@ -9,8 +9,10 @@ mod ending;
 mod visiting;
 mod working;
 
-use jc_cache::{Cache, CacheLoader, CacheOwner, CacheWriter, Config, Key, Session, Value};
-use jc_store::{SharedCounts, SharedStore, Store};
+use jc_cache::{
+    Cache, CacheLoader, CacheOwner, CacheWriter, Config, EntryProcessor, Key, Session, Value,
+};
+use jc_store::{Increment, SharedCounts, SharedStore, Store};
 use std::alloc::Global;
 use std::sync::Wait;
 use std::thread::Threads;
@@ -33,7 +35,7 @@ fn main(rt: HostRuntime) -> anyhow::Result<()> {
     let store = stocked(alloc)?;
     let counts = SharedCounts::new(alloc)?;
 
-    // Each session has a loader and a writer of its own. The calls of all loaders and writers are counted together.
+    // Each worker has a loader and a writer of its own. The calls of all loaders and writers are counted together.
     let mut boxes = Vec::new(alloc);
     for _ in &NAMES {
         let loader: Box<dyn CacheLoader + Send + Drop> = Box::new(
@@ -44,7 +46,12 @@ fn main(rt: HostRuntime) -> anyhow::Result<()> {
             alloc,
             counts.counting(rt, store.writer(rt)?)?,
         )?;
-        boxes.push(Boxes { loader, writer })?;
+        let increment: Box<dyn EntryProcessor + Send + Drop> = Box::new(alloc, Increment)?;
+        boxes.push(Boxes {
+            loader,
+            writer,
+            increment,
+        })?;
     }
     tour(&rt, alloc, &store, &counts, boxes)
 }

@@ -5,7 +5,6 @@ ghost use Rattle.jc_cache.specs.Sessions.{MayCall};
 use jc_cache::{
     Cache, CacheLoader, CacheOwner, CacheWriter, EntryProcessor, Key, Refusal, Session, Value,
 };
-use jc_store::Increment;
 use std::alloc::Global;
 use std::sync::Wait;
 use std::thread::{self, Threads};
@@ -29,11 +28,12 @@ pub struct Worker {
     pub outcome: Result<(), Refusal>,
 }
 
-/// What a session brings.
+/// What a worker brings.
 #[derive(Drop)]
 pub struct Boxes {
     pub loader: Box<dyn CacheLoader + Send + Drop>,
     pub writer: Box<dyn CacheWriter + Send + Drop>,
+    pub increment: Box<dyn EntryProcessor + Send + Drop>,
 }
 
 impl Worker {
@@ -48,10 +48,14 @@ impl Worker {
         ensures cache { OnOk result (owner.new.cache ≡ owner.old.cache) }
         ensures may { IfOk result (λ w. MayCall owner.old.cache w.session) }
     {
-        // The empty condition above has this proved for whatever loader and writer it is handed.
+        // The empty condition above has this proved for whatever loader, writer and processor it is handed.
         let name = Key::new(name.as_bytes())?;
-        let increment: Box<dyn EntryProcessor + Send + Drop> = Box::new(alloc, Increment)?;
-        match owner.session(alloc, Some(boxes.loader), Some(boxes.writer)) {
+        let Boxes {
+            loader,
+            writer,
+            increment,
+        } = boxes;
+        match owner.session(alloc, Some(loader), Some(writer)) {
             Ok(session) => Ok(Worker {
                 name,
                 session,
@@ -63,7 +67,7 @@ impl Worker {
     }
 }
 
-/// A worker for each name, who can call the cache. An `Err` says why there is no further one.
+/// A worker for each name, as long as there are boxes. They can call the cache. An `Err` says why there is no further one.
 pub fn enlist_all(
     alloc: Global,
     owner: &mut CacheOwner,
@@ -75,9 +79,10 @@ pub fn enlist_all(
     let mut boxes = boxes;
     let mut workers = Vec::new(alloc);
     for name in names {
-        if let Some(boxes) = boxes.pop() {
-            enlist(alloc, owner, &mut workers, name, boxes)?;
-        }
+        let Some(boxes) = boxes.pop() else {
+            return Ok(workers);
+        };
+        enlist(alloc, owner, &mut workers, name, boxes)?;
     }
     Ok(workers)
 }
