@@ -26,11 +26,11 @@ use Rattle.jc_model.specs.declared.event.Op.{Op}
 use Rattle.jc_model.specs.declared.event.Op.TheVariants.{Get}
 use Rattle.jc_model.specs.declared.event.Out.{Out}
 use Rattle.jc_model.specs.declared.event.Reply.{Reply}
-use Rattle.jc_stripe.specs.State.{State}
+use Rattle.jc_stripe.specs.State.{State, is_key}
 use Rattle.jc_stripe.specs.Laws.{ReachedIsLegal}
 use Rattle.jc_stripe.specs.OnePhase.{OnePhase, own_steps}
 use Rattle.jc_stripe.specs.OwnSteps.{AddsOwn, OwnSteps, StepsBehind}
-use Rattle.jc_stripe.specs.Phases.{Commits}
+use Rattle.jc_stripe.specs.Phases.{Commits, after_commit}
 use Rattle.jc_stripe.specs.Refusals.{first_asked, first_refusal, last_number, may_join}
 use Rattle.jc_stripe.specs.Tickets.{TicketClaim, JoinClaim}
 use Rattle.jc_stripe.specs.declared.begun.Begun.{Begun}
@@ -42,7 +42,10 @@ use Rattle.jc_stripe.specs.declared.ticket.Reservation.{Reservation}
 use Rattle.jc_lock.specs.declared.view.View.{View}
 use Rattle.jc_lock.proofs.CallerLemmas.{prefix-refl, prefix-trans}
 use Rattle.jc_engine.specs.Needs.{PicksUpLate, StartsAt}
+use Rattle.jc_stripe.proofs.Beside.{ask_found}
+use Rattle.jc_cache.specs.Fronts.{IsNext}
 use Rattle.jc_cache.specs.PhaseCalls.{SeatPhase}
+use Rattle.jc_cache.proofs.CallEnds.{next_place}
 use Rattle.jc_bulk.specs.Keys.{HasBegun, HasPicked, IsCommitted, IsEarly, IsJoinFor}
 use Rattle.jc_bulk.specs.Recorded.{steps_of}
 use Rattle.jc_bulk.specs.Seats.{HasGrown}
@@ -190,8 +193,22 @@ module _ (law : OnePhase) (legal : ReachedIsLegal) (steps : OwnSteps) where
   pub key_committed : (session : ℕ) (r : Reservation) (out : Out) (done : StepDone) (v w : View) (x : SeatPhase session v (λ a b. Commits a r out done b) w) → session ≡ r.caller.session → IsEarly r.caller → steps_of r.caller r.key v.own ≡ []
       → MovesSeat r.caller r.key v w × IsCommitted r.caller r out v w done.reply
   key_committed session r out done v w x mine early none =
-      let a = added session _ r.caller r.key r.op out done.reply done.place v w x mine (steps.commits x.found w.noted r out done x.reached x.made) early none in
-      (a.0, record { place = done.place; one = a.1; legal = legal_now law legal session _ v w x; there = a.2; behind = a.3 })
+      let a = added session _ r.caller r.key r.op out done.reply done.place v w x mine (steps.commits x.found w.noted r out done x.reached x.made) early none in (
+        a.0,
+        record {
+          place = done.place;
+          one = a.1;
+          legal = legal_now law legal session _ v w x;
+          there = a.2;
+          behind = a.3;
+          decided = x.found;
+          reached = x.reached;
+          later = front_found law legal session _ v w x;
+          same = (uniform law legal session _ v w x).grows.same;
+          next = subst (λ (es : List Event). IsNext x.found r.key done.place es) (sym x.front_is) (next_place (after_commit x.found r done.place) w.noted r.caller r.key r.op out _ done x.made.1);
+          asks = ask_found x.found.config x.found.cache (is_key r.key) x.found.reservations r x.made.0 x.reached.asks;
+        },
+      )
 
   pub key_picked : StepsBehind → (session : ℕ) (join : JoinClaim) (p : Picked) (v w : View) (x : SeatPhase session v (λ a b. PicksUpLate a join p b) w) → session ≡ join.caller.session → IsEarly join.caller → steps_of join.caller join.key v.own ≡ []
       → MovesSeat join.caller join.key v w × ((first : View) → HasGrown first v → IsJoinFor join.caller first join.key Get join → HasPicked join.caller first w join.key Get p)

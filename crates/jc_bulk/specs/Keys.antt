@@ -12,7 +12,8 @@
 --     HasJoined      the stripe was in a state, between these views, in which the call joins another call's load of the key
 --     IsHeldBack     between these views the key was put off, or has joined a load
 --     HasBegun       how far a first phase leaves the key; a refusal is that of the state that the view keeps
---     IsCommitted    what a commit leaves: the call's one step at the key of its reservation, with this answer of the loader or the writer
+--     IsCommitted    what a commit leaves: the call's one step at the key of its reservation, with this answer of the loader or the writer;
+--                    in the state in which the step was made, the operation asks first whom the reservation asked
 --     counted_start  what is counted of a first phase that reserves its key or is refused
 --     IsOver         a pick-up that wasn't too early
 --     HasPicked      how far a pick-up leaves the key
@@ -23,7 +24,7 @@ use Rattle.jc_types.specs.declared.config.Config.{Config}
 use Rattle.jc_types.specs.Refusals.{is_put_off}
 use Rattle.jc_types.specs.declared.refusal.Refusal.{Refusal}
 use Rattle.jc_types.specs.declared.refusal.Refusal.TheVariants.{HistoryFull, OutOfMemory}
-use Rattle.jc_model.specs.Cache.{Bytes}
+use Rattle.jc_model.specs.Cache.{Bytes, entry_at}
 use Rattle.jc_model.specs.Legal.{Legal}
 use Rattle.jc_model.specs.declared.event.Event.TheVariants.{Step}
 use Rattle.jc_model.specs.declared.event.Op.{Op}
@@ -42,6 +43,7 @@ use Rattle.jc_stripe.specs.declared.begun.Begun.TheVariants as begun
 use Rattle.jc_stripe.specs.declared.begun.Picked.{Picked}
 use Rattle.jc_stripe.specs.declared.begun.Picked.TheVariants as picked
 use Rattle.jc_lock.specs.declared.view.View.{View}
+use Rattle.jc_cache.specs.Fronts.{IsNext}
 use Rattle.jc_session.specs.declared.counts.Counted.{Counted}
 use Rattle.jc_session.specs.declared.counts.Counted.TheVariants as counted
 use Rattle.jc_bulk.specs.declared.progress.Progress.{Progress}
@@ -136,6 +138,12 @@ pub record IsCommitted (caller : Caller) (r : Reservation) (out : Out) (before a
   pub legal : Legal after.noted.config after.noted.opening after.front
   pub there : slice_get after.front place ≡ Some (Step caller r.op r.key out None reply)
   pub behind : length before.front ≤ place
+  pub decided : State
+  pub reached : IsReached decided
+  pub later : IsPrefix decided.history after.front
+  pub same : IsSameStripe decided after.noted
+  pub next : IsNext decided r.key place after.front
+  pub asks : first_asked decided.config r.op (entry_at decided.cache r.key) ≡ r.first
 
 -- `first` is the view from before the call
 abbrev pub HasPicked : Caller → View → View → Bytes → Op → Picked → Type 0

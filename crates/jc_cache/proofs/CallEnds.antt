@@ -7,7 +7,11 @@
 --     retries_seen     rounds in which a call joined a load and was told to retry: the seat has seen them
 --     call_left        a whole call
 --     tried_left       a call that waits for nobody
-use Rattle.std.proofs.Common.{◌≡◌, ◌&&◌, ◌≤◌, ⊎_elim, inl, inr, ℕ, zero, suc, Bool, true, false, not, if◌then◌else◌, nat_lt, nat_le, Option, None, Some, is_some, is_none, Result, Ok, Err, List, length, slice_get, refl, sym, ap, subst, ◌∙◌, arith}
+--     next_place       the place of a step that is appended is the next one
+--     committed_left   a call that had somebody to ask: it is between, and its step was made, in the state in which it was committed
+--     shown_same       a processor's call: the entry is the same in the state in which it was committed as in the one that was found first
+--     invoked_left     a whole call that runs a processor: its step was made in a state with the entry that was found first
+use Rattle.std.proofs.Common.{◌≡◌, ◌==◌, ◌&&◌, ◌≤◌, ◌+◌, ◌++◌, ◌∷◌, map, ⊎_elim, inl, inr, ℕ, zero, suc, Bool, true, false, not, if◌then◌else◌, nat_lt, nat_le, Option, None, Some, is_some, is_none, Result, Ok, Err, List, length, slice_get, refl, sym, ap, subst, ◌∙◌, arith}
 use Rattle.std.proofs.lemmas.Bool.{and_parts}
 use mathlib.Core.List.{IsPrefix}
 use Rattle.jc_types.specs.declared.caller.Caller.{Caller}
@@ -16,25 +20,34 @@ use Rattle.jc_types.specs.declared.refusal.Refusal.{Refusal}
 use Rattle.jc_types.specs.declared.refusal.Refusal.TheVariants as refusal
 use Rattle.jc_types.specs.Refusals.{is_put_off}
 use Rattle.jc_model.specs.Cache.{Bytes, entry_at}
-use Rattle.jc_model.specs.Group.{nothing_said}
+use Rattle.jc_model.specs.Group.{Group, nothing_said, victim_events, evicted_events, step_event, shared_event, step_place}
+use Rattle.jc_model.specs.Table.{entry_after}
+use Rattle.jc_model.specs.declared.event.Cause.TheVariants.{Full}
 use Rattle.jc_model.specs.declared.event.Event.{Event}
-use Rattle.jc_model.specs.declared.event.Event.TheVariants.{Step}
+use Rattle.jc_model.specs.declared.event.Event.TheVariants.{Step, Evict}
 use Rattle.jc_model.specs.declared.event.Op.{Op}
-use Rattle.jc_model.specs.declared.event.Op.TheVariants.{Get}
+use Rattle.jc_model.specs.declared.event.Op.TheVariants.{Get, Invoke}
 use Rattle.jc_model.specs.declared.event.Out.{Out}
 use Rattle.jc_model.specs.declared.event.Reply.{Reply}
-use Rattle.jc_stripe.specs.State.{State, is_reserved, reservation_of}
+use Rattle.std.specs.FinMap.{len}
+use Rattle.jc_stripe.specs.State.{State, is_reserved, is_key, reservation_of}
 use Rattle.jc_stripe.specs.Laws.{ReachedIsLegal}
-use Rattle.jc_stripe.specs.Tickets.{TicketClaim, JoinClaim}
-use Rattle.jc_stripe.specs.Refusals.{first_refusal, has_room, last_number, load_at, load_joined, may_join, needs_free_key, needs_reservation, places_needed}
+use Rattle.jc_stripe.specs.OrderOfUse.{least_used}
+use Rattle.jc_stripe.specs.Reached.{IsReached}
+use Rattle.jc_stripe.specs.Tickets.{TicketClaim, JoinClaim, entry_seen}
+use Rattle.jc_stripe.specs.Refusals.{first_asked, first_refusal, has_room, last_number, load_at, load_joined, may_join, needs_free_key, needs_reservation, places_needed}
 use Rattle.jc_stripe.specs.OnePhase.{OnePhase}
 use Rattle.jc_stripe.specs.OwnSteps.{OwnSteps, StepsBehind}
-use Rattle.jc_stripe.specs.Phases.{Begins, Commits, PicksUp}
+use Rattle.jc_stripe.specs.Phases.{Begins, Commits, PicksUp, Steps, after_commit, new_group}
 use Rattle.jc_stripe.specs.declared.begun.Begun.{Begun}
 use Rattle.jc_stripe.specs.declared.begun.Begun.TheVariants as begun
 use Rattle.jc_stripe.specs.declared.begun.Picked.TheVariants as picked
 use Rattle.jc_stripe.specs.declared.begun.StepDone.{StepDone}
+use Rattle.jc_stripe.specs.declared.ticket.First.{First as Whom}
+use Rattle.jc_stripe.specs.declared.ticket.First.TheVariants as first
 use Rattle.jc_stripe.specs.declared.ticket.Reservation.{Reservation}
+use Rattle.jc_stripe.proofs.Beside.{ask_found}
+use Rattle.jc_stripe.proofs.SharedSteps.{stands_at}
 use Rattle.jc_lock.specs.declared.view.View.{View}
 use Rattle.jc_lock.proofs.CallerLemmas.{prefix-trans, same_on}
 use Rattle.jc_engine.specs.declared.entering.Entered.{Entered}
@@ -42,7 +55,7 @@ use Rattle.jc_engine.specs.declared.entering.Entered.TheVariants as entered
 use Rattle.jc_engine.specs.Chain.{LentPhase}
 use Rattle.jc_engine.specs.Needs.{Starts, StartsAt}
 use Rattle.jc_engine.specs.Calls.{Rejoins, Retries, EntersAs, Enters, EndsAs, IsTried}
-use Rattle.jc_cache.specs.Fronts.{HasSeen, HasMade, MakesStep, SeatAfter, SeatTried, IsBetween}
+use Rattle.jc_cache.specs.Fronts.{HasSeen, HasMade, MakesStep, SeatAfter, SeatTried, IsBetween, IsNext, IsMadeIn}
 use Rattle.jc_cache.proofs.Lendings.{lock_takes, lock_gives, lock_finds, Lending, HasGrown, seen_itself, seen_on, made_on, grown_on, grown_behind, kept, added, gained, longer_on, rests_seen, phase_lent}
 
 -- 1. First phases.
@@ -287,3 +300,125 @@ module _ {G L : Type 0} where
       (l.0, (seen, inr (ap (λ (s : State). first_refusal s caller key op) (l.1.noted ∙ begins.1) ∙ begins.0)), tt))
       (λ y. let r = rests_seen law caller.session g t h u mine free y.1 in (r.0, (r.1, inl y.0), tt))
       x
+
+-- 6. A call that runs a processor.
+
+-- the step's place, by whether its key is missing before it, is there after it, the stripe is full, and which entry could go
+at_next : (state : State) (key : Bytes) (place : ℕ) (history : List Event) (missing has full : Bool) (least : Option Bytes) (middle last : List Event)
+    → (missing ≡ true → entry_at state.cache key ≡ None)
+    → place ≡ length state.history + length (victim_events (if (missing && has) && full then least else None))
+    → history ≡ state.history ++ ((victim_events (if (missing && has) && full then least else None) ++ middle) ++ last)
+    → IsNext state key place history
+at_next state key place history false has full least middle last none at is = inl (omega (arith, at))
+at_next state key place history true false full least middle last none at is = inl (omega (arith, at))
+at_next state key place history true true false least middle last none at is = inl (omega (arith, at))
+at_next state key place history true true true None middle last none at is = inl (omega (arith, at))
+at_next state key place history true true true (Some victim) middle last none at is =
+    inr (omega (arith, at), none refl, (victim, ap (λ (es : List Event). slice_get es (length state.history)) is ∙ stands_at state.history (Evict victim Full) (middle ++ last)))
+
+none_is : (entry : Option Bytes) → is_none entry ≡ true → entry ≡ None
+none_is None h = refl
+none_is (Some value) h = cc
+
+pub next_place : (old new : State) (caller : Caller) (key : Bytes) (op : Op) (out : Out) (callers : List Caller) (done : StepDone) → Steps old caller key op out callers done new → IsNext old key done.place new.history
+next_place old new caller key op out callers done x =
+    let group : Group = new_group old caller key op out callers x.short in
+    let entry : Option Bytes = entry_at old.cache key in
+    at_next old key done.place new.history (is_none entry) (is_some (entry_after op entry out)) (len old.cache == old.config.capacity) (least_used old)
+    (step_event group ∷ map (shared_event (step_place (length old.history) group) key out.load) group.joined) (evicted_events key group.evicted)
+    (none_is entry) x.place (ap (λ (s : State). s.history) x.after)
+
+-- whom an entered call asks first
+abbrev first_of : Entered → Whom
+first_of (entered.Done reply) = first.Nobody
+first_of (entered.Refused refusal) = first.Nobody
+first_of (entered.Asks ticket) = ticket.reservation.first
+
+-- what a processor's reservation asks is the entry
+pub shown_same : (before : State) (caller : Caller) (key : Bytes) (ticket : TicketClaim) (first : State) (out : Out) (done : StepDone) (after : State) → IsReached before → Commits before ticket.reservation out done after
+    → ticket.reservation.key ≡ key → ticket.reservation.op ≡ Invoke → first_asked first.config Invoke (entry_at first.cache key) ≡ ticket.reservation.first
+    → entry_at before.cache key ≡ entry_at first.cache key
+shown_same before caller key ticket first out done after reached commits key_is op_is asks =
+    let r : Reservation = ticket.reservation in
+    let now : first_asked before.config r.op (entry_at before.cache r.key) ≡ r.first = ask_found before.config before.cache (is_key r.key) before.reservations r commits.0 reached.asks in
+    let here : first_asked before.config Invoke (entry_at before.cache key) ≡ r.first = subst (λ (p : Op × Bytes). first_asked before.config p.0 (entry_at before.cache p.1) ≡ r.first) (λ i. (op_is i, key_is i)) now in
+    ap entry_seen (here ∙ sym asks)
+
+-- what is known of the state in which a processor's call was decided
+pub record AloneLeft {L : Type 0} (t : L × View) (caller : Caller) (key : Bytes) (asked : Out) (ended : Result Reply Refusal) (first : State) (u : L × View) : Type 0 where
+  pub decided : State
+  pub left : CallLeft t caller key Invoke asked ended decided u
+  pub made : IsMadeIn t.1 caller key Invoke asked ended u.1 left.seat decided
+  pub entry : entry_at decided.cache key ≡ entry_at first.cache key
+
+module _ {G L : Type 0} where
+  pub committed_left : OnePhase → OwnSteps → ReachedIsLegal → (caller : Caller) (key : Bytes) (op : Op) (ticket : TicketClaim) (asked : Out) (ended : Result Reply Refusal) (t : L × View) (k : G) (v : L × View) (h : G) (u : L × View)
+      → t.1.session ≡ Some caller.session → v.0 ≡ t.0 → EnteredAt t.1 caller key op (entered.Asks ticket) v.1
+      → (ends : EndsAs lock_takes lock_gives lock_finds caller key op (entered.Asks ticket) asked ended k v h u)
+      → (left : CallLeft t caller key op asked ended ends.2.before u) × IsMadeIn t.1 caller key op asked ended u.1 left.seat ends.2.before
+  committed_left law own legal caller key op ticket asked ended t k v h u mine lock at ends =
+      let r : Reservation = ticket.reservation in
+      let done : StepDone = ends.0 in
+      let y = ends.2 in
+      let seen = at.0 in
+      let mine' : v.1.session ≡ Some r.caller.session = seen.seat.session ∙ mine ∙ ap (λ (c : Caller). Some c.session) (sym at.2) in
+      let l = phase_lent law r.caller.session k v (λ a b. Commits a r asked done b) h u mine' seen.seat.free y in
+      let made = added legal r.caller.session v.1 y.before y.after u.1 (Step r.caller r.op r.key asked None done.reply) done.place l.1 (own.commits y.before y.after r asked done y.lent.reached y.made) in
+      let is : Step r.caller r.op r.key asked None done.reply ≡ Step caller op key asked None done.reply = λ i. Step (at.2 i) (at.4 i) (at.3 i) asked None done.reply in
+      let here = made_on t.1 v.1 u.1 (Step caller op key asked None done.reply) done.place seen (subst (λ (e : Event). HasMade v.1 u.1 e done.place) is made) in
+      let next : IsNext y.before key done.place u.1.front =
+      subst (λ (q : Bytes). IsNext y.before q done.place u.1.front) at.3 (subst (λ (es : List Event). IsNext y.before r.key done.place es) (sym l.1.front_is) (next_place (after_commit y.before r done.place) y.after r.caller r.key r.op asked _ done y.made.1)) in
+      subst (λ (e : Result Reply Refusal). (left : CallLeft t caller key op asked e y.before u) × IsMadeIn t.1 caller key op asked e u.1 left.seat y.before) (sym ends.1) (
+        record {
+          lock = l.0 ∙ lock;
+          between = between_on t.1 v.1 y.before u.1 seen (found_between r.caller.session v.1 y.before y.after u.1 l.1);
+          seat = record { out = asked; shared_with = None; place = done.place; asked_for = refl; made = here };
+          below = at.1;
+        },
+        next,
+      )
+
+  -- a processor's call that has somebody to ask asks its processor, on the entry that was found
+  asks_first : (caller : Caller) (key : Bytes) (b : Begun) (ticket : TicketClaim) (before after : State) (g : G) (t : L × View) (h : G) (u : L × View)
+      → Starts caller key Invoke b before after → EntersAs lock_takes lock_gives lock_finds caller key Invoke b (entered.Asks ticket) g t h u
+      → first_asked before.config Invoke (entry_at before.cache key) ≡ ticket.reservation.first
+  asks_first caller key (begun.Done done) ticket before after g t h u s ends = let bad = ends.0 in cc
+  asks_first caller key (begun.Refused refusal) ticket before after g t h u s ends = let bad = ends.0 in cc
+  asks_first caller key (begun.Asks mine) ticket before after g t h u s ends = s.first.begins.2 ∙ sym (ap first_of ends.0)
+  asks_first caller key (begun.Joined join) ticket before after g t h u s ends = let bad = ends.3 in cc
+
+  -- and is not done before
+  not_done : (caller : Caller) (key : Bytes) (b : Begun) (reply : Reply) (before after : State) (g : G) (t : L × View) (h : G) (u : L × View)
+      → Starts caller key Invoke b before after → EntersAs lock_takes lock_gives lock_finds caller key Invoke b (entered.Done reply) g t h u → ⊥
+  not_done caller key (begun.Done done) reply before after g t h u s ends = let bad = s.first.begins.1 in cc
+  not_done caller key (begun.Refused refusal) reply before after g t h u s ends = let bad = ends.0 in cc
+  not_done caller key (begun.Asks mine) reply before after g t h u s ends = let bad = ends.0 in cc
+  not_done caller key (begun.Joined join) reply before after g t h u s ends = let bad = s.first.begins.1 in cc
+
+  ends_alone : OnePhase → OwnSteps → ReachedIsLegal → (caller : Caller) (key : Bytes) (b : Begun) (met : Entered) (asked : Out) (ended : Result Reply Refusal) (first next : State) (m : G) (w : L × View) (t : L × View) (k : G) (v : L × View) (h : G) (u : L × View)
+      → t.1.session ≡ Some caller.session → v.0 ≡ t.0 → EnteredAt t.1 caller key Invoke met v.1 → Starts caller key Invoke b first next → EntersAs lock_takes lock_gives lock_finds caller key Invoke b met m w k v
+      → EndsAs lock_takes lock_gives lock_finds caller key Invoke met asked ended k v h u → CallLeft t caller key Invoke asked ended first u → AloneLeft t caller key asked ended first u
+  ends_alone law own legal caller key b (entered.Done reply) asked ended first next m w t k v h u mine lock at starts enters ends left = absurd (not_done caller key b reply first next m w k v starts enters)
+  ends_alone law own legal caller key b (entered.Refused refusal) asked ended first next m w t k v h u mine lock at starts enters ends left =
+      let both = subst (λ (e : Result Reply Refusal). (l : CallLeft t caller key Invoke asked e first u) × IsMadeIn t.1 caller key Invoke asked e u.1 l.seat first) (sym ends.0)
+      (subst (λ (e : Result Reply Refusal). CallLeft t caller key Invoke asked e first u) ends.0 left, tt) in
+      record { decided = first; left = both.0; made = both.1; entry = refl }
+  ends_alone law own legal caller key b (entered.Asks ticket) asked ended first next m w t k v h u mine lock at starts enters ends left =
+      let both = committed_left law own legal caller key Invoke ticket asked ended t k v h u mine lock at ends in
+      let y = ends.2 in
+      record {
+        decided = y.before;
+        left = both.0;
+        made = both.1;
+        entry = shown_same y.before caller key ticket first asked ends.0 y.after y.lent.reached y.made at.3 at.4 (asks_first caller key b ticket first next m w k v starts enters);
+      }
+
+  pub invoked_left : OnePhase → OwnSteps → ReachedIsLegal → StepsBehind → (caller : Caller) (key : Bytes) (met : Entered) (asked : Out) (ended : Result Reply Refusal) (g : G) (t : L × View) (k : G) (v : L × View) (h : G) (u : L × View)
+      → t.1.session ≡ Some caller.session → t.1.holds ≡ false → (x : Enters lock_takes lock_gives lock_finds caller key Invoke g t met k v)
+      → EndsAs lock_takes lock_gives lock_finds caller key Invoke met asked ended k v h u → AloneLeft t caller key asked ended x.first.before u
+  invoked_left law own legal behind caller key met asked ended g t k v h u mine free x ends =
+      let retried = retries_seen law own caller key Invoke x.rounds g t x.gate x.token mine free x.retried in
+      let mine' : x.token.1.session ≡ Some caller.session = retried.1.seat.session ∙ mine in
+      let first = enters_left law own legal behind caller key Invoke x.begun met x.gate x.token x.gate' x.token' k v mine' retried.1.seat.free x.first x.ends in
+      ends_alone law own legal caller key x.begun met asked ended x.first.before x.first.after x.gate' x.token' t k v h u mine (first.0 ∙ retried.0)
+      (entered_on t.1 x.token.1 caller key Invoke met v.1 retried.1 first.2) x.first.made x.ends ends (call_left law own legal behind caller key Invoke met asked ended g t k v h u mine free x ends)

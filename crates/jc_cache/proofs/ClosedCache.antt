@@ -2,22 +2,29 @@
 --     all_free       a cache's own seats have taken nothing
 --     whole_again    a cache whose own seats are those that they were, and have taken nothing
 --     closed         a cache all of whose stripes were taken, and whose sessions were joined
-use Rattle.std.proofs.Common.{◌≡◌, ◌∙◌, ◌<◌, ℕ, suc, List, [], ◌∷◌, length, Some, refl, sym, ap, subst}
+--     as_it_was, back, why    an owner who is handed back, and why
+use Rattle.std.proofs.Common.{◌≡◌, ◌⊎◌, ⊎_elim, inl, inr, ◌∙◌, ◌<◌, ℕ, suc, List, [], ◌∷◌, length, Some, refl, sym, ap, subst, subst₂}
 use Rattle.std.proofs.lemmas.Option.{slice_get_within, get_or_from_slice_get}
 use Rattle.std.specs.FinMap.{from_entries}
-use Rattle.std.specs.List.{slice_get, All}
+use Rattle.std.specs.List.{slice_get, All, AllZip}
+use mathlib.Core.List.{IsPrefix}
 use Rattle.atomic_table.specs.Seated.{TableId}
 use Rattle.jc_types.specs.declared.config.Config.{Config}
+use Rattle.jc_types.specs.declared.refusal.Refusal.{Refusal}
+use Rattle.jc_types.specs.declared.refusal.Refusal.TheVariants.{OutOfMemory}
 use Rattle.jc_model.specs.Cache.{Bytes}
 use Rattle.jc_model.specs.Legal.{Legal, IsHistory}
+use Rattle.jc_model.specs.declared.event.Event.{Event}
 use Rattle.jc_stripe.specs.State.{State}
-use Rattle.jc_stripe.specs.Laws.{ReachedIsLegal}
+use Rattle.jc_stripe.specs.Laws.{IsSameStripe, ReachedIsLegal}
+use Rattle.jc_lock.proofs.CallerLemmas.{prefix-refl, same_itself}
 use Rattle.jc_cache.specs.declared.session.Session.{Session}
-use Rattle.jc_cache.specs.Caches.{OwnerState}
+use Rattle.jc_cache.specs.Caches.{OwnerState, noted_by, fronts_of}
 use Rattle.jc_cache.specs.CacheInside.{IsOwnSeat, IsWhole}
-use Rattle.jc_cache.specs.Closing.{HasFront, IsClosed, IsClosedAt}
-use Rattle.jc_cache.specs.ClosingInside.{KeepsSeat, KeepSeats, IsFreeSeat, HasTaken, HaveTaken}
+use Rattle.jc_cache.specs.Closing.{HasFront, IsClosed, IsClosedAt, IsCloseRefusal, IsHandedBack}
+use Rattle.jc_cache.specs.ClosingInside.{KeepsSeat, KeepSeats, AreIdle, IsFreeSeat, IsRowRefusal, HasTaken, HaveTaken}
 use Rattle.jc_cache.proofs.Rows.{Seated, length_locks, seat_there}
+use Rattle.jc_cache.proofs.Noted.{noted_there, handed_back, idle_noted}
 use Rattle.jc_cache.proofs.ClosingSeats.{keep_locks, keep_at, free_at, taken_at}
 
 row_free : (seats : List Seated) → ((i : ℕ) (seat : Seated) → slice_get seats i ≡ Some seat → IsFreeSeat seat.1) → HaveTaken seats []
@@ -47,33 +54,72 @@ whole_again config given locks old new whole keeps free = record {
       config_is = keeps.same.config ∙ own.config_is;
       stripe_is = keeps.same.stripe ∙ own.stripe_is;
       origin_is = keeps.same.origin ∙ own.origin_is;
-      opening_is = keeps.same.opening ∙ own.opening_is;
     }
 
-closed_at : (config : Config) (i given : ℕ) (x y : Seated) (state : State) → ReachedIsLegal → IsOwnSeat config i given x.1 → KeepsSeat x y → HasTaken y.1 state → IsClosedAt config i state
+closed_at : (config : Config) (i given : ℕ) (x y : Seated) (state : State) → ReachedIsLegal → IsOwnSeat config i given x.1 → KeepsSeat x y → HasTaken y.1 state → IsClosedAt config i x.1.noted.opening state
 closed_at config i given x y state legal own keeps taken =
-    let opening : state.opening ≡ [] = ap (λ (s : State). s.opening) (sym taken.noted) ∙ keeps.same.opening ∙ own.opening_is in
+    let opening : state.opening ≡ x.1.noted.opening = ap (λ (s : State). s.opening) (sym taken.noted) ∙ keeps.same.opening in
+    let shape : state.config ≡ config = ap (λ (s : State). s.config) (sym taken.noted) ∙ keeps.same.config ∙ own.config_is in
     record {
       reached = taken.reached;
       idle = taken.idle;
-      config_is = ap (λ (s : State). s.config) (sym taken.noted) ∙ keeps.same.config ∙ own.config_is;
+      config_is = shape;
       stripe_is = ap (λ (s : State). s.stripe) (sym taken.noted) ∙ keeps.same.stripe ∙ own.stripe_is;
       opening_is = opening;
       origin_is = ap (λ (s : State). s.origin) (sym taken.noted) ∙ keeps.same.origin ∙ own.origin_is;
-      legal = subst (λ (entries : List (Bytes × Bytes)). Legal state.config entries state.history) opening (legal state taken.reached);
-      leaves = subst (λ (entries : List (Bytes × Bytes)). IsHistory state.config (from_entries entries) state.history state.cache) opening taken.reached.legal;
+      legal = subst₂ (λ (c : Config) (entries : List (Bytes × Bytes)). Legal c entries state.history) shape opening (legal state taken.reached);
+      leaves = subst₂ (λ (c : Config) (entries : List (Bytes × Bytes)). IsHistory c (from_entries entries) state.history state.cache) shape opening taken.reached.legal;
     }
 
 pub closed : {I J : Type 0} {D : I → Type 0} {E : J → Type 0} (owner : OwnerState) (own seats : List Seated) (stripes : List State) (sessions : List (Session I J D E)) → ReachedIsLegal
-    → IsWhole owner.cache.config owner.given owner.cache.locks own → KeepSeats own seats → HaveTaken seats stripes → length stripes ≡ length seats → length sessions ≡ owner.given
+    → IsWhole owner.cache.config owner.given owner.cache.locks own → owner.noted ≡ noted_by own → KeepSeats own seats → HaveTaken seats stripes → length stripes ≡ length seats → length sessions ≡ owner.given
     → All (λ (s : Session I J D E). HasFront stripes s.seats.items) sessions → IsClosed owner sessions stripes
-closed {I} {J} {D} {E} owner own seats stripes sessions legal whole keeps taken count all fronts = record {
+closed {I} {J} {D} {E} owner own seats stripes sessions legal whole noted keeps taken count all fronts = record {
   count = count ∙ length_locks seats owner.cache.locks (keep_locks own seats keeps ∙ whole.own) ∙ whole.count;
   each = λ i state at.
       let y = seat_there seats i (subst (λ (n : ℕ). i < n) count (slice_get_within stripes i state at)) in
-      let x = keep_at own seats i y.0 keeps y.1 in
-      closed_at owner.cache.config i owner.given x.0 y.0 state legal (whole.each i x.0 x.1) x.2 (taken_at seats stripes i y.0 state taken y.1 at);
+      let x = keep_at own seats i y.0 keeps y.1 in (
+        x.0.1.noted,
+        ap (λ (states : List State). slice_get states i) noted ∙ noted_there own i x.0 x.1,
+        closed_at owner.cache.config i owner.given x.0 y.0 state legal (whole.each i x.0 x.1) x.2 (taken_at seats stripes i y.0 state taken y.1 at),
+      );
   all = all;
   fronts = λ n session at.
       subst (λ (s : Session I J D E). HasFront stripes s.seats.items) (get_or_from_slice_get sessions n session session at) (fronts n session (slice_get_within sessions n session at));
 }
+
+same_all : (states : List State) → AllZip IsSameStripe states states
+same_all [] = tt
+same_all (state ∷ states) = (same_itself state, same_all states)
+
+prefix_all : (fronts : List (List Event)) → AllZip IsPrefix fronts fronts
+prefix_all [] = tt
+prefix_all (front ∷ fronts) = (prefix-refl front, prefix_all fronts)
+
+pub as_it_was : (owner : OwnerState) → IsHandedBack owner owner
+as_it_was owner = record { cache = refl; given = refl; noted = same_all owner.noted; fronts = prefix_all owner.fronts }
+
+pub back : (owner left : OwnerState) (old new : List Seated) → left.cache ≡ owner.cache → left.given ≡ owner.given → owner.noted ≡ noted_by old → owner.fronts ≡ fronts_of old
+    → left.noted ≡ noted_by new → left.fronts ≡ fronts_of new → KeepSeats old new → IsHandedBack owner left
+back owner left old new cache given noted fronts noted' fronts' keeps =
+    let both = handed_back old new keeps in
+    record {
+      cache = cache;
+      given = given;
+      noted = subst₂ (AllZip IsSameStripe) (sym noted) (sym noted') both.0;
+      fronts = subst₂ (AllZip IsPrefix) (sym fronts) (sym fronts') both.1;
+    }
+
+pub why : (owner left : OwnerState) (handed_in : ℕ) (refusal : Refusal) (own : List Seated) → handed_in ≡ owner.given → left.noted ≡ noted_by own
+    → IsRowRefusal refusal own ⊎ ((refusal ≡ OutOfMemory) × AreIdle own) → IsCloseRefusal owner handed_in refusal left
+why owner left handed_in refusal own all noted by =
+    inr (
+      all,
+      ⊎_elim
+          (λ row. ⊎_elim
+          (λ out. inl (out.0, (out.1.0, out.1.1, ap (λ (states : List State). slice_get states out.1.0) noted ∙ out.1.2, out.1.3)))
+          (λ busy. inr (inr busy))
+          row)
+          (λ memory. inr (inl (memory.0, λ i state at. idle_noted own memory.1 i state (ap (λ (states : List State). slice_get states i) (sym noted) ∙ at))))
+          by,
+    )

@@ -11,12 +11,11 @@
 --     give_near, give_there, give_step      the last stripe is given back
 --     popped_at, popped_done, popped_long   the last seat of a session that is left
 --     no_front, join_near, join_there, join_step    it is joined
---     all_left, none_left, one_less, last_session    the sessions that are left, and the last of them
-use Rattle.std.proofs.Common.{◌≡◌, ◌∙◌, ◌<◌, ◌≤◌, ◌+◌, ℕ, zero, suc, true, List, [], ◌∷◌, ◌++◌, length, set, get_or, Option, Some, refl, sym, ap, subst, subst₂, append_assoc, append-nil, length-append, arith}
-use Rattle.std.proofs.lemmas.List.{length-map}
-use Rattle.std.proofs.lemmas.List.Elements.{All-nil, All-cons, All-same, All-pop}
+--     brought_push                          what one session more brings
+use Rattle.std.proofs.Common.{◌≡◌, ◌∙◌, ◌<◌, ◌≤◌, ◌+◌, ℕ, zero, suc, true, List, [], ◌∷◌, ◌++◌, length, map, set, get_or, Option, Some, refl, sym, ap, subst, subst₂, append_assoc, length-append, arith}
+use Rattle.std.proofs.lemmas.List.{length-map, map-append}
 use Rattle.std.proofs.lemmas.Option.{none-some, same_Some, slice_get_read, slice_get_within}
-use Rattle.std.specs.List.{slice_get, All}
+use Rattle.std.specs.List.{slice_get}
 use mathlib.Core.List.{IsPrefix}
 use mathlib.Core.Logic.{dite}
 use native.Mathlib.Decide.{ℕ_discrete}
@@ -24,16 +23,14 @@ use Rattle.atomic_table.specs.Seated.{TableId}
 use Rattle.jc_stripe.specs.State.{State}
 use Rattle.jc_lock.specs.Views.{IsPhaseBy, after_give, after_join}
 use Rattle.jc_lock.specs.declared.view.View.{View}
-use Rattle.jc_lock.proofs.CallerLemmas.{prefix-trans, same_itself, same_at, same_on}
-use Rattle.jc_cache.specs.declared.session.Session.{Session}
-use Rattle.jc_cache.specs.Closing.{HasFront}
+use Rattle.jc_lock.proofs.CallerLemmas.{prefix-refl, prefix-trans, same_itself, same_at, same_on}
 use Rattle.jc_cache.specs.ClosingInside.{KeepsSeat, KeepSeats, IsFreeSeat, HasTaken, HaveTaken, AreAtLocks}
 use Rattle.jc_cache.proofs.Rows.{Seated, locks_of, length_locks, seat_there, lock_there}
 
 -- 1. The same seats.
 
 pub keeps_itself : (x : Seated) → KeepsSeat x x
-keeps_itself x = record { lock = refl; session = refl; next_session = refl; spent = refl; same = same_itself x.1.noted }
+keeps_itself x = record { lock = refl; session = refl; next_session = refl; spent = refl; same = same_itself x.1.noted; front = prefix-refl x.1.front }
 
 pub keeps_on : (x y z : Seated) → KeepsSeat x y → KeepsSeat y z → KeepsSeat x z
 keeps_on x y z p q = record {
@@ -42,6 +39,7 @@ keeps_on x y z p q = record {
   next_session = q.next_session ∙ p.next_session;
   spent = q.spent ∙ p.spent;
   same = same_on x.1.noted y.1.noted z.1.noted p.same q.same;
+  front = prefix-trans x.1.front y.1.front z.1.front p.front q.front;
 }
 
 pub keep_all : (xs : List Seated) → KeepSeats xs xs
@@ -169,7 +167,7 @@ taken_fits (a ∷ seats) (s ∷ states) h = let ih = taken_fits seats states h.1
 pub none_phase : (view : View) (closed stripe : State) → HasTaken view closed → stripe ≡ closed → IsPhaseBy view.session view.noted stripe
 none_phase view closed stripe h is = subst (λ (o : Option ℕ). IsPhaseBy o view.noted stripe) (sym h.of_none) (is ∙ sym h.noted)
 
-pub given_back : (x y : Seated) (closed stripe : State) → HasTaken x.1 closed → stripe ≡ closed → y.0 ≡ x.0 → y.1 ≡ after_give x.1 stripe → KeepsSeat x y × IsFreeSeat y.1
+pub given_back : (x y : Seated) (closed stripe : State) → HasTaken x.1 closed → stripe ≡ closed → y.0 ≡ x.0 → y.1 ≡ after_give x.1 stripe → KeepsSeat x y × IsFreeSeat y.1 × (y.1.noted ≡ x.1.noted)
 given_back x y closed stripe h is lock after = (
   record {
     lock = lock;
@@ -177,23 +175,27 @@ given_back x y closed stripe h is lock after = (
     next_session = ap (λ (v : View). v.next_session) after;
     spent = ap (λ (v : View). v.spent) after;
     same = same_at x.1.noted y.1.noted (h.noted ∙ sym is ∙ sym (ap (λ (v : View). v.noted) after));
+    front = subst (IsPrefix x.1.front) (ap (λ (s : State). s.history) (sym is) ∙ sym (ap (λ (v : View). v.front) after)) h.front;
   },
   record { of_none = ap (λ (v : View). v.session) after ∙ h.of_none; free = ap (λ (v : View). v.holds) after },
+  ap (λ (v : View). v.noted) after ∙ is ∙ sym h.noted,
 )
 
-pub learned : (x y : Seated) (w : View) (state : State) → HasTaken x.1 state → y.0 ≡ x.0 → y.1 ≡ after_join x.1 w → KeepsSeat x y × HasTaken y.1 state
-learned x y w state h lock after = (
+pub learned : (x y : Seated) (w : View) (state : State) → HasTaken x.1 state → y.0 ≡ x.0 → y.1 ≡ after_join x.1 w → IsPrefix x.1.front y.1.front → IsPrefix y.1.front state.history → KeepsSeat x y × HasTaken y.1 state
+learned x y w state h lock after seen front = (
   record {
     lock = lock;
     session = ap (λ (v : View). v.session) after;
     next_session = ap (λ (v : View). v.next_session) after;
     spent = ap (λ (v : View). v.spent) after;
     same = same_at x.1.noted y.1.noted (sym (ap (λ (v : View). v.noted) after));
+    front = seen;
   },
   record {
     of_none = ap (λ (v : View). v.session) after ∙ h.of_none;
     holds = ap (λ (v : View). v.holds) after ∙ h.holds;
     noted = ap (λ (v : View). v.noted) after ∙ h.noted;
+    front = front;
     reached = h.reached;
     idle = h.idle;
   },
@@ -265,35 +267,18 @@ front_step n m stripes all x state next at there front later i state' x' le ther
 
 -- one of a session's seats was joined
 pub join_step : (ys : List Seated) (stripes : List State) (all : List Seated) (n m : ℕ) (x seat after : Seated) → length stripes ≡ length all → HaveTaken ys stripes → slice_get ys n ≡ Some seat → slice_get all n ≡ Some x → m ≡ n + 1
-    → after.0 ≡ seat.0 → after.1 ≡ after_join seat.1 x.1 → IsPrefix x.1.front after.1.front → (seat.1.holds ≡ true → IsPrefix after.1.front seat.1.noted.history) → HasFrontFrom m stripes all
+    → after.0 ≡ seat.0 → after.1 ≡ after_join seat.1 x.1 → IsPrefix seat.1.front after.1.front → IsPrefix x.1.front after.1.front → (seat.1.holds ≡ true → IsPrefix after.1.front seat.1.noted.history) → HasFrontFrom m stripes all
     → KeepsSeat seat after × HaveTaken (set ys n after) stripes × HasFrontFrom n stripes all
-join_step ys stripes all n m x seat after count h at_own at next lock is joined held later =
+join_step ys stripes all n m x seat after count h at_own at next lock is seen joined held later =
     let s = seat_there stripes n (subst (λ (k : ℕ). n < k) (sym count) (slice_get_within all n x at)) in
     let taken = taken_at ys stripes n seat s.0 h at_own s.1 in
-    let l = learned seat after x.1 s.0 taken lock is in
     let front = subst (λ (state : State). IsPrefix after.1.front state.history) taken.noted (held taken.holds) in
+    let l = learned seat after x.1 s.0 taken lock is seen front in
     (l.0, taken_set ys stripes n after s.0 h s.1 l.1, front_step n m stripes all x s.0 next at s.1 (prefix-trans x.1.front after.1.front s.0.history joined front) later)
 
 -- 8. All sessions.
 
--- of these sessions some are left, and the others have seen no more of each stripe than is in its history
-abbrev pub HaveLeft : {I J : Type 0} {D : I → Type 0} {E : J → Type 0} → List State → List (Session I J D E) → List (Session I J D E) → Type 0
-HaveLeft {I} {J} {D} {E} stripes all left = (done : List (Session I J D E)) × (all ≡ left ++ done) × All (λ (s : Session I J D E). HasFront stripes s.seats.items) done
-
-module _ {I J : Type 0} {D : I → Type 0} {E : J → Type 0} where
-  pub all_left : (stripes : List State) (all : List (Session I J D E)) → HaveLeft stripes all all
-  all_left stripes all = ([], sym (append-nil all), All-nil (λ (s : Session I J D E). HasFront stripes s.seats.items))
-
-  pub none_left : (stripes : List State) (all left : List (Session I J D E)) → left ≡ [] → HaveLeft stripes all left → All (λ (s : Session I J D E). HasFront stripes s.seats.items) all
-  none_left stripes all left none h =
-      let P : Session I J D E → Type 0 = λ s. HasFront stripes s.seats.items in
-      All-same P all h.0 (h.1 ∙ ap (λ (l : List (Session I J D E)). l ++ h.0) none) h.2
-
-  pub one_less : (stripes : List State) (all left rest : List (Session I J D E)) (session : Session I J D E) → left ≡ rest ++ session ∷ [] → HasFront stripes session.seats.items → HaveLeft stripes all left → HaveLeft stripes all rest
-  one_less stripes all left rest session popped front h =
-      let P : Session I J D E → Type 0 = λ s. HasFront stripes s.seats.items in
-      (session ∷ h.0, h.1 ∙ ap (λ (l : List (Session I J D E)). l ++ h.0) popped ∙ append_assoc rest (session ∷ []) h.0, All-cons P session h.0 front h.2)
-
-  pub last_session : (locks : List TableId) (left rest : List (Session I J D E)) (session : Session I J D E) → left ≡ rest ++ session ∷ [] → All (λ (s : Session I J D E). AreAtLocks locks s.seats.items) left
-      → All (λ (s : Session I J D E). AreAtLocks locks s.seats.items) rest × AreAtLocks locks session.seats.items
-  last_session locks left rest session popped h = All-pop (λ (s : Session I J D E). AreAtLocks locks s.seats.items) left rest (Some session) popped h
+pub brought_push : {X Y : Type 0} (f : X → Y) (old now new : List Y) (xs : List X) (x : X) (y : Y) → new ≡ now ++ y ∷ [] → now ≡ old ++ map f xs → y ≡ f x → new ≡ old ++ map f (xs ++ x ∷ [])
+brought_push {X} {Y} f old now new xs x y pushed are is =
+    pushed ∙ ap (λ (ys : List Y). ys ++ y ∷ []) are ∙ append_assoc old (map f xs) (y ∷ []) ∙ ap (λ (z : Y). old ++ (map f xs ++ z ∷ [])) is
+    ∙ ap (λ (ys : List Y). old ++ ys) (sym (map-append f xs (x ∷ [])))

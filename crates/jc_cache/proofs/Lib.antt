@@ -3,10 +3,12 @@ pub mod Seats
 pub mod CallEnds
 pub mod WholeCalls
 pub mod Rows
+pub mod Noted
 pub mod OwnSeats
 pub mod NewSessions
 pub mod ClosingSeats
 pub mod ClosedCache
+pub mod Reopenings
 pub mod SessionPhases
 pub mod Meetings
 pub mod Skipped

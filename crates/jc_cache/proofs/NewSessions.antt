@@ -1,7 +1,9 @@
 -- A new session of a cache.
 --     map_locks          a mapped row of seats is at the same locks
 --     whole_after        the cache's own seats once each has given a session's seat out
+--     given_one          its owner, who has given one more out
 --     may_give           a session that isn't refused: there may be one more, and it has whom it needs
+--     begins_at          it begins with what its owner has noted and seen
 --     may_fresh          it may call the cache
 use Rattle.std.proofs.Common.{◌≡◌, ◌&&◌, ◌+◌, ◌<◌, ℕ, Bool, true, false, not, if◌then◌else◌, nat_le, Option, None, Some, IsSome, List, [], ◌∷◌, map, slice_get, refl, sym, ap, subst, ◌∙◌, arith}
 use Rattle.std.proofs.lemmas.Bool.Decides.{nat_tests}
@@ -16,11 +18,12 @@ use Rattle.jc_lock.specs.Views.{after_split, session_view, session_number}
 use Rattle.jc_lock.specs.declared.view.View.{View}
 use Rattle.jc_session.specs.Counting.{one_more}
 use Rattle.jc_session.specs.declared.counts.Counts.{Counts}
-use Rattle.jc_cache.specs.Caches.{CacheState, OwnerState, session_refusal}
+use Rattle.jc_cache.specs.Caches.{CacheState, OwnerState, noted_by, fronts_of, session_refusal}
 use Rattle.jc_cache.specs.CacheInside.{IsOwnSeat, IsWhole}
-use Rattle.jc_cache.specs.Sessions.{IsSeatAt, MayCall, own_total, capped}
+use Rattle.jc_cache.specs.Sessions.{IsSeatAt, BeginsAt, MayCall, own_total, capped}
 use Rattle.jc_cache.specs.declared.session.Session.{Session}
 use Rattle.jc_cache.proofs.Rows.{Seated, locks_of, map_get}
+use Rattle.jc_cache.proofs.Noted.{noted_same, fronts_same}
 
 -- 1. The cache's own seats.
 
@@ -43,7 +46,6 @@ own_after config stripe given view own = record {
   config_is = own.config_is;
   stripe_is = own.stripe_is;
   origin_is = own.origin_is;
-  opening_is = own.opening_is;
 }
 
 pub whole_after : (config : Config) (given : ℕ) (locks : List TableId) (own new : List Seated) → given < SESSIONS_MAX → IsWhole config given locks own → new ≡ map (λ (seat : Seated). (seat.0, after_split seat.1)) own → IsWhole config (given + 1) locks new
@@ -55,6 +57,14 @@ whole_after config given locks own new room whole is = subst (IsWhole config (gi
   each = λ i seat there. let t = map_get left own i seat there in
       subst (λ (s : Seated). IsOwnSeat config i (given + 1) s.1) (sym t.2) (own_after config i given t.0.1 (whole.each i t.0 t.1));
 }
+
+pub given_one : (owner : OwnerState) (cache : CacheState) (given : ℕ) (own new : List Seated) → record { cache = cache; given = given; noted = noted_by own; fronts = fronts_of own } ≡ owner
+    → new ≡ map (λ (seat : Seated). (seat.0, after_split seat.1)) own
+    → record { cache = cache; given = given + 1; noted = noted_by new; fronts = fronts_of new } ≡ record owner { given = owner.given + 1 }
+given_one owner cache given own new view is =
+    let noted : noted_by new ≡ noted_by own = ap noted_by is ∙ noted_same after_split (λ v. refl) own in
+    let fronts : fronts_of new ≡ fronts_of own = ap fronts_of is ∙ fronts_same after_split (λ v. refl) own in
+    (λ j. record { cache = cache; given = given + 1; noted = noted j; fronts = fronts j }) ∙ ap (λ (o : OwnerState). record o { given = o.given + 1 }) view
 
 -- 2. Who is refused.
 
@@ -94,6 +104,13 @@ seat_given config stripe given view own = record {
 }
 
 module _ {I J : Type 0} {D : I → Type 0} {E : J → Type 0} where
+  pub begins_at : (owner : OwnerState) (own : List Seated) (session : Session I J D E) → owner.noted ≡ noted_by own → owner.fronts ≡ fronts_of own
+      → session.seats.items ≡ map (λ (seat : Seated). (seat.0, session_view seat.1)) own → BeginsAt owner session
+  begins_at owner own session noted fronts are = record {
+    noted = ap noted_by are ∙ noted_same session_view (λ v. refl) own ∙ sym noted;
+    fronts = ap fronts_of are ∙ fronts_same session_view (λ v. refl) own ∙ sym fronts;
+  }
+
   pub may_fresh : (cache : CacheState) (given : ℕ) (own : List Seated) (session : Session I J D E) → IsWhole cache.config given cache.locks own
       → session.seats.items ≡ map (λ (seat : Seated). (seat.0, session_view seat.1)) own → session.agent.caller ≡ record { session = given; call = 0 } → session.agent.counts ≡ record { reservations = 0; joins = 0; own = 0 } → session.agent.hands.held ≡ 0
       → (cache.config.read_through ≡ true → IsSome session.agent.hands.outside.loader) → (cache.config.write_through ≡ true → IsSome session.agent.hands.outside.writer)

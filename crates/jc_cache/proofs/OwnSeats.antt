@@ -1,35 +1,8 @@
 -- The cache's own seats.
---     fresh_seat       the first seat of a lock round a new stripe
---     each_push        a row of own seats with one more
 --     split_read, split_own, split_seats    one seat gives the next one out: what was read, and what it leaves
-use Rattle.std.specs.FinMap as finmap
-use Rattle.std.proofs.Common.{◌≡◌, ⊎_elim, ◌+◌, ◌<◌, ℕ, Some, List, [], ◌∷◌, ◌++◌, length, map, take, drop, get_or, set, slice_get, append_assoc, refl, sym, ap, subst, ◌∙◌}
+use Rattle.std.proofs.Common.{◌≡◌, ◌+◌, ◌<◌, ℕ, List, [], ◌∷◌, ◌++◌, length, map, take, drop, get_or, set, append_assoc, sym, ap, ◌∙◌}
 use Rattle.std.proofs.lemmas.List.{map-append, take_more}
-use Rattle.jc_types.specs.declared.config.Config.{Config}
-use Rattle.jc_outside.specs.declared.done.Origin.TheVariants.{Live}
-use Rattle.jc_stripe.specs.State.{State}
-use Rattle.jc_lock.specs.Views.{first_view}
-use Rattle.jc_lock.specs.declared.view.View.{View}
-use Rattle.jc_cache.specs.CacheInside.{IsOwnSeat}
-use Rattle.jc_cache.proofs.Rows.{Seated, push_get, part_get, part_set}
-
-abbrev pub new_state : Config → ℕ → State
-new_state config stripe = record { config = config; stripe = stripe; origin = Live; opening = []; cache = finmap.empty; reservations = []; joiners = []; history = []; next = 0 }
-
-pub fresh_seat : (config : Config) (stripe : ℕ) (state : State) (view : View) → state ≡ new_state config stripe → view ≡ first_view state → IsOwnSeat config stripe 0 view
-fresh_seat config stripe state view is seen =
-    subst (IsOwnSeat config stripe 0) (sym (seen ∙ ap first_view is))
-    record { of_none = refl; gives = refl; free = refl; unspent = refl; config_is = refl; stripe_is = refl; origin_is = refl; opening_is = refl }
-
-abbrev pub AreOwn : Config → ℕ → List Seated → Type 0
-AreOwn config given seats = (i : ℕ) (seat : Seated) → slice_get seats i ≡ Some seat → IsOwnSeat config i given seat.1
-
-pub each_push : (config : Config) (given : ℕ) (seats : List Seated) (seat : Seated) (i : ℕ) → length seats ≡ i → AreOwn config given seats → IsOwnSeat config i given seat.1 → AreOwn config given (seats ++ seat ∷ [])
-each_push config given seats seat i long are is k other there =
-    ⊎_elim
-    (λ t. subst (λ (s : Seated). IsOwnSeat config k given s.1) (sym t.1) (subst (λ (n : ℕ). IsOwnSeat config n given seat.1) (sym t.0) is))
-    (λ t. are k other t)
-    (push_get seats seat i k other long there)
+use Rattle.jc_cache.proofs.Rows.{Seated, part_get, part_set}
 
 -- at a place, the cache's seat gives the next seat out
 module _ (own₀ own : List Seated) (i : ℕ) (t : Seated) (near : i < length own₀) where

@@ -12,7 +12,7 @@
 --                        a whole call, one that runs a processor, and one that waits for nobody: what is said of the session, and that
 --                        it may call again
 use Rattle.std.specs.declared.dyn_box.DynBox.{DynBox}
-use Rattle.std.proofs.Common.{◌≡◌, ◌<◌, ℕ, List, length, sum, get_or, Bool, true, false, cond, nat_le, Some, IsSome, Result, Ok, Err, arith, slice_get, slice_set, option_map, refl, sym, ap, subst, ◌∙◌}
+use Rattle.std.proofs.Common.{◌≡◌, ◌<◌, ◌&&◌, if◌then◌else◌, MatchBool, Option, None, is_none, ℕ, List, length, sum, get_or, Bool, true, false, cond, nat_le, Some, IsSome, Result, Ok, Err, arith, slice_get, slice_set, option_map, refl, sym, ap, subst, ◌∙◌}
 use Rattle.std.proofs.Math.Nat.{mod-lt}
 use Rattle.std.proofs.lemmas.Bool.{and_parts, leb-true}
 use Rattle.std.proofs.lemmas.List.{length-map}
@@ -24,13 +24,16 @@ use Rattle.jc_types.specs.declared.config.Config.{Config}
 use Rattle.jc_types.specs.declared.limits.TheConstants.{STRIPES_MAX}
 use Rattle.jc_types.specs.declared.caller.Caller.{Caller}
 use Rattle.jc_types.specs.declared.refusal.Refusal.{Refusal}
-use Rattle.jc_model.specs.Cache.{Bytes}
+use Rattle.jc_model.specs.Cache.{Bytes, entry_at}
+use Rattle.jc_model.specs.Table.{process_ask, is_process_given}
+use Rattle.jc_model.specs.declared.event.Change.{Change}
 use Rattle.jc_model.specs.declared.event.Event.{Event}
+use Rattle.jc_model.specs.declared.event.Out.{Out}
 use Rattle.jc_model.specs.declared.event.Op.{Op}
 use Rattle.jc_model.specs.declared.event.Op.TheVariants.{Invoke}
 use Rattle.jc_model.specs.declared.event.Reply.{Reply}
 use Rattle.jc_outside.specs.Calling.{LoadRelation, WriteRelation}
-use Rattle.jc_mutentry.specs.Running.{ProcessRelation}
+use Rattle.jc_mutentry.specs.Running.{ProcessRelation, RunsOnce}
 use Rattle.jc_stripe.specs.State.{State}
 use Rattle.jc_stripe.specs.Laws.{ReachedIsLegal}
 use Rattle.jc_stripe.specs.OnePhase.{OnePhase}
@@ -38,7 +41,8 @@ use Rattle.jc_stripe.specs.OwnSteps.{OwnSteps, OwnNumbers, StepsBehind, may_come
 use Rattle.jc_lock.specs.declared.view.View.{View}
 use Rattle.jc_lock.specs.Views.{Finds}
 use Rattle.jc_session.specs.declared.agent.Agent.{Agent}
-use Rattle.jc_engine.specs.Asking.{own_after}
+use Rattle.jc_session.specs.Boxed.{boxed}
+use Rattle.jc_engine.specs.Asking.{AsksWriter, change_wanted, own_after}
 use Rattle.jc_engine.specs.Needs.{BeginsIfClear}
 use Rattle.jc_engine.specs.Calls.{IsCall, IsInvocation, IsTried}
 use Rattle.jc_cache.specs.Caches.{CacheState}
@@ -47,7 +51,7 @@ use Rattle.jc_cache.specs.Calls.{next_call, CallsAt, Tried, Invoked}
 use Rattle.jc_cache.specs.Sessions.{IsOf, MayCall}
 use Rattle.jc_cache.specs.declared.session.Session.{Session}
 use Rattle.jc_cache.proofs.Lendings.{lock_takes, lock_gives, lock_finds}
-use Rattle.jc_cache.proofs.CallEnds.{CallLeft, call_left, tried_left}
+use Rattle.jc_cache.proofs.CallEnds.{CallLeft, call_left, tried_left, invoked_left}
 use Rattle.jc_cache.proofs.Rows.{length_locks, lock_there}
 use Rattle.jc_cache.proofs.Seats.{after_call, after_try, may_after}
 
@@ -160,9 +164,9 @@ module _ {I J : Type 0} {D : I → Type 0} {E : J → Type 0} where
         call_left law own legal behind (next_call old).agent.caller key op x.met x.asked ended g t x.gate x.token h u seat.of_session seat.free x.enters x.ends
 
     abbrev calls_at : (cache : CacheState) (old new : Session I J D E) (key : Bytes) (op : Op) (at : ℕ) (ended : Result Reply Refusal) (g : G) (t : TableId × View) (h : G) (u : TableId × View) → at ≡ stripe_of key cache.config.stripes
-        → slice_get old.seats.items at ≡ Some t → new.seats.items ≡ slice_set old.seats.items at u → (x : Whole (next_call old).agent key op g t ended new.agent h u) → CallLeft t (next_call old).agent.caller key op x.asked ended x.enters.first.before u
-        → CallsAt loads load_state writes write_state cache (next_call old) key op ended new
-    calls_at cache old new key op at ended g t h u at_is there now x left = record {
+        → slice_get old.seats.items at ≡ Some t → new.seats.items ≡ slice_set old.seats.items at u → (x : Whole (next_call old).agent key op g t ended new.agent h u) (decided : State) → CallLeft t (next_call old).agent.caller key op x.asked ended decided u
+        → change_wanted x.enters.first.before key op x.asked.process ≡ change_wanted decided key op x.asked.process → CallsAt loads load_state writes write_state cache (next_call old) key op ended new
+    calls_at cache old new key op at ended g t h u at_is there now x decided left wanted = record {
       before = t.1;
       after = u.1;
       at = record {
@@ -171,19 +175,19 @@ module _ {I J : Type 0} {D : I → Type 0} {E : J → Type 0} where
         now = subst (λ (i : ℕ). new.seats.items ≡ slice_set old.seats.items i (t.0, u.1)) at_is (now ∙ ap (slice_set old.seats.items at) (seat_is t u left.lock));
       };
       asked = x.asked;
-      decided = x.enters.first.before;
+      decided = decided;
       between = left.between;
       seat = left.seat;
       loader = x.loader;
-      writer = x.writer;
+      writer = subst (λ (c : Option Change). AsksWriter (boxed writes) (boxed write_state) (next_call old).agent.hands.outside.writer key c x.asked.write new.agent.hands.outside.writer) wanted x.writer;
       types = x.types;
       left = x.agent;
     }
 
     may_again : OwnNumbers → (cache : CacheState) (old new : Session I J D E) (key : Bytes) (op : Op) (at : ℕ) (ended : Result Reply Refusal) (g : G) (t : TableId × View) (h : G) (u : TableId × View)
-        → MayCall cache old → slice_get old.seats.items at ≡ Some t → new.seats.items ≡ slice_set old.seats.items at u → (x : Whole (next_call old).agent key op g t ended new.agent h u)
-        → CallLeft t (next_call old).agent.caller key op x.asked ended x.enters.first.before u → MayCall cache new
-    may_again numbers cache old new key op at ended g t h u may there now x left =
+        → MayCall cache old → slice_get old.seats.items at ≡ Some t → new.seats.items ≡ slice_set old.seats.items at u → (x : Whole (next_call old).agent key op g t ended new.agent h u) (decided : State)
+        → CallLeft t (next_call old).agent.caller key op x.asked ended decided u → MayCall cache new
+    may_again numbers cache old new key op at ended g t h u may there now x decided left =
         let after = after_call t.1 (next_call old).agent.caller key op x.asked ended u.1 left.seat left.below in
         may_after numbers cache old new at t.0 t.1 u.1 ended may there (now ∙ ap (slice_set old.seats.items at) (seat_is t u left.lock)) after.0 after.1 record { left = x.agent; held = x.held; types = x.types }
 
@@ -194,7 +198,7 @@ module _ {I J : Type 0} {D : I → Type 0} {E : J → Type 0} where
     called law own legal behind numbers cache old new a key op at ended g t h u may is at_is there now y =
         let x = subst (λ (z : Agent I J D E). Whole z key op g t ended new.agent h u) is y in
         let left = left_of law own legal behind cache old new key op at ended g t h u may there x in
-        (calls_at cache old new key op at ended g t h u at_is there now x left, may_again numbers cache old new key op at ended g t h u may there now x left)
+        (calls_at cache old new key op at ended g t h u at_is there now x x.enters.first.before left refl, may_again numbers cache old new key op at ended g t h u may there now x x.enters.first.before left)
 
     pub invoked : {P Z : Type 0} {F : P → Type 0} → OnePhase → OwnSteps → ReachedIsLegal → StepsBehind → OwnNumbers
         → (processes : ProcessRelation (DynBox P Z F)) (process_state : DynBox P Z F → List ℕ)
@@ -204,5 +208,21 @@ module _ {I J : Type 0} {D : I → Type 0} {E : J → Type 0} where
         → Invoked loads load_state writes write_state processes process_state cache old key args before ended new after × MayCall cache new
     invoked law own legal behind numbers processes process_state cache old new a key args before after at ended g t h u may is at_is there now y =
         let x = subst (λ (z : Agent I J D E). IsInvocation loads load_state writes write_state processes process_state lock_takes lock_gives lock_finds z key args before g t ended new.agent after h u) is y in
-        let left = left_of law own legal behind cache old new key Invoke at ended g t h u may there x.call in
-        (record { call = calls_at cache old new key Invoke at ended g t h u at_is there now x.call left; run = x.run; type = x.type }, may_again numbers cache old new key Invoke at ended g t h u may there now x.call left)
+        let seat = may.own.seats at t there in
+        let first : State = x.call.enters.first.before in
+        let found = left_of law own legal behind cache old new key Invoke at ended g t h u may there x.call in
+        let alone = invoked_left law own legal behind (next_call old).agent.caller key x.call.met x.call.asked ended g t x.call.gate x.call.token h u seat.of_session seat.free x.call.enters x.call.ends in
+        let decided : State = alone.decided in
+        let config : first.config ≡ decided.config = found.between.same.config ∙ sym alone.left.between.same.config in
+        let entry : entry_at first.cache key ≡ entry_at decided.cache key = sym {a = entry_at decided.cache key} alone.entry in
+        let asked : Out = x.call.asked in
+        let wanted : change_wanted first key Invoke asked.process ≡ change_wanted decided key Invoke asked.process = ap (λ (c : Config). if c.write_through then process_ask asked.process else None) config in (
+          record {
+            call = calls_at cache old new key Invoke at ended g t h u at_is there now x.call decided alone.left wanted;
+            run = subst (λ (p : Config × Option Bytes). MatchBool (is_process_given asked.process) (RunsOnce processes process_state before key args (p.0.read_through && is_none p.1) p.1 asked.load asked.process after) (after ≡ before))
+                (λ i. (config i, entry i)) x.run;
+            alone = alone.made;
+            type = x.type;
+          },
+          may_again numbers cache old new key Invoke at ended g t h u may there now x.call decided alone.left,
+        )

@@ -4,7 +4,7 @@
 --     GiveNumbers  each of these seats gives session numbers out
 --     IsWhole      there are as many locks as the shape says, each with a seat of the owner's, and no more sessions were given out than
 --                  there may be
-use Rattle.std.specs.Prelude.{◌≡◌, ◌≤◌, ℕ, List, [], length, map, false, None, Some, Ok, slice_get}
+use Rattle.std.specs.Prelude.{◌≡◌, ◌≤◌, ℕ, List, length, map, false, None, Some, Ok, slice_get}
 use Rattle.atomic_table.specs.Seated.{TableId}
 use Rattle.jc_types.specs.declared.config.Config.{Config}
 use Rattle.jc_types.specs.declared.limits.TheConstants.{SESSIONS_MAX}
@@ -24,7 +24,6 @@ pub record IsOwnSeat (config : Config) (stripe given : ℕ) (view : View) : Type
   pub config_is : view.noted.config ≡ config
   pub stripe_is : view.noted.stripe ≡ stripe
   pub origin_is : view.noted.origin ≡ Live
-  pub opening_is : view.noted.opening ≡ []
 
 abbrev pub GiveNumbers : List (TableId × View) → Type 0
 GiveNumbers seats = (i : ℕ) (seat : TableId × View) → slice_get seats i ≡ Some seat → (session : ℕ) × (seat.1.next_session ≡ Some session)

@@ -1,21 +1,51 @@
 -- What contracts see of a cache, and of who owns one.
 --     CacheState        a cache: its shape, and which locks its stripes are under, by their numbers
---     OwnerState        who owns a cache: the cache, and how many sessions it has given out
+--     noted_by          the states of the stripes that a row of seats has noted
+--     fronts_of         what they have seen of the histories
+--     OwnerState        who owns a cache: the cache, how many sessions it has given out, and of each stripe what the owner's own seat
+--                       has noted, and what it has seen of the history
+--     OpensWith         a cache that has just been opened with these entries, in this shape: no session was given out, each stripe has
+--                       what it keeps of them, and nothing has happened in it
 --     session_refusal   why a session with or without a loader and a writer is refused: too many, no loader, no writer
-use Rattle.std.specs.Prelude.{◌&&◌, ℕ, List, Bool, not, Option, None, Some, nat_le, if◌then◌else◌}
+use Rattle.std.specs.Prelude.{◌≡◌, ◌&&◌, ℕ, List, [], map, length, replicate, Bool, not, Option, None, Some, nat_le, if◌then◌else◌}
 use Rattle.atomic_table.specs.Seated.{TableId}
 use Rattle.jc_types.specs.declared.config.Config.{Config}
 use Rattle.jc_types.specs.declared.limits.TheConstants.{SESSIONS_MAX}
 use Rattle.jc_types.specs.declared.refusal.Refusal.{Refusal}
 use Rattle.jc_types.specs.declared.refusal.Refusal.TheVariants.{TooManySessions, NoLoader, NoWriter}
+use Rattle.jc_model.specs.Cache.{Bytes}
+use Rattle.jc_model.specs.declared.event.Event.{Event}
+use Rattle.jc_outside.specs.declared.done.Origin.TheVariants.{Live}
+use Rattle.jc_stripe.specs.State.{State}
+use Rattle.jc_stripe.specs.Reopening.{opened_stripes}
+use Rattle.jc_lock.specs.declared.view.View.{View}
 
 pub record CacheState : Type 0 where
   pub config : Config
   pub locks : List TableId
 
+-- 1. Who owns a cache.
+
+abbrev pub noted_by : List (TableId × View) → List State
+noted_by seats = map (λ (seat : TableId × View). seat.1.noted) seats
+
+abbrev pub fronts_of : List (TableId × View) → List (List Event)
+fronts_of seats = map (λ (seat : TableId × View). seat.1.front) seats
+
 pub record OwnerState : Type 0 where
   pub cache : CacheState
   pub given : ℕ
+  pub noted : List State  -- stripe by stripe, as its own seat found it last, or as the stripe was opened
+  pub fronts : List (List Event)
+
+pub record OpensWith (config : Config) (entries : List (Bytes × Bytes)) (owner : OwnerState) : Type 0 where
+  pub config_is : owner.cache.config ≡ config
+  pub locks : length owner.cache.locks ≡ config.stripes
+  pub given : owner.given ≡ 0
+  pub noted : owner.noted ≡ opened_stripes config Live entries 0 config.stripes
+  pub fronts : owner.fronts ≡ replicate config.stripes []
+
+-- 2. Sessions that are refused.
 
 abbrev pub session_refusal : OwnerState → Bool → Bool → Option Refusal
 session_refusal owner has_loader has_writer =

@@ -7,7 +7,8 @@
 --     Returns     a session's next call, whole, and what it returns by how it ended
 --     Tried       a session's next call that waits for nobody and asks nobody
 --     Tries       the same, and what it returns by how it ended
---     Invoked     a session's next call, whole, which runs a processor
+--     Invoked     a session's next call, whole, which runs a processor; the entry that the processor was shown is the one in the state in
+--                 which the call's step was made: no other step and no eviction at the key lies between
 --     value_in, flag_in, unit_in    what a call returns that replies with a value, with yes or no, or with nothing: a fault is an error
 use Rattle.std.specs.declared.dyn_box.DynBox.{DynBox}
 use Rattle.std.specs.Prelude.{◌≡◌, ℕ, List, Bool, false, Some, Result, Ok, Err, slice_get, slice_set}
@@ -30,7 +31,7 @@ use Rattle.jc_engine.specs.Asking.{AsksLoader, AsksWriter, KeepsTypes, RunsProce
 pub use Rattle.jc_engine.specs.Values.{value_in}
 use Rattle.jc_cache.specs.declared.session.Session.{Session}
 use Rattle.jc_cache.specs.Caches.{CacheState}
-use Rattle.jc_cache.specs.Fronts.{SeatAfter, SeatTried, IsBetween}
+use Rattle.jc_cache.specs.Fronts.{SeatAfter, SeatTried, IsBetween, IsMadeIn}
 
 abbrev pub next_call : {I J : Type 0} {D : I → Type 0} {E : J → Type 0} → Session I J D E → Session I J D E
 next_call session = record session { agent = record session.agent { caller = record session.agent.caller { call = one_more session.agent.caller.call } } }
@@ -92,6 +93,7 @@ pub record Invoked
     (cache : CacheState) (old : Session I J D E) (key : Bytes) (args : List Bytes) (processor : DynBox P Z F) (ended : Result Reply Refusal) (new : Session I J D E) (processor' : DynBox P Z F) : Type 0 where
   pub call : Called loads load_state writes write_state cache old key Invoke ended new
   pub run : RunsProcessor processes process_state processor call.decided key args call.asked processor'
+  pub alone : IsMadeIn call.before (next_call old).agent.caller key Invoke call.asked ended call.after call.seat call.decided
   pub type : processor'.vtable ≡ processor.vtable
 
 -- 5. What a call returns.

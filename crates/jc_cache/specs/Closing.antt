@@ -1,43 +1,69 @@
 -- What a closed cache tells.
---     IsClosedAt     the stripe with this number of a closed cache of this shape: its history is legal from an empty cache and leads to its
---                    entries, nothing is out, and its outside answers were live
+--     IsClosedAt     the stripe with this number of a closed cache of this shape, which was opened with these entries: its history is
+--                    legal from them and leads to its entries, nothing is out, and its outside answers were live
 --     HasFront       a session has seen no more of each stripe than is in its history
---     IsClosed       a cache is closed: its stripes, and that each session handed in has seen no more of them
---     IsCloseRefusal why a cache is not closed: a reservation, an answer or a session is out; or, with all sessions handed in, an
---                    allocation failed
-use Rattle.std.specs.Prelude.{◌≡◌, ◌⊎◌, ℕ, List, [], length, Some, slice_get}
+--     IsClosed       a cache is closed: its stripes, each from the opening that its owner has noted, and that each session handed in has
+--                    seen no more of them
+--     IsInUse        at one of these stripes a reservation or a join is out
+--     IsHandedBack   an owner who could not close the cache owns it as before; its seats may have noted and seen more of the stripes
+--     IsCloseRefusal why a cache is not closed: a session is missing, and then nobody looked at a stripe; or all are there, and a
+--                    stripe's state is noted in which something is out, an allocation failed while nothing was out, or somebody held a
+--                    stripe
+use Rattle.std.specs.Prelude.{◌≡◌, ◌≢◌, ◌⊎◌, ℕ, List, length, Some, slice_get}
+use Rattle.std.specs.List.{AllZip}
 use Rattle.std.specs.FinMap.{from_entries}
 use mathlib.Core.List.{IsPrefix}
 use Rattle.atomic_table.specs.Seated.{TableId}
 use Rattle.jc_types.specs.declared.config.Config.{Config}
 use Rattle.jc_types.specs.declared.refusal.Refusal.{Refusal}
-use Rattle.jc_types.specs.declared.refusal.Refusal.TheVariants.{OutOfMemory, StillReserved}
+use Rattle.jc_types.specs.declared.refusal.Refusal.TheVariants.{Busy, OutOfMemory, StillReserved}
 use Rattle.jc_outside.specs.declared.done.Origin.TheVariants.{Live}
+use Rattle.jc_model.specs.Cache.{Bytes}
 use Rattle.jc_model.specs.Legal.{Legal, IsHistory}
 use Rattle.jc_stripe.specs.State.{State, IsIdle}
+use Rattle.jc_stripe.specs.Laws.{IsSameStripe}
 use Rattle.jc_stripe.specs.Reached.{IsReached}
 use Rattle.jc_lock.specs.declared.view.View.{View}
 use Rattle.jc_cache.specs.declared.session.Session.{Session}
 use Rattle.jc_cache.specs.Caches.{OwnerState}
 
-pub record IsClosedAt (config : Config) (stripe : ℕ) (state : State) : Type 0 where
+-- 1. A cache that is closed.
+
+pub record IsClosedAt (config : Config) (stripe : ℕ) (opening : List (Bytes × Bytes)) (state : State) : Type 0 where
   pub reached : IsReached state
   pub idle : IsIdle state
   pub config_is : state.config ≡ config
   pub stripe_is : state.stripe ≡ stripe
-  pub opening_is : state.opening ≡ []
+  pub opening_is : state.opening ≡ opening
   pub origin_is : state.origin ≡ Live
-  pub legal : Legal state.config [] state.history
-  pub leaves : IsHistory state.config (from_entries []) state.history state.cache
+  pub legal : Legal config opening state.history
+  pub leaves : IsHistory config (from_entries opening) state.history state.cache
 
 abbrev pub HasFront : List State → List (TableId × View) → Type 0
 HasFront stripes seats = (i : ℕ) (state : State) (seat : TableId × View) → slice_get stripes i ≡ Some state → slice_get seats i ≡ Some seat → IsPrefix seat.1.front state.history
 
 pub record IsClosed {I J : Type 0} {D : I → Type 0} {E : J → Type 0} (owner : OwnerState) (sessions : List (Session I J D E)) (stripes : List State) : Type 0 where
   pub count : length stripes ≡ owner.cache.config.stripes
-  pub each : (i : ℕ) (state : State) → slice_get stripes i ≡ Some state → IsClosedAt owner.cache.config i state
+  pub each : (i : ℕ) (state : State) → slice_get stripes i ≡ Some state
+      → (noted : State) × (slice_get owner.noted i ≡ Some noted) × IsClosedAt owner.cache.config i noted.opening state
   pub all : length sessions ≡ owner.given
   pub fronts : (n : ℕ) (session : Session I J D E) → slice_get sessions n ≡ Some session → HasFront stripes session.seats.items
 
-abbrev pub IsCloseRefusal : ℕ → ℕ → Refusal → Type 0
-IsCloseRefusal given handed_in refusal = (refusal ≡ StillReserved) ⊎ ((refusal ≡ OutOfMemory) × (handed_in ≡ given))
+-- 2. A cache that is not closed.
+
+abbrev pub IsInUse : List State → Type 0
+IsInUse states = (i : ℕ) × (state : State) × (slice_get states i ≡ Some state) × (IsIdle state → ⊥)
+
+pub record IsHandedBack (owner left : OwnerState) : Type 0 where
+  pub cache : left.cache ≡ owner.cache
+  pub given : left.given ≡ owner.given
+  pub noted : AllZip IsSameStripe owner.noted left.noted
+  pub fronts : AllZip IsPrefix owner.fronts left.fronts
+
+abbrev pub IsCloseRefusal : OwnerState → ℕ → Refusal → OwnerState → Type 0
+IsCloseRefusal owner handed_in refusal left =
+    ((handed_in ≢ owner.given) × (refusal ≡ StillReserved) × (left ≡ owner))
+    ⊎ ((handed_in ≡ owner.given)
+    × (((refusal ≡ StillReserved) × IsInUse left.noted)
+    ⊎ (((refusal ≡ OutOfMemory) × ((i : ℕ) (state : State) → slice_get left.noted i ≡ Some state → IsIdle state))
+    ⊎ (refusal ≡ Busy))))

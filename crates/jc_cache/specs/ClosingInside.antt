@@ -1,17 +1,25 @@
 -- The cache's own seats while it is being closed: the first ones have taken their stripes.
---     KeepsSeat     a seat is the one that it was, at the same lock and stripe
+--     KeepsSeat     a seat is the one that it was, at the same lock and stripe; it may have seen more of the history
 --     KeepSeats     each of these seats is the one that it was
 --     IsFreeSeat    a seat of no session, which has not taken its stripe
 --     HasTaken      a seat of no session, which has taken its stripe in this state: a reached one, and nothing is out there
 --     HaveTaken     of these seats the first ones have taken their stripes in these states, and the others have not
+--     AreIdle       nothing is out in the states that these seats have noted
+--     IsTakeRefusal why a stripe is not taken: something is out in the noted state, or somebody holds the stripe
+--     IsRowRefusal  why the stripes of a row of seats are not taken: one of them is not
 --     AreAtLocks    the seats of a session are at these locks, and have not taken their stripes
-use Rattle.std.specs.Prelude.{◌≡◌, ℕ, List, [], ◌∷◌, map, true, false, None, Some, slice_get}
+use Rattle.std.specs.Prelude.{◌≡◌, ◌⊎◌, ℕ, List, [], ◌∷◌, map, true, false, None, Some, slice_get}
 use Rattle.std.specs.List.{AllZip}
+use mathlib.Core.List.{IsPrefix}
 use Rattle.atomic_table.specs.Seated.{TableId}
+use Rattle.jc_types.specs.declared.refusal.Refusal.{Refusal}
+use Rattle.jc_types.specs.declared.refusal.Refusal.TheVariants.{Busy, StillReserved}
 use Rattle.jc_stripe.specs.State.{State, IsIdle}
 use Rattle.jc_stripe.specs.Laws.{IsSameStripe}
 use Rattle.jc_stripe.specs.Reached.{IsReached}
 use Rattle.jc_lock.specs.declared.view.View.{View}
+use Rattle.jc_cache.specs.Caches.{noted_by}
+use Rattle.jc_cache.specs.Closing.{IsInUse}
 
 -- 1. Own seats.
 
@@ -21,6 +29,7 @@ pub record KeepsSeat (before after : TableId × View) : Type 0 where
   pub next_session : after.1.next_session ≡ before.1.next_session
   pub spent : after.1.spent ≡ before.1.spent
   pub same : IsSameStripe before.1.noted after.1.noted
+  pub front : IsPrefix before.1.front after.1.front
 
 abbrev pub KeepSeats : List (TableId × View) → List (TableId × View) → Type 0
 KeepSeats = AllZip KeepsSeat
@@ -33,6 +42,7 @@ pub record HasTaken (view : View) (state : State) : Type 0 where
   pub of_none : view.session ≡ None
   pub holds : view.holds ≡ true
   pub noted : view.noted ≡ state
+  pub front : IsPrefix view.front state.history
   pub reached : IsReached state
   pub idle : IsIdle state
 
@@ -42,7 +52,18 @@ HaveTaken [] (state ∷ states) = ⊥
 HaveTaken (seat ∷ seats) [] = IsFreeSeat seat.1 × HaveTaken seats []
 HaveTaken (seat ∷ seats) (state ∷ states) = HasTaken seat.1 state × HaveTaken seats states
 
--- 2. Seats of sessions.
+-- 2. Stripes that are not taken.
+
+abbrev pub AreIdle : List (TableId × View) → Type 0
+AreIdle seats = (i : ℕ) (seat : TableId × View) → slice_get seats i ≡ Some seat → IsIdle seat.1.noted
+
+abbrev pub IsTakeRefusal : Refusal → State → Type 0
+IsTakeRefusal refusal noted = ((refusal ≡ StillReserved) × (IsIdle noted → ⊥)) ⊎ (refusal ≡ Busy)
+
+abbrev pub IsRowRefusal : Refusal → List (TableId × View) → Type 0
+IsRowRefusal refusal seats = ((refusal ≡ StillReserved) × IsInUse (noted_by seats)) ⊎ (refusal ≡ Busy)
+
+-- 3. Seats of sessions.
 
 pub record AreAtLocks (locks : List TableId) (seats : List (TableId × View)) : Type 0 where
   pub at : map (λ (seat : TableId × View). seat.0) seats ≡ locks

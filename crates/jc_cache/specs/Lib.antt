@@ -6,4 +6,5 @@ pub mod PhaseCalls
 pub mod Meeting
 pub mod Closing
 pub mod ClosingInside
+pub mod Reopening
 pub mod CacheInside

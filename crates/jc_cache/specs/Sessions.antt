@@ -4,6 +4,7 @@
 --     capped        a number, or the last one if it is beyond that
 --     IsOf          a session is one of this cache's: its seats are at this cache's locks and its session's alone, its hands hold
 --                   nothing, it has the loader and the writer that the cache's shape asks for, and it counts its own steps
+--     BeginsAt      a session's seats have noted and seen what those of the cache's owner have: so it begins
 --     MayCall       such a session may begin its next call: it has no reservation and no join out, and its own steps are all of calls
 --                   before that one
 use Rattle.std.specs.Prelude.{◌≡◌, ◌+◌, ℕ, List, [], ◌∷◌, length, map, true, false, Some, IsSome, slice_get, nat_lt, cond}
@@ -16,7 +17,7 @@ use Rattle.jc_stripe.specs.OwnSteps.{is_before_call}
 use Rattle.jc_lock.specs.declared.view.View.{View}
 use Rattle.jc_session.specs.Counting.{one_more}
 use Rattle.jc_cache.specs.declared.session.Session.{Session}
-use Rattle.jc_cache.specs.Caches.{CacheState}
+use Rattle.jc_cache.specs.Caches.{CacheState, OwnerState, noted_by, fronts_of}
 
 pub record IsSeatAt (config : Config) (stripe session : ℕ) (view : View) : Type 0 where
   pub of_session : view.session ≡ Some session
@@ -41,6 +42,10 @@ pub record IsOf {I J : Type 0} {D : I → Type 0} {E : J → Type 0} (cache : Ca
   pub loads : cache.config.read_through ≡ true → IsSome session.agent.hands.outside.loader
   pub writes : cache.config.write_through ≡ true → IsSome session.agent.hands.outside.writer
   pub own : session.agent.counts.own ≡ capped (own_total session.seats.items)
+
+pub record BeginsAt {I J : Type 0} {D : I → Type 0} {E : J → Type 0} (owner : OwnerState) (session : Session I J D E) : Type 0 where
+  pub noted : noted_by session.seats.items ≡ owner.noted
+  pub fronts : fronts_of session.seats.items ≡ owner.fronts
 
 pub record MayCall {I J : Type 0} {D : I → Type 0} {E : J → Type 0} (cache : CacheState) (session : Session I J D E) : Type 0 where
   pub own : IsOf cache session

@@ -1,14 +1,16 @@
 //! The end of a cache.
-ghost use Rattle.std.specs.Prelude.{◌≡◌, ◌⊎◌, ◌++◌, true, [], IsTrue, IfOk, IfErr, OnOk, OnErr, All, length, map};
+ghost use Rattle.std.specs.Prelude.{◌≡◌, ◌⊎◌, ◌≤◌, ◌++◌, true, [], IsTrue, IfOk, IfErr, OnOk, OnErr, All, length, map, vec_capacity};
 ghost use Rattle.atomic_table.specs.Seated.{TableId};
 ghost use Rattle.jc_lock.specs.declared.view.View.{View};
 ghost use Rattle.std.specs.FinMap.{from_entries};
-ghost use Rattle.jc_types.specs.declared.refusal.Refusal.TheVariants.{OutOfMemory, StillReserved};
+ghost use Rattle.jc_types.specs.declared.refusal.Refusal.TheVariants.{OutOfMemory};
 ghost use Rattle.jc_model.specs.Legal.{Legal};
 ghost use Rattle.jc_model.specs.Listed.{has_distinct_keys};
 ghost use Rattle.jc_stripe.specs.OrderOfUse.{by_use};
-ghost use Rattle.jc_cache.specs.Closing.{IsClosed, IsCloseRefusal};
-ghost use Rattle.jc_cache.specs.ClosingInside.{HaveTaken, KeepSeats};
+ghost use Rattle.jc_stripe.specs.Reached.{IsReached};
+ghost use Rattle.jc_stripe.specs.Reopening.{shares_key};
+ghost use Rattle.jc_cache.specs.Closing.{IsClosed, IsCloseRefusal, IsHandedBack};
+ghost use Rattle.jc_cache.specs.ClosingInside.{AreIdle, HaveTaken, IsRowRefusal, KeepSeats};
 ghost use Rattle.jc_cache.specs.Sessions.{IsOf};
 
 mod own_seats;
@@ -18,16 +20,18 @@ use crate::owner::CacheOwner;
 use crate::session::Session;
 use jc_lock::{HistLock, Seat};
 use jc_model::Event;
+use jc_outside::Outside;
 use jc_stripe::Stripe;
 use jc_stripe::phase_laws::is_legal;
 use jc_types::{Key, Refusal, Value};
-use own_seats::{all_idle, join_all, take_all};
+use own_seats::{join_all, take_all, test_all_idle};
 use std::alloc::{AllocError, Global};
 use std::marker::Model;
 
 /// A stripe of a closed cache: its whole history, and what was cached at its end. Contracts see its last state.
 ///
-/// The history is stored as the cache stored it, in a few bytes for each event.
+/// The history is stored as the cache stored it, in a few bytes for each event. What the stripe opened with isn't: only contracts see
+/// it. It is nothing, if the cache was made by [`CacheOwner::new`]; [`CacheOwner::reopen`] says how to know it.
 #[derive(Drop)]
 pub struct ClosedStripe {
     stripe: Box<Stripe>,
@@ -50,6 +54,7 @@ impl ClosedStripe {
     pub fn events_len(&self) -> usize
         ensures len { result ≡ length self.now.history }
         ensures legal { Legal self.now.config self.now.opening self.now.history }
+        ensures reached { IsReached self.now }
     {
         self.stripe.events_len()
     }
@@ -73,6 +78,13 @@ impl ClosedStripe {
     {
         self.stripe.entries(out)
     }
+
+    /// Whether a key is cached both here and in the other stripe. It takes no memory.
+    pub(crate) fn shares_key(&self, other: &ClosedStripe) -> bool
+        ensures { result ≡ shares_key self.now other.now }
+    {
+        self.stripe.shares_key(&other.stripe)
+    }
 }
 
 /// A closed cache.
@@ -80,14 +92,16 @@ impl ClosedStripe {
 pub struct Closed {
     /// Its stripes, by their numbers.
     pub stripes: Vec<ClosedStripe>,
-    /// Whether each history is legal from an empty cache and leads to the stripe's entries: it always is.
+    /// The loader and the writer of each session, in the order in which the sessions were handed in.
+    pub outside: Vec<Outside>,
+    /// Whether each history is legal from what its stripe opened with, and leads to the stripe's entries: it always is.
     pub legal: bool,
 }
 
 /// A cache that was not closed, with all that was handed in.
 #[derive(Drop)]
 pub struct CloseFault {
-    /// Why: `StillReserved` or `OutOfMemory`.
+    /// Why: `StillReserved` or `OutOfMemory`; or `Busy`, see [`CacheOwner::close`].
     pub refusal: Refusal,
     /// Who owns the cache.
     pub owner: CacheOwner,
@@ -97,19 +111,23 @@ pub struct CloseFault {
 
 impl CacheOwner {
     /// Ends the cache, with all of its sessions. What was cached is still in the store of record, if every change was written
-    /// through.
+    /// through. Each session's loader and writer come back.
     ///
     /// It is refused, and hands everything back, if a session was not handed in, or if a reservation or an answer that was not
     /// picked up is out (`StillReserved`), and if an allocation failed (`OutOfMemory`), tested in this order. It never waits.
+    ///
+    /// `Busy` would say that somebody held a stripe though all sessions are handed in. No session holds one between its calls, so
+    /// nobody is there who could.
     ///
     /// Condition: the sessions are of this cache.
     pub fn close(self, alloc: Global, sessions: Vec<Session>) -> Result<Closed, CloseFault>
         requires { All (λ s. IsOf self.cache s) sessions.items }
         ensures closed { IfOk result (λ c. IsClosed self sessions.items c.stripes.items) }
+        ensures outside { IfOk result (λ c. c.outside.items ≡ map (λ s. s.agent.hands.outside) sessions.items) }
         ensures legal { IfOk result (λ c. c.legal ≡ true) }
         ensures why { IfErr result
-            (λ f. IsCloseRefusal self.given (length sessions.items) f.refusal) }
-        ensures back { IfErr result (λ f. (f.owner ≡ self) × (f.sessions.items ≡ sessions.items)) }
+            (λ f. IsCloseRefusal self (length sessions.items) f.refusal f.owner) }
+        ensures back { IfErr result (λ f. IsHandedBack self f.owner × (f.sessions.items ≡ sessions.items)) }
     {
         if sessions.len() == self.given as usize {
             return self.close_with_all(alloc, sessions);
@@ -126,10 +144,11 @@ impl CacheOwner {
         requires own { All (λ s. IsOf self.cache s) sessions.items }
         requires all { length sessions.items ≡ self.given }
         ensures closed { IfOk result (λ c. IsClosed self sessions.items c.stripes.items) }
+        ensures outside { IfOk result (λ c. c.outside.items ≡ map (λ s. s.agent.hands.outside) sessions.items) }
         ensures legal { IfOk result (λ c. c.legal ≡ true) }
         ensures why { IfErr result
-            (λ f. IsCloseRefusal self.given (length sessions.items) f.refusal) }
-        ensures back { IfErr result (λ f. (f.owner ≡ self) × (f.sessions.items ≡ sessions.items)) }
+            (λ f. IsCloseRefusal self (length sessions.items) f.refusal f.owner) }
+        ensures back { IfErr result (λ f. IsHandedBack self f.owner × (f.sessions.items ≡ sessions.items)) }
     {
         is_legal();
         let CacheOwner {
@@ -137,11 +156,12 @@ impl CacheOwner {
             given,
             mut seats,
         } = self;
-        match take_stripes(alloc, cache.locks(), &mut seats) {
-            Ok(stripes) => {
-                join_all(cache.locks(), &mut seats, &stripes, sessions);
+        match take_stripes(alloc, cache.locks(), &mut seats, sessions.len()) {
+            Ok((stripes, mut outside)) => {
+                join_all(cache.locks(), &mut seats, &stripes, sessions, &mut outside);
                 Ok(Closed {
                     stripes,
+                    outside,
                     legal: true,
                 })
             }
@@ -158,28 +178,29 @@ impl CacheOwner {
     }
 }
 
-/// All stripes, if nothing is out at any. An `Err` leaves all at their locks.
+/// All stripes, if nothing is out at any, and a list with room for what so many sessions bring. An `Err` leaves all at their locks.
 fn take_stripes(
     alloc: Global,
     locks: &[HistLock],
     own: &mut Vec<Seat>,
-) -> Result<Vec<ClosedStripe>, Refusal>
+    sessions: usize,
+) -> Result<(Vec<ClosedStripe>, Vec<Outside>), Refusal>
     requires locks { map (λ (seat : TableId × View). seat.0) own.old.items ≡ locks.now }
     requires free { HaveTaken own.old.items [] }
     ensures keeps { KeepSeats own.old.items own.new.items }
-    ensures ok { IfOk result (λ s. HaveTaken own.new.items s.items
-        × (length s.items ≡ length own.new.items)) }
-    ensures err { IfErr result (λ r. ((r ≡ StillReserved) ⊎ (r ≡ OutOfMemory))
-        × HaveTaken own.new.items []) }
+    ensures ok { IfOk result (λ r. HaveTaken own.new.items r.0.items
+        × (length r.0.items ≡ length own.new.items)) }
+    ensures room { IfOk result (λ r. (r.1.items ≡ []) × (sessions ≤ vec_capacity r.1)) }
+    ensures err { IfErr result (λ r. HaveTaken own.new.items []
+        × (IsRowRefusal r own.new.items ⊎ ((r ≡ OutOfMemory) × AreIdle own.new.items))) }
 {
-    if !all_idle(locks, own) {
-        return Err(Refusal::StillReserved);
-    }
+    test_all_idle(locks, own)?;
+    let Ok(outside) = Vec::with_capacity(alloc, sessions) else {
+        return Err(Refusal::OutOfMemory);
+    };
     let Ok(stripes) = Vec::with_capacity(alloc, locks.len()) else {
         return Err(Refusal::OutOfMemory);
     };
-    match take_all(locks, own, stripes) {
-        Some(stripes) => Ok(stripes),
-        None => Err(Refusal::StillReserved),
-    }
+    let stripes = take_all(locks, own, stripes)?;
+    Ok((stripes, outside))
 }

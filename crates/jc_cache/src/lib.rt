@@ -12,6 +12,7 @@ mod closing;
 mod meeting;
 mod owner;
 mod phase_calls;
+mod reopening;
 mod session;
 mod skipping;
 mod trying;
@@ -21,11 +22,12 @@ pub use calls::value_of;
 pub use closing::{CloseFault, Closed, ClosedStripe};
 pub use jc_model::{Event, Op, Reply};
 pub use jc_mutentry::{EntryProcessor, MutableEntry};
-pub use jc_outside::{Answers, CacheLoader, CacheWriter};
+pub use jc_outside::{Answers, CacheLoader, CacheWriter, Outside};
 pub use jc_session::SessionFault;
 pub use jc_stripe::{
     Ask, Begun, First, Join, LoadDone, Picked, ProcDone, StepDone, Ticket, WriteDone,
 };
 pub use jc_types::{Config, Key, Refusal, Value};
 pub use owner::CacheOwner;
+pub use reopening::{ReopenFault, Reopened};
 pub use session::Session;

@@ -1,21 +1,25 @@
 //! Who owns a cache.
-ghost use Rattle.std.specs.Prelude.{◌≡◌, ◌⊎◌, ◌+◌, ◌++◌, ◌≤◌, [], Ok, Err, Some, None, IfOk, IfErr, is_some, map, length, vec_len, vec_capacity};
+ghost use Rattle.std.specs.Prelude.{◌≡◌, ◌⊎◌, ◌+◌, ◌++◌, ◌≤◌, true, List, [], Ok, Err, Some, None, IfOk, IfErr, is_some, map, length, replicate, vec_len, vec_capacity};
 ghost use Rattle.atomic_table.specs.Seated.{TableId};
 ghost use Rattle.jc_types.specs.Limits.{check};
 ghost use Rattle.jc_types.specs.declared.refusal.Refusal.TheVariants.{OutOfMemory};
+ghost use Rattle.jc_model.specs.Cache.{Bytes};
+ghost use Rattle.jc_outside.specs.declared.done.Origin.TheVariants.{Live};
+ghost use Rattle.jc_model.specs.Listed.{has_distinct_keys};
+ghost use Rattle.jc_stripe.specs.Reopening.{dropped, opened_stripes};
 ghost use Rattle.jc_lock.specs.Views.{after_split, session_view};
 ghost use Rattle.jc_lock.specs.declared.view.View.{View};
-ghost use Rattle.jc_cache.specs.Caches.{session_refusal};
+ghost use Rattle.jc_cache.specs.Caches.{OpensWith, fronts_of, noted_by, session_refusal};
 ghost use Rattle.jc_cache.specs.CacheInside.{IsWhole, GiveNumbers};
-ghost use Rattle.jc_cache.specs.Sessions.{MayCall};
+ghost use Rattle.jc_cache.specs.Sessions.{BeginsAt, MayCall};
 
 use crate::cache::Cache;
 use crate::session::Session;
 use jc_lock::{HistLock, Seat};
 use jc_outside::{CacheLoader, CacheWriter};
 use jc_session::{Agent, SessionFault};
-use jc_stripe::{Origin, Stripe};
-use jc_types::{Config, Refusal, SESSIONS_MAX};
+use jc_stripe::{Origin, Reopened, Stripe, reopen};
+use jc_types::{Config, Key, Refusal, SESSIONS_MAX, Value};
 use std::alloc::{AllocError, Global};
 use std::marker::Model;
 
@@ -23,6 +27,9 @@ use std::marker::Model;
 ///
 /// It has a seat of its own at each lock, which gives the numbers of sessions out. A seat isn't shared between threads, so an owner
 /// isn't; its cache is.
+///
+/// Contracts see in it what these seats have noted of each stripe, and what they have seen of the history: a session that it gives
+/// out begins with that.
 #[derive(Drop)]
 pub struct CacheOwner {
     pub(crate) cache: Cache,
@@ -33,32 +40,74 @@ pub struct CacheOwner {
 impl Model for CacheOwner {
     ghost use Rattle.std.specs.Coded.{codes, coded_list};
     ghost use Rattle.atomic_table.specs.Seated.{table_id_coded};
-    ghost use Rattle.jc_cache.specs.Caches.{OwnerState};
+    ghost use Rattle.jc_model.specs.Cache.{cache_code};
+    ghost use Rattle.jc_cache.specs.Caches.{OwnerState, noted_by, fronts_of};
     ghost use Rattle.jc_cache.specs.CacheInside.{IsWhole};
 
     ghost Value = { OwnerState };
 
-    ghost coded = { Prim.hlevel (codes, coded_list table_id_coded) };
+    ghost coded = { Prim.hlevel (codes, cache_code, coded_list table_id_coded) };
 
-    ghost view = { λ o. record { cache = o.cache; given = o.given } };
+    ghost view = { λ o. record {
+      cache = o.cache;
+      given = o.given;
+      noted = noted_by o.seats.items;
+      fronts = fronts_of o.seats.items;
+    } };
 
     ghost invariant = { λ o. IsWhole o.cache.config o.given o.cache.locks o.seats.items };
 }
 
-/// Locks round as many empty stripes as the shape says, each with its first seat. An `Err` says that an allocation failed.
-fn locks(alloc: Global, config: &Config) -> Result<(Vec<HistLock>, Vec<Seat>), AllocError>
-    requires { check config.now ≡ Ok tt }
-    ensures { IfOk result (λ r. IsWhole config.now 0 r.0.items r.1.items) }
+/// Locks round these stripes, each with its first seat. An `Err` says that an allocation failed.
+///
+/// Condition: they are all stripes of a live cache of this shape, and nothing has happened in them.
+fn locks(
+    alloc: Global,
+    config: &Config,
+    stripes: Vec<Stripe>,
+) -> Result<(Vec<HistLock>, Vec<Seat>), AllocError>
+    requires fits { check config.now ≡ Ok tt }
+    requires opened { (entries : List (Bytes × Bytes)) × (stripes.items ≡ opened_stripes config.now Live entries 0 config.now.stripes) }
+    ensures whole { IfOk result (λ r. IsWhole config.now 0 r.0.items r.1.items) }
+    ensures noted { IfOk result (λ r. noted_by r.1.items ≡ stripes.items) }
+    ensures fronts { IfOk result (λ r. fronts_of r.1.items ≡ replicate config.now.stripes []) }
 {
     let mut locks = Vec::with_capacity(alloc, config.stripes)?;
     let mut seats = Vec::with_capacity(alloc, config.stripes)?;
-    for i in 0..config.stripes {
-        let stripe = Stripe::new(alloc, config, i, Origin::Live)?;
+    for stripe in stripes {
         let (lock, seat) = HistLock::new(alloc, Box::new(alloc, stripe)?)?;
         locks.push_reserved(lock);
         seats.push_reserved(seat);
     }
     Ok((locks, seats))
+}
+
+/// Who owns a cache of this shape that opens with these entries, and those for which it had no room. An `Err` says that an
+/// allocation failed.
+///
+/// Conditions: `config.check()` is `Ok`; each key is there once.
+pub(crate) fn open_with(
+    alloc: Global,
+    config: &Config,
+    entries: &[(Key, Value)],
+) -> Result<(CacheOwner, Vec<(Key, Value)>), AllocError>
+    requires fits { check config.now ≡ Ok tt }
+    requires once { has_distinct_keys entries.now ≡ true }
+    ensures owner { IfOk result (λ r. OpensWith config.now entries.now r.0) }
+    ensures dropped { IfOk result (λ r. r.1.items ≡ dropped config.now entries.now) }
+{
+    let Reopened { stripes, dropped } = reopen(alloc, config, Origin::Live, entries)?;
+    let (locks, seats) = locks(alloc, config, stripes)?;
+    let cache = Cache {
+        config: *config,
+        locks,
+    };
+    let owner = CacheOwner {
+        cache,
+        given: 0,
+        seats,
+    };
+    Ok((owner, dropped))
 }
 
 /// A seat for the next session at each lock.
@@ -75,23 +124,17 @@ fn split(locks: &[HistLock], own: &mut Vec<Seat>, seats: &mut Vec<Seat>)
 }
 
 impl CacheOwner {
-    /// An empty cache of this shape. All memory that it may need is taken here, but for entries and sessions.
+    /// An empty cache of this shape: each stripe with its first number, and no history. All memory that it may need is taken here,
+    /// but for entries and sessions.
     ///
     /// It is refused if the shape is out of its limits (`BadConfig`), and if an allocation failed (`OutOfMemory`).
     pub fn new(alloc: Global, config: &Config) -> Result<CacheOwner, Refusal>
-        ensures ok { IfOk result (λ o. (o.cache.config ≡ config.now) × (o.given ≡ 0) × (length o.cache.locks ≡ config.now.stripes)) }
+        ensures ok { IfOk result (λ o. OpensWith config.now [] o) }
         ensures err { IfErr result (λ r. (check config.now ≡ Err r) ⊎ ((check config.now ≡ Ok tt) × (r ≡ OutOfMemory))) }
     {
         config.check()?;
-        match locks(alloc, config) {
-            Ok((locks, seats)) => Ok(CacheOwner {
-                cache: Cache {
-                    config: *config,
-                    locks,
-                },
-                given: 0,
-                seats,
-            }),
+        match open_with(alloc, config, &[]) {
+            Ok((owner, _)) => Ok(owner),
             Err(_) => Err(Refusal::OutOfMemory),
         }
     }
@@ -101,6 +144,8 @@ impl CacheOwner {
     /// It is refused, and the boxes come back, if `SESSIONS_MAX` were given out (`TooManySessions`), if the cache reads through and
     /// there is no loader (`NoLoader`), if it writes through and there is no writer (`NoWriter`), and if an allocation failed
     /// (`OutOfMemory`), tested in this order. Sessions that were given out before stay as they are.
+    ///
+    /// It has made no step, and has seen of each stripe what its owner has: nothing, if no [`CacheOwner::close`] was refused.
     pub fn session(
         &mut self,
         alloc: Global,
@@ -112,6 +157,7 @@ impl CacheOwner {
         ensures boxes { IfOk result (λ s. (s.agent.hands.outside.loader ≡ loader) × (s.agent.hands.outside.writer ≡ writer)) }
         ensures may { IfOk result (λ s. MayCall self.new.cache s) }
         ensures none { IfOk result (λ s. s.agent.counts.own ≡ 0) }
+        ensures begins { IfOk result (λ s. BeginsAt self.old s) }
         ensures ok { IfOk result (λ s. session_refusal self.old (is_some loader) (is_some writer) ≡ None) }
         ensures why { IfErr result (λ f. (session_refusal self.old (is_some loader) (is_some writer) ≡ Some f.refusal)
             ⊎ ((session_refusal self.old (is_some loader) (is_some writer) ≡ None) × (f.refusal ≡ OutOfMemory))) }
@@ -173,6 +219,7 @@ impl CacheOwner {
         ensures boxes { (result.agent.hands.outside.loader ≡ loader) × (result.agent.hands.outside.writer ≡ writer) }
         ensures may { MayCall self.new.cache result }
         ensures none { result.agent.counts.own ≡ 0 }
+        ensures begins { BeginsAt self.old result }
     {
         let mut seats = seats;
         split(self.cache.locks(), &mut self.seats, &mut seats);

@@ -43,6 +43,7 @@ mod mutexed;
 mod outside;
 mod phases;
 mod random;
+mod reopening;
 mod scenes;
 mod scripted;
 mod signals;

@@ -1,3 +1,4 @@
 pub mod CallerLemmas
 pub mod IsValidByUse
 pub mod Lru
+pub mod Filling

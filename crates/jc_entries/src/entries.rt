@@ -2,12 +2,13 @@
 //!
 //! JSR 107 leaves eviction to the provider. Here the least recently used entry is evicted, unless its
 //! key is pinned, as is the key of a call that is asking the loader or the writer.
-ghost use Rattle.std.specs.Prelude.{◌≡◌, ◌+◌, ◌<◌, ◌≤◌, [], ◌∷◌, ◌++◌, length, true, is_some, option_map, IsOk, IfOk, OnOk};
+ghost use Rattle.std.specs.Prelude.{◌≡◌, ◌+◌, ◌<◌, ◌≤◌, [], ◌∷◌, ◌++◌, length, true, not, is_some, option_map, IsOk, IfOk, OnOk};
 ghost use Rattle.std.specs.Prelude.{OnErr, vec_len, vec_capacity};
 ghost use Rattle.std.specs.Map.{keys_of};
 ghost use Rattle.std.specs.FinMap as finite;
 ghost use Rattle.jc_model.specs.Cache.{key_cmp};
-ghost use Rattle.jc_model.specs.Listed.{others};
+ghost use Rattle.jc_model.specs.Listed.{others, has_distinct_keys};
+ghost use Rattle.jc_model.specs.Apart.{keys_apart};
 ghost use Rattle.jc_entries.specs.ByUse.{IsValidByUse, after_touch, lru_victim};
 ghost use Rattle.jc_entries.specs.MostRecent.{most_recent};
 
@@ -76,11 +77,43 @@ impl Entries {
         Ok(Entries { cache })
     }
 
+    /// These entries, the first one the most recently used. An `Err` says that an allocation failed.
+    ///
+    /// Conditions: each key is there once, and there are not more than `capacity`, from 1 to [`CAPACITY_MAX`].
+    pub fn of(alloc: Global, capacity: usize, contents: &[(Key, Value)]) -> Result<Self, AllocError>
+        requires least { 0 < capacity }
+        requires most { capacity ≤ CAPACITY_MAX }
+        requires few { length contents.now ≤ capacity }
+        requires once { has_distinct_keys contents.now ≡ true }
+        ensures { IfOk result (λ e. e ≡ record { capacity = capacity; list = contents.now }) }
+    {
+        let mut entries = Entries::new(alloc, capacity)?;
+        let mut left = contents.len();
+        while left > 0 {
+            left -= 1;
+            let (key, value) = &contents[left];
+            entries.put_first(key, value)?;
+        }
+        Ok(entries)
+    }
+
     /// The key's value, or none. The order of use stays as it is.
     pub fn peek(&self, key: &Key) -> Option<Value>
         ensures { result ≡ finite.find key_cmp key.now self.now.list }
     {
         self.cache.peek(key).copied()
+    }
+
+    /// Whether a key has an entry both here and there. Each key of these entries is looked up in the others; no order changes.
+    pub fn shares_key(&self, other: &Entries) -> bool
+        ensures { result ≡ not (keys_apart self.now.list other.now.list) }
+    {
+        for (key, _) in &self.cache {
+            if other.peek(key).is_some() {
+                return true;
+            }
+        }
+        false
     }
 
     /// Makes the key's entry the most recently used, by one look-up, and says whether it has one. If it has none, nothing changes.

@@ -28,7 +28,7 @@ use Rattle.std.specs.Prelude.{ℕ, ◌==◌, ◌&&◌, nat_le, true, false, List
 use Rattle.std.specs.Int.{w16, w32, w64, from_le_bytes}
 use Rattle.jc_types.specs.declared.caller.Caller.{Caller}
 use Rattle.jc_types.specs.declared.refusal.Refusal.{Refusal}
-use Rattle.jc_types.specs.declared.refusal.Refusal.TheVariants.{HistoryFull, Busy, TooManyInFlight, TooManyJoiners, LoaderFailed, WriterFailed, ProcessorFailed, OutOfMemory, TooManyKeys, BadConfig, NoLoader, NoWriter, TooManySessions, StillReserved}
+use Rattle.jc_types.specs.declared.refusal.Refusal.TheVariants.{HistoryFull, Busy, TooManyInFlight, TooManyJoiners, LoaderFailed, WriterFailed, ProcessorFailed, OutOfMemory, TooManyKeys, BadConfig, NoLoader, NoWriter, TooManySessions, StillReserved, RepeatedKey}
 use Rattle.jc_types.specs.declared.config.Field.TheVariants.{Stripes, Capacity, History}
 use Rattle.jc_types.specs.declared.limits.TheConstants.{KEY_MAX, VALUE_MAX}
 use Rattle.jc_model.specs.declared.event.Op.{Op}
@@ -185,7 +185,8 @@ decode_refusal = do
       else if tag == 12 then give NoLoader
       else if tag == 13 then give NoWriter
       else if tag == 14 then give TooManySessions
-      else give StillReserved
+      else if tag == 15 then give StillReserved
+      else give RepeatedKey
 
 unfoldable pub decode_reply : Out → Decoder Reply
 decode_reply out = do

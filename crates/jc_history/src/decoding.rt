@@ -250,7 +250,8 @@ fn decode_refusal(input: &mut Input) -> Refusal
         12 => Refusal::NoLoader,
         13 => Refusal::NoWriter,
         14 => Refusal::TooManySessions,
-        _ => Refusal::StillReserved,
+        15 => Refusal::StillReserved,
+        _ => Refusal::RepeatedKey,
     }
 }
 

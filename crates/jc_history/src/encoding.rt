@@ -211,6 +211,7 @@ fn encode_refusal(out: &mut Vec<u8>, refusal: &Refusal)
         Refusal::NoWriter => out.push_reserved(13),
         Refusal::TooManySessions => out.push_reserved(14),
         Refusal::StillReserved => out.push_reserved(15),
+        Refusal::RepeatedKey => out.push_reserved(16),
     }
 }
 

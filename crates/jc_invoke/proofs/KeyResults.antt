@@ -47,7 +47,7 @@ results_whole = entries_whole result_of
 
 -- 2. Near full.
 
-pub refused_near : (S : Bytes → Out → Type 0) (caller : Caller) (v w : View) (key : Bytes) (ended : Result Reply Refusal) → HasEnded S caller v w key ended → ended ≡ Err HistoryFull → IsNearFull caller w
+pub refused_near : (S : Bytes → Option Bytes → Out → Type 0) (caller : Caller) (v w : View) (key : Bytes) (ended : Result Reply Refusal) → HasEnded S caller v w key ended → ended ≡ Err HistoryFull → IsNearFull caller w
 refused_near S caller v w key (Ok reply) has is = let bad : Ok reply ≡ Err HistoryFull = is in cc
 refused_near S caller v w key (Err refusal) has is =
     let same : refusal ≡ HistoryFull = cc in

@@ -104,7 +104,7 @@ among_on : {X : Type 0} (x : X) (xs : List X) (v : X) → IsAmong xs v → IsAmo
 among_on x xs v is = (suc is.0, (let near = is.1.0 in omega arith, is.1.1))
 
 told_by : (through : Bool) (rounds : List InvokeRound) (wrote removed : Bytes → WriteAnswer) (round : InvokeRound) → round.written ≡ wrote → round.deleted ≡ removed → IsAmong rounds round → (runs : List RunState)
-    → ((run : KeyRun) → IsAmong (map key_run runs) run → IsAmong round.runs run) → AllByRecursion (λ (r : RunState). IsRunOf through rounds r.reservation.key (processed_out through wrote removed r)) runs
+    → ((run : KeyRun) → IsAmong (map key_run runs) run → IsAmong round.runs run) → AllByRecursion (λ (r : RunState). IsRunOf through rounds r.reservation.key (entry_seen r.reservation.first) (processed_out through wrote removed r)) runs
 told_by through rounds wrote removed round w d in_rounds [] among = tt
 told_by through rounds wrote removed round w d in_rounds (r ∷ runs) among = (
   record {
@@ -113,13 +113,14 @@ told_by through rounds wrote removed round w d in_rounds (r ∷ runs) among = (
     among_rounds = in_rounds;
     among_runs = among (key_run r) (zero, (omega arith, refl));
     key_is = refl;
+    entry_is = refl;
     out_is = λ i. processed_out through (sym w i) (sym d i) r;
   },
   told_by through rounds wrote removed round w d in_rounds runs (λ run is. among run (among_on (key_run r) (map key_run runs) run is)),
 )
 
 pub each_told : (through : Bool) (rounds : List InvokeRound) (wrote removed : Bytes → WriteAnswer) (runs : List RunState)
-    → AllByRecursion (λ (r : RunState). IsRunOf through (rounds ++ record { runs = map key_run runs; written = wrote; deleted = removed } ∷ []) r.reservation.key (processed_out through wrote removed r)) runs
+    → AllByRecursion (λ (r : RunState). IsRunOf through (rounds ++ record { runs = map key_run runs; written = wrote; deleted = removed } ∷ []) r.reservation.key (entry_seen r.reservation.first) (processed_out through wrote removed r)) runs
 each_told through rounds wrote removed runs =
     told_by through _ wrote removed (record { runs = map key_run runs; written = wrote; deleted = removed }) refl refl (among_last rounds (record { runs = map key_run runs; written = wrote; deleted = removed })) runs (λ run is. is)
 
@@ -204,7 +205,7 @@ reported through t rounds runs runs' written deleted wrote removed wi di same is
   removed = removed;
   written_are = ws ∙ ap (writes_done (λ (a : Claim). a.reservation.key) wrote) wis ∙ (λ i. reports (same i) false wrote (sym is i));
   deleted_are = ds ∙ ap (writes_done (λ (a : Claim). a.reservation.key) removed) dis ∙ (λ i. reports (same i) true removed (sym is i));
-  each = subst (λ xs. AllByRecursion (λ (r : RunState). IsRunOf through (rounds ++ round_of runs wrote removed ∷ []) r.reservation.key (processed_out through wrote removed r)) xs) (sym is) (each_told through rounds wrote removed runs);
+  each = subst (λ xs. AllByRecursion (λ (r : RunState). IsRunOf through (rounds ++ round_of runs wrote removed ∷ []) r.reservation.key (entry_seen r.reservation.first) (processed_out through wrote removed r)) xs) (sym is) (each_told through rounds wrote removed runs);
 }
 
 module _ {P L W : Type 0} (processes : ProcessRelation P) (process_state : P → List ℕ) (loads : LoadRelation L) (load_state : L → List ℕ)

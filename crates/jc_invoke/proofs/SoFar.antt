@@ -5,16 +5,19 @@
 --     goes_on          the key at this place goes on by one phase
 --     more_said        the call so far, when more may be said
 --     opens            before the first round
-use Rattle.std.proofs.Common.{◌≡◌, ◌==◌, ◌⊎◌, ⊎_elim, inl, inr, ℕ, List, length, length-set, set, true, false, Some, Ok, Err, slice_get, refl, sym, ap, subst, ◌∙◌, arith}
+use Rattle.std.proofs.Common.{◌≡◌, ◌==◌, ◌⊎◌, ⊎_elim, inl, inr, ℕ, Option, List, length, length-set, set, true, false, Some, Ok, Err, slice_get, refl, sym, ap, subst, ◌∙◌, arith}
 use Rattle.std.specs.List.{IsDistinct, list_all}
 use Rattle.std.specs.Map.{keys_of}
 use Rattle.std.specs.Cmp.Lexicographic.{pointwise}
 use Rattle.jc_types.specs.Stripes.{stripe_of}
 use Rattle.jc_types.specs.declared.caller.Caller.{Caller}
-use Rattle.jc_model.specs.Cache.{Bytes}
+use mathlib.Core.List.{IsPrefix}
+use Rattle.jc_model.specs.Cache.{Bytes, entry_at}
+use Rattle.jc_model.specs.declared.event.Event.{Event}
 use Rattle.jc_model.specs.declared.event.Op.{Op}
 use Rattle.jc_model.specs.declared.event.Op.TheVariants.{Invoke}
 use Rattle.jc_model.specs.declared.event.Out.{Out}
+use Rattle.jc_stripe.specs.State.{State}
 use Rattle.jc_stripe.specs.OwnSteps.{is_before_call}
 use Rattle.jc_lock.specs.declared.view.View.{View}
 use Rattle.jc_bulk.specs.declared.progress.Progress.{Progress}
@@ -23,11 +26,17 @@ use Rattle.jc_bulk.specs.KeyProgress.{all_waiting}
 use Rattle.jc_bulk.specs.Recorded.{steps_of}
 use Rattle.jc_bulk.specs.Seats.{HasGrown, Moves, view_at, view_of}
 use Rattle.jc_bulk.proofs.CallerLemmas.{Seated, and_left, grown_itself, grown_on, longer, no-steps, not_here, place_or, refused_later, refused_since, still-before, there_on, waiting_many, waiting_there}
+use Rattle.jc_lock.proofs.CallerLemmas.{prefix-trans, same_on}
+use Rattle.jc_cache.specs.Fronts.{IsNext}
 use Rattle.jc_invoke.specs.Keys.{IsAt, IsSoFar, invoke_ops}
 
 -- 1. One key.
 
-module _ (S : Bytes → Out → Type 0) where
+-- the place of a step is the next one of its state in a longer history too
+next_on : (state : State) (key : Bytes) (place : ℕ) (xs ys : List Event) → IsPrefix xs ys → IsNext state key place xs → IsNext state key place ys
+next_on state key place xs ys p next = ⊎_elim (λ at. inl at) (λ at. inr (at.0, at.1, (at.2.0, there_on xs ys (length state.history) _ p at.2.1))) next
+
+module _ (S : Bytes → Option Bytes → Out → Type 0) where
   -- THE LEMMA: a phase at another key leaves what is said of this one
   pub at_later : (caller : Caller) (u v w : View) (key : Bytes) (p : Progress) → HasGrown v w → steps_of caller key w.own ≡ steps_of caller key v.own → IsAt S caller u v key p → IsAt S caller u w key p
   at_later caller u v w key Waiting grown same at = same ∙ at
@@ -36,6 +45,11 @@ module _ (S : Bytes → Out → Type 0) where
   at_later caller u v w key (Ended (Ok reply)) grown same at = record {
     out = at.out;
     place = at.place;
+    decided = at.decided;
+    reached = at.reached;
+    later = prefix-trans at.decided.history v.front w.front at.later grown.front;
+    same = same_on at.decided v.noted w.noted at.same grown.same;
+    next = next_on at.decided key at.place v.front w.front grown.front at.next;
     said = at.said;
     one = same ∙ at.one;
     legal = grown.legal at.legal;
@@ -52,6 +66,11 @@ module _ (S : Bytes → Out → Type 0) where
   at_since caller u v w key (Ended (Ok reply)) grown at = record {
     out = at.out;
     place = at.place;
+    decided = at.decided;
+    reached = at.reached;
+    later = at.later;
+    same = at.same;
+    next = at.next;
     said = at.said;
     one = at.one;
     legal = at.legal;
@@ -60,14 +79,19 @@ module _ (S : Bytes → Out → Type 0) where
   }
   at_since caller u v w key (Ended (Err refusal)) grown at = (at.0, ⊎_elim (λ memory. inl memory) (λ full. inr (full.0, refused_since caller u v w key Invoke refusal grown full.1)) at.1)
 
-pub at_more : (S T : Bytes → Out → Type 0) → ((key : Bytes) (out : Out) → S key out → T key out) → (caller : Caller) (u w : View) (key : Bytes) (p : Progress) → IsAt S caller u w key p → IsAt T caller u w key p
+pub at_more : (S T : Bytes → Option Bytes → Out → Type 0) → ((key : Bytes) (entry : Option Bytes) (out : Out) → S key entry out → T key entry out) → (caller : Caller) (u w : View) (key : Bytes) (p : Progress) → IsAt S caller u w key p → IsAt T caller u w key p
 at_more S T more caller u w key Waiting at = at
 at_more S T more caller u w key Reserved at = at
 at_more S T more caller u w key Joined at = at
 at_more S T more caller u w key (Ended (Ok reply)) at = record {
   out = at.out;
   place = at.place;
-  said = more key at.out at.said;
+  decided = at.decided;
+  reached = at.reached;
+  later = at.later;
+  same = at.same;
+  next = at.next;
+  said = more key (entry_at at.decided.cache key) at.out at.said;
   one = at.one;
   legal = at.legal;
   there = at.there;
@@ -77,7 +101,7 @@ at_more S T more caller u w key (Ended (Err refusal)) at = at
 
 -- 2. All keys.
 
-pub goes_on : (S : Bytes → Out → Type 0) (caller : Caller) (stripes : ℕ) (keys : List Bytes) (old mid new : List Seated) (ps : List Progress) (place : ℕ) (key : Bytes) (op : Op) (p : Progress)
+pub goes_on : (S : Bytes → Option Bytes → Out → Type 0) (caller : Caller) (stripes : ℕ) (keys : List Bytes) (old mid new : List Seated) (ps : List Progress) (place : ℕ) (key : Bytes) (op : Op) (p : Progress)
     → IsDistinct (pointwise ◌==◌) (keys_of (invoke_ops keys)) → slice_get (invoke_ops keys) place ≡ Some (key, op) → IsSoFar S caller stripes keys old mid ps → Moves caller stripes key mid new
     → IsAt S caller (view_of stripes old key) (view_of stripes new key) key p → IsSoFar S caller stripes keys old new (set ps place p)
 goes_on S caller stripes keys old mid new ps place key op p d at was moves now = record {
@@ -97,7 +121,7 @@ goes_on S caller stripes keys old mid new ps place key op p d at was moves now =
         subst (λ (k : Bytes). IsAt S caller (view_of stripes old k) (view_of stripes new k) k r) (sym same.0)
         (subst (IsAt S caller (view_of stripes old key) (view_of stripes new key) key) (sym same.2) now)
 
-pub more_said : (S T : Bytes → Out → Type 0) → ((key : Bytes) (out : Out) → S key out → T key out) → (caller : Caller) (stripes : ℕ) (keys : List Bytes) (old new : List Seated) (ps : List Progress) → IsSoFar S caller stripes keys old new ps → IsSoFar T caller stripes keys old new ps
+pub more_said : (S T : Bytes → Option Bytes → Out → Type 0) → ((key : Bytes) (entry : Option Bytes) (out : Out) → S key entry out → T key entry out) → (caller : Caller) (stripes : ℕ) (keys : List Bytes) (old new : List Seated) (ps : List Progress) → IsSoFar S caller stripes keys old new ps → IsSoFar T caller stripes keys old new ps
 more_said S T more caller stripes keys old new ps so = record {
   grown = so.grown;
   numbers = so.numbers;
@@ -109,7 +133,7 @@ more_said S T more caller stripes keys old new ps so = record {
 
 -- 3. Before the first round.
 
-pub opens : (S : Bytes → Out → Type 0) (caller : Caller) (stripes : ℕ) (keys : List Bytes) (seats : List Seated) (ps : List Progress) → ((i : ℕ) → list_all (is_before_call caller.session caller.call) (view_at seats i).own ≡ true) → ps ≡ all_waiting (length (invoke_ops keys))
+pub opens : (S : Bytes → Option Bytes → Out → Type 0) (caller : Caller) (stripes : ℕ) (keys : List Bytes) (seats : List Seated) (ps : List Progress) → ((i : ℕ) → list_all (is_before_call caller.session caller.call) (view_at seats i).own ≡ true) → ps ≡ all_waiting (length (invoke_ops keys))
     → IsSoFar S caller stripes keys seats seats ps
 opens S caller stripes keys seats ps before is = record {
   grown = λ i. grown_itself (view_at seats i);

@@ -7,7 +7,7 @@
 --     op_at            the operation is always the same
 --     all_committed    no key is reserved any more
 --     none_left        a key that is reserved has a run
-use Rattle.std.proofs.Common.{◌≡◌, ◌==◌, ⊎_elim, inl, inr, ◌<◌, ◌≤◌, ◌-◌, ℕ, zero, suc, List, [], ◌∷◌, ◌++◌, length, set, map, Bool, true, false, Some, Result, Ok, Err, IfOk, IfErr, option_map, nat_lt, if◌then◌else◌, slice_get, refl, sym, ap, subst, ◌∙◌, arith}
+use Rattle.std.proofs.Common.{◌≡◌, ◌==◌, ⊎_elim, inl, inr, ◌<◌, ◌≤◌, ◌-◌, ℕ, zero, suc, List, [], ◌∷◌, ◌++◌, length, set, map, Bool, true, false, Option, Some, Result, Ok, Err, IfOk, IfErr, option_map, nat_lt, if◌then◌else◌, slice_get, refl, sym, ap, subst, ◌∙◌, arith}
 use Rattle.std.proofs.lemmas.List.{map-append}
 use Rattle.std.proofs.lemmas.Option.{same_Some}
 use Rattle.std.specs.List.{IsDistinct}
@@ -24,7 +24,7 @@ use Rattle.jc_model.specs.declared.event.Op.TheVariants.{Invoke}
 use Rattle.jc_model.specs.declared.event.Out.{Out}
 use Rattle.jc_model.specs.declared.event.Reply.{Reply}
 use Rattle.jc_stripe.specs.Refusals.{last_number}
-use Rattle.jc_stripe.specs.Tickets.{TicketClaim, asks_processor}
+use Rattle.jc_stripe.specs.Tickets.{TicketClaim, asks_processor, entry_seen}
 use Rattle.jc_stripe.specs.declared.begun.Begun.TheVariants.{Refused}
 use Rattle.jc_stripe.specs.declared.ticket.Reservation.{Reservation}
 use Rattle.jc_lock.specs.declared.view.View.{View}
@@ -94,12 +94,12 @@ abbrev pub HasStarted : Caller → Config → View → View → Bytes → Result
 HasStarted caller config v w key (Ok ticket) = IsTicketFor caller config key Invoke ticket.reservation
 HasStarted caller config v w key (Err refusal) = HasBegun caller config v w key Invoke (Refused refusal)
 
-refused_at : (S : Bytes → Out → Type 0) (caller : Caller) (config : Config) (v w : View) (key : Bytes) (refusal : Refusal) (b : Bool) → is_put_off refusal ≡ b → HasBegun caller config v w key Invoke (Refused refusal)
+refused_at : (S : Bytes → Option Bytes → Out → Type 0) (caller : Caller) (config : Config) (v w : View) (key : Bytes) (refusal : Refusal) (b : Bool) → is_put_off refusal ≡ b → HasBegun caller config v w key Invoke (Refused refusal)
     → IsAt S caller v w key (if b then Waiting else Ended (Err refusal))
 refused_at S caller config v w key refusal true is has = has.0
 refused_at S caller config v w key refusal false is has = (has.0, ⊎_elim (λ put_off. absurd (let bad : true ≡ false = sym put_off ∙ is in cc)) (λ full. inr (full, has.3)) has.1)
 
-kept_at : (S : Bytes → Out → Type 0) (caller : Caller) (config : Config) (v w : View) (key : Bytes) (x : Result TicketClaim Refusal) (p : Progress) (ts ts' : List TicketClaim) → steps_of caller key w.own ≡ [] → HasStarted caller config v w key x → IsKept x p ts ts'
+kept_at : (S : Bytes → Option Bytes → Out → Type 0) (caller : Caller) (config : Config) (v w : View) (key : Bytes) (x : Result TicketClaim Refusal) (p : Progress) (ts ts' : List TicketClaim) → steps_of caller key w.own ≡ [] → HasStarted caller config v w key x → IsKept x p ts ts'
     → IsAt S caller v w key p
 kept_at S caller config v w key (Ok ticket) p ts ts' none has kept = subst (IsAt S caller v w key) (sym kept.0) none
 kept_at S caller config v w key (Err refusal) p ts ts' none has kept = subst (IsAt S caller v w key) (sym kept.0) (refused_at S caller config v w key refusal (is_put_off refusal) refl has)
@@ -133,7 +133,7 @@ module _ (caller : Caller) (config : Config) (keys : List Bytes) (ps : List Prog
       (keep_in is_reserved (IsTicketFor caller config) (invoke_ops keys) ps (map reserved_by ts) place Waiting p waits (sym (ap is_reserved kept.0 ∙ refused_not refusal (is_put_off refusal))) are)
 
 module _ {I J : Type 0} {D : I → Type 0} {E : J → Type 0} where
-  pub started_on : (S : Bytes → Out → Type 0) (cache : CacheState) (caller : Caller) (keys : List Bytes) (first : List Seated) (old new : Session I J D E) (ps : List Progress) (ts ts' : List TicketClaim)
+  pub started_on : (S : Bytes → Option Bytes → Out → Type 0) (cache : CacheState) (caller : Caller) (keys : List Bytes) (first : List Seated) (old new : Session I J D E) (ps : List Progress) (ts ts' : List TicketClaim)
       (place : ℕ) (key : Bytes) (x : Result TicketClaim Refusal) (p : Progress) → IsDistinct (pointwise ◌==◌) (keys_of (invoke_ops keys)) → slice_get (invoke_ops keys) place ≡ Some (key, Invoke) → place < length ps → slice_get ps place ≡ Some Waiting
       → AreSettledFrom place ps → IsOf cache new → new.agent ≡ record old.agent { counts = counts_after old.agent.counts (counted_start x) } → Moves old.agent.caller cache.config.stripes key old.seats.items new.seats.items
       → steps_of old.agent.caller key (view_of cache.config.stripes new.seats.items key).own ≡ []
@@ -159,7 +159,7 @@ module _ {I J : Type 0} {D : I → Type 0} {E : J → Type 0} where
 
   -- 2. Commits.
 
-  pub first_ticket : (S : Bytes → Out → Type 0) (cache : CacheState) (caller : Caller) (keys : List Bytes) (first : List Seated) (session : Session I J D E) (ps : List Progress) (r : Reservation) (rest : List Reservation)
+  pub first_ticket : (S : Bytes → Option Bytes → Out → Type 0) (cache : CacheState) (caller : Caller) (keys : List Bytes) (first : List Seated) (session : Session I J D E) (ps : List Progress) (r : Reservation) (rest : List Reservation)
       (place : ℕ) (p : Progress) → slice_get ps place ≡ Some Reserved → AreUnder is_reserved place ps → is_reserved p ≡ false → IsUnderway S cache caller keys first session ps (r ∷ rest)
       → (op : Op) × (slice_get (invoke_ops keys) place ≡ Some (r.key, op)) × IsTicketFor caller cache.config r.key op r × AreIn is_reserved (IsTicketFor caller cache.config) (invoke_ops keys) (set ps place p) rest
       × (steps_of caller r.key (view_of cache.config.stripes session.seats.items r.key).own ≡ [])
@@ -177,8 +177,8 @@ module _ {I J : Type 0} {D : I → Type 0} {E : J → Type 0} where
         u.so_far.each place r.key popped.1 Reserved at there,
       )
 
-  pub committed_on : (S : Bytes → Out → Type 0) (cache : CacheState) (caller : Caller) (keys : List Bytes) (first : List Seated) (old new : Session I J D E) (ps : List Progress) (r : Reservation) (out : Out) (rest : List Reservation)
-      (place : ℕ) (reply : Reply) → IsDistinct (pointwise ◌==◌) (keys_of (invoke_ops keys)) → slice_get ps place ≡ Some Reserved → AreUnder is_reserved place ps → S r.key out
+  pub committed_on : (S : Bytes → Option Bytes → Out → Type 0) (cache : CacheState) (caller : Caller) (keys : List Bytes) (first : List Seated) (old new : Session I J D E) (ps : List Progress) (r : Reservation) (out : Out) (rest : List Reservation)
+      (place : ℕ) (reply : Reply) → IsDistinct (pointwise ◌==◌) (keys_of (invoke_ops keys)) → slice_get ps place ≡ Some Reserved → AreUnder is_reserved place ps → S r.key (entry_seen r.first) out
       → IsOf cache new → new.agent ≡ record old.agent { counts = counts_after old.agent.counts Committed } → Moves old.agent.caller cache.config.stripes r.key old.seats.items new.seats.items
       → IsCommitted old.agent.caller r out (view_of cache.config.stripes old.seats.items r.key) (view_of cache.config.stripes new.seats.items r.key) reply
       → IsUnderway S cache caller keys first old ps (r ∷ rest) → IsUnderway S cache caller keys first new (set ps place (Ended (Ok reply))) rest
@@ -194,7 +194,12 @@ module _ {I J : Type 0} {D : I → Type 0} {E : J → Type 0} where
       let at : IsAt S caller v w r.key (Ended (Ok reply)) = record {
         out = out;
         place = made'.place;
-        said = said;
+        decided = made'.decided;
+        reached = made'.reached;
+        later = made'.later;
+        same = made'.same;
+        next = made'.next;
+        said = subst (λ (e : Option Bytes). S r.key e out) (sym (ap entry_seen made'.asks)) said;
         one = made'.one;
         legal = made'.legal;
         there = made'.there;
@@ -212,7 +217,7 @@ module _ {I J : Type 0} {D : I → Type 0} {E : J → Type 0} where
 
   -- 3. Others are asked.
 
-  pub asked_on : (S T : Bytes → Out → Type 0) → ((key : Bytes) (out : Out) → S key out → T key out) → (cache : CacheState) (caller : Caller) (keys : List Bytes) (first : List Seated) (old new : Session I J D E) (ps : List Progress) (calls : List Reservation)
+  pub asked_on : (S T : Bytes → Option Bytes → Out → Type 0) → ((key : Bytes) (entry : Option Bytes) (out : Out) → S key entry out → T key entry out) → (cache : CacheState) (caller : Caller) (keys : List Bytes) (first : List Seated) (old new : Session I J D E) (ps : List Progress) (calls : List Reservation)
       → IsOf cache new → new ≡ record old { agent = record old.agent { hands = new.agent.hands } } → IsUnderway S cache caller keys first old ps calls → IsUnderway T cache caller keys first new ps calls
   asked_on S T more cache caller keys first old new ps calls own rest u = record {
     own = own;
@@ -226,14 +231,14 @@ module _ {I J : Type 0} {D : I → Type 0} {E : J → Type 0} where
 
   -- 4. The ends of the loops.
 
-  pub all_committed : (S : Bytes → Out → Type 0) (cache : CacheState) (caller : Caller) (keys : List Bytes) (first : List Seated) (session : Session I J D E) (ps : List Progress) (runs : List RunState)
+  pub all_committed : (S : Bytes → Option Bytes → Out → Type 0) (cache : CacheState) (caller : Caller) (keys : List Bytes) (first : List Seated) (session : Session I J D E) (ps : List Progress) (runs : List RunState)
       (end : ℕ) → length ps ≤ end → AreUnder is_reserved end ps → IsUnderway S cache caller keys first session ps (reservations_of runs)
       → (runs ≡ []) × IsUnderway S cache caller keys first session ps []
   all_committed S cache caller keys first session ps runs end past under u =
       let none : reservations_of runs ≡ [] = nothing_out is_reserved (IsTicketFor caller cache.config) (invoke_ops keys) ps (reservations_of runs) (none_at_all is_reserved ps end past under) u.calls_are in
       (none_by runs none, subst (IsUnderway S cache caller keys first session ps) none u)
 
-  pub none_left : (S : Bytes → Out → Type 0) (cache : CacheState) (caller : Caller) (keys : List Bytes) (first : List Seated) (session : Session I J D E) (ps : List Progress) (runs : List RunState)
+  pub none_left : (S : Bytes → Option Bytes → Out → Type 0) (cache : CacheState) (caller : Caller) (keys : List Bytes) (first : List Seated) (session : Session I J D E) (ps : List Progress) (runs : List RunState)
       (place : ℕ) → runs ≡ [] → slice_get ps place ≡ Some Reserved → IsUnderway S cache caller keys first session ps (reservations_of runs) → ⊥
   none_left S cache caller keys first session ps runs place none at u =
       let are : AreIn is_reserved (IsTicketFor caller cache.config) (invoke_ops keys) ps [] = subst (AreIn is_reserved (IsTicketFor caller cache.config) (invoke_ops keys) ps) (ap reservations_of none) u.calls_are in
@@ -271,7 +276,7 @@ map_there (p ∷ ps) (suc i) e at = map_there ps i e at
 pub refused_stay : (ps : List Progress) → StayEnded ps (map refused_if_waiting ps)
 refused_stay ps = record { many = many refused_if_waiting ps; ended = λ place e at. map_there ps place e at }
 
-at_refused : (S : Bytes → Out → Type 0) (caller : Caller) (u w : View) (key : Bytes) (p : Progress) → IsAt S caller u w key p → IsAt S caller u w key (refused_if_waiting p)
+at_refused : (S : Bytes → Option Bytes → Out → Type 0) (caller : Caller) (u w : View) (key : Bytes) (p : Progress) → IsAt S caller u w key p → IsAt S caller u w key (refused_if_waiting p)
 at_refused S caller u w key Waiting at = (at, inl refl)
 at_refused S caller u w key Reserved at = at
 at_refused S caller u w key Joined at = at
@@ -283,7 +288,7 @@ refused_free Reserved is = is
 refused_free Joined is = refl
 refused_free (Ended ended) is = refl
 
-settled_by : (S : Bytes → Out → Type 0) (caller : Caller) (u w : View) (key : Bytes) (p : Progress) → is_reserved p ≡ false → IsAt S caller u w key p → is_settled p ≡ true
+settled_by : (S : Bytes → Option Bytes → Out → Type 0) (caller : Caller) (u w : View) (key : Bytes) (p : Progress) → is_reserved p ≡ false → IsAt S caller u w key p → is_settled p ≡ true
 settled_by S caller u w key Waiting free at = refl
 settled_by S caller u w key Reserved free at = cc
 settled_by S caller u w key Joined free at = absurd at
@@ -291,12 +296,12 @@ settled_by S caller u w key (Ended ended) free at = refl
 
 module _ {I J : Type 0} {D : I → Type 0} {E : J → Type 0} where
   -- nothing is out
-  pub settled_all : (S : Bytes → Out → Type 0) (cache : CacheState) (caller : Caller) (keys : List Bytes) (first : List Seated) (session : Session I J D E) (ps : List Progress) → IsUnderway S cache caller keys first session ps [] → AreSettledFrom 0 ps
+  pub settled_all : (S : Bytes → Option Bytes → Out → Type 0) (cache : CacheState) (caller : Caller) (keys : List Bytes) (first : List Seated) (session : Session I J D E) (ps : List Progress) → IsUnderway S cache caller keys first session ps [] → AreSettledFrom 0 ps
   settled_all S cache caller keys first session ps u place p from at =
       let t = target_of (invoke_ops keys) ps place p u.so_far.many at in
       settled_by S caller (view_of cache.config.stripes first t.0.0) (view_of cache.config.stripes session.seats.items t.0.0) t.0.0 p (none_in is_reserved (IsTicketFor caller cache.config) (invoke_ops keys) ps u.so_far.many u.calls_are place p at) (u.so_far.each place t.0.0 t.0.1 p t.1 at)
 
-  pub refused_on : (S : Bytes → Out → Type 0) (cache : CacheState) (caller : Caller) (keys : List Bytes) (first : List Seated) (session : Session I J D E) (ps : List Progress)
+  pub refused_on : (S : Bytes → Option Bytes → Out → Type 0) (cache : CacheState) (caller : Caller) (keys : List Bytes) (first : List Seated) (session : Session I J D E) (ps : List Progress)
       → IsUnderway S cache caller keys first session ps [] → IsUnderway S cache caller keys first session (map refused_if_waiting ps) []
   refused_on S cache caller keys first session ps u =
       let n = cache.config.stripes in
@@ -320,7 +325,7 @@ module _ {I J : Type 0} {D : I → Type 0} {E : J → Type 0} where
             (λ i r there. let from = map_from ps i r there in ap is_reserved from.2 ∙ refused_free from.0 (none_in is_reserved (IsTicketFor caller cache.config) (invoke_ops keys) ps u.so_far.many u.calls_are i from.0 from.1));
       }
 
-  pub paused_on : (S : Bytes → Out → Type 0) (cache : CacheState) (caller : Caller) (keys : List Bytes) (first : List Seated) (old new : Session I J D E) (ps : List Progress)
+  pub paused_on : (S : Bytes → Option Bytes → Out → Type 0) (cache : CacheState) (caller : Caller) (keys : List Bytes) (first : List Seated) (old new : Session I J D E) (ps : List Progress)
       → IsOf cache new → new.seats.items ≡ old.seats.items → new.agent ≡ old.agent → IsUnderway S cache caller keys first old ps [] → IsUnderway S cache caller keys first new ps []
   paused_on S cache caller keys first old new ps own seats agent u = record {
     own = own;

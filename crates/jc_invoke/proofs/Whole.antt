@@ -59,7 +59,7 @@ is_over Joined late free alone = absurd (alone refl)
 is_over (Ended ended) late free alone = (ended, refl)
 
 module _ {I J : Type 0} {D : I → Type 0} {E : J → Type 0} where
-  pub opens_call : (S : Bytes → Out → Type 0) (cache : CacheState) (session : Session I J D E) (keys : List Bytes) (ps : List Progress) → MayCall cache session → ps ≡ all_waiting (length (invoke_ops keys))
+  pub opens_call : (S : Bytes → Option Bytes → Out → Type 0) (cache : CacheState) (session : Session I J D E) (keys : List Bytes) (ps : List Progress) → MayCall cache session → ps ≡ all_waiting (length (invoke_ops keys))
       → IsUnderway S cache (next_call session).agent.caller keys session.seats.items (next_call session) ps []
   opens_call S cache session keys ps may is = record {
     own = record { locks = may.own.locks; count = may.own.count; seats = may.own.seats; held = may.own.held; loads = may.own.loads; writes = may.own.writes; own = may.own.own };
@@ -71,7 +71,7 @@ module _ {I J : Type 0} {D : I → Type 0} {E : J → Type 0} where
     calls_are = none_are is_reserved (IsTicketFor (next_call session).agent.caller cache.config) (invoke_ops keys) ps (none_such (length (invoke_ops keys)) ps is);
   }
 
-  pub may_again : (S : Bytes → Out → Type 0) (cache : CacheState) (caller : Caller) (keys : List Bytes) (first : List Seated) (session : Session I J D E) (ps : List Progress) → IsUnderway S cache caller keys first session ps [] → MayCall cache session
+  pub may_again : (S : Bytes → Option Bytes → Out → Type 0) (cache : CacheState) (caller : Caller) (keys : List Bytes) (first : List Seated) (session : Session I J D E) (ps : List Progress) → IsUnderway S cache caller keys first session ps [] → MayCall cache session
   may_again S cache caller keys first session ps u = record {
     own = u.own;
     reservations = u.reservations;
@@ -82,13 +82,14 @@ module _ {I J : Type 0} {D : I → Type 0} {E : J → Type 0} where
 
 -- 2. Rounds.
 
-pub said_more : (through : Bool) (rounds more : List InvokeRound) (key : Bytes) (out : Out) → IsRunOf through rounds key out → IsRunOf through (rounds ++ more) key out
-said_more through rounds more key out is = record {
+pub said_more : (through : Bool) (rounds more : List InvokeRound) (key : Bytes) (entry : Option Bytes) (out : Out) → IsRunOf through rounds key entry out → IsRunOf through (rounds ++ more) key entry out
+said_more through rounds more key entry out is = record {
   round = is.round;
   run = is.run;
   among_rounds = among_more rounds more is.round is.among_rounds;
   among_runs = is.among_runs;
   key_is = is.key_is;
+  entry_is = is.entry_is;
   out_is = is.out_is;
 }
 

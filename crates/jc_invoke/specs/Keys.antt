@@ -1,7 +1,8 @@
--- A call of many keys, each with a processor, at its keys. `Said` says which outside answers a step at a key may have.
+-- A call of many keys, each with a processor, at its keys. `Said` says which outside answers a step at a key may have that was made on an
+-- entry.
 --     invoke_ops      the keys of the call, with their operation
 --     HasStep         of the call's steps at this key there is exactly one, an `Invoke` with such outside answers and this reply; it is in
---                     the front, which is legal, behind the former front
+--                     the front, which is legal, behind the former front; the answers are about the entry in the state in which it was made
 --     HasEnded        the key's end: the call has made its one step there; or it was refused, and has none
 --     IsAt            the key is so far: it has no step of the call yet, or has ended; it never joins a load
 --     IsSoFar         what the session has seen since before the call: each key is so far, at its stripe; no other key has a step of the
@@ -9,23 +10,28 @@
 --     IsUnderway      the session's current call, which has these reservations out
 --     HasRun          in these rounds of a call that has none out only its keys were run, none of them twice, each was shown what is due,
 --                     and each that was run is over
-use Rattle.std.specs.Prelude.{◌≡◌, ◌≤◌, ◌⊎◌, ℕ, List, [], ◌∷◌, length, map, true, false, None, Some, Result, Ok, Err, All, slice_get}
+use mathlib.Core.List.{IsPrefix}
+use Rattle.std.specs.Prelude.{◌≡◌, ◌≤◌, ◌⊎◌, ℕ, List, [], ◌∷◌, length, map, true, false, Option, None, Some, Result, Ok, Err, All, slice_get}
 use Rattle.atomic_table.specs.Seated.{TableId}
 use Rattle.jc_types.specs.declared.caller.Caller.{Caller}
 use Rattle.jc_types.specs.declared.config.Config.{Config}
 use Rattle.jc_types.specs.declared.refusal.Refusal.{Refusal}
 use Rattle.jc_types.specs.declared.refusal.Refusal.TheVariants.{HistoryFull, OutOfMemory}
 use Rattle.jc_model.specs.Batches.{is_among}
-use Rattle.jc_model.specs.Cache.{Bytes}
+use Rattle.jc_model.specs.Cache.{Bytes, entry_at}
 use Rattle.jc_model.specs.Legal.{Legal}
 use Rattle.jc_model.specs.declared.event.Event.TheVariants.{Step}
 use Rattle.jc_model.specs.declared.event.Op.{Op}
 use Rattle.jc_model.specs.declared.event.Op.TheVariants.{Invoke}
 use Rattle.jc_model.specs.declared.event.Out.{Out}
 use Rattle.jc_model.specs.declared.event.Reply.{Reply}
+use Rattle.jc_stripe.specs.State.{State}
+use Rattle.jc_stripe.specs.Laws.{IsSameStripe}
+use Rattle.jc_stripe.specs.Reached.{IsReached}
 use Rattle.jc_stripe.specs.declared.ticket.Reservation.{Reservation}
 use Rattle.jc_lock.specs.declared.view.View.{View}
 use Rattle.jc_cache.specs.Caches.{CacheState}
+use Rattle.jc_cache.specs.Fronts.{IsNext}
 use Rattle.jc_cache.specs.Sessions.{IsOf}
 use Rattle.jc_cache.specs.declared.session.Session.{Session}
 use Rattle.jc_bulk.specs.declared.progress.Progress.{Progress}
@@ -42,11 +48,16 @@ invoke_ops keys = map (λ (key : Bytes). (key, Invoke)) keys
 
 -- 1. One key. `before` is the view from before the call.
 
-module _ (Said : Bytes → Out → Type 0) (caller : Caller) (before after : View) (key : Bytes) where
+module _ (Said : Bytes → Option Bytes → Out → Type 0) (caller : Caller) (before after : View) (key : Bytes) where
   pub record HasStep (reply : Reply) : Type 0 where
     pub out : Out
     pub place : ℕ
-    pub said : Said key out
+    pub decided : State
+    pub reached : IsReached decided
+    pub later : IsPrefix decided.history after.front
+    pub same : IsSameStripe decided after.noted
+    pub next : IsNext decided key place after.front
+    pub said : Said key (entry_at decided.cache key) out
     pub one : steps_of caller key after.own ≡ Step caller Invoke key out None reply ∷ []
     pub legal : Legal after.noted.config after.noted.opening after.front
     pub there : slice_get after.front place ≡ Some (Step caller Invoke key out None reply)
@@ -65,7 +76,7 @@ module _ (Said : Bytes → Out → Type 0) (caller : Caller) (before after : Vie
 
 -- 2. All keys. `old` are the session's seats before the call, `stripes` is how many stripes there are.
 
-pub record IsSoFar (Said : Bytes → Out → Type 0) (caller : Caller) (stripes : ℕ) (keys : List Bytes) (old new : List (TableId × View)) (progress : List Progress) : Type 0 where
+pub record IsSoFar (Said : Bytes → Option Bytes → Out → Type 0) (caller : Caller) (stripes : ℕ) (keys : List Bytes) (old new : List (TableId × View)) (progress : List Progress) : Type 0 where
   pub grown : (i : ℕ) → HasGrown (view_at old i) (view_at new i)
   pub numbers : AreBefore caller new
   pub former : (i : ℕ) → former_steps caller (view_at new i).own ≡ former_steps caller (view_at old i).own
@@ -76,7 +87,7 @@ pub record IsSoFar (Said : Bytes → Out → Type 0) (caller : Caller) (stripes 
 
 pub record IsUnderway
     {I J : Type 0} {D : I → Type 0} {E : J → Type 0}
-    (Said : Bytes → Out → Type 0) (cache : CacheState) (caller : Caller) (keys : List Bytes) (old : List (TableId × View))
+    (Said : Bytes → Option Bytes → Out → Type 0) (cache : CacheState) (caller : Caller) (keys : List Bytes) (old : List (TableId × View))
     (session : Session I J D E) (progress : List Progress) (calls : List Reservation) : Type 0 where
   pub own : IsOf cache session
   pub caller_is : session.agent.caller ≡ caller

@@ -126,4 +126,4 @@ pub record AreReported (through : Bool) (rounds : List InvokeRound) (runs : List
   pub removed : Bytes → WriteAnswer
   pub written_are : written ≡ reports through false wrote runs
   pub deleted_are : deleted ≡ reports through true removed runs
-  pub each : AllByRecursion (λ (r : RunState). IsRunOf through rounds r.reservation.key (processed_out through wrote removed r)) runs
+  pub each : AllByRecursion (λ (r : RunState). IsRunOf through rounds r.reservation.key (entry_seen r.reservation.first) (processed_out through wrote removed r)) runs

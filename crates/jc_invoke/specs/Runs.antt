@@ -11,7 +11,7 @@
 --     WritesBatch     the writer was called once for exactly these changes, if there are any, and else it wasn't
 --     CallsRound      the calls outside of one round: the runs, then the batch of writes, then that of deletes
 --     CallsEach       those of all rounds, in their order
---     IsRunOf         a step's outside answers are those of a run on its key in some round
+--     IsRunOf         a step's outside answers are those of a run on its key in some round, which was shown this entry
 --     all_runs        the runs of all rounds
 --     keys_run        their keys
 --     RunsEachOnce    in all rounds together only keys of the call are run, and none of them twice
@@ -109,12 +109,13 @@ module _ {P L W : Type 0} (processes : ProcessRelation P) (process_state : P →
 
 -- 3. What a step was told.
 
-pub record IsRunOf (through : Bool) (rounds : List InvokeRound) (key : Bytes) (out : Out) : Type 0 where
+pub record IsRunOf (through : Bool) (rounds : List InvokeRound) (key : Bytes) (entry : Option Bytes) (out : Out) : Type 0 where
   pub round : InvokeRound
   pub run : KeyRun
   pub among_rounds : IsAmong rounds round
   pub among_runs : IsAmong round.runs run
   pub key_is : run.key ≡ key
+  pub entry_is : run.entry ≡ entry
   pub out_is : out ≡ run_out through round run
 
 -- 4. Which keys are run, and what each run is shown.

@@ -9,6 +9,7 @@ ghost use Rattle.jc_outside.specs.Calling.{KeepsType};
 ghost use Rattle.jc_outside.specs.declared.done.Origin.TheVariants.{Live};
 ghost use Rattle.jc_stripe.specs.Effects.{HasReport, report_answer};
 ghost use Rattle.jc_stripe.specs.Refusals.{last_number};
+ghost use Rattle.jc_stripe.specs.Tickets.{entry_seen};
 ghost use Rattle.jc_stripe.specs.declared.ticket.Reservation.{Reservation};
 ghost use Rattle.jc_lock.specs.declared.view.View.{View};
 ghost use Rattle.jc_session.specs.Boxed.{boxed};
@@ -272,7 +273,7 @@ fn next_report(
     ensures report { HasReport Live run.now.reservation (change_of through (key_run run.now)) result }
     ensures reported { (rounds : List InvokeRound) (rest : List RunState)
         → AreReported through rounds (run.now ∷ rest) (reverse written.old.items) (reverse deleted.old.items)
-        → IsRunOf through rounds run.now.reservation.key
+        → IsRunOf through rounds run.now.reservation.key (entry_seen run.now.reservation.first)
         (record { load = run.now.load; write = report_answer result; process = run.now.process })
         × AreReported through rounds rest (reverse written.new.items) (reverse deleted.new.items) }
 {
@@ -311,7 +312,7 @@ fn commit_next<R: Wait>(
     ensures progress { (reply : ReplyState) × (progress.new ≡ slice_set progress.old place (Ended (Ok reply))) }
     ensures agent { session.new.agent ≡ record session.old.agent { counts = session.new.agent.counts } }
     ensures underway { (caller : Caller) (rounds : List InvokeRound) (first : List (TableId × View)) (rest : List Reservation)
-        → IsRunOf cache.now.config.write_through rounds run.reservation.key
+        → IsRunOf cache.now.config.write_through rounds run.reservation.key (entry_seen run.reservation.first)
         (record { load = run.load; write = report_answer report; process = run.process })
         → IsUnderway (IsRunOf cache.now.config.write_through rounds) cache.now caller keys.now first
         session.old progress.old (run.reservation ∷ rest)

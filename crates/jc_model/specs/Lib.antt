@@ -7,4 +7,5 @@ pub mod Group
 pub mod Lawful
 pub mod Legal
 pub mod Listed
+pub mod Apart
 pub mod Reader

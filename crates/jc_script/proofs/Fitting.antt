@@ -1,5 +1,5 @@
 -- The events of a line about a call under way fit, if it is the time for it.
-use Rattle.std.proofs.Common.{◌≡◌, ◌==◌, ◌∙◌, ◌&&◌, ◌||◌, ◌++◌, ◌+◌, ◌<◌, ℕ, Bool, true, false, not, List, [], ◌∷◌, Option, None, Some, find, is_none, is_some, length, filter, get_or, map, option_to_list, take, cond, refl, sym, ap, subst, append-nil, arith, zero, suc}
+use Rattle.std.proofs.Common.{◌≡◌, ◌==◌, ◌∙◌, ◌&&◌, ◌||◌, ◌++◌, ◌+◌, ◌<◌, ℕ, Bool, true, false, not, List, [], ◌∷◌, Option, None, Some, find, is_none, is_some, length, filter, get_or, map, option_to_list, take, cond, refl, sym, ap, subst, append-nil, arith, zero, suc, inl, inr}
 use Rattle.std.specs.List.{AllByRecursion, IsDistinct, list_all, list_any}
 use Rattle.std.specs.Cmp.Lexicographic.{pointwise}
 use Rattle.std.proofs.lemmas.Bool.{and_from, and_parts, and_right}
@@ -17,7 +17,9 @@ use Rattle.jc_world.specs.Calls.{CallState, op_at, open_keys}
 use Rattle.jc_world.specs.declared.event.WorldEvent.TheVariants as event
 use Rattle.jc_world.specs.World.{WorldState, is_joined, open_call, part_of}
 use Rattle.jc_world.specs.Fits.{fits, is_asked, is_free, may_change, may_report, may_start}
-use Rattle.jc_world.specs.Events.{AllFit}
+use Rattle.jc_world.specs.Events.{AllFit, is_fit}
+use Rattle.jc_world.specs.declared.event.Shown.{Shown}
+use Rattle.jc_types.specs.declared.config.Config.{Config}
 use Rattle.jc_world.specs.Together.{at_call, key_at, looks, AreAt, is_start, is_change, FitTogether}
 use Rattle.jc_script.specs.declared.line.Act.{Act}
 use Rattle.jc_script.specs.declared.line.Act.TheVariants.{Read, ReadFail, Say, Apply, ApplyFail, ApplyLie, End, Drop, More, Take, Process}
@@ -232,3 +234,11 @@ act_fits w together call Drop u keys here is differ time =
 act_fits w together call More u keys here is differ time = alone_fit w together call More (λ key. refl) keys differ (and_parts _ _ time).1
 act_fits w together call Take u keys here is differ time = alone_fit w together call Take (λ key. refl) keys differ (all_of_kept _ (event_at call Take) (fits w) (λ key h. h) keys)
 act_fits w together call (Process source calls fail) u keys here is differ time = alone_fit w together call (Process source calls fail) (λ key. refl) keys differ (all_of_kept _ (event_at call (Process source calls fail)) (fits w) (λ key h. h) keys)
+
+-- ---- a reopening
+
+pub reopening_fits : (w : WorldState) (config : Config) → fits w (event.Reopen config) ≡ true → AllFit w (event.Reopen config ∷ [])
+reopening_fits w config fit [] new run = absurd run
+reopening_fits w config fit (s ∷ []) new (at, inl (fit_now, happens), run) = ap (λ (s : Shown). is_fit s.outcome && true) happens.0
+reopening_fits w config fit (s ∷ []) new (at, inr (unfit, shows, is), run) = let t : true ≡ false = sym fit ∙ unfit in cc
+reopening_fits w config fit (s ∷ t ∷ more) new (at, step, run) = absurd run

@@ -1,10 +1,10 @@
 -- A line without a fault leads from a world that is reached to one that is, and so do the lines of a transcript.
 --     run_on          a run, and one after it, are one
 --     texts_on        what is printed of both is printed of the one after the other
---     is_mark         a call's begin, or a foreign write: no world is fresh after one that fits
+--     is_mark         a call's begin, a foreign write, or a reopening: no world is fresh after one that fits
 --     happens_fresh, run_fresh     what isn't fresh never is again
 --     IsIdle          no call is under way, and none has reserved or joined anything
---     idle_unfit      then nothing fits but these two
+--     idle_unfit      then nothing fits but these three
 --     set_stays       so a value that is put into the store of a fresh world is there from its opening on
 --     reaches_start, reaches_on, reaches_set     what is reached: an opening; what events lead to; with a value in its store
 --     no_event, some_events     a line that makes no event leads on, and so does one that makes some
@@ -46,13 +46,13 @@ use Rattle.jc_script.specs.declared.fault.Fault.TheVariants.{SetTooLate}
 use Rattle.jc_script.specs.declared.line.Act.{Act}
 use Rattle.jc_script.specs.LineEvents.{events_of_act, keys_of_act, load_code, single, start_events}
 use Rattle.jc_script.specs.declared.line.Line.{Line}
-use Rattle.jc_script.specs.declared.line.Line.TheVariants.{Open, Set, Begin, BeginBulk, OfCall, Foreign, Audit}
+use Rattle.jc_script.specs.declared.line.Line.TheVariants.{Open, Set, Begin, BeginBulk, OfCall, Foreign, Reopen, Audit}
 use Rattle.jc_script.specs.Faults.{config_fault, state_fault}
 use Rattle.jc_script.specs.Lines.{read_line}
 use Rattle.jc_script.specs.Printing.{event_text, fails_text, texts}
-use Rattle.jc_script.specs.ReachedWorlds.{EndsAt, IsReachedBy, LeadsOn, LeadsToEnd}
+use Rattle.jc_script.specs.ReachedWorlds.{EndsAt, IsBeside, IsReachedBy, LeadsOn, LeadsToEnd}
 use Rattle.jc_script.specs.declared.run.RunEnd.{RunEnd}
-use Rattle.jc_script.specs.Transcript.{OpenedWorld, Plays, PlaysAct, PlaysBegin, PlaysForeign, PlaysRead, Prints, Transcript}
+use Rattle.jc_script.specs.Transcript.{OpenedWorld, Plays, PlaysAct, PlaysBegin, PlaysOne, PlaysRead, Prints, Transcript}
 
 -- 1. Runs one after another.
 
@@ -109,10 +109,11 @@ reports_fresh w call answer [] = refl
 reports_fresh w call answer (key ∷ keys) =
     reports_fresh (reported_at w key (answer key) (part_of w call key)) call answer keys ∙ reported_fresh w key (answer key) (part_of w call key)
 
--- a call's begin, and a foreign write: no world is fresh after them
+-- a call's begin, a foreign write and a reopening: no world is fresh after them
 abbrev is_mark : WorldEvent → Bool
 is_mark (event.Call call session command) = true
 is_mark (event.Foreign key value) = true
+is_mark (event.Reopen config) = true
 is_mark e = false
 
 happens_fresh : (w new : WorldState) (e : WorldEvent) (seen : Shown) → Happens w e seen new → fresh w ≡ false → fresh new ≡ false
@@ -130,6 +131,7 @@ happens_fresh w new (event.Withdraw call key) seen h stale = ap fresh h.7 ∙ st
 happens_fresh w new (event.Leave call) seen h stale = ap fresh h.1 ∙ stale
 happens_fresh w new (event.PickUp call key) seen h stale = picks_fresh w new call key h.0 h.2 h.4 seen.outcome h.5 ∙ stale
 happens_fresh w new (event.Foreign key value) seen h stale = ap fresh h.1
+happens_fresh w new (event.Reopen config) seen h stale = ap fresh h.1
 
 run_fresh : (w new : WorldState) (es : List WorldEvent) (ss : List Shown) → Run w es ss new → fresh w ≡ false → fresh new ≡ false
 run_fresh w new [] [] run stale = ap fresh run ∙ stale
@@ -160,6 +162,7 @@ none_part w call key idle = ap (λ parts. of_call call (get parts key)) idle.par
 idle_unfit : (w : WorldState) → IsIdle w → (e : WorldEvent) → is_mark e ≡ false → fits w e ≡ false
 idle_unfit w idle (event.Call call session command) other = cc
 idle_unfit w idle (event.Foreign key value) other = cc
+idle_unfit w idle (event.Reopen config) other = cc
 idle_unfit w idle (event.Look call stripe) other = ap (may_look w.config.stripes stripe) (none_open w call idle)
 idle_unfit w idle (event.Start call key) other = ap (may_start w call key) (none_open w call idle)
 idle_unfit w idle (event.Read call key) other = ap (has_progress waits_for_load) (none_part w call key idle)
@@ -176,12 +179,14 @@ idle_unfit w idle (event.PickUp call key) other = ap (λ joins. is_some (get joi
 first_marks : (w new : WorldState) (e : WorldEvent) (seen : Shown) → IsIdle w → fits w e ≡ true → Happens w e seen new → fresh new ≡ false
 first_marks w new (event.Call call session command) seen idle fit h = ap fresh h.1
 first_marks w new (event.Foreign key value) seen idle fit h = ap fresh h.1
+first_marks w new (event.Reopen config) seen idle fit h = ap fresh h.1
 first_marks w new e seen idle fit h = absurd (true≢false (sym fit ∙ idle_unfit w idle e refl))
 
 -- and what doesn't fit doesn't, whatever the store holds
 stored_unfit : (w : WorldState) (key value : Bytes) (e : WorldEvent) → IsIdle w → fits w e ≡ false → fits (with_stored w key value) e ≡ false
 stored_unfit w key value (event.Call call session command) idle unfit = unfit
 stored_unfit w key value (event.Foreign k v) idle unfit = unfit
+stored_unfit w key value (event.Reopen config) idle unfit = unfit
 stored_unfit w key value e idle unfit = idle_unfit (with_stored w key value) (idle_stored w key value idle) e refl
 
 set_stays : (old new : WorldState) (es : List WorldEvent) (ss : List Shown) (key value : Bytes) → IsIdle old → Run old es ss new → fresh new ≡ true → Run (with_stored old key value) es ss (with_stored new key value)
@@ -228,13 +233,22 @@ none_on : (es : List WorldEvent) (ss : List Shown) (new : OpenedWorld) → IsRea
 none_on es ss new reached = subst₂ (λ xs ys. IsReachedBy xs ys new) (sym (append-nil es)) (sym (append-nil ss)) reached
 
 -- a line that makes no event
-no_event : (es : List WorldEvent) (ss : List Shown) (text : List ℕ) (new : OpenedWorld) → IsReachedBy es ss new → LeadsOn es ss text new
-no_event es ss text new reached = record { more = []; shown = []; beside = text; reached = none_on es ss new reached; fit = refl; text_is = refl }
+no_event : (es : List WorldEvent) (ss : List Shown) (text : List ℕ) (new : OpenedWorld) → IsReachedBy es ss new → IsBeside new text → LeadsOn es ss text new
+no_event es ss text new reached is_beside =
+    record { more = []; shown = []; beside = text; reached = none_on es ss new reached; fit = refl; text_is = refl; is_beside = is_beside }
+
+nothing_beside : (new : OpenedWorld) → IsBeside new []
+nothing_beside new = inl refl
+
+-- the code of a load that failed, if it did
+fault_beside : (new : OpenedWorld) (call : ℕ) (fault : Option ℕ) → IsBeside new (fails_text call fault)
+fault_beside new call None = inl refl
+fault_beside new call (Some code) = inr (inr (inr (call, code, refl)))
 
 -- one that makes some
 some_events : (es : List WorldEvent) (ss : List Shown) (w after : WorldState) (text : List ℕ) (new : OpenedWorld) (more : List WorldEvent) (shown : List Shown) (beside : List ℕ) → IsReachedBy es ss (Some w)
-    → Run w more shown after → all_fit shown ≡ true → text ≡ texts more shown ++ beside → new ≡ Some after → LeadsOn es ss text new
-some_events es ss w after text new more shown beside (config, stored, reached) next fit text_is new_is =
+    → Run w more shown after → all_fit shown ≡ true → text ≡ texts more shown ++ beside → IsBeside new beside → new ≡ Some after → LeadsOn es ss text new
+some_events es ss w after text new more shown beside (config, stored, reached) next fit text_is is_beside new_is =
     record {
       more = more;
       shown = shown;
@@ -242,6 +256,7 @@ some_events es ss w after text new more shown beside (config, stored, reached) n
       reached = subst (IsReachedBy (es ++ more) (ss ++ shown)) (sym new_is) (config, stored, reaches_on config stored es more ss shown w after reached next);
       fit = fit;
       text_is = text_is;
+      is_beside = is_beside;
     }
 
 begin_stays : (es : List WorldEvent) (ss : List Shown) (w : WorldState) (number session : ℕ) (command : Command) (text : List ℕ) (new : OpenedWorld) → IsReachedBy es ss (Some w) → PlaysBegin w number session command text new
@@ -254,19 +269,19 @@ begin_stays es ss w number session command text new reached h =
     let both : h.opening ++ h.started ≡ texts opening h.opens.seen ++ texts starting h.starts.seen = ap (λ (t : List ℕ). t ++ h.started) h.opens.text_is ∙ ap (λ (t : List ℕ). texts opening h.opens.seen ++ t) h.starts.text_is in
     let told : text ≡ texts (opening ++ starting) seen ++ [] =
     h.text_is ∙ both ∙ sym (texts_on w h.begun opening starting h.opens.seen h.starts.seen h.opens.runs) ∙ sym (append-nil (texts (opening ++ starting) seen)) in
-    some_events es ss w h.after text new (opening ++ starting) seen [] reached (run_on w h.begun h.after opening starting h.opens.seen h.starts.seen h.opens.runs h.starts.runs) fit told h.new_is
+    some_events es ss w h.after text new (opening ++ starting) seen [] reached (run_on w h.begun h.after opening starting h.opens.seen h.starts.seen h.opens.runs h.starts.runs) fit told (nothing_beside new) h.new_is
 
 act_stays : (es : List WorldEvent) (ss : List Shown) (w : WorldState) (number : ℕ) (act : Act) (u : Option CallState) (text : List ℕ) (new : OpenedWorld) → IsReachedBy es ss (Some w) → PlaysAct w number act u text new → LeadsOn es ss text new
 act_stays es ss w number act None text new reached h = absurd h
 act_stays es ss w number act (Some u) text new reached h =
     let fault = fails_text number (load_code act) in
-    some_events es ss w h.after text new (events_of_act w number act (keys_of_act w number act u)) h.plays.seen fault reached h.plays.runs h.plays.fit (h.text_is ∙ ap (λ (t : List ℕ). t ++ fault) h.plays.text_is) h.new_is
+    some_events es ss w h.after text new (events_of_act w number act (keys_of_act w number act u)) h.plays.seen fault reached h.plays.runs h.plays.fit (h.text_is ∙ ap (λ (t : List ℕ). t ++ fault) h.plays.text_is) (fault_beside new number (load_code act)) h.new_is
 
-foreign_stays : (es : List WorldEvent) (ss : List Shown) (w : WorldState) (key : Bytes) (value : Option Bytes) (text : List ℕ) (new : OpenedWorld) → IsReachedBy es ss (Some w) → PlaysForeign w key value text new → LeadsOn es ss text new
-foreign_stays es ss w key value text None reached h = absurd h
-foreign_stays es ss w key value text (Some after) reached h =
-    let made = event.Foreign key value ∷ [] in
-    some_events es ss w after text (Some after) made h.seen [] reached h.runs h.fit (h.text_is ∙ sym (append-nil (texts made h.seen))) refl
+one_stays : (es : List WorldEvent) (ss : List Shown) (w : WorldState) (e : WorldEvent) (text : List ℕ) (new : OpenedWorld) → IsReachedBy es ss (Some w) → PlaysOne w e text new → LeadsOn es ss text new
+one_stays es ss w e text None reached h = absurd h
+one_stays es ss w e text (Some after) reached h =
+    let made = e ∷ [] in
+    some_events es ss w after text (Some after) made h.seen [] reached h.runs h.fit (h.text_is ∙ sym (append-nil (texts made h.seen))) (nothing_beside (Some after)) refl
 
 fresh_if : (b : Bool) (f : Fault) → cond b None (Some f) ≡ None → b ≡ true
 fresh_if true f none = refl
@@ -275,19 +290,20 @@ fresh_if false f none = cc
 line_stays : StartsOpen → (es : List WorldEvent) (ss : List Shown) (old : OpenedWorld) (line : Line) (text : List ℕ) (new : OpenedWorld) → IsReachedBy es ss old → state_fault old line ≡ None → Plays old line text new → LeadsOn es ss text new
 line_stays starts es ss None (Open config) text new (no_events, none_seen) none (told, is) =
     let opened = subst₂ (λ xs ys. IsReachedBy xs ys (Some (start config))) (sym no_events) (sym none_seen) (config, [], reaches_start starts config none) in
-    no_event es ss text new (subst (IsReachedBy es ss) (sym is) opened)
+    no_event es ss text new (subst (IsReachedBy es ss) (sym is) opened) (inr (inl (config, is, told)))
 line_stays starts es ss (Some w) (Set key value) text new (config, stored, reached) none (told, is) =
     let is_new = fresh_if (fresh w) SetTooLate none in
-    no_event es ss text new (subst (IsReachedBy es ss) (sym is) (config, (key, value) ∷ stored, reaches_set starts config stored es ss w key value is_new reached))
+    no_event es ss text new (subst (IsReachedBy es ss) (sym is) (config, (key, value) ∷ stored, reaches_set starts config stored es ss w key value is_new reached)) (inl told)
 line_stays starts es ss (Some w) (Begin number session operation) text new reached none h = begin_stays es ss w number session (single operation) text new reached h
 line_stays starts es ss (Some w) (BeginBulk number session call) text new reached none (command, named, h) = begin_stays es ss w number session command text new reached h
 line_stays starts es ss (Some w) (OfCall number act) text new reached none h = act_stays es ss w number act (open_call w number) text new reached h
-line_stays starts es ss (Some w) (Foreign key value) text new reached none h = foreign_stays es ss w key value text new reached h
-line_stays starts es ss (Some w) Audit text new reached none (audited, is) = no_event es ss text new (subst (IsReachedBy es ss) (sym is) reached)
+line_stays starts es ss (Some w) (Foreign key value) text new reached none h = one_stays es ss w (event.Foreign key value) text new reached h
+line_stays starts es ss (Some w) (Reopen config) text new reached none h = one_stays es ss w (event.Reopen config) text new reached h
+line_stays starts es ss (Some w) Audit text new reached none (audited, is) = no_event es ss text new (subst (IsReachedBy es ss) (sym is) reached) (inr (inr (inl (w, is, audited))))
 line_stays starts es ss old line text new reached none h = absurd h
 
 read_stays : StartsOpen → (es : List WorldEvent) (ss : List Shown) (old : OpenedWorld) (read : Result (Option Line) Fault) (text : List ℕ) (new : OpenedWorld) → IsReachedBy es ss old → PlaysRead old read text new → LeadsOn es ss text new
-read_stays starts es ss old (Ok None) text new reached (told, is) = no_event es ss text new (subst (IsReachedBy es ss) (sym is) reached)
+read_stays starts es ss old (Ok None) text new reached (told, is) = no_event es ss text new (subst (IsReachedBy es ss) (sym is) reached) (inl told)
 read_stays starts es ss old (Ok (Some line)) text new reached (none, plays) = line_stays starts es ss old line text new reached none plays
 read_stays starts es ss old (Err fault) text new reached h = absurd h
 

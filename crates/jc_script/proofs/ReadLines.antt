@@ -9,6 +9,7 @@ use Rattle.std.proofs.lemmas.List.{length-map}
 use Rattle.std.proofs.lemmas.Grind.{common_steps}
 use Rattle.std.proofs.lemmas.List.Splits.{join_with_byte-slice_split}
 use Rattle.jc_model.specs.Cache.{Bytes}
+use Rattle.jc_types.specs.declared.config.Config.{Config}
 use Rattle.jc_script.specs.declared.line.Operation.{Operation}
 use Rattle.jc_script.specs.declared.fault.Fault.{Fault}
 use Rattle.jc_script.specs.declared.fault.Fault.TheVariants.{LineTooLong, BadByte, BadLine}
@@ -28,8 +29,8 @@ use Rattle.jc_script.specs.declared.line.BulkCall.TheVariants as bulk
 use Rattle.jc_model.specs.declared.event.Op.{Op}
 use Rattle.jc_script.specs.Printing.{value_text}
 use Rattle.jc_script.specs.Words.{words_of, number_of, caller_of, key_of, value_of, value_or_none_of, pairs_of, distinct_pairs_of, distinct_keys_of}
-use Rattle.jc_script.specs.Lines.{form_named, flags_of, takes_words, bare_op, valued_op, bare_of, valued_of, value_alone, replace_if_of, begin_with, is_load_mode, has_load_shape, bulk_takes, keys_of, load_all_of, bulk_of, has_but_shape, left_of, apply_of, apply_fail_of, command_of, open_of, set_of, begin_of, number_alone, lone_of, coded_of, process_of, say_of, foreign_of, audit_of, line_of, are_words, parsed, is_plain, is_comment, some_line, read_line}
-use Rattle.jc_script.specs.Spelled.{IsNumber, IsSession, session_text, IsValue, IsKey, AreKeyWords, AreLeftKeys, HasKeys, IsOperation, IsAct, SaysWords, IsSpellable, LinesAreSpelled, spelling, line_words, operation_words, load_word, bulk_words, act_words, left_words, pair_text, flag_words}
+use Rattle.jc_script.specs.Lines.{form_named, flags_of, takes_words, bare_op, valued_op, bare_of, valued_of, value_alone, replace_if_of, begin_with, is_load_mode, has_load_shape, bulk_takes, keys_of, load_all_of, bulk_of, has_but_shape, left_of, apply_of, apply_fail_of, command_of, shape_of, open_of, reopen_of, set_of, begin_of, number_alone, lone_of, coded_of, process_of, say_of, foreign_of, audit_of, line_of, are_words, parsed, is_plain, is_comment, some_line, read_line}
+use Rattle.jc_script.specs.Spelled.{IsNumber, IsShape, IsSession, session_text, IsValue, IsKey, AreKeyWords, AreLeftKeys, HasKeys, IsOperation, IsAct, SaysWords, IsSpellable, LinesAreSpelled, spelling, line_words, operation_words, load_word, bulk_words, act_words, left_words, pair_text, flag_words, shape_words}
 use Rattle.jc_script.specs.ProcessWords.{without_load, has_process_shape, source_of, calls_of, source_words}
 use Rattle.jc_script.proofs.ReadProcess.{SaysSource, source_read, SaysCalls, calls_read}
 use Rattle.jc_script.proofs.Given.{ok_bind, ok_then, ok_if, ok_unless, ok_since, ok_word, ok_weaker}
@@ -181,16 +182,26 @@ flags_read (a ∷ b ∷ []) =
     rw ((bytes_eq-Decides a (codes "read")).0 both.0, (bytes_eq-Decides b (codes "write")).0 both.1) refl)
 flags_read words = tt
 
-open_read : (words : List (List ℕ)) → IfOk (open_of words) (SaysLine (codes "open" ∷ words))
-unfolding open_of
-open_read (s ∷ c ∷ h ∷ flags) =
-    let P : Line → Type 0 = SaysLine (codes "open" ∷ s ∷ c ∷ h ∷ flags) in
+shape_read : (words : List (List ℕ)) → IfOk (shape_of words) (λ config. IsShape config × (words ≡ shape_words config))
+unfolding shape_of
+shape_read (s ∷ c ∷ h ∷ flags) =
+    let P : Config → Type 0 = λ config. IsShape config × (s ∷ c ∷ h ∷ flags ≡ shape_words config) in
     ok_then (flags_of flags) _ (λ set. flags ≡ flag_words set.0 set.1) P (flags_read flags) (λ set f.
     ok_then (number_of s) _ (SaysNumber s) P (number_read s) (λ stripes x.
     ok_then (number_of c) _ (SaysNumber c) P (number_read c) (λ capacity y.
     ok_then (number_of h) _ (SaysNumber h) P (number_read h) (λ history z.
     ((x.0, y.0, z.0), rw (x.1, y.1, z.1, f) refl)))))
-open_read words = tt
+shape_read words = tt
+
+open_read : (words : List (List ℕ)) → IfOk (open_of words) (SaysLine (codes "open" ∷ words))
+open_read words =
+    ok_then (shape_of words) _ (λ config. IsShape config × (words ≡ shape_words config)) (SaysLine (codes "open" ∷ words)) (shape_read words)
+    (λ config says. (says.0, ap (λ behind. codes "open" ∷ behind) says.1))
+
+reopen_read : (words : List (List ℕ)) → IfOk (reopen_of words) (SaysLine (codes "reopen" ∷ words))
+reopen_read words =
+    ok_then (shape_of words) _ (λ config. IsShape config × (words ≡ shape_words config)) (SaysLine (codes "reopen" ∷ words)) (shape_read words)
+    (λ config says. (says.0, ap (λ behind. codes "reopen" ∷ behind) says.1))
 
 set_read : (words : List (List ℕ)) → IfOk (set_of words) (SaysLine (codes "set" ∷ words))
 unfolding set_of
@@ -302,7 +313,7 @@ line_read w words =
     (ok_word w (codes "more") _ _ P (lone_read More _ words tt (λ call. refl)) (ok_word w (codes "take") _ _ P (lone_read Take _ words tt (λ call. refl))
     (ok_word w (codes "say") _ _ P (say_read words) (ok_word w (codes "readfail") _ _ P (coded_read ReadFail _ words (λ code known. known) (λ call code. refl))
     (ok_word w (codes "applyfail") _ _ P (apply_fail_read words) (ok_word w (codes "applylie") _ _ P (coded_read ApplyLie _ words (λ code known. known) (λ call code. refl))
-    (ok_word w (codes "process") _ (Err BadLine) P (process_read words) tt)))))))))))))))
+    (ok_word w (codes "process") _ _ P (process_read words) (ok_word w (codes "reopen") _ (Err BadLine) P (reopen_read words) tt))))))))))))))))
 
 parsed_read : (words : List (List ℕ)) → IfOk (parsed words) (SaysLine words)
 unfolding parsed

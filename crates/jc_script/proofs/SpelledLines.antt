@@ -12,16 +12,16 @@ use Rattle.jc_script.specs.declared.commands.Form.TheVariants as form
 use Rattle.jc_model.specs.declared.event.Op.{Op}
 use Rattle.jc_model.specs.declared.event.Op.TheVariants as op
 use Rattle.jc_script.specs.declared.line.Line.{Line}
-use Rattle.jc_script.specs.declared.line.Line.TheVariants.{Open, Set, Begin, BeginBulk, OfCall, Foreign, Audit}
+use Rattle.jc_script.specs.declared.line.Line.TheVariants.{Open, Set, Begin, BeginBulk, OfCall, Foreign, Reopen, Audit}
 use Rattle.jc_script.specs.declared.line.BulkCall.{BulkCall}
 use Rattle.jc_script.specs.declared.line.BulkCall.TheVariants as bulk
 use Rattle.jc_script.specs.declared.line.Act.{Act}
 use Rattle.jc_script.specs.declared.line.Act.TheVariants.{Read, ReadFail, Say, Apply, ApplyFail, ApplyLie, End, Drop, More, Take, Process}
 use Rattle.jc_script.specs.ProcessWords.{source_words, call_text, fail_words}
 use Rattle.jc_script.specs.Words.{◌>>=◌, Pairs}
-use Rattle.jc_script.specs.Lines.{form_named, flags_of, takes_words, bare_of, valued_of, replace_if_of, begin_with, has_load_shape, load_all_of, bulk_with, has_but_shape, left_of, apply_of, apply_fail_of, command_of, open_of, set_of, begin_of, lone_of, coded_of, say_of, foreign_of, read_line}
+use Rattle.jc_script.specs.Lines.{form_named, flags_of, takes_words, bare_of, valued_of, replace_if_of, begin_with, has_load_shape, load_all_of, bulk_with, has_but_shape, left_of, apply_of, apply_fail_of, command_of, shape_of, set_of, begin_of, lone_of, coded_of, say_of, foreign_of, read_line}
 use Rattle.jc_script.specs.Printing.{value_text, value_or_none_text}
-use Rattle.jc_script.specs.Spelled.{IsNumber, IsSession, IsKey, IsValue, IsValueOrNone, IsPair, AreKeyWords, AreLeftKeys, HasKeys, IsOperation, IsAct, LinesReadBack, spelling, session_text, pair_text, flag_words, operation_words, load_word, bulk_words, left_words}
+use Rattle.jc_script.specs.Spelled.{IsNumber, IsShape, IsSession, IsKey, IsValue, IsValueOrNone, IsPair, AreKeyWords, AreLeftKeys, HasKeys, IsOperation, IsAct, LinesReadBack, spelling, session_text, pair_text, flag_words, shape_words, operation_words, load_word, bulk_words, left_words}
 use Rattle.jc_script.proofs.AreKeyWords.{key_back, keys_back, keys_are_words}
 use Rattle.jc_script.proofs.AreDistinctPairs.{distinct_pairs_back}
 use Rattle.jc_script.proofs.SpelledPairs.{pairs_back, pairs_are_words}
@@ -44,11 +44,14 @@ flags_are_words true true = refl
 
 -- 1. Lines of fixed words.
 
-open_back : (config : Config) → IsNumber config.stripes → IsNumber config.capacity → IsNumber config.history
-    → open_of (decimal config.stripes ∷ decimal config.capacity ∷ decimal config.history ∷ flag_words config.read_through config.write_through) ≡ Ok (Open config)
-unfolding open_of
-open_back config s c h =
+shape_back : (config : Config) → IsShape config → shape_of (shape_words config) ≡ Ok config
+unfolding shape_of
+shape_back config (s, c, h) =
     rw (flags_back config.read_through config.write_through) (rw (number_back config.stripes s, number_back config.capacity c, number_back config.history h) refl)
+
+shape_are_words : (config : Config) → IsShape config → AreWords (shape_words config)
+shape_are_words config (s, c, h) =
+    and_from _ _ (number_word config.stripes s) (and_from _ _ (number_word config.capacity c) (and_from _ _ (number_word config.history h) (flags_are_words config.read_through config.write_through)))
 
 set_back : (key value : Bytes) → IsKey key → IsValue value → set_of (key ∷ value_text value ∷ []) ≡ Ok (Set key value)
 unfolding set_of
@@ -215,9 +218,7 @@ act_back call (Process source calls fail) n a short =
 
 pub line_back : LinesReadBack
 line_back (Open config) known =
-    line_of_words (codes "open") (decimal config.stripes ∷ decimal config.capacity ∷ decimal config.history ∷ flag_words config.read_through config.write_through) _ refl
-    (and_from _ _ (number_word config.stripes known.0.0) (and_from _ _ (number_word config.capacity known.0.1) (and_from _ _ (number_word config.history known.0.2) (flags_are_words config.read_through config.write_through)))) known.1
-    (open_back config known.0.0 known.0.1 known.0.2)
+    line_of_words (codes "open") (shape_words config) _ refl (shape_are_words config known.0) known.1 (ap (λ r. r >>= λ config. Ok (Open config)) (shape_back config known.0))
 line_back (Set key value) known =
     line_of_words (codes "set") (key ∷ value_text value ∷ []) (Set key value) refl (and_from _ _ (text_word _ key known.0.0) (and_from _ _ (value_word value known.0.1) refl)) known.1
     (set_back key value known.0.0 known.0.1)
@@ -233,4 +234,6 @@ line_back (OfCall call act) known = act_back call act known.0.0 known.0.1 known.
 line_back (Foreign key value) known =
     line_of_words (codes "foreign") (key ∷ value_or_none_text value ∷ []) _ refl (and_from _ _ (text_word _ key known.0.0) (and_from _ _ (value_or_none_word value known.0.1) refl)) known.1
     (foreign_back key value known.0.0 known.0.1)
+line_back (Reopen config) known =
+    line_of_words (codes "reopen") (shape_words config) _ refl (shape_are_words config known.0) known.1 (ap (λ r. r >>= λ config. Ok (Reopen config)) (shape_back config known.0))
 line_back Audit known = line_of_words (codes "audit") [] Audit refl refl known.1 refl

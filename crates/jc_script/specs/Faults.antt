@@ -5,20 +5,22 @@
 --     begin_fault      the fault of a `begin`: first the number, then the caller
 --     act_fault        the fault of an act: there is no such call, it names keys that the writer leaves in a call of which it
 --                      can leave none alone, or it isn't the time for it
+--     reopen_fault     the fault of a `reopen`: first the new shape's, then that a call is under way
 --     state_fault      the fault that the state of the world gives a line, the first one in order
-use Rattle.std.specs.Prelude.{◌&&◌, ℕ, List, codes, not, Option, None, Some, Result, Ok, Err, if◌then◌else◌}
+use Rattle.std.specs.Prelude.{◌&&◌, ℕ, List, Bool, codes, not, Option, None, Some, Result, Ok, Err, if◌then◌else◌}
 use Rattle.jc_types.specs.declared.refusal.Refusal.{Refusal}
 use Rattle.jc_types.specs.declared.refusal.Refusal.TheVariants as refusal
 use Rattle.jc_types.specs.declared.config.Field.TheVariants.{Stripes, Capacity, History}
 use Rattle.jc_types.specs.Limits.{check}
+use Rattle.jc_world.specs.declared.event.WorldEvent.TheVariants as event
 use Rattle.jc_world.specs.Calls.{CallState}
 use Rattle.jc_world.specs.World.{WorldState, open_call, is_busy}
-use Rattle.jc_world.specs.Fits.{is_new}
+use Rattle.jc_world.specs.Fits.{fits, is_new}
 use Rattle.jc_script.specs.LineEvents.{is_time_for, allows_but, has_but}
 use Rattle.jc_script.specs.declared.fault.Fault.{Fault}
 use Rattle.jc_script.specs.declared.fault.Fault.TheVariants.{CutLine, LineTooLong, BadByte, BadLine, BadNumber, BadCaller, BadKey, BadValue, RepeatedKey, NotOpen, OpenTwice, BadConfig, SetTooLate, NotRising, CallerBusy, NoSuchCall, NotNow}
 use Rattle.jc_script.specs.declared.line.Line.{Line}
-use Rattle.jc_script.specs.declared.line.Line.TheVariants.{Open, Set, Begin, BeginBulk, OfCall, Foreign, Audit}
+use Rattle.jc_script.specs.declared.line.Line.TheVariants.{Open, Set, Begin, BeginBulk, OfCall, Foreign, Reopen, Audit}
 use Rattle.jc_script.specs.declared.line.Act.{Act}
 
 abbrev pub text_of : Fault → List ℕ
@@ -62,6 +64,11 @@ act_fault w number act (Some u) =
     if has_but act && not (allows_but u) then Some NotNow
     else if is_time_for w number act u then None else Some NotNow
 
+-- of the fault of the new shape, and of whether the reopening fits
+abbrev pub reopen_fault : Option Fault → Bool → Option Fault
+reopen_fault (Some fault) fit = Some fault
+reopen_fault None fit = if fit then None else Some NotNow
+
 abbrev pub state_fault : Option WorldState → Line → Option Fault
 state_fault None (Open config) = config_fault (check config)
 state_fault None other = Some NotOpen
@@ -71,4 +78,5 @@ state_fault (Some w) (Begin number session command) = begin_fault w number sessi
 state_fault (Some w) (BeginBulk number session call) = begin_fault w number session
 state_fault (Some w) (OfCall number act) = act_fault w number act (open_call w number)
 state_fault (Some w) (Foreign key value) = None
+state_fault (Some w) (Reopen config) = reopen_fault (config_fault (check config)) (fits w (event.Reopen config))
 state_fault (Some w) Audit = None

@@ -11,7 +11,8 @@
 --     bare_op, valued_op            the operation of a name with no value, and of a name with one
 --     value_alone                   one value, and no word after it
 --     bare_of, valued_of, replace_if_of      an operation with its key and no value, with one value, with an old and a new one
---     open_of, set_of, begin_of     what the words after `open`, `set` and `begin` ask for
+--     shape_of                      the shape of a world
+--     open_of, reopen_of, set_of, begin_of     what the words after `open`, `reopen`, `set` and `begin` ask for
 --     begin_with                    the begin of a call with an operation
 --     keys_of, load_all_of          a call of many keys with its keys, and a `loadall`
 --     bulk_of                       a call of many keys, with its keys or its pairs if it names any
@@ -41,6 +42,7 @@ use Rattle.jc_model.specs.Cache.{Bytes}
 use Rattle.jc_model.specs.declared.event.Op.{Op}
 use Rattle.jc_model.specs.declared.event.Op.TheVariants as op
 use Rattle.jc_script.specs.declared.line.Operation.{Operation}
+use Rattle.jc_types.specs.declared.config.Config.{Config}
 use Rattle.jc_types.specs.declared.limits.TheConstants.{LINE_MAX}
 use Rattle.jc_types.specs.Limits.{is_session}
 use Rattle.jc_world.specs.Fits.{is_single}
@@ -49,7 +51,7 @@ use Rattle.jc_script.specs.declared.fault.Fault.TheVariants.{LineTooLong, BadByt
 use Rattle.jc_script.specs.declared.fault.ReadError.{ReadError}
 use Rattle.jc_script.specs.declared.fault.ReadError.TheVariants as errors
 use Rattle.jc_script.specs.declared.line.Line.{Line}
-use Rattle.jc_script.specs.declared.line.Line.TheVariants.{Open, Set, Begin, BeginBulk, OfCall, Foreign, Audit}
+use Rattle.jc_script.specs.declared.line.Line.TheVariants.{Open, Set, Begin, BeginBulk, OfCall, Foreign, Reopen, Audit}
 use Rattle.jc_script.specs.declared.line.BulkCall.{BulkCall}
 use Rattle.jc_script.specs.declared.line.BulkCall.TheVariants as bulk
 use Rattle.jc_script.specs.declared.line.Act.{Act}
@@ -206,14 +208,21 @@ bulk_of name.InvokeAll words = keys_of bulk.InvokeAll words
 
 -- 3. Lines, from the words after the first.
 
-unfoldable pub open_of : List (List ℕ) → Result Line Fault
-open_of (s ∷ c ∷ h ∷ flags) = do
+-- three numbers, and what is on
+unfoldable pub shape_of : List (List ℕ) → Result Config Fault
+shape_of (s ∷ c ∷ h ∷ flags) = do
   set ← flags_of flags
   stripes ← number_of s
   capacity ← number_of c
   history ← number_of h
-  Ok (Open (record { stripes = stripes; capacity = capacity; history = history; read_through = set.0; write_through = set.1 }))
-open_of words = Err BadLine
+  Ok (record { stripes = stripes; capacity = capacity; history = history; read_through = set.0; write_through = set.1 })
+shape_of words = Err BadLine
+
+abbrev pub open_of : List (List ℕ) → Result Line Fault
+open_of words = shape_of words >>= λ config. Ok (Open config)
+
+abbrev pub reopen_of : List (List ℕ) → Result Line Fault
+reopen_of words = shape_of words >>= λ config. Ok (Reopen config)
 
 unfoldable pub set_of : List (List ℕ) → Result Line Fault
 set_of (k ∷ v ∷ []) = do
@@ -348,6 +357,7 @@ line_of first words =
     if bytes_eq first (codes "applyfail") then apply_fail_of words else
     if bytes_eq first (codes "applylie") then coded_of ApplyLie words else
     if bytes_eq first (codes "process") then process_of words else
+    if bytes_eq first (codes "reopen") then reopen_of words else
     Err BadLine
 
 -- no two spaces together, and none at either end
@@ -388,4 +398,5 @@ is_callable (Open config) = true
 is_callable (Set key value) = true
 is_callable (OfCall number act) = true
 is_callable (Foreign key value) = true
+is_callable (Reopen config) = true
 is_callable Audit = true

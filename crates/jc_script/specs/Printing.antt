@@ -34,19 +34,21 @@
 --     begun_text                     what is printed of the beginning of a call: nothing, unless it is refused whole
 --     left_text                      a call that is given up
 --     foreign_line                   a write or a delete of somebody else
+--     key_text, keys_line            a key after a space; a word, and after it keys
+--     reopened_text                  that the cache was opened again, with the keys that were dropped
 --     told                           what is printed of an event, from its outcome
 --     end_text                       that a call of many keys is over, and with which cause, if one is
 --     event_text                     what is printed of an event, from what the world showed of it
 --     texts                          the same of events one after another
---     entry_text, entries_line, key_text      an entry, a line of entries, and a key, in an audit
---     differs_line, coherence_text      the keys that differ; the same, or that there is none
+--     entry_text, entries_line       an entry, and a line of entries, in an audit
+--     coherence_text                 the keys that differ, or that there is none
 --     legal_name, history_line       whether the history is legal; the same after the number of its events
 --     audit_text                     what is printed of an audit
 --     fault_line                     the line that ends a transcript
 use Rattle.std.specs.Prelude.{◌==◌, ℕ, ◌-◌, List, [], ◌∷◌, ◌++◌, length, codes, decimal, Bool, true, false, Option, None, Some, if◌then◌else◌}
 use Rattle.std.specs.List.{flat_map}
 use Rattle.jc_types.specs.declared.refusal.Refusal.{Refusal}
-use Rattle.jc_types.specs.declared.refusal.Refusal.TheVariants.{HistoryFull, Busy, TooManyInFlight, TooManyJoiners, LoaderFailed, WriterFailed, ProcessorFailed, OutOfMemory, TooManyKeys, BadConfig, NoLoader, NoWriter, TooManySessions, StillReserved}
+use Rattle.jc_types.specs.declared.refusal.Refusal.TheVariants.{HistoryFull, Busy, TooManyInFlight, TooManyJoiners, LoaderFailed, WriterFailed, ProcessorFailed, OutOfMemory, TooManyKeys, BadConfig, NoLoader, NoWriter, TooManySessions, StillReserved, RepeatedKey}
 use Rattle.jc_types.specs.Refusals.{refusal_name}
 use Rattle.jc_model.specs.Cache.{Bytes}
 use Rattle.jc_model.specs.declared.event.Cause.{Cause}
@@ -106,6 +108,7 @@ refusal_text NoLoader = refusal_name NoLoader
 refusal_text NoWriter = refusal_name NoWriter
 refusal_text TooManySessions = refusal_name TooManySessions
 refusal_text StillReserved = refusal_name StillReserved
+refusal_text RepeatedKey = refusal_name RepeatedKey
 
 abbrev pub flag_text : Bool → List ℕ
 flag_text true = codes "true"
@@ -302,6 +305,7 @@ shown_text call key (outcome.PickedUp seen) = picked_line call key seen
 shown_text call key outcome.Waits = waits_line call key
 shown_text call key outcome.Again = again_line call key
 shown_text call key outcome.Written = []
+shown_text call key (outcome.Reopened keys) = []
 shown_text call key outcome.Unfit = []
 
 -- a run is printed with the word for its loader
@@ -324,6 +328,18 @@ abbrev pub left_text : ℕ → Outcome → List ℕ
 left_text call outcome.Left = dropped_line call
 left_text call seen = []
 
+unfoldable pub key_text : Bytes → List ℕ
+key_text key = codes " " ++ key
+
+-- a word, and after it keys
+unfoldable pub keys_line : List ℕ → List Bytes → List ℕ
+keys_line name keys = name ++ flat_map key_text keys ++ codes "\n"
+
+-- the keys that were dropped
+abbrev pub reopened_text : Outcome → List ℕ
+reopened_text (outcome.Reopened keys) = keys_line (codes "reopened") keys
+reopened_text seen = []
+
 -- of the outcome of one event
 abbrev pub told : WorldEvent → Outcome → List ℕ
 told (event.Call call session command) seen = begun_text call seen
@@ -339,6 +355,7 @@ told (event.Withdraw call key) seen = shown_text call key seen
 told (event.Leave call) seen = left_text call seen
 told (event.PickUp call key) seen = shown_text call key seen
 told (event.Foreign key value) seen = foreign_line key value
+told (event.Reopen config) seen = reopened_text seen
 
 -- a call that is given up, or refused whole, or has one key, is not said to be over
 abbrev pub end_text : Option Over → List ℕ
@@ -362,15 +379,9 @@ entry_text entry = codes " " ++ entry.0 ++ codes "=" ++ value_text entry.1
 unfoldable pub entries_line : List ℕ → List (Bytes × Bytes) → List ℕ
 entries_line name entries = name ++ flat_map entry_text entries ++ codes "\n"
 
-unfoldable pub key_text : Bytes → List ℕ
-key_text key = codes " " ++ key
-
-unfoldable pub differs_line : List Bytes → List ℕ
-differs_line keys = codes "differs" ++ flat_map key_text keys ++ codes "\n"
-
 abbrev pub coherence_text : List Bytes → List ℕ
 coherence_text [] = codes "coherent\n"
-coherence_text (key ∷ keys) = differs_line (key ∷ keys)
+coherence_text (key ∷ keys) = keys_line (codes "differs") (key ∷ keys)
 
 abbrev pub legal_name : Bool → List ℕ
 legal_name true = codes " legal\n"

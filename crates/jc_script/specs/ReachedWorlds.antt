@@ -1,26 +1,29 @@
 -- The worlds of a transcript are among those that runs of events reach, so the laws over runs speak of each of them.
 --     IsReachedBy          a world is open, and these events, which showed this, have led to it from a start with nothing cached; or
 --                          it isn't open yet, and there are none
---     LeadsOn              more events, each of which fits, lead on to this world; they and what they show are appended, and
---                          what is printed begins with what is printed of them
+--     IsBeside             what a line prints that is no event's: nothing, that a world is open, an audit of the world that it leaves,
+--                          or that a load failed
+--     LeadsOn              more events, each of which fits, lead on to this world; they and what they show are appended. What is
+--                          printed is what is printed of them, and what is beside them
 --     LinesStayReached     a line without a fault leads on so from each world that is reached
 --     LeadThrough          lines one after another, none of which has a fault: each leads on so, from the world that those before
 --                          it leave
 --     EndsAt               how a script ends at a line: it has a fault, or it is the last piece
 --     LeadsToEnd           pieces of a script: the lines before that at which it ends lead on so, and the others aren't played
 --     TranscriptsStayReached      so it is with each transcript
-use Rattle.std.specs.Prelude.{◌≡◌, ◌+◌, ℕ, List, [], ◌∷◌, ◌++◌, length, true, None, Some}
+use Rattle.std.specs.Prelude.{◌≡◌, ◌⊎◌, ◌+◌, ℕ, List, [], ◌∷◌, ◌++◌, length, codes, true, None, Some}
 use Rattle.jc_types.specs.declared.config.Config.{Config}
 use Rattle.jc_model.specs.Cache.{Bytes}
 use Rattle.jc_world.specs.declared.event.Shown.{Shown}
 use Rattle.jc_world.specs.declared.event.WorldEvent.{WorldEvent}
 use Rattle.jc_world.specs.Events.{all_fit}
 use Rattle.jc_world.specs.Headline.{Reaches, start_with}
+use Rattle.jc_world.specs.World.{WorldState, start}
 use Rattle.jc_script.specs.declared.fault.Fault.{Fault}
 use Rattle.jc_script.specs.declared.run.RunEnd.{RunEnd}
 use Rattle.jc_script.specs.declared.run.RunEnd.TheVariants.{LineFault}
-use Rattle.jc_script.specs.Printing.{texts, fault_line}
-use Rattle.jc_script.specs.Transcript.{OpenedWorld, Prints, fault_of, pieces_of, EndsScript, IsTranscript}
+use Rattle.jc_script.specs.Printing.{texts, fails_line, fault_line}
+use Rattle.jc_script.specs.Transcript.{Audited, OpenedWorld, Prints, fault_of, pieces_of, EndsScript, IsTranscript}
 
 -- 1. Lines.
 
@@ -30,7 +33,14 @@ IsReachedBy events seen None = (events ≡ []) × (seen ≡ [])
 IsReachedBy events seen (Some w) =
     (config : Config) × (stored : List (Bytes × Bytes)) × Reaches (start_with config stored) events seen w
 
--- `beside` is what a line prints that is no event's: that a world is open, an audit, or that a load failed
+-- by the world that the line leaves
+abbrev pub IsBeside : OpenedWorld → List ℕ → Type 0
+IsBeside new text =
+    (text ≡ [])
+    ⊎ (((config : Config) × (new ≡ Some (start config)) × (text ≡ codes "open\n"))
+    ⊎ (((w : WorldState) × (new ≡ Some w) × Audited w text)
+    ⊎ ((call : ℕ) × (code : ℕ) × (text ≡ fails_line call code))))
+
 pub record LeadsOn (events : List WorldEvent) (seen : List Shown) (text : List ℕ) (new : OpenedWorld) : Type 0 where
   pub more : List WorldEvent
   pub shown : List Shown
@@ -38,6 +48,7 @@ pub record LeadsOn (events : List WorldEvent) (seen : List Shown) (text : List �
   pub reached : IsReachedBy (events ++ more) (seen ++ shown) new
   pub fit : all_fit shown ≡ true
   pub text_is : text ≡ texts more shown ++ beside
+  pub is_beside : IsBeside new beside
 
 abbrev pub LinesStayReached : Type 0
 LinesStayReached =

@@ -12,6 +12,7 @@
 --     bulk_words                 the name of a call of many keys, and its keys or its pairs
 --     left_words                 the keys that the writer leaves, after `but`; nothing, if that isn't there
 --     act_words                  what happens next to a call
+--     shape_words                the shape of a world: its numbers, and what is on
 --     line_words                 the words of what a line asks for
 --     spelling                   the line itself: its words, separated by single spaces
 --     IsSource, IsEntryCall, IsOptionalCode     how a processor's loader answers; a call of a processor, and its value; a code, or none
@@ -20,6 +21,7 @@
 --     AreDistinctPairs           the pairs of a call of many keys: at least one, and no key twice
 --     AreLeftKeys                    the keys that the writer leaves, at least so many, if they are named
 --     HasKeys                    the keys or the pairs of a call of many keys
+--     IsShape                    the numbers of a shape
 --     SaysWords                  what a line asks for consists of what words can say
 --     IsSpellable                that, and the line isn't too long
 --     LinesReadBack              what a script can say is read from its spelling
@@ -27,13 +29,14 @@
 use Rattle.std.specs.Prelude.{◌≡◌, ◌==◌, ◌⊎◌, ◌≤◌, ℕ, List, [], ◌∷◌, ◌++◌, map, length, codes, Bool, true, false, Option, None, Some, Ok, decimal}
 use Rattle.std.specs.List.{All, IsDistinct, join_with_byte}
 use Rattle.std.specs.Cmp.Lexicographic.{pointwise}
+use Rattle.jc_types.specs.declared.config.Config.{Config}
 use Rattle.jc_types.specs.declared.limits.TheConstants.{KEY_MAX, LINE_MAX, NUMBER_MAX, VALUE_MAX}
 use Rattle.jc_types.specs.Limits.{is_session}
 use Rattle.jc_model.specs.Cache.{Bytes}
 use Rattle.jc_model.specs.declared.event.Op.{Op}
 use Rattle.jc_model.specs.declared.event.Op.TheVariants as op
 use Rattle.jc_script.specs.declared.line.Line.{Line}
-use Rattle.jc_script.specs.declared.line.Line.TheVariants.{Open, Set, Begin, BeginBulk, OfCall, Foreign, Audit}
+use Rattle.jc_script.specs.declared.line.Line.TheVariants.{Open, Set, Begin, BeginBulk, OfCall, Foreign, Reopen, Audit}
 use Rattle.jc_script.specs.declared.line.BulkCall.{BulkCall}
 use Rattle.jc_script.specs.declared.line.BulkCall.TheVariants as bulk
 use Rattle.jc_script.specs.declared.line.Act.{Act}
@@ -143,14 +146,18 @@ act_words call More = codes "more" ∷ decimal call ∷ []
 act_words call Take = codes "take" ∷ decimal call ∷ []
 act_words call (Process source calls fail) = codes "process" ∷ decimal call ∷ (source_words source ++ (map call_text calls ++ fail_words fail))
 
+abbrev pub shape_words : Config → List Bytes
+shape_words config =
+    decimal config.stripes ∷ decimal config.capacity ∷ decimal config.history ∷ flag_words config.read_through config.write_through
+
 abbrev pub line_words : Line → List Bytes
-line_words (Open config) =
-    codes "open" ∷ decimal config.stripes ∷ decimal config.capacity ∷ decimal config.history ∷ flag_words config.read_through config.write_through
+line_words (Open config) = codes "open" ∷ shape_words config
 line_words (Set key value) = codes "set" ∷ key ∷ value_text value ∷ []
 line_words (Begin call session command) = codes "begin" ∷ decimal call ∷ session_text session ∷ operation_words command.op command.key
 line_words (BeginBulk call session many) = codes "begin" ∷ decimal call ∷ session_text session ∷ bulk_words many
 line_words (OfCall call act) = act_words call act
 line_words (Foreign key value) = codes "foreign" ∷ key ∷ value_or_none_text value ∷ []
+line_words (Reopen config) = codes "reopen" ∷ shape_words config
 line_words Audit = codes "audit" ∷ []
 
 -- the words, separated by single spaces
@@ -225,13 +232,17 @@ HasKeys bulk.Clear = Unit {0}
 HasKeys (bulk.LoadAll replace keys) = AreKeyWords 1 keys
 HasKeys (bulk.InvokeAll keys) = AreKeyWords 1 keys
 
+abbrev pub IsShape : Config → Type 0
+IsShape config = IsNumber config.stripes × IsNumber config.capacity × IsNumber config.history
+
 abbrev pub SaysWords : Line → Type 0
-SaysWords (Open config) = IsNumber config.stripes × IsNumber config.capacity × IsNumber config.history
+SaysWords (Open config) = IsShape config
 SaysWords (Set key value) = IsKey key × IsValue value
 SaysWords (Begin call session command) = IsNumber call × IsSession session × IsOperation command.op × IsKey command.key
 SaysWords (BeginBulk call session many) = IsNumber call × IsSession session × HasKeys many
 SaysWords (OfCall call act) = IsNumber call × IsAct act
 SaysWords (Foreign key value) = IsKey key × IsValueOrNone value
+SaysWords (Reopen config) = IsShape config
 SaysWords Audit = Unit {0}
 
 -- that, in a line that isn't too long

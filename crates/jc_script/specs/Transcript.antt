@@ -6,7 +6,7 @@
 --     PlaysBegin               the same of a call that begins: its begin, with its looks at the stripes, and then its first phases
 --     PlaysBulk                the same of a call of many keys, by what its line says
 --     PlaysAct                 the same of the events of an act, if its call is under way
---     PlaysForeign             the same of a foreign write
+--     PlaysOne                 the same of one event, as a foreign write or a reopening
 --     Audited                  what is printed of an audit
 --     Plays                    a line with no fault: what it prints and leaves. ⊥ if no such line is played
 --     PlaysLine                a line that was read is played, or its fault is printed: what is printed, then, and what is left
@@ -34,7 +34,7 @@ use Rattle.jc_world.specs.Coherent.{all_hold}
 use Rattle.jc_script.specs.declared.fault.Fault.{Fault}
 use Rattle.jc_script.specs.declared.fault.Fault.TheVariants.{CutLine}
 use Rattle.jc_script.specs.declared.line.Line.{Line}
-use Rattle.jc_script.specs.declared.line.Line.TheVariants.{Open, Set, Begin, BeginBulk, OfCall, Foreign, Audit}
+use Rattle.jc_script.specs.declared.line.Line.TheVariants.{Open, Set, Begin, BeginBulk, OfCall, Foreign, Reopen, Audit}
 use Rattle.jc_script.specs.declared.line.BulkCall.{BulkCall}
 use Rattle.jc_script.specs.declared.line.Act.{Act}
 use Rattle.jc_script.specs.declared.run.RunEnd.{RunEnd}
@@ -90,9 +90,9 @@ PlaysAct w number act None text new = ⊥
 PlaysAct w number act (Some u) text new =
     PlaysCall w number (events_of_act w number act (keys_of_act w number act u)) (load_code act) text new
 
-abbrev pub PlaysForeign : WorldState → Bytes → Option Bytes → List ℕ → OpenedWorld → Type 0
-PlaysForeign w key value text None = ⊥
-PlaysForeign w key value text (Some after) = PlaysEvents w (event.Foreign key value ∷ []) text after
+abbrev pub PlaysOne : WorldState → WorldEvent → List ℕ → OpenedWorld → Type 0
+PlaysOne w e text None = ⊥
+PlaysOne w e text (Some after) = PlaysEvents w (e ∷ []) text after
 
 -- an audit always says legal, and never names a key while write-through is on and the premises have held
 pub record Audited (w : WorldState) (text : List ℕ) : Type 0 where
@@ -112,7 +112,8 @@ Plays (Some w) (Set key value) text new = (text ≡ []) × (new ≡ Some (with_s
 Plays (Some w) (Begin number session operation) text new = PlaysBegin w number session (single operation) text new
 Plays (Some w) (BeginBulk number session call) text new = PlaysBulk w number session call text new
 Plays (Some w) (OfCall number act) text new = PlaysAct w number act (open_call w number) text new
-Plays (Some w) (Foreign key value) text new = PlaysForeign w key value text new
+Plays (Some w) (Foreign key value) text new = PlaysOne w (event.Foreign key value) text new
+Plays (Some w) (Reopen config) text new = PlaysOne w (event.Reopen config) text new
 Plays (Some w) Audit text new = Audited w text × (new ≡ Some w)
 Plays old line text new = ⊥
 

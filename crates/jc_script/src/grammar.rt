@@ -1,7 +1,7 @@
 //! The kinds of line, and what each asks for.
 ghost use Rattle.std.specs.Prelude.{◌≡◌, map, length, IfOk};
 ghost use Rattle.std.specs.List.{list_all};
-ghost use Rattle.jc_script.specs.Lines.{Gives, ok_with, with_line, flags_of, open_of, set_of};
+ghost use Rattle.jc_script.specs.Lines.{Gives, ok_with, with_line, flags_of, shape_of, open_of, reopen_of, set_of};
 ghost use Rattle.jc_script.specs.Lines.{begin_of, number_alone, lone_act, lone_of, coded_act, coded_of, process_of, say_of};
 ghost use Rattle.jc_script.specs.Lines.{has_but_shape, left_of, apply_of, apply_fail_of};
 ghost use Rattle.jc_script.specs.Lines.{foreign_of, audit_of, line_of, are_words, parsed, is_plain, is_comment, read_line};
@@ -44,10 +44,11 @@ fn flags(words: &[&[u8]]) -> Result<(bool, bool), Fault>
     }
 }
 
-#[tactic(auto, unfolding(crate::specs::Lines::open_of))]
+/// The shape of a world.
+#[tactic(auto, unfolding(crate::specs::Lines::shape_of))]
 #[inline(never)]
-fn open(words: &[&[u8]], line: &mut Line) -> Result<(), Fault>
-    ensures { ok_with line.new result ≡ open_of (map (λ w. w.now) words.now) }
+fn shape(words: &[&[u8]]) -> Result<Config, Fault>
+    ensures { result ≡ shape_of (map (λ w. w.now) words.now) }
 {
     match words {
         [s, c, h, rest @ ..] => {
@@ -55,20 +56,34 @@ fn open(words: &[&[u8]], line: &mut Line) -> Result<(), Fault>
             let stripes = number(s)? as usize;
             let capacity = number(c)? as usize;
             let history = number(h)? as usize;
-            put_line(
-                line,
-                Line::Open(Config {
-                    stripes,
-                    capacity,
-                    history,
-                    read_through,
-                    write_through,
-                }),
-            );
-            Ok(())
+            Ok(Config {
+                stripes,
+                capacity,
+                history,
+                read_through,
+                write_through,
+            })
         }
         _ => Err(Fault::BadLine),
     }
+}
+
+#[inline(never)]
+fn open(words: &[&[u8]], line: &mut Line) -> Result<(), Fault>
+    ensures { ok_with line.new result ≡ open_of (map (λ w. w.now) words.now) }
+{
+    let config = shape(words)?;
+    put_line(line, Line::Open(config));
+    Ok(())
+}
+
+#[inline(never)]
+fn reopen(words: &[&[u8]], line: &mut Line) -> Result<(), Fault>
+    ensures { ok_with line.new result ≡ reopen_of (map (λ w. w.now) words.now) }
+{
+    let config = shape(words)?;
+    put_line(line, Line::Reopen(config));
+    Ok(())
 }
 
 #[tactic(auto, unfolding(crate::specs::Lines::set_of))]
@@ -305,6 +320,7 @@ fn line_of(alloc: Global, first: &[u8], words: &[&[u8]], line: &mut Line) -> Res
         _ if is(first, "applyfail") => apply_fail(alloc, words, line),
         _ if is(first, "applylie") => Ok(coded_line(Coded::ApplyLie, words, line)?),
         _ if is(first, "process") => process(alloc, words, line),
+        _ if is(first, "reopen") => Ok(reopen(words, line)?),
         _ => Err(ReadError::Fault(Fault::BadLine)),
     }
 }

@@ -91,6 +91,8 @@ pub enum Line {
     OfCall(u32, Act),
     /// Somebody else writes the store, or deletes in it.
     Foreign(Key, Option<Value>),
+    /// The cache is closed and opened again in this shape, with what it had.
+    Reopen(Config),
     /// What the world is.
     Audit,
 }

@@ -1,13 +1,12 @@
 //! Lines, played on a world.
 ghost use Rattle.std.specs.Prelude.{◌≡◌, ◌++◌, ◌∷◌, List, ℕ, [], Some, None, true, OnOk, IfOk, MatchOption};
 ghost use Rattle.jc_types.specs.Limits.{check};
-ghost use Rattle.jc_world.specs.declared.event.WorldEvent.TheVariants as event;
 ghost use Rattle.jc_world.specs.World.{start};
 ghost use Rattle.jc_world.specs.Events.{AllFit};
 ghost use Rattle.jc_script.specs.declared.line.Line.TheVariants as lines;
 ghost use Rattle.jc_script.specs.Lines.{is_callable};
 ghost use Rattle.jc_script.specs.Faults.{config_fault};
-ghost use Rattle.jc_script.specs.Transcript.{opened_world, PlaysEvents, PlaysCall, PlaysForeign, Audited, PlaysLine, Prints, fault_of};
+ghost use Rattle.jc_script.specs.Transcript.{opened_world, PlaysEvents, PlaysCall, PlaysOne, Audited, PlaysLine, Prints, fault_of};
 
 mod acting;
 mod beginning;
@@ -22,7 +21,7 @@ use crate::print_lines::put_fault_code;
 use crate::print_shown::put_texts;
 use crate::printing::put;
 use jc_model::{LoadAnswer, Op};
-use jc_types::{Config, Key, Refusal, Value};
+use jc_types::{Config, Key, Refusal};
 use jc_world::command::Command;
 use jc_world::event::{Shown, WorldEvent};
 use jc_world::world::World;
@@ -142,9 +141,11 @@ fn play_line_on(
         }
         Line::OfCall(number, act) => act_on(alloc, world, *number, act, buffers, out),
         Line::Foreign(key, value) => {
-            foreign(world, key, value, buffers, out)?;
+            let (key, value) = (*key, *value);
+            play_one(world, WorldEvent::Foreign { key, value }, buffers, out)?;
             Ok(None)
         }
+        Line::Reopen(config) => reopen(world, config, buffers, out),
         Line::Audit => {
             audit(alloc, world, out)?;
             Ok(None)
@@ -228,25 +229,45 @@ impl LineBuffers {
     }
 }
 
+/// Plays one event that fits, and prints what the world shows of it.
 #[inline(never)]
-fn foreign(
+fn play_one(
     world: &mut World,
-    key: &Key,
-    value: &Option<Value>,
+    event: WorldEvent,
     buffers: &mut LineBuffers,
     out: &mut Vec<u8>,
 ) -> Result<(), AllocError>
+    requires { AllFit world.old.world (event ∷ []) }
     ensures { OnOk result ((text : List ℕ)
-        × PlaysForeign world.old.world key.now value.now text (Some world.new.world)
+        × PlaysOne world.old.world event text (Some world.new.world)
         × (out.new.items ≡ out.old.items ++ text)) }
 {
     buffers.events.clear();
-    buffers.events.push(WorldEvent::Foreign {
-        key: *key,
-        value: *value,
-    })?;
+    buffers.events.push(event)?;
     buffers.play(world, out)?;
     Ok(())
+}
+
+/// Opens the world again, if the shape has no fault and no call is under way.
+#[tactic(auto, using(crate::proofs::Fitting::reopening_fits))]
+#[inline(never)]
+fn reopen(
+    world: &mut World,
+    config: &Config,
+    buffers: &mut LineBuffers,
+    out: &mut Vec<u8>,
+) -> Result<Option<Fault>, AllocError>
+    ensures { IfOk result (λ r. PlaysLine (Some world.old.world) (lines.Reopen config.now) r out.old.items out.new.items (Some world.new.world)) }
+{
+    if let Some(fault) = fault_of_config(config) {
+        return Ok(Some(fault));
+    }
+    let event = WorldEvent::Reopen { config: *config };
+    if !world.fits(&event) {
+        return Ok(Some(Fault::NotNow));
+    }
+    play_one(world, event, buffers, out)?;
+    Ok(None)
 }
 
 #[inline(never)]

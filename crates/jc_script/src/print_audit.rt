@@ -1,9 +1,9 @@
 //! An audit, as lines.
 ghost use Rattle.std.specs.Prelude.{◌≡◌, ◌++◌, OnOk, decimal, codes, List, ℕ};
 ghost use Rattle.std.specs.List.{flat_map};
-ghost use Rattle.jc_script.specs.Printing.{entry_text, entries_line, key_text, differs_line, coherence_text, legal_name};
-ghost use Rattle.jc_script.specs.Printing.{history_line, audit_text};
+ghost use Rattle.jc_script.specs.Printing.{entry_text, entries_line, coherence_text, legal_name, history_line, audit_text};
 
+use crate::print_lines::put_keys_line;
 use crate::printing::{Piece, put, put_pieces};
 use jc_types::{Key, Value};
 use jc_world::audit::Audit;
@@ -46,37 +46,12 @@ fn put_entries_line(
     put(out, "\n")
 }
 
-#[tactic(auto, unfolding(crate::specs::Printing::key_text))]
-fn put_key_text(out: &mut Vec<u8>, key: &Key) -> Result<(), AllocError>
-    ensures { OnOk result (out.new.items ≡ out.old.items ++ key_text key.now) }
-{
-    put_pieces(out, &[Piece::Text(" "), Piece::Key(key)])
-}
-
-fn put_keys(out: &mut Vec<u8>, keys: &[Key]) -> Result<(), AllocError>
-    ensures { OnOk result (out.new.items ≡ out.old.items ++ flat_map key_text keys.now) }
-{
-    for key in keys {
-        put_key_text(out, key)?;
-    }
-    Ok(())
-}
-
-#[tactic(auto, unfolding(crate::specs::Printing::differs_line))]
-fn put_differs(out: &mut Vec<u8>, keys: &[Key]) -> Result<(), AllocError>
-    ensures { OnOk result (out.new.items ≡ out.old.items ++ differs_line keys.now) }
-{
-    put(out, "differs")?;
-    put_keys(out, keys)?;
-    put(out, "\n")
-}
-
 fn put_coherence(out: &mut Vec<u8>, keys: &[Key]) -> Result<(), AllocError>
     ensures { OnOk result (out.new.items ≡ out.old.items ++ coherence_text keys.now) }
 {
     match keys {
         [] => put(out, "coherent\n"),
-        [_, ..] => put_differs(out, keys),
+        [_, ..] => put_keys_line(out, "differs", keys),
     }
 }
 

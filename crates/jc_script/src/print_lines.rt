@@ -1,9 +1,10 @@
 //! Lines that several kinds of events print.
 ghost use Rattle.std.specs.Prelude.{◌≡◌, ◌++◌, OnOk};
+ghost use Rattle.std.specs.List.{flat_map};
 ghost use Rattle.jc_script.specs.Printing.{write_line, asks_text, fails_line, answer_line, answer_text, fails_text};
-ghost use Rattle.jc_script.specs.Printing.{refused_whole_line, over_line, cause_text, piece_text};
+ghost use Rattle.jc_script.specs.Printing.{refused_whole_line, over_line, cause_text, piece_text, key_text, keys_line};
 
-use crate::printing::{Piece, put_key_line, put_pieces};
+use crate::printing::{Piece, put, put_key_line, put_pieces};
 use jc_model::{Change, LoadAnswer};
 use jc_types::{Key, Refusal, Value};
 use std::alloc::AllocError;
@@ -144,4 +145,30 @@ pub fn put_over(out: &mut Vec<u8>, call: u64, cause: &Option<Refusal>) -> Result
             Piece::Text("\n"),
         ],
     )
+}
+
+#[tactic(auto, unfolding(crate::specs::Printing::key_text))]
+fn put_key_text(out: &mut Vec<u8>, key: &Key) -> Result<(), AllocError>
+    ensures { OnOk result (out.new.items ≡ out.old.items ++ key_text key.now) }
+{
+    put_pieces(out, &[Piece::Text(" "), Piece::Key(key)])
+}
+
+fn put_keys(out: &mut Vec<u8>, keys: &[Key]) -> Result<(), AllocError>
+    ensures { OnOk result (out.new.items ≡ out.old.items ++ flat_map key_text keys.now) }
+{
+    for key in keys {
+        put_key_text(out, key)?;
+    }
+    Ok(())
+}
+
+/// A word, and after it keys.
+#[tactic(auto, unfolding(crate::specs::Printing::keys_line))]
+pub fn put_keys_line(out: &mut Vec<u8>, name: &str, keys: &[Key]) -> Result<(), AllocError>
+    ensures { OnOk result (out.new.items ≡ out.old.items ++ keys_line name.now keys.now) }
+{
+    put(out, name)?;
+    put_keys(out, keys)?;
+    put(out, "\n")
 }

@@ -4,9 +4,11 @@ ghost use Rattle.std.specs.List.{flat_map};
 ghost use Rattle.jc_script.specs.Printing.{process_text, cause_name, evict_line, victim_text, evicted_text, outcome_text};
 ghost use Rattle.jc_script.specs.Printing.{stepped_text, picked_line, dropped_line, refused_line, done_name, change_name};
 ghost use Rattle.jc_script.specs.Printing.{reported_line, reported_text, returned_text};
-ghost use Rattle.jc_script.specs.Printing.{shown_text, begun_text, left_text, foreign_line, told, end_text, event_text, texts};
+ghost use Rattle.jc_script.specs.Printing.{shown_text, begun_text, left_text, foreign_line, reopened_text, told, end_text, event_text, texts};
 
-use crate::print_lines::{put_answer, put_asks, put_fault_code, put_over, put_refused_whole};
+use crate::print_lines::{
+    put_answer, put_asks, put_fault_code, put_keys_line, put_over, put_refused_whole,
+};
 use crate::print_process::{put_process, put_processed, verb};
 use crate::printing::{Piece, put, put_key_line, put_number, put_pieces};
 use jc_model::{Cause, Change, Reply};
@@ -228,6 +230,7 @@ fn put_shown(out: &mut Vec<u8>, call: u64, key: &Key, seen: &Outcome) -> Result<
         Outcome::Waits => put_key_line(out, call, key, " waits\n"),
         Outcome::Again => put_key_line(out, call, key, " again\n"),
         Outcome::Written => Ok(()),
+        Outcome::Reopened(_) => Ok(()),
         Outcome::Unfit => Ok(()),
     }
 }
@@ -282,6 +285,16 @@ fn put_returned(out: &mut Vec<u8>, call: u64, seen: &Outcome) -> Result<(), Allo
     }
 }
 
+/// What was shown of a reopening.
+fn put_reopened(out: &mut Vec<u8>, seen: &Outcome) -> Result<(), AllocError>
+    ensures { OnOk result (out.new.items ≡ out.old.items ++ reopened_text seen.now) }
+{
+    match seen {
+        Outcome::Reopened(keys) => put_keys_line(out, "reopened", keys.as_slice()),
+        _ => Ok(()),
+    }
+}
+
 /// What was shown of the outcome of an event.
 fn put_told(out: &mut Vec<u8>, event: &WorldEvent, seen: &Outcome) -> Result<(), AllocError>
     ensures { OnOk result (out.new.items ≡ out.old.items ++ told event.now seen.now) }
@@ -305,6 +318,7 @@ fn put_told(out: &mut Vec<u8>, event: &WorldEvent, seen: &Outcome) -> Result<(),
         WorldEvent::Leave { call } => put_left(out, *call, seen),
         WorldEvent::PickUp { call, key } => put_shown(out, *call, key, seen),
         WorldEvent::Foreign { key, value } => put_foreign(out, key, value),
+        WorldEvent::Reopen { config: _ } => put_reopened(out, seen),
     }
 }
 

@@ -85,7 +85,8 @@ fn put_refusal(out: &mut Vec<u8>, refusal: &Refusal) -> Result<(), AllocError>
         | Refusal::NoLoader
         | Refusal::NoWriter
         | Refusal::TooManySessions
-        | Refusal::StillReserved => put(out, refusal.name()),
+        | Refusal::StillReserved
+        | Refusal::RepeatedKey => put(out, refusal.name()),
     }
 }
 

@@ -93,6 +93,21 @@ impl Agent {
         self.counts.own
     }
 
+    /// Ends the agent, and gives its loader and its writer back.
+    ///
+    /// Condition: it holds no stripe.
+    pub fn into_outside(self) -> Outside
+        requires { self.hands.held ≡ 0 }
+        ensures { result ≡ self.hands.outside }
+    {
+        let Agent {
+            caller: _,
+            counts: _,
+            hands,
+        } = self;
+        hands.into_outside()
+    }
+
     /// What the agent has begun and not ended, and what it has done.
     pub fn counts(&self) -> Counts
         ensures { result ≡ self.now.counts }

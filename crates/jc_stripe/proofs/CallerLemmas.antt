@@ -1,5 +1,5 @@
 -- Lemmas for the crates above: where the step of a phase is, which steps of a stripe are parked after each phase, whom an operation
--- asks first, and the keys of a stripe.
+-- asks first, the keys of a stripe, the entries of all stripes, and the stripes of a reopening.
 --     step_at                             a step is at its place, with its reply
 --     joined_parks, withdrawn_parks       a join and a withdrawal park what was parked
 --     beginner_parks                      a call that may begin has no parked step at its key
@@ -16,6 +16,12 @@
 --     without_none                        the reservations without a key that none of them has
 --     none_twice                          no key of an empty list stands twice
 --     keys_once, keys_own                 the keys of a stripe differ, and belong to it
+--     distinct-append                     the keys of two lists together are distinct if they are so in each, and no key is in both
+--     all_entries_once                    stripes with numbers in order have no key twice
+--     once_unless_shared                  stripes of any shapes and numbers have none exactly if no two of them share a key
+--     kept_few, kept_once, kept_own       what a stripe keeps is not too much, has each key once, and is of the stripe's keys
+--     opened_len, opened_at               a reopening makes as many stripes as it is to, each with its number and what it keeps
+--     opened_opens, opened_reached        nothing has happened in such a stripe, so it is as every stripe is
 --     adds_one, gains_one                 a step that is added or gained is one more in the list of own steps
 use Rattle.std.proofs.Common.{◌≡◌, ◌==◌, ◌&&◌, ◌||◌, ◌+◌, ℕ, zero, suc, List, [], ◌∷◌, Bool, true, false, cond, not, Option, None, Some, is_none, refl, sym, ap, ◌∙◌, slice_get, append-nil}
 use Rattle.std.specs.Ordering.{eq_by_cmp}
@@ -63,6 +69,9 @@ pub use Rattle.jc_stripe.proofs.Refusing.{asks_none, answering_asks}
 pub use Rattle.jc_stripe.proofs.Settled.{loads_asked}
 pub use Rattle.jc_stripe.proofs.Numbering.{without_none}
 pub use Rattle.jc_stripe.proofs.Uniform.{next_begun}
+pub use Rattle.jc_stripe.proofs.AllEntries.{distinct-append, all_entries_once, once_unless_shared}
+pub use Rattle.jc_stripe.proofs.Kept.{kept_few, kept_once, kept_own}
+pub use Rattle.jc_stripe.proofs.Opened.{opened_len, opened_at, opened_opens, opened_reached}
 use Rattle.jc_stripe.proofs.ParkedSteps.{parked-joined, parked-dissolved, parked-answered, parked-callers}
 use Rattle.jc_stripe.proofs.OwnPick.{is_call, differs, before_differs, after_differs, parked_other, none_parked, parked_told}
 use Rattle.jc_stripe.proofs.Own.{unparked, step_there, again_parks}

@@ -29,3 +29,8 @@ pub mod WholeCalls
 pub mod UniformParts
 pub mod Testing
 pub mod CallerLemmas
+pub mod AllEntries
+pub mod Dealing
+pub mod KeepsOrDrops
+pub mod Kept
+pub mod Opened

@@ -2,7 +2,7 @@
 --     state_of    the state that the fields mean
 --     IsStripe    entries and history are as large as the stripe's config says, the entries are in the order of use, the places
 --                 that are promised are the reserved ones, there is a free box for each ticket that may come, and the state is reached
-use Rattle.std.specs.Prelude.{◌≡◌, ◌+◌, [], length}
+use Rattle.std.specs.Prelude.{◌≡◌, ◌+◌, length}
 use Rattle.std.specs.FinMap.{from_entries}
 use Rattle.jc_types.specs.declared.limits.TheConstants.{RESERVATIONS_MAX}
 use Rattle.jc_stripe.specs.State.{State, promised}
@@ -16,7 +16,7 @@ state_of s =
       config = s.config;
       stripe = s.number;
       origin = s.origin;
-      opening = [];
+      opening = s.opening;
       cache = from_entries s.entries.list;
       reservations = s.reservations.held;
       joiners = s.joiners;
@@ -27,7 +27,7 @@ state_of s =
 pub record IsStripe (s : Inside) : Type 0 where
   pub capacity : s.entries.capacity ≡ s.config.capacity
   pub limit : s.history.limit ≡ s.config.history
-  pub by_use : s.entries.list ≡ by_use [] s.history.events
+  pub by_use : s.entries.list ≡ by_use s.opening s.history.events
   pub promised : s.history.promised ≡ promised (state_of s)
   pub boxes : s.boxes + length s.reservations.held ≡ RESERVATIONS_MAX
   pub state : IsReached (state_of s)

@@ -14,3 +14,4 @@ pub mod OwnSteps
 pub mod Tests
 pub mod Keys
 pub mod Hitting
+pub mod Reopening

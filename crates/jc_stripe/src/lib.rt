@@ -6,7 +6,9 @@
 mod appending;
 mod begun;
 mod call_rules;
+mod opening;
 pub mod phase_laws;
+mod reopening;
 mod stripe;
 mod ticket;
 mod ticket_boxes;
@@ -14,5 +16,6 @@ mod ticket_boxes;
 pub use begun::{Begun, Eviction, Picked, StepDone};
 pub use jc_mutentry::{AskProcess, ProcDone};
 pub use jc_outside::{LoadDone, Origin, WriteDone, played_load, played_write};
+pub use reopening::{Reopened, keeps_or_drops, reopen};
 pub use stripe::Stripe;
 pub use ticket::{Ask, First, Join, Reservation, Ticket};

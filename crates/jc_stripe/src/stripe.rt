@@ -2,6 +2,9 @@
 ghost use Rattle.std.specs.Prelude.{◌≡◌, ◌≤◌, ◌<◌, ◌+◌, ◌++◌, ◌↔◌, ◌⊎◌, [], true, false, IsTrue, IfOk, IsOk, OnOk, OnErr, IfSome, IfNone, Ok, None};
 ghost use Rattle.std.specs.Prelude.{Some, is_some, length, nat_le, slice_get, slice_range, vec_len, vec_capacity};
 ghost use Rattle.std.specs.FinMap as map;
+ghost use Rattle.std.specs.Prelude.{◌==◌};
+ghost use Rattle.std.specs.List.{list_all};
+ghost use Rattle.jc_types.specs.Stripes.{stripe_of};
 ghost use Rattle.jc_types.specs.Limits.{check};
 ghost use Rattle.jc_model.specs.declared.event.Op.{Op};
 ghost use Rattle.jc_model.specs.declared.event.Op.TheVariants.{Get};
@@ -28,6 +31,7 @@ mod looking;
 
 use crate::appending::{append_group, make_step};
 use crate::begun::{Begun, Picked, StepDone};
+use crate::opening::Opening;
 use crate::ticket::{Ask, Join, Reservation, Ticket};
 use crate::ticket_boxes::TicketBoxes;
 use beginning::{hit_done, is_get};
@@ -66,6 +70,7 @@ pub struct Stripe {
     boxes: TicketBoxes,
     joiners: Joiners,
     history: History,
+    opening: Opening,
 }
 
 impl Model for Stripe {
@@ -145,6 +150,7 @@ impl Stripe {
         let boxes = TicketBoxes::new(alloc)?;
         let joiners = Joiners::new();
         let history = History::new(alloc, config.history)?;
+        let opening = Opening::none(alloc);
         Ok(Stripe {
             config: *config,
             number,
@@ -154,6 +160,55 @@ impl Stripe {
             boxes,
             joiners,
             history,
+            opening,
+        })
+    }
+
+    /// A stripe with nothing in its history, which opens with these entries, in their order of use. It keeps
+    /// them, and a list of them as its opening.
+    /// An `Err` says that an allocation failed.
+    ///
+    /// Conditions: `config.check()` is `Ok`; the entries have the room that it gives to a stripe, and are of this stripe's keys.
+    pub fn open_with(
+        alloc: Global,
+        config: &Config,
+        number: usize,
+        origin: Origin,
+        entries: Entries,
+    ) -> Result<Self, AllocError>
+        requires fits { check config.now ≡ Ok tt }
+        requires capacity { entries.capacity ≡ config.now.capacity }
+        requires own { list_all (λ entry. stripe_of entry.0 config.now.stripes == number) entries.list ≡ true }
+        ensures made { IfOk result (λ s. s ≡ record {
+          config = config.now;
+          stripe = number;
+          origin = origin;
+          opening = entries.list;
+          cache = map.from_entries entries.list;
+          reservations = [];
+          joiners = [];
+          history = [];
+          next = 0;
+        }) }
+        ensures reached { IfOk result (λ s. IsReached s) }
+    {
+        // For its contract: each key is there once, and there are not too many.
+        let _ = entries.capacity();
+        let reservations = Reservations::new_from(0);
+        let boxes = TicketBoxes::new(alloc)?;
+        let joiners = Joiners::new();
+        let history = History::new(alloc, config.history)?;
+        let opening = Opening::of(alloc, &entries)?;
+        Ok(Stripe {
+            config: *config,
+            number,
+            origin,
+            entries,
+            reservations,
+            boxes,
+            joiners,
+            history,
+            opening,
         })
     }
 

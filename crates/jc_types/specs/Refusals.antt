@@ -4,7 +4,7 @@
 --     is_put_off       a bulk call tries the key again in its next round
 use Rattle.std.specs.Prelude.{ℕ, List, Bool, true, false, codes}
 use Rattle.jc_types.specs.declared.refusal.Refusal.{Refusal}
-use Rattle.jc_types.specs.declared.refusal.Refusal.TheVariants.{HistoryFull, Busy, TooManyInFlight, TooManyJoiners, LoaderFailed, WriterFailed, ProcessorFailed, OutOfMemory, TooManyKeys, BadConfig, NoLoader, NoWriter, TooManySessions, StillReserved}
+use Rattle.jc_types.specs.declared.refusal.Refusal.TheVariants.{HistoryFull, Busy, TooManyInFlight, TooManyJoiners, LoaderFailed, WriterFailed, ProcessorFailed, OutOfMemory, TooManyKeys, BadConfig, NoLoader, NoWriter, TooManySessions, StillReserved, RepeatedKey}
 
 -- the letters of the variant's name, without its code or field
 abbrev pub refusal_name : Refusal → List ℕ
@@ -22,6 +22,7 @@ refusal_name NoLoader = codes "NoLoader"
 refusal_name NoWriter = codes "NoWriter"
 refusal_name TooManySessions = codes "TooManySessions"
 refusal_name StillReserved = codes "StillReserved"
+refusal_name RepeatedKey = codes "RepeatedKey"
 
 -- the loader, the writer or the processor failed
 abbrev pub is_fault : Refusal → Bool
@@ -39,6 +40,7 @@ is_fault NoLoader = false
 is_fault NoWriter = false
 is_fault TooManySessions = false
 is_fault StillReserved = false
+is_fault RepeatedKey = false
 
 -- a bulk call tries the key again in its next round
 abbrev pub is_put_off : Refusal → Bool
@@ -56,3 +58,4 @@ is_put_off NoLoader = false
 is_put_off NoWriter = false
 is_put_off TooManySessions = false
 is_put_off StillReserved = false
+is_put_off RepeatedKey = false

@@ -58,6 +58,9 @@ pub enum Refusal {
     /// handed in.
     #[error("the cache is in use and can't be closed")]
     StillReserved,
+    /// A closed cache can't be opened again: a key is there twice, in stripes of more than one cache.
+    #[error("a key is there twice in the closed cache")]
+    RepeatedKey,
 }
 
 impl Refusal {
@@ -82,6 +85,7 @@ impl Refusal {
             Refusal::NoWriter => "NoWriter",
             Refusal::TooManySessions => "TooManySessions",
             Refusal::StillReserved => "StillReserved",
+            Refusal::RepeatedKey => "RepeatedKey",
         }
     }
 
@@ -103,7 +107,8 @@ impl Refusal {
             | Refusal::NoLoader
             | Refusal::NoWriter
             | Refusal::TooManySessions
-            | Refusal::StillReserved => false,
+            | Refusal::StillReserved
+            | Refusal::RepeatedKey => false,
         }
     }
 
@@ -124,7 +129,8 @@ impl Refusal {
             | Refusal::NoLoader
             | Refusal::NoWriter
             | Refusal::TooManySessions
-            | Refusal::StillReserved => false,
+            | Refusal::StillReserved
+            | Refusal::RepeatedKey => false,
         }
     }
 }

@@ -13,6 +13,7 @@ mod joiners;
 mod keys;
 mod openings;
 mod refusal;
+mod reopenings;
 mod reservations;
 mod script;
 mod shared;

@@ -3,7 +3,7 @@
 --     due_run                    the progress of a key once its processor has run
 --     dues_reported              the writer has returned for a key
 --     dues_happens               any event that fits
-use Rattle.jc_world.proofs.Common.{and_parts, fits, asks_loader, is_unanswered, has_progress, waits_for_load, is_load_given, LoadAnswer, First, Loader, Nobody, Processor, Writer, with_loaded, IsDue, IsDueIn, ◌≡◌, ℕ, true, Some, option_map, sym, refl, ap, ◌∙◌, subst, get, insert, remove, Config, WriterFailed, Bytes, entry_at, WriteAnswer, ProcessResult, Claim, change_due, Part, PartProgress, Shown, WorldEvent, with_met_by, new_part, with_change, with_report, after_report, keys_reported, run_result, progress_after, Happens, load_from, report_for, AllDue, Parts, WorldState, part_of, reported_now}
+use Rattle.jc_world.proofs.Common.{and_parts, fits, asks_loader, is_unanswered, has_progress, waits_for_load, is_load_given, LoadAnswer, First, Loader, Nobody, Processor, Writer, with_loaded, IsDue, IsDueIn, ◌≡◌, ℕ, true, Some, None, option_map, sym, refl, ap, ◌∙◌, subst, get, get-empty, insert, remove, Config, WriterFailed, Bytes, key_cmp, entry_at, WriteAnswer, ProcessResult, Claim, change_due, Part, PartProgress, Shown, WorldEvent, with_met_by, new_part, with_change, with_report, after_report, keys_reported, run_result, progress_after, Happens, load_from, report_for, AllDue, Parts, WorldState, part_of, reported_now}
 use Rattle.jc_world.proofs.Holding.{is_part}
 use Rattle.jc_world.proofs.Maps.{keys_ordered, each_put, each_left}
 use Rattle.jc_world.proofs.Lemmas.{KeyChange, by_nothing, by_refusal, by_step, by_reservation, by_join, by_commit, by_withdrawal, by_answer, by_retry, key_change, each_report}
@@ -82,4 +82,5 @@ dues_happens w new (WorldEvent.Report call left fault) seen fit h old =
 dues_happens w new (WorldEvent.Call call session command) seen fit h old = subst AllDueAt (sym h.1) old
 dues_happens w new (WorldEvent.Leave call) seen fit h old = subst AllDueAt (sym h.1) old
 dues_happens w new (WorldEvent.Foreign key value) seen fit h old = subst AllDueAt (sym h.1) old
+dues_happens w new (WorldEvent.Reopen config) seen fit h old = subst AllDueAt (sym h.1) (λ key part is. let t : None ≡ Some part = sym (get-empty key_cmp key) ∙ is in cc)
 dues_happens w new e seen fit h old = let k = key_change w new e seen refl h in dues_key w new e k.0 seen k.1 old

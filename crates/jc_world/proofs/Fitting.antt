@@ -36,6 +36,7 @@ fit_shown old new (WorldEvent.Commit call key) seen h = ended_fits old new call 
 fit_shown old new (WorldEvent.Withdraw call key) seen h = ap (λ (s : Shown). is_fit s.outcome) h.6
 fit_shown old new (WorldEvent.Leave call) seen h = ap (λ (s : Shown). is_fit s.outcome) h.0
 fit_shown old new (WorldEvent.PickUp call key) seen h = picked_fits old new call key h.0 h.2 h.4 seen.outcome h.5
+fit_shown old new (WorldEvent.Reopen config) seen h = ap (λ (s : Shown). is_fit s.outcome) h.0
 fit_shown old new (WorldEvent.Foreign key value) seen h = ap (λ (s : Shown). is_fit s.outcome) h.0
 fit_shown old new e seen h = ap (λ (s : Shown). is_fit s.outcome) h.2
 

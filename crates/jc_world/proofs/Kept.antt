@@ -22,26 +22,31 @@ AllTold w parts store = (key : Bytes) → KeyAgrees (get parts key) (entry_at st
 
 -- two tests that both pass
 -- a further premise held, and and_from the former ones
-hold_loader : (on w l h q : Bool) → (on && (w && (l && h) && q)) ≡ true → ((on && (w && l && q)) ≡ true) × (h ≡ true)
-hold_loader on w l h q e =
-    let a = and_parts on (w && (l && h) && q) e in
-    let b = and_parts (w && (l && h)) q a.1 in
+hold_loader : (on w l h q o : Bool) → (on && (w && (l && h) && q && o)) ≡ true → ((on && (w && l && q && o)) ≡ true) × (h ≡ true)
+hold_loader on w l h q o e =
+    let a = and_parts on (w && (l && h) && q && o) e in
+    let x = and_parts (w && (l && h) && q) o a.1 in
+    let b = and_parts (w && (l && h)) q x.0 in
     let c = and_parts w (l && h) b.0 in
     let d = and_parts l h c.1 in
-    (and_from on (w && l && q) a.0 (and_from (w && l) q (and_from w l c.0 d.0) b.1), d.1)
+    (and_from on (w && l && q && o) a.0 (and_from (w && l && q) o (and_from (w && l) q (and_from w l c.0 d.0) b.1) x.1), d.1)
 
 -- the same, of the writers
-hold_writer : (on w h l q : Bool) → (on && ((w && h) && l && q)) ≡ true → ((on && (w && l && q)) ≡ true) × (h ≡ true)
-hold_writer on w h l q e =
-    let a = and_parts on ((w && h) && l && q) e in
-    let b = and_parts ((w && h) && l) q a.1 in
+hold_writer : (on w h l q o : Bool) → (on && ((w && h) && l && q && o)) ≡ true → ((on && (w && l && q && o)) ≡ true) × (h ≡ true)
+hold_writer on w h l q o e =
+    let a = and_parts on ((w && h) && l && q && o) e in
+    let x = and_parts ((w && h) && l && q) o a.1 in
+    let b = and_parts ((w && h) && l) q x.0 in
     let c = and_parts (w && h) l b.0 in
     let d = and_parts w h c.0 in
-    (and_from on (w && l && q) a.0 (and_from (w && l) q (and_from w l d.0 c.1) b.1), d.1)
+    (and_from on (w && l && q && o) a.0 (and_from (w && l && q) o (and_from (w && l) q (and_from w l d.0 c.1) b.1) x.1), d.1)
 
 -- a store that was written by somebody else isn't quiet
-undisturbed : (on w l : Bool) → (on && (w && l && false)) ≡ true → ⊥
-undisturbed on w l h = let t = (and_parts (w && l) false ((and_parts on (w && l && false) h).1)).1 in cc
+undisturbed : (on w l o : Bool) → (on && (w && l && false && o)) ≡ true → ⊥
+undisturbed on w l o h =
+    let a = and_parts on (w && l && false && o) h in
+    let x = and_parts (w && l && false) o a.1 in
+    let t = (and_parts (w && l) false x.0).1 in cc
 
 -- what holds of what is there holds of what follows from it
 pub some_map : {A : Type 0} (o : Option A) (P Q : A → Type 0) → ((x : A) → P x → Q x) → IsSomeAnd o P → IsSomeAnd o Q
@@ -58,7 +63,7 @@ agrees_same None = tt
 agrees_same (Some x) = refl
 
 -- a value that is held is there
-holds_same : (stored : Option Bytes) (value : Bytes) → holds stored value ≡ true → stored ≡ Some value
+pub holds_same : (stored : Option Bytes) (value : Bytes) → holds stored value ≡ true → stored ≡ Some value
 holds_same None value h = cc
 holds_same (Some x) value h = ap Some (same_key x value (sym (texts_ties x value) ∙ h))
 
@@ -213,7 +218,7 @@ parts_answered w call key part answer is waits old =
     let due : waits_for_load part ≡ true = sym (ap (has_progress waits_for_load) is) ∙ waits in
     parts_progressed w call key part (with_loaded part.progress answer) w.store (after_answer w key part answer).premises is (asked_answer part.reservation.first part.progress answer (and_parts _ _ due).0)
     (λ h.
-    let hold = hold_loader w.config.write_through w.premises.writers w.premises.loaders (is_true_load answer (entry_at w.store key)) w.premises.quiet h in
+    let hold = hold_loader w.config.write_through w.premises.writers w.premises.loaders (is_true_load answer (entry_at w.store key)) w.premises.quiet w.premises.opening h in
     let one = told_at (get w.parts key) part (entry_at w.store key) (cached_entry w key) there (old.told hold.0 key) in
     told_insert w w.parts w.store key (record part { progress = with_loaded part.progress answer }) (old.told hold.0)
     (told_load part.progress answer (entry_at w.store key) (cached_entry w key) (unwritten_load part.reservation.first part.progress (and_parts _ _ due).0 (asked_at w key part there old)) (true_found answer _ hold.1) one)) old
@@ -228,7 +233,7 @@ parts_processed w key call part answer calls fail is waits old =
     let change = change_due w.config done in
     parts_progressed w call key part (progress_after change done) w.store (after_process w key part done).premises is (λ h. asked_run part.reservation.first change done (and_parts (asks_processor part.reservation.first) _ due).0 (run_given _ _))
     (λ h.
-    let hold = hold_loader w.config.write_through w.premises.writers w.premises.loaders (is_true_load done.load (entry_at w.store key)) w.premises.quiet h in
+    let hold = hold_loader w.config.write_through w.premises.writers w.premises.loaders (is_true_load done.load (entry_at w.store key)) w.premises.quiet w.premises.opening h in
     let one = told_at (get w.parts key) part (entry_at w.store key) (cached_entry w key) there (old.told hold.0 key) in
     told_insert w w.parts w.store key (record part { progress = progress_after change done }) (old.told hold.0)
     (told_run part.progress change done (entry_at w.store key) (cached_entry w key) (unwritten_run part.reservation.first part.progress (and_parts _ _ due).0 (and_parts (asks_processor part.reservation.first) _ due).1 (asked_at w key part there old)) (true_found done.load _ hold.1) one)) old
@@ -254,7 +259,7 @@ parts_reported w call key part report is waits old =
     let due : waits_for_report part ≡ true = sym (ap (has_progress waits_for_report) is) ∙ waits in
     parts_progressed w call key part (with_report part.progress report) w.store (after_report w key part report).premises is (asked_report part.reservation.first part.progress report (and_parts (is_some part.progress.change) _ due).0)
     (λ h.
-    let hold = hold_writer w.config.write_through w.premises.writers (is_true_report report (has_changed part)) w.premises.loaders w.premises.quiet h in
+    let hold = hold_writer w.config.write_through w.premises.writers (is_true_report report (has_changed part)) w.premises.loaders w.premises.quiet w.premises.opening h in
     let one = told_at (get w.parts key) part (entry_at w.store key) (cached_entry w key) there (old.told hold.0 key) in
     told_insert w w.parts w.store key (record part { progress = with_report part.progress report }) (old.told hold.0)
     (told_report part.progress report (entry_at w.store key) (cached_entry w key) (and_parts (is_some part.progress.change) _ due).0 hold.1 one)) old
@@ -263,7 +268,7 @@ parts_reported w call key part report is waits old =
 pub parts_disturbed : (w : WorldState) (store : Cache) → IsSoundWorld w → HasParts (record w { store = store; premises = with_foreign_write w.premises; is_fresh = false })
 parts_disturbed w store old = record {
   held = old.held;
-  told = λ h. absurd (undisturbed w.config.write_through w.premises.writers w.premises.loaders h);
+  told = λ h. absurd (undisturbed w.config.write_through w.premises.writers w.premises.loaders w.premises.opening h);
   cold = λ f. absurd (let t : false ≡ true = f in cc);
   idle = λ f. absurd (let t : false ≡ true = f in cc);
 }

@@ -8,7 +8,7 @@
 --     IsStart, may_of           it is the start of a call at a key; in a sound world the call may start there
 --     Move                      the same, as far as configuration, stripes and order go
 use Rattle.jc_world.proofs.Asked.{asked_new}
-use Rattle.jc_world.proofs.Common.{cond, None, Change, FitsAsked, IsDueIn, ◌≡◌, ℕ, Bool, true, false, ◌++◌, slice_set, Some, Option, sym, refl, ap, ◌∙◌, inl, inr, Caller, Config, Refusal, Bytes, is_load_given, Op, Begins, Commits, Withdraws, PicksUp, State, is_reserved, new_reservation, with_reservation, TicketClaim, JoinClaim, Begun, Picked, First, Loader, Nobody, Processor, Writer, Reservation, Outcome, Part, JoinAnswer, PartProgress, Shown, Stepped, WorldEvent, CallState, new_call, op_at, with_stripe, with_phase, step_of, not_over, shown_begun, fault_in, with_settled, new_progress, with_new_part, without_part, with_join, without_join, ReservesAs, Starts, Ends, Picks, Happens, Step, fits, ends_load, is_answer_at, Agrees, ProgressAgrees, IsSoundWorld, WorldState, home, stripe_for, open_call, part_of, out_of, join_of}
+use Rattle.jc_world.proofs.Common.{cond, None, Change, FitsAsked, IsDueIn, ◌≡◌, ℕ, Bool, true, false, ◌++◌, slice_set, Some, Option, sym, refl, ap, ◌∙◌, inl, inr, Caller, Config, Refusal, Bytes, is_load_given, Op, Begins, Commits, Withdraws, PicksUp, State, is_reserved, new_reservation, with_reservation, TicketClaim, JoinClaim, Begun, Picked, First, Loader, Nobody, Processor, Writer, Reservation, Outcome, Part, JoinAnswer, PartProgress, Shown, Stepped, WorldEvent, CallState, new_call, op_at, with_stripe, with_phase, step_of, not_over, shown_begun, fault_in, with_settled, new_progress, with_new_part, without_part, with_join, without_join, ReservesAs, Starts, Ends, Picks, Happens, Step, fits, after_reopening, is_reopening, ends_load, is_answer_at, Agrees, ProgressAgrees, IsSoundWorld, WorldState, home, stripe_for, open_call, part_of, out_of, join_of}
 use Rattle.jc_world.proofs.Beginning.{MayStart, may_start_at}
 use Rattle.jc_world.proofs.Shares.{added}
 use Rattle.jc_world.proofs.NewCalls.{begun_cases}
@@ -141,10 +141,11 @@ key_change w new e seen is h = cc
 
 -- 3. Any event.
 
--- what any event leaves: the stripes, the order and the joins as they were, or a change at a key
+-- what any event leaves: the stripes, the order and the joins as they were, a change at a key, or a world that was opened again
 pub data StripeChange (w new : WorldState) (e : WorldEvent) (seen : Shown) : Type 0 where
   by_key : (key : Bytes) → KeyChange w new e key seen → StripeChange w new e seen
   beside_stripes : (m : WorldState) → new ≡ m → m.config ≡ w.config → m.stripes ≡ w.stripes → m.order ≡ w.order → m.joins ≡ w.joins → AnswersNone seen.outcome → EndsNone e seen → StripeChange w new e seen
+  by_reopening : (config : Config) → e ≡ WorldEvent.Reopen config → is_reopening seen.outcome ≡ true → new ≡ after_reopening config w → StripeChange w new e seen
 
 -- what is shown of the beginning of a call is no answer
 begins_silent : (u : CallState) (seen : Shown) → seen ≡ shown_begun u → AnswersNone seen.outcome
@@ -161,6 +162,7 @@ change_of w new (WorldEvent.Report call left fault) seen h =
     beside_stripes _ (beside w new call h.0 left fault h.3).is refl refl refl refl (λ n p. ap (λ (s : Shown). is_answer_at n p s.outcome) h.2) (λ r. refl)
 change_of w new (WorldEvent.Leave call) seen h = beside_stripes _ h.1 refl refl refl refl (λ n p. ap (λ (s : Shown). is_answer_at n p s.outcome) h.0) (λ r. refl)
 change_of w new (WorldEvent.Foreign key value) seen h = beside_stripes _ h.1 refl refl refl refl (λ n p. ap (λ (s : Shown). is_answer_at n p s.outcome) h.0) (λ r. refl)
+change_of w new (WorldEvent.Reopen config) seen h = by_reopening config refl (ap (λ (s : Shown). is_reopening s.outcome) h.0) h.1
 change_of w new e seen h = let k = key_change w new e seen refl h in by_key k.0 k.1
 
 -- in a sound world a call may start where it does
@@ -173,6 +175,7 @@ pub data Move (w new : WorldState) (seen : Outcome) : Type 0 where
   no_move : new.config ≡ w.config → new.stripes ≡ w.stripes → new.order ≡ w.order → Move w new seen
   quiet_move : (key : Bytes) (from to : State) → stripe_for w key ≡ Some from → new.config ≡ w.config → new.stripes ≡ slice_set w.stripes (home w key) to → new.order ≡ w.order → to.cache ≡ from.cache → Move w new seen
   step_move : (from to : State) (x : Stepped) → new.config ≡ w.config → new.order ≡ w.order ++ added from to → seen ≡ Outcome.Stepped x → Move w new seen
+  reopening_move : is_reopening seen ≡ true → Move w new seen
 
 -- the world is another than `w` only beside them
 still_as : (w m new : WorldState) (seen : Outcome) → new ≡ m → m.config ≡ w.config → m.stripes ≡ w.stripes → m.order ≡ w.order → Move w new seen
@@ -197,6 +200,7 @@ move_at w new e key seen (by_retry call join from to e_is join_is there h is sho
 move_happens : (w new : WorldState) (e : WorldEvent) (seen : Shown) → StripeChange w new e seen → Move w new seen.outcome
 move_happens w new e seen (by_key key k) = move_at w new e key seen k
 move_happens w new e seen (beside_stripes m is config stripes order joins none ends) = still_as w m new _ is config stripes order
+move_happens w new e seen (by_reopening config e_is reopens is) = reopening_move reopens
 
 pub move_step : (w new : WorldState) (e : WorldEvent) (seen : Shown) → Step w e seen new → Move w new seen.outcome
 move_step w new e seen (inl (fit, happens)) = move_happens w new e seen (change_of w new e seen happens)

@@ -16,7 +16,7 @@ pub use Rattle.jc_world.proofs.Places.{at_stripe_apart, at_stripe, stripe_put, f
 pub use Rattle.jc_world.proofs.Entries.{split, tied, agrees_stepped, writes, loads_asked, writes_asked, loads, asks_nobody}
 pub use Rattle.jc_world.proofs.Reservations.{found_more, out_reserved, was_free, new_out, found_left}
 pub use Rattle.jc_world.proofs.Processors.{invoke_is, write_due, agrees_processed, agrees_effect}
-pub use Rattle.jc_world.proofs.KeyChanges.{AnswersNone, IsStart, KeyChange, by_nothing, by_refusal, by_step, by_reservation, by_join, by_commit, by_withdrawal, by_answer, by_retry, start_change, end_change, pick_change, key_change, StripeChange, by_key, beside_stripes, change_of, may_of, Move, no_move, quiet_move, step_move, move_step}
+pub use Rattle.jc_world.proofs.KeyChanges.{AnswersNone, IsStart, KeyChange, by_nothing, by_refusal, by_step, by_reservation, by_join, by_commit, by_withdrawal, by_answer, by_retry, start_change, end_change, pick_change, key_change, StripeChange, by_key, beside_stripes, by_reopening, change_of, may_of, Move, no_move, quiet_move, step_move, reopening_move, move_step}
 pub use Rattle.jc_world.proofs.Numbered.{some_of, within, at_index, made_more}
-pub use Rattle.jc_world.proofs.Returns.{each_report, IsReport}
+pub use Rattle.jc_world.proofs.Returns.{each_report, IsWhole}
 pub use Rattle.jc_world.proofs.Beside.{beside}

@@ -37,6 +37,9 @@ pub mod Phased
 pub mod Opened
 pub mod Sounding
 pub mod Reopening
+pub mod AllPremises
+pub mod OverCalls
+pub mod LastOpenings
 pub mod ReservedEntries
 pub mod JoinedLoads
 pub mod PickUps
@@ -52,3 +55,5 @@ pub mod Closing
 pub mod Merging
 pub mod Standing
 pub mod ShownOnce
+pub mod DroppedKeys
+pub mod Reopened

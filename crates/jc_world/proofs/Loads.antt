@@ -3,7 +3,7 @@
 --     total_step     each event raises that by one if it is an answer for the key, and else leaves it
 --     total_run      so a run raises it by its answers
 use Rattle.jc_world.proofs.Asked.{unanswered_load}
-use Rattle.jc_world.proofs.Common.{asks_loader, asks_processor, is_unanswered, with_loaded, ◌≡◌, ℕ, ◌+◌, Bool, true, false, cond, ◌&&◌, List, [], ◌∷◌, ◌++◌, map, length, drop, ◌==◌, Some, None, count_by, Option, option_map, zip, sym, refl, ap, ◌∙◌, inl, inr, arith, drop-append_seam, and_parts, and_right, nat_list_cmp_total, sum_by-cons, sum_by-append, pointwise, texts_ties, get, insert, remove, get-insert, get-remove, eq_by_cmp, Caller, WriterFailed, Bytes, entry_at, key_cmp, Group, nothing_said, victim_events, evicted_events, step_event, shared_event, step_place, events_of, is_load_given, Cause, Event, LoadAnswer, Op, Out, callers_of, ProcessResult, Claim, change_due, new_group, Steps, after_commit, State, StepDone, Outcome, Part, Shown, WorldEvent, step_of, with_met_by, new_part, with_change, with_report, keys_reported, run_result, progress_after, after_process, Happens, Step, Run, fits, is_answer, is_load, is_loaded, read_answer, load_from, report_for, IsSoundWorld, Parts, WorldState, part_of, has_progress, waits_for_load, waits_for_process, is_untouched, out_of, IsOpeningWorld, reported_now}
+use Rattle.jc_world.proofs.Common.{asks_loader, asks_processor, is_unanswered, with_loaded, ◌≡◌, ℕ, ◌+◌, Bool, true, false, cond, ◌&&◌, List, [], ◌∷◌, ◌++◌, map, length, drop, ◌==◌, Some, None, count_by, Option, option_map, zip, sym, refl, ap, ◌∙◌, inl, inr, arith, drop-append_seam, and_parts, or_parts, and_right, nat_list_cmp_total, sum_by-cons, sum_by-append, pointwise, texts_ties, get, insert, remove, get-insert, get-remove, eq_by_cmp, Caller, WriterFailed, Bytes, entry_at, key_cmp, Group, nothing_said, victim_events, evicted_events, step_event, shared_event, step_place, events_of, is_load_given, Cause, Event, LoadAnswer, Op, Out, callers_of, ProcessResult, Claim, change_due, new_group, Steps, after_commit, State, StepDone, Outcome, Part, Shown, WorldEvent, step_of, with_met_by, new_part, with_change, with_report, keys_reported, run_result, progress_after, after_process, Happens, Step, Run, fits, is_answer, is_load, is_loaded, read_answer, load_from, report_for, IsSoundWorld, Parts, WorldState, part_of, has_progress, waits_for_load, waits_for_process, is_untouched, out_of, IsOpeningWorld, is_reopening, reopens, reported_now}
 use Rattle.jc_world.proofs.Lemmas.{added, part_key, split, KeyChange, by_nothing, by_refusal, by_step, by_reservation, by_join, by_commit, by_withdrawal, by_answer, by_retry, key_change, each_report}
 use Rattle.jc_world.proofs.Kept.{unheld}
 use Rattle.jc_world.proofs.Opened.{no_part}
@@ -179,25 +179,25 @@ total_key w new e key seen q (by_answer call join from to x e_is join_is there h
 total_key w new e key seen q (by_retry call join from to e_is join_is there h is shows ends) fit old = ap (λ (v : WorldState). total v q) is
 
 -- by the kind of the event
-total_happens : (w new : WorldState) (e : WorldEvent) (seen : Shown) (q : Bytes) → fits w e ≡ true → Happens w e seen new → IsSoundWorld w → total new q ≡ one_if (is_answer q e seen.outcome) + total w q
-total_happens w new (WorldEvent.Look call stripe) seen q fit h old = unanswered false (total new q) (total w q) refl (ap (λ (x : WorldState). total x q) h.9)
-total_happens w new (WorldEvent.Read call key) seen q fit h old =
+total_happens : (w new : WorldState) (e : WorldEvent) (seen : Shown) (q : Bytes) → fits w e ≡ true → Happens w e seen new → is_reopening seen.outcome ≡ false → IsSoundWorld w → total new q ≡ one_if (is_answer q e seen.outcome) + total w q
+total_happens w new (WorldEvent.Look call stripe) seen q fit h none old = unanswered false (total new q) (total w q) refl (ap (λ (x : WorldState). total x q) h.9)
+total_happens w new (WorldEvent.Read call key) seen q fit h none old =
     ap (λ (x : WorldState). total x q) h.3 ∙ total_answered w call key q h.0 (read_answer (entry_at w.store key)) h.1 fit (read_given (entry_at w.store key))
     ∙ ap (λ (s : Shown). one_if (is_answer q (WorldEvent.Read call key) s.outcome) + total w q) (sym h.2)
-total_happens w new (WorldEvent.Say call key answer) seen q fit h old =
+total_happens w new (WorldEvent.Say call key answer) seen q fit h none old =
     let ok = and_parts (is_load_given answer) (has_progress waits_for_load (part_of w call key)) fit in
     ap (λ (x : WorldState). total x q) h.3 ∙ total_answered w call key q h.0 answer h.1 ok.1 ok.0
     ∙ ap (λ (s : Shown). one_if (is_answer q (WorldEvent.Say call key answer) s.outcome) + total w q) (sym h.2)
-total_happens w new (WorldEvent.Process call key source calls fail) seen q fit h old =
+total_happens w new (WorldEvent.Process call key source calls fail) seen q fit h none old =
     let answer = load_from source (entry_at w.store key) in
     let done = run_result h.0.reservation answer calls fail in
     ap (λ (x : WorldState). total x q) h.3 ∙ total_processed w call key q h.0 done h.1 fit
     ∙ ap (λ (s : Shown). one_if (is_answer q (WorldEvent.Process call key source calls fail) s.outcome) + total w q) (sym h.2)
-total_happens w new (WorldEvent.Change call key) seen q fit h old =
+total_happens w new (WorldEvent.Change call key) seen q fit h none old =
     let there = is_part (get w.parts key) call h.0 h.2 in
     unanswered false (total new q) (total w q) refl
     (ap (λ (x : WorldState). total x q) h.5 ∙ ap (λ b. count_by (is_load q) w.order + one_if b) (loaded_inserted w.parts key q (record h.0 { progress = with_change h.0.progress }) (λ same. sym (loaded_at w key q h.0 there same))))
-total_happens w new (WorldEvent.Report call left fault) seen q fit h old =
+total_happens w new (WorldEvent.Report call left fault) seen q fit h none old =
     unanswered false (total new q) (total w q) refl
     (ap (λ (x : WorldState). total x q) h.3
     ∙ each_report (λ v. total v q ≡ total w q) call (report_for h.0.kind left fault)
@@ -206,10 +206,11 @@ total_happens w new (WorldEvent.Report call left fault) seen q fit h old =
     let report = report_for h.0.kind left fault key in
     ap (λ b. count_by (is_load q) v.order + one_if b) (loaded_inserted v.parts key q (record part { progress = with_report part.progress report }) (λ same. sym (loaded_at v key q part there same))) ∙ o)
     (with_met_by w call (option_map WriterFailed fault)) (keys_reported (reported_now w call h.0)) refl)
-total_happens w new (WorldEvent.Call call session command) seen q fit h old = unanswered false (total new q) (total w q) refl (ap (λ (x : WorldState). total x q) h.1)
-total_happens w new (WorldEvent.Leave call) seen q fit h old = unanswered false (total new q) (total w q) refl (ap (λ (x : WorldState). total x q) h.1)
-total_happens w new (WorldEvent.Foreign key value) seen q fit h old = unanswered false (total new q) (total w q) refl (ap (λ (x : WorldState). total x q) h.1)
-total_happens w new e seen q fit h old = let k = key_change w new e seen refl h in unanswered false (total new q) (total w q) refl (total_key w new e k.0 seen q k.1 fit old)
+total_happens w new (WorldEvent.Call call session command) seen q fit h none old = unanswered false (total new q) (total w q) refl (ap (λ (x : WorldState). total x q) h.1)
+total_happens w new (WorldEvent.Leave call) seen q fit h none old = unanswered false (total new q) (total w q) refl (ap (λ (x : WorldState). total x q) h.1)
+total_happens w new (WorldEvent.Foreign key value) seen q fit h none old = unanswered false (total new q) (total w q) refl (ap (λ (x : WorldState). total x q) h.1)
+total_happens w new (WorldEvent.Reopen config) seen q fit h none old = let t : true ≡ false = ap (λ (s : Shown). is_reopening s.outcome) (sym h.0) ∙ none in cc
+total_happens w new e seen q fit h none old = let k = key_change w new e seen refl h in unanswered false (total new q) (total w q) refl (total_key w new e k.0 seen q k.1 fit old)
 
 -- what doesn't fit is no answer
 unfit_answer : (q : Bytes) (e : WorldEvent) → is_answer q e Outcome.Unfit ≡ false
@@ -217,9 +218,9 @@ unfit_answer q (WorldEvent.Read call key) = refl
 unfit_answer q e = refl
 
 -- any event, also one that doesn't fit
-total_step : (w new : WorldState) (e : WorldEvent) (seen : Shown) (q : Bytes) → Step w e seen new → IsSoundWorld w → total new q ≡ one_if (is_answer q e seen.outcome) + total w q
-total_step w new e seen q (inl (fit, happens)) old = total_happens w new e seen q fit happens old
-total_step w new e seen q (inr (unfit, shows, is)) old = unanswered (is_answer q e seen.outcome) (total new q) (total w q) (ap (λ (s : Shown). is_answer q e s.outcome) shows ∙ unfit_answer q e) (ap (λ (x : WorldState). total x q) is)
+total_step : (w new : WorldState) (e : WorldEvent) (seen : Shown) (q : Bytes) → Step w e seen new → is_reopening seen.outcome ≡ false → IsSoundWorld w → total new q ≡ one_if (is_answer q e seen.outcome) + total w q
+total_step w new e seen q (inl (fit, happens)) none old = total_happens w new e seen q fit happens none old
+total_step w new e seen q (inr (unfit, shows, is)) none old = unanswered (is_answer q e seen.outcome) (total new q) (total w q) (ap (λ (s : Shown). is_answer q e s.outcome) shows ∙ unfit_answer q e) (ap (λ (x : WorldState). total x q) is)
 
 -- 4. A run.
 
@@ -228,14 +229,15 @@ abbrev answers : Bytes → List WorldEvent → List Shown → ℕ
 answers q es ss = count_by (λ (e : WorldEvent × Shown). is_answer q e.0 e.1.outcome) (zip es ss)
 
 -- and so a run
-pub total_run : Laws → (w new : WorldState) (es : List WorldEvent) (ss : List Shown) (q : Bytes) → Run w es ss new → IsSoundWorld w → total new q ≡ answers q es ss + total w q
-total_run laws w new [] [] q run old = let e : total new q ≡ total w q = ap (λ (x : WorldState). total x q) run in omega arith
-total_run laws w new (e ∷ es) (s ∷ ss) q (mid, step, rest) old =
-    let one = total_step w mid e s q step old in
-    let more = total_run laws mid new es ss q rest (sound_step laws w e s mid step old) in
+pub total_run : Laws → (w new : WorldState) (es : List WorldEvent) (ss : List Shown) (q : Bytes) → Run w es ss new → reopens ss ≡ false → IsSoundWorld w → total new q ≡ answers q es ss + total w q
+total_run laws w new [] [] q run none old = let e : total new q ≡ total w q = ap (λ (x : WorldState). total x q) run in omega arith
+total_run laws w new (e ∷ es) (s ∷ ss) q (mid, step, rest) none old =
+    let parts = or_parts (is_reopening s.outcome) (reopens ss) none in
+    let one = total_step w mid e s q step parts.0 old in
+    let more = total_run laws mid new es ss q rest parts.1 (sound_step laws w e s mid step old) in
     let split_off : answers q (e ∷ es) (s ∷ ss) ≡ one_if (is_answer q e s.outcome) + answers q es ss = sum_by-cons (λ (x : WorldEvent × Shown). cond (is_answer q x.0 x.1.outcome) 1 0) (e, s) (zip es ss) in
     omega arith
-total_run laws w new es ss q run old = absurd run
+total_run laws w new es ss q run none old = absurd run
 
 -- nothing was counted in an opening
 pub total_opened : (w : WorldState) (q : Bytes) → IsOpeningWorld w → total w q ≡ 0

@@ -239,15 +239,15 @@ picked_same from to join p h = ap (λ (s : State). s.history) h.3
 
 -- 7. Empty stripes.
 
-no_history : (config : Config) (number count m : ℕ) → history_at (empty_stripes config number count) m ≡ []
+pub no_history : (config : Config) (number count m : ℕ) → history_at (empty_stripes config number count) m ≡ []
 no_history config number (suc count) (suc m) = no_history config (number + 1) count m
 no_history config number count m = refl
 
-pub starts_mergeable : (s : Inside) (config : Config) → check config ≡ Ok tt → s.items.items ≡ empty_stripes config 0 config.stripes → s.turns.items ≡ [] → IsMergeable s
-starts_mergeable s config fits empty none = record {
-  turns = λ number. ap (turns_of number) none ∙ sym (ap (λ ss. length (history_at ss number)) empty ∙ ap length (no_history config 0 config.stripes number));
-  count = let l = ap length empty ∙ empty_count config 0 config.stripes in let few = few_stripes config fits in omega arith;
-}
+pub few_empty : (config : Config) → check config ≡ Ok tt → length (empty_stripes config 0 config.stripes) ≤ STRIPES_MAX
+few_empty config fits = let count = empty_count config 0 config.stripes in let few = few_stripes config fits in omega arith
+
+pub starts_mergeable : (s : Inside) → length s.items.items ≤ STRIPES_MAX → ((number : ℕ) → history_at s.items.items number ≡ []) → s.turns.items ≡ [] → IsMergeable s
+starts_mergeable s few empty none = record { turns = λ number. ap (turns_of number) none ∙ sym (ap length (empty number)); count = few }
 
 -- 8. One turn after another.
 

@@ -6,12 +6,13 @@
 --     follows_joined     it is so if the call has just joined
 --     resolves           so what a pick-up shows is what has become of the load
 --     answers_joins      the whole, from the join to the pick-up
-use Rattle.jc_world.proofs.Common.{◌≡◌, ℕ, Bool, true, false, cond, not, ◌&&◌, ◌||◌, List, [], ◌∷◌, ◌++◌, is_some, IsSomeAnd, ◌==◌, slice_get, slice_set, Some, None, Option, option_map, zip, sym, refl, ap, ◌∙◌, subst, inl, inr, append_assoc, append-nil, eq-eqb, and_from, or_parts, false_from_ne_true, nat_eq_equiv, nat_list_eq_equiv, pointwise, get, remove, list_any, Caller, Bytes, Op, belongs_to_same, belongs_to, JoinState, Again, Answered, Waiting, Joiner, with_joiner, without_joiner, told_to, State, is_key, reservation_of, IsOut, asks_loader, JoinClaim, Reservation, Outcome, Part, Shown, WorldEvent, CallState, op_at, with_stripe, not_over, with_join, Starts, Picks, Step, Run, fits, ends_join, is_last_pick_up, ends_load, Resolves, IsHeld, IsOwned, IsSoundWorld, JoinKey, join_key, Joins, WorldState, home, stripe_for, open_call, of_call, part_of, join_of, has_joined, is_joined}
-use Rattle.jc_world.proofs.Lemmas.{is_some_and, found_test, fact_found, found_number, same_bytes, of_call-at, joiner_of, find_kept, joined_last, join_at, load_there, MayStart, may_start_at, part_key, at_stripe_apart, stripe_put, found_more, KeyChange, by_nothing, by_refusal, by_step, by_reservation, by_join, by_commit, by_withdrawal, by_answer, by_retry, StripeChange, by_key, beside_stripes, change_of, may_of, some_of}
+use Rattle.jc_world.proofs.Common.{◌≡◌, ℕ, Bool, true, false, cond, not, ◌&&◌, ◌||◌, List, [], ◌∷◌, ◌++◌, is_some, IsSomeAnd, ◌==◌, slice_get, slice_set, find, Some, None, Option, option_map, zip, sym, refl, ap, ◌∙◌, subst, inl, inr, append_assoc, append-nil, eq-eqb, and_from, or_parts, false_from_ne_true, nat_eq_equiv, nat_list_eq_equiv, pointwise, get, remove, list_any, Caller, Config, Bytes, Op, Get, belongs_to_same, belongs_to, JoinState, Again, Answered, Waiting, Joiner, with_joiner, without_joiner, told_to, State, is_key, reservation_of, IsOut, asks_loader, JoinClaim, Reservation, Outcome, Part, Shown, WorldEvent, CallState, has_number, op_at, with_stripe, not_over, with_join, Starts, Picks, Step, Run, fits, ends_join, is_last_pick_up, ends_load, Resolves, IsCallOf, IsHeld, IsOwned, IsSoundWorld, JoinKey, join_key, Joins, WorldState, home, stripe_for, open_call, of_call, part_of, join_of, has_joined, is_joined}
+use Rattle.jc_world.proofs.Lemmas.{is_some_and, found_test, fact_found, found_number, same_bytes, of_call-at, joiner_of, find_kept, joined_last, join_at, load_there, MayStart, may_start_at, part_key, at_stripe_apart, stripe_put, found_more, KeyChange, by_nothing, by_refusal, by_step, by_reservation, by_join, by_commit, by_withdrawal, by_answer, by_retry, StripeChange, by_key, beside_stripes, by_reopening, change_of, may_of, some_of}
 use Rattle.jc_world.proofs.Maps.{joins_ordered, get-here, get-beside, get-left}
 use Rattle.jc_world.proofs.Kept.{some_map}
 use Rattle.jc_world.proofs.Joins.{no_joiner}
 use Rattle.jc_world.proofs.JoinedLoads.{Shows, step_shown, Tells, TellsOf, TellsIn, none_of_key, tells_on, tells_kept, tells_committed, tells_withdrawn}
+use Rattle.jc_world.proofs.Reopening.{no_calls, may_reopen}
 use Rattle.jc_world.proofs.Sounding.{Laws, sound_step, sound_run}
 
 -- 1. From world to world.
@@ -141,6 +142,14 @@ follows_key w new e key seen shows join r (by_retry call other from to e_is foun
     (of_another call join.caller.call key join.key seen.outcome (ap (λ x. is_last_pick_up join.caller.call join.key (x, seen)) (sym e_is) ∙ last) (ap ends_join shows_it))
     (ap (λ (x : WorldState). x.config) is) (ap (λ (x : WorldState). x.stripes) is) (ap (λ (x : WorldState). x.joins) is) (ap (λ b. b || false) (ends r)) old f
 
+-- while a call has joined a load, the cache can't be opened again
+joined_calls : (w : WorldState) (config : Config) (join : JoinClaim) → join_of w join.caller.call join.key ≡ Some join → fits w (WorldEvent.Reopen config) ≡ true → IsSoundWorld w → ⊥
+joined_calls w config join found fit old =
+    let waits = old.joins (join_key join) join found in
+    let call = some_of (open_call w join.caller.call) (IsCallOf join.caller.session join.key Get) waits.1.call in
+    let none = no_calls w (may_reopen w config fit).0 in
+    let t : None ≡ Some call.0 = ap (find (has_number join.caller.call)) (sym none) ∙ call.1 in cc
+
 -- what doesn't fit ends no load
 unfit_ends : (r : Reservation) (e : WorldEvent) → ends_load r (e, not_over Outcome.Unfit) ≡ false
 unfit_ends r (WorldEvent.Commit call key) = refl
@@ -153,6 +162,7 @@ follows_step w new e seen shows join r (inl (fit, happens)) last old f = go (cha
     go : StripeChange w new e seen → Follows new (shows ++ (e, seen) ∷ []) join r
     go (by_key key k) = follows_key w new e key seen shows join r k fit last old f
     go (beside_stripes m is config stripes order joins none ends) = follows_beside w new m shows _ join r f is config stripes joins (ap (λ b. b || false) (ends r))
+    go (by_reopening config e_is reopens is) = absurd (joined_calls w config join f.join_is (ap (fits w) (sym e_is) ∙ fit) old)
 follows_step w new e seen shows join r (inr (unfit, shown_is, is)) last old f = follows_beside w new w shows _ join r f is refl refl refl (ap (λ b. b || false) (ap (λ s. ends_load r (e, s)) shown_is ∙ unfit_ends r e))
 
 -- both tests fail, where not one of them holds

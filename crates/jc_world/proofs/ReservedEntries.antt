@@ -1,16 +1,17 @@
 -- What stays while nothing is appended, and while a key is reserved.
 --     IsUnmoved       the order and all that is cached are as they were
---     unmoved_step    so they are after an event that appends no step
+--     unmoved_step    so they are after an event that neither appends a step nor opens the cache again
 --     StaysOut        from one state of a stripe to a later one: a reservation that is out then, by a number that was given before,
 --                     was out before, and the entry of its key is as it was
 --     StayOut         from one world to a later one: that is so of all stripes
---     stay_run        so it is in every run
+--     stay_run        so it is in every run, or a call that had begun is over, since the cache was opened again
 --     stays_held      so the entry of a key stays, if its reservation is the same
-use Rattle.jc_world.proofs.Common.{◌≡◌, ℕ, ◌<◌, ◌≤◌, Bool, true, false, cond, not, ◌⊎◌, List, [], ◌∷◌, ◌++◌, slice_get, slice_set, Some, None, filter, find, sym, refl, ap, ◌∙◌, subst, inl, inr, arith, get, stripe_of, Config, Bytes, entry_at, KeepsReserved, State, is_key, is_reserved, with_reservation, without_key, without_reservation, IsOut, Begun, Reservation, Outcome, Part, Shown, WorldEvent, step_of, Step, Run, is_appended, IsHeld, IsSoundWorld, WorldState, home, stripe_for, entry_in, cached_entry, out_of}
-use Rattle.jc_world.proofs.Lemmas.{found_holds, at_stripe, split, out_reserved, found_left, KeyChange, by_nothing, by_refusal, by_step, by_reservation, by_join, by_commit, by_withdrawal, by_answer, by_retry, StripeChange, by_key, beside_stripes, change_of, Move, no_move, quiet_move, step_move, move_step, some_of}
+use Rattle.jc_world.proofs.Common.{◌≡◌, ℕ, ◌<◌, ◌≤◌, Bool, true, false, cond, not, ◌⊎◌, List, [], ◌∷◌, ◌++◌, slice_get, slice_set, Some, None, filter, find, sym, refl, ap, ◌∙◌, subst, inl, inr, arith, get, stripe_of, Config, Bytes, entry_at, KeepsReserved, State, is_key, is_reserved, with_reservation, without_key, without_reservation, IsOut, Begun, Reservation, Outcome, Part, Shown, WorldEvent, step_of, Step, Run, is_reopening, changes_cache, IsHeld, IsSoundWorld, WorldState, home, stripe_for, entry_in, cached_entry, out_of}
+use Rattle.jc_world.proofs.Lemmas.{found_holds, at_stripe, split, out_reserved, found_left, KeyChange, by_nothing, by_refusal, by_step, by_reservation, by_join, by_commit, by_withdrawal, by_answer, by_retry, StripeChange, by_key, beside_stripes, by_reopening, change_of, Move, no_move, quiet_move, step_move, reopening_move, move_step, some_of}
 use Rattle.jc_world.proofs.Sounding.{Laws, sound_step}
+use Rattle.jc_world.proofs.OverCalls.{IsPast, past_step, IsOver, over_run, over_reopened}
 
--- 1. Events that append no step.
+-- 1. Events that neither append a step nor open the cache again.
 
 abbrev pub IsUnmoved : WorldState → WorldState → Type 0
 IsUnmoved old new = (new.order ≡ old.order) × ((key : Bytes) → cached_entry new key ≡ cached_entry old key)
@@ -19,13 +20,19 @@ IsUnmoved old new = (new.order ≡ old.order) × ((key : Bytes) → cached_entry
 cached_set : (w : WorldState) (key q : Bytes) (from to : State) → stripe_for w key ≡ Some from → to.cache ≡ from.cache → entry_in (slice_get (slice_set w.stripes (home w key) to) (home w q)) q ≡ cached_entry w q
 cached_set w key q from to there same = at_stripe w.stripes (home w key) (home w q) from to (λ o x. entry_in x q ≡ entry_in o q) there (ap (λ c. entry_at c q) same) refl
 
-unmoved_as : (w new : WorldState) (seen : Outcome) → Move w new seen → is_appended seen ≡ false → IsUnmoved w new
+-- a reopening changes what is cached
+reopening_changes : (seen : Outcome) → is_reopening seen ≡ true → changes_cache seen ≡ true
+reopening_changes (Outcome.Reopened keys) h = refl
+reopening_changes seen h = cc
+
+unmoved_as : (w new : WorldState) (seen : Outcome) → Move w new seen → changes_cache seen ≡ false → IsUnmoved w new
 unmoved_as w new seen (no_move config stripes order) none = (order, λ q. λ i. entry_in (slice_get (stripes i) (stripe_of q (config i).stripes)) q)
 unmoved_as w new seen (quiet_move key from to there config stripes order cache) none =
     (order, λ q. (λ i. entry_in (slice_get (stripes i) (stripe_of q (config i).stripes)) q) ∙ cached_set w key q from to there cache)
-unmoved_as w new seen (step_move from to x config order shows) none = let t : true ≡ false = sym (ap is_appended shows) ∙ none in cc
+unmoved_as w new seen (step_move from to x config order shows) none = let t : true ≡ false = sym (ap changes_cache shows) ∙ none in cc
+unmoved_as w new seen (reopening_move reopens) none = let t : true ≡ false = sym (reopening_changes seen reopens) ∙ none in cc
 
-pub unmoved_step : (w new : WorldState) (e : WorldEvent) (seen : Shown) → Step w e seen new → is_appended seen.outcome ≡ false → IsUnmoved w new
+pub unmoved_step : (w new : WorldState) (e : WorldEvent) (seen : Shown) → Step w e seen new → changes_cache seen.outcome ≡ false → IsUnmoved w new
 unmoved_step w new e seen step none = unmoved_as w new seen.outcome (move_step w new e seen step) none
 
 -- 2. A reservation that is still out.
@@ -159,19 +166,26 @@ stay_key kept w new e key seen (by_retry call join from to e_is join_is there h 
     stay_set w new key from to (ap (λ (v : WorldState). v.config) is) (ap (λ (v : WorldState). v.stripes) is) there
     (stays_kept from to (ap (λ (s : State). s.next) h.2) (ap (λ (s : State). s.reservations) h.2) (λ q out. ap (λ (s : State). entry_at s.cache q) h.2))
 
-stay_step : KeepsReserved → (w new : WorldState) (e : WorldEvent) (seen : Shown) → Step w e seen new → IsSoundWorld w → StayOut w new
-stay_step kept w new e seen (inl (fit, happens)) old = go (change_of w new e seen happens)
+stay_step : KeepsReserved → (call : ℕ) (w new : WorldState) (e : WorldEvent) (seen : Shown) → Step w e seen new → IsSoundWorld w → IsPast call w → StayOut w new ⊎ IsOver call new
+stay_step kept call w new e seen (inl (fit, happens)) old past = go (change_of w new e seen happens)
   where
-    go : StripeChange w new e seen → StayOut w new
-    go (by_key key k) = stay_key kept w new e key seen k old
-    go (beside_stripes m is config stripes order joins none ends) = stay_beside w new m is config stripes
-stay_step kept w new e seen (inr (unfit, shows, is)) old = stay_beside w new w is refl refl
+    go : StripeChange w new e seen → StayOut w new ⊎ IsOver call new
+    go (by_key key k) = inl (stay_key kept w new e key seen k old)
+    go (beside_stripes m is config stripes order joins none ends) = inl (stay_beside w new m is config stripes)
+    go (by_reopening config e_is reopens is) = inr (subst (IsOver call) (sym is) (over_reopened call w config past))
+stay_step kept call w new e seen (inr (unfit, shows, is)) old past = inl (stay_beside w new w is refl refl)
 
-pub stay_run : Laws → (w new : WorldState) (es : List WorldEvent) (ss : List Shown) → Run w es ss new → IsSoundWorld w → StayOut w new
-stay_run laws w new [] [] run old = stay_beside w new w run refl refl
-stay_run laws w new (e ∷ es) (s ∷ ss) (mid, step, rest) old =
-    stay_then w mid new (stay_step laws.kept w mid e s step old) (stay_run laws mid new es ss rest (sound_step laws w e s mid step old))
-stay_run laws w new es ss run old = absurd run
+-- a call that has begun is over from the first reopening on
+pub stay_run : Laws → (call : ℕ) (w new : WorldState) (es : List WorldEvent) (ss : List Shown) → Run w es ss new → IsSoundWorld w → IsPast call w → StayOut w new ⊎ IsOver call new
+stay_run laws call w new [] [] run old past = inl (stay_beside w new w run refl refl)
+stay_run laws call w new (e ∷ es) (s ∷ ss) (mid, step, rest) old past =
+    either (stay_step laws.kept call w mid e s step old past) (stay_run laws call mid new es ss rest (sound_step laws w e s mid step old) (past_step call w mid e s step past))
+  where
+    either : StayOut w mid ⊎ IsOver call mid → StayOut mid new ⊎ IsOver call new → StayOut w new ⊎ IsOver call new
+    either (inl one) (inl more) = inl (stay_then w mid new one more)
+    either (inl one) (inr over) = inr over
+    either (inr over) more = inr (over_run call mid new es ss rest over)
+stay_run laws call w new es ss run old past = absurd run
 
 -- 4. A key whose part is of the same reservation.
 

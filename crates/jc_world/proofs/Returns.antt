@@ -2,7 +2,7 @@
 --     each_report     what a report for one key keeps, a return keeps
 --     IsBeside        a world is another one but for its parts and its premises
 --     returned        a return leads to such a world
---     IsReport        an event is a writer's return
+--     IsWhole         an event after which the world is sound as a whole: a writer's return, or a reopening
 use Rattle.jc_world.proofs.Common.{◌≡◌, ℕ, true, false, cond, List, [], ◌∷◌, Some, None, Option, refl, ap, ◌∙◌, Bytes, WriteAnswer, Part, Premises, WorldEvent, after_report, reported_at, after_reports, Parts, WorldState, part_of, waits_for_report}
 
 -- the report for one key keeps this
@@ -44,6 +44,7 @@ returned w new call answer keys is =
     in
     record { parts = all.parts; premises = all.premises; is = is ∙ all.is }
 
-abbrev pub IsReport : WorldEvent → Type 0
-IsReport (WorldEvent.Report call left fault) = Unit {0}
-IsReport e = ⊥
+abbrev pub IsWhole : WorldEvent → Type 0
+IsWhole (WorldEvent.Report call left fault) = Unit {0}
+IsWhole (WorldEvent.Reopen config) = Unit {0}
+IsWhole e = ⊥

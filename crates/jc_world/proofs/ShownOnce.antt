@@ -4,13 +4,13 @@
 --     Gives          a phase raises that by one at the places that it answers, and leaves it at the others
 --     gives_done, gives_commit, gives_picked and so on      what each kind of phase answers
 --     owed_run        so a run raises it by the answers that it shows
-use Rattle.jc_world.proofs.Common.{◌≡◌, ℕ, zero, suc, ◌+◌, Bool, true, false, cond, ◌&&◌, List, [], ◌∷◌, ◌++◌, map, length, ◌==◌, slice_get, slice_set, Some, None, count_by, Option, sym, refl, ap, ◌∙◌, inl, inr, arith, and-false, eqb-suc-suc, eqb-suc-zero, eqb-zero-suc, eqb-true, eqb-false, eq-eqb, and_parts, sum_by-cons, list_all, Caller, Config, Bytes, Group, nothing_said, victim_events, evicted_events, step_event, shared_event, step_place, events_of, of_stripe, Cause, Event, LoadAnswer, Op, Get, Out, Reply, callers_of, Joiner, joined_parks, withdrawn_parks, beginner_parks, commit_parks, committer_parks, sharers_park, picker_parks, picked_parks, others_park, again_parks_same, Extends, Grows, is_parked, MayBegin, new_group, Steps, Begins, after_commit, Commits, without_joiner, PicksUp, IsReached, State, JoinClaim, Begun, Picked, StepDone, Reservation, Outcome, Shown, WorldEvent, step_of, Step, Run, fits, IsOpeningWorld, is_answer_at, joiners_in, joiners_at, times_shown, IsSoundWorld, WorldState, home, stripe_for, out_of}
-use Rattle.jc_world.proofs.Lemmas.{added, share_stays, begins_with, stripe_put, AnswersNone, KeyChange, by_nothing, by_refusal, by_step, by_reservation, by_join, by_commit, by_withdrawal, by_answer, by_retry, StripeChange, by_key, beside_stripes, change_of, may_of}
+use Rattle.jc_world.proofs.Common.{◌≡◌, ℕ, zero, suc, ◌+◌, Bool, true, false, cond, ◌&&◌, List, [], ◌∷◌, ◌++◌, map, length, ◌==◌, slice_get, slice_set, Some, None, count_by, Option, sym, refl, ap, ◌∙◌, inl, inr, arith, and-false, eqb-suc-suc, eqb-suc-zero, eqb-zero-suc, eqb-true, eqb-false, eq-eqb, and_parts, sum_by-cons, list_all, Caller, Config, Bytes, Group, nothing_said, victim_events, evicted_events, step_event, shared_event, step_place, events_of, of_stripe, Cause, Event, LoadAnswer, Op, Get, Out, Reply, callers_of, Joiner, joined_parks, withdrawn_parks, beginner_parks, commit_parks, committer_parks, sharers_park, picker_parks, picked_parks, others_park, again_parks_same, Extends, Grows, is_parked, MayBegin, new_group, Steps, Begins, after_commit, Commits, without_joiner, PicksUp, IsReached, State, JoinClaim, Begun, Picked, StepDone, Reservation, Outcome, Shown, WorldEvent, step_of, Step, Run, fits, IsOpeningWorld, is_reopening, reopens, is_answer_at, joiners_in, joiners_at, times_shown, IsSoundWorld, WorldState, home, stripe_for, out_of}
+use Rattle.jc_world.proofs.Lemmas.{added, share_stays, begins_with, stripe_put, AnswersNone, KeyChange, by_nothing, by_refusal, by_step, by_reservation, by_join, by_commit, by_withdrawal, by_answer, by_retry, StripeChange, by_key, beside_stripes, by_reopening, change_of, may_of}
 use Rattle.jc_world.proofs.Merging.{other_set}
 use Rattle.jc_world.proofs.Loads.{one_if}
 use Rattle.jc_world.proofs.Opened.{sound_opening}
 use Rattle.jc_world.proofs.Sounding.{Laws, sound_step}
-use Rattle.jc_world.proofs.Standing.{config_run}
+use Rattle.jc_world.proofs.Standing.{config_run, reopens_none}
 
 -- 1. How often an answer is to have been shown.
 
@@ -207,29 +207,31 @@ owed_key grows w new e key seen number place (by_retry call join from to e_is jo
     (gives_none from to (ap (λ (s : State). s.history) h.2) (λ c k. ap (λ (s : State). is_parked s.joiners c k) h.2 ∙ again_parks_same from join c k (old.shape.each (home w key) from there).reached h.1)) (λ n p. ap (is_answer_at n p) shows)
 
 -- of any event
-owed_step : Grows → (w new : WorldState) (e : WorldEvent) (seen : Shown) (number place : ℕ) → Step w e seen new → IsSoundWorld w → IsSoundWorld new → owed new number place ≡ one_if (is_answer_at number place seen.outcome) + owed w number place
-owed_step grows w new e seen number place (inl (fit, happens)) old sound = go (change_of w new e seen happens)
+owed_step : Grows → (w new : WorldState) (e : WorldEvent) (seen : Shown) (number place : ℕ) → Step w e seen new → is_reopening seen.outcome ≡ false → IsSoundWorld w → IsSoundWorld new → owed new number place ≡ one_if (is_answer_at number place seen.outcome) + owed w number place
+owed_step grows w new e seen number place (inl (fit, happens)) kept old sound = go (change_of w new e seen happens)
   where
     go : StripeChange w new e seen → owed new number place ≡ one_if (is_answer_at number place seen.outcome) + owed w number place
     go (by_key key k) = owed_key grows w new e key seen number place k fit old sound
     go (beside_stripes m is config stripes order joins none ends) =
         owed_still w new seen.outcome number place (none number place) (ap (λ (x : WorldState). owed x number place) is ∙ (λ i. times_owed (joiners_in (slice_get (stripes i) number)) (slice_get (of_stripe (config i).stripes number (order i)) place)))
-owed_step grows w new e seen number place (inr (unfit, shows, is)) old sound = owed_still w new seen.outcome number place (ap (λ (s : Shown). is_answer_at number place s.outcome) shows) (ap (λ (x : WorldState). owed x number place) is)
+    go (by_reopening config e_is reopens is) = let t : true ≡ false = sym reopens ∙ kept in cc
+owed_step grows w new e seen number place (inr (unfit, shows, is)) kept old sound = owed_still w new seen.outcome number place (ap (λ (s : Shown). is_answer_at number place s.outcome) shows) (ap (λ (x : WorldState). owed x number place) is)
 
 -- 4. A run.
 
 abbrev pub answers_at : ℕ → ℕ → Shown → Bool
 answers_at number place s = is_answer_at number place s.outcome
 
-pub owed_run : Laws → Grows → (w new : WorldState) (es : List WorldEvent) (ss : List Shown) (number place : ℕ) → Run w es ss new → IsSoundWorld w → owed new number place ≡ count_by (answers_at number place) ss + owed w number place
-owed_run laws grows w new [] [] number place run old = let e : owed new number place ≡ owed w number place = ap (λ (x : WorldState). owed x number place) run in omega arith
-owed_run laws grows w new (e ∷ es) (s ∷ ss) number place (mid, step, rest) old =
+pub owed_run : Laws → Grows → (w new : WorldState) (es : List WorldEvent) (ss : List Shown) (number place : ℕ) → Run w es ss new → reopens ss ≡ false → IsSoundWorld w → owed new number place ≡ count_by (answers_at number place) ss + owed w number place
+owed_run laws grows w new [] [] number place run none old = let e : owed new number place ≡ owed w number place = ap (λ (x : WorldState). owed x number place) run in omega arith
+owed_run laws grows w new (e ∷ es) (s ∷ ss) number place (mid, step, rest) none old =
+    let parts = reopens_none s ss none in
     let sound = sound_step laws w e s mid step old in
-    let one = owed_step grows w mid e s number place step old sound in
-    let more = owed_run laws grows mid new es ss number place rest sound in
+    let one = owed_step grows w mid e s number place step parts.0 old sound in
+    let more = owed_run laws grows mid new es ss number place rest parts.1 sound in
     let split_off : count_by (answers_at number place) (s ∷ ss) ≡ one_if (is_answer_at number place s.outcome) + count_by (answers_at number place) ss = sum_by-cons (λ x. cond (answers_at number place x) 1 0) s ss in
     omega arith
-owed_run laws grows w new es ss number place run old = absurd run
+owed_run laws grows w new es ss number place run none old = absurd run
 
 -- nothing is owed in an opening
 owed_opened : (w : WorldState) (number place : ℕ) → IsOpeningWorld w → owed w number place ≡ 0
@@ -237,12 +239,12 @@ owed_opened w number place h = ap (λ es. times_owed (joiners_at w number) (slic
 
 -- so what is owed was shown
 pub shown_once : Laws → Grows → (opening new : WorldState) (es : List WorldEvent) (ss : List Shown) (number place : ℕ) (caller : Caller) (op : Op) (key : Bytes) (out : Out) (shared : Option ℕ) (reply : Reply)
-    → IsOpeningWorld opening → Run opening es ss new → slice_get (of_stripe opening.config.stripes number new.order) place ≡ Some (Event.Step caller op key out shared reply)
+    → IsOpeningWorld opening → Run opening es ss new → reopens ss ≡ false → slice_get (of_stripe opening.config.stripes number new.order) place ≡ Some (Event.Step caller op key out shared reply)
     → count_by (answers_at number place) ss ≡ times_shown (is_parked (joiners_at new number) caller key)
-shown_once laws grows opening new es ss number place caller op key out shared reply opens run there =
-    let total = owed_run laws grows opening new es ss number place run (sound_opening opening opens) in
+shown_once laws grows opening new es ss number place caller op key out shared reply opens run kept there =
+    let total = owed_run laws grows opening new es ss number place run kept (sound_opening opening opens) in
     let none = owed_opened opening number place opens in
     let is : owed new number place ≡ times_shown (is_parked (joiners_at new number) caller key) =
-    ap (λ (c : Config). times_owed (joiners_at new number) (slice_get (of_stripe c.stripes number new.order) place)) (config_run opening new es ss run)
+    ap (λ (c : Config). times_owed (joiners_at new number) (slice_get (of_stripe c.stripes number new.order) place)) (config_run opening new es ss run kept)
     ∙ ap (times_owed (joiners_at new number)) there in
     omega arith

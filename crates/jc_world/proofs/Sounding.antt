@@ -1,11 +1,13 @@
 -- Each event leads from a sound world to a sound one, and so does each run.
-use Rattle.jc_world.proofs.Common.{◌≡◌, ℕ, true, List, [], ◌∷◌, OnOk, OnErr, Some, Ok, Err, Option, Result, option_map, sym, refl, ap, ◌∙◌, subst, inl, inr, and_parts, Refusal, WriterFailed, Bytes, entry_at, with_entry, is_load_given, WriteAnswer, StaysReached, KeepsReserved, Part, Shown, WorldEvent, CallState, with_met_by, after_report, keys_reported, Happens, Step, Run, fits, read_answer, load_from, report_for, IsSoundWorld, WorldState, open_call, part_of, has_progress, waits_for_load, waits_for_report, with_stored, reported_now}
-use Rattle.jc_world.proofs.Lemmas.{HasParts, sound, order_met, order_part, order_happens, order_opened, key_change, each_report, IsReport}
+use Rattle.jc_world.proofs.Common.{◌≡◌, ℕ, true, List, [], ◌∷◌, OnOk, OnErr, Some, Ok, Err, Option, Result, option_map, sym, refl, ap, ◌∙◌, subst, inl, inr, and_parts, Refusal, WriterFailed, Bytes, entry_at, with_entry, is_load_given, WriteAnswer, StaysReached, KeepsReserved, Part, Shown, WorldEvent, CallState, with_met_by, after_report, keys_reported, after_reopening, Happens, Step, Run, fits, read_answer, load_from, report_for, IsSoundWorld, WorldState, open_call, part_of, has_progress, waits_for_load, waits_for_report, with_stored, reported_now}
+use Rattle.jc_world.proofs.Lemmas.{HasParts, sound, order_met, order_part, order_happens, order_opened, key_change, each_report, IsWhole}
 use Rattle.jc_world.proofs.Joins.{joins_met, joins_parted, joins_happens, joins_stored}
 use Rattle.jc_world.proofs.Dues.{dues_reported, dues_happens}
 use Rattle.jc_world.proofs.Sweeps.{sweeps_met, sweeps_happens}
 use Rattle.jc_world.proofs.Kept.{parts_half, parts_processed, parts_called, parts_answered, parts_changed, parts_reported, parts_disturbed, parts_stored, parts_left, parts_over, parts_key}
 use Rattle.jc_world.proofs.WriterBatches.{asked_waits}
+use Rattle.jc_world.proofs.Opened.{sound_opening}
+use Rattle.jc_world.proofs.Reopening.{reopened_opens}
 
 -- the writer has returned for a key
 sound_reported : (w : WorldState) (call : ℕ) (key : Bytes) (part : Part) (report : WriteAnswer) → part_of w call key ≡ Some part → waits_for_report part ≡ true → IsSoundWorld w → IsSoundWorld (after_report w key part report)
@@ -17,16 +19,17 @@ sound_reported w call key part report at waits h =
 sound_met : (w : WorldState) (call : ℕ) (met : Option Refusal) (u : CallState) → open_call w call ≡ Some u → IsSoundWorld w → IsSoundWorld (with_met_by w call met)
 sound_met w call met u here h = sound (with_met_by w call met) (order_met w call met u here h) (parts_over w call u (with_met_by w call met).calls here h) h.due (joins_met w call met u here h) (sweeps_met w call met u here h.sweeps)
 
--- and for all keys that it returns for
-sound_returned : (w new : WorldState) (e : WorldEvent) (seen : Shown) → Happens w e seen new → IsSoundWorld w → IsReport e → IsSoundWorld new
-sound_returned w new (WorldEvent.Report call left fault) seen h old back =
+-- for all keys that it returns for; and the cache was opened again
+sound_whole : (w new : WorldState) (e : WorldEvent) (seen : Shown) → fits w e ≡ true → Happens w e seen new → IsSoundWorld w → IsWhole e → IsSoundWorld new
+sound_whole w new (WorldEvent.Report call left fault) seen fit h old back =
     let answer = report_for h.0.kind left fault in
     let met = option_map WriterFailed fault in
     subst IsSoundWorld (sym h.3)
     (each_report IsSoundWorld call answer (λ v key part at waits o. sound_reported v call key part (answer key) at waits o) (with_met_by w call met) (keys_reported (reported_now w call h.0)) (sound_met w call met h.0 h.1 old))
-sound_returned w new e seen h old back = absurd back
+sound_whole w new (WorldEvent.Reopen config) seen fit h old back = subst IsSoundWorld (sym h.1) (sound_opening (after_reopening config w) (reopened_opens w config old fit))
+sound_whole w new e seen fit h old back = absurd back
 
-parts_happens : (w new : WorldState) (e : WorldEvent) (seen : Shown) → fits w e ≡ true → Happens w e seen new → (IsReport e → IsSoundWorld new) → IsSoundWorld w → HasParts new
+parts_happens : (w new : WorldState) (e : WorldEvent) (seen : Shown) → fits w e ≡ true → Happens w e seen new → (IsWhole e → IsSoundWorld new) → IsSoundWorld w → HasParts new
 parts_happens w new (WorldEvent.Call call session command) seen fit (shows, is) back h = subst HasParts (sym is) (parts_called w call session command fit h)
 parts_happens w new (WorldEvent.Look call stripe) seen fit (u, sweep, there, sweeps, from, at, keys, are, shows, is) back h = subst HasParts (sym is) (parts_over w call u _ there h)
 parts_happens w new (WorldEvent.Read call key) seen fit (part, there, shows, is) back h = subst HasParts (sym is) (parts_answered w call key part (read_answer (entry_at w.store key)) there fit h)
@@ -38,6 +41,7 @@ parts_happens w new (WorldEvent.Change call key) seen fit (part, change, there, 
 parts_happens w new (WorldEvent.Report call left fault) seen fit happens back h = parts_half new (back tt)
 parts_happens w new (WorldEvent.Leave call) seen fit (shows, is) back h = subst HasParts (sym is) (parts_left w call fit h)
 parts_happens w new (WorldEvent.Foreign key value) seen fit (shows, is) back h = subst HasParts (sym is) (parts_disturbed w (with_entry w.store key value) h)
+parts_happens w new (WorldEvent.Reopen config) seen fit h back old = parts_half new (back tt)
 parts_happens w new e seen fit h back old = let k = key_change w new e seen refl h in parts_key w new e k.0 seen k.1 fit old
 
 -- what the stripes below keep
@@ -47,7 +51,7 @@ pub record Laws : Type 0 where
 
 pub sound_step : Laws → (old : WorldState) (e : WorldEvent) (seen : Shown) (new : WorldState) → Step old e seen new → IsSoundWorld old → IsSoundWorld new
 sound_step laws old e seen new (inl (fit, happens)) h =
-    let back = sound_returned old new e seen happens h in
+    let back = sound_whole old new e seen fit happens h in
     sound new (order_happens laws.stays old new e seen fit happens back h) (parts_happens old new e seen fit happens back h) (dues_happens old new e seen fit happens h.due) (joins_happens old new e seen fit happens back h) (sweeps_happens old new e seen fit happens back h)
 sound_step laws old e seen new (inr (unfit, shows, is)) h = subst IsSoundWorld (sym is) h
 

@@ -4,9 +4,9 @@
 --     AllBegun       what is under way, reserved and joined is so of calls that have begun
 --     AllStand       each answer that was shown is that of its call's step, and the call has begun before it
 --     stands_run     so a run of events keeps that
-use Rattle.jc_world.proofs.Common.{◌≡◌, ℕ, zero, suc, true, false, cond, not, List, [], ◌∷◌, ◌++◌, length, take, slice_get, slice_set, Some, None, Option, option_map, zip, sym, refl, ap, ◌∙◌, subst, subst₂, inl, inr, append_assoc, append-nil, arith, take-append_seam, and_from, nat_eq_equiv, take-append-le, filter-append, slice_get_within, get, insert, remove, stripe_of, Caller, Config, Refusal, WriterFailed, Bytes, nothing_said, is_of_stripe, of_stripe, Op, Get, Out, Reply, callers_of, step_at, after_commit, State, JoinClaim, Reservation, Command, Outcome, Part, Shown, WorldEvent, CallState, new_call, has_number, op_for, is_going, has_too_many_keys, opened, going_on, with_met, settle, with_found, step_of, with_met_by, new_part, keys_reported, Happens, Step, Run, IsOpeningWorld, report_for, IsReplyOfStep, Stands, is_answer_at, Each, IsSoundWorld, Parts, JoinKey, join_key, Joins, WorldState, home, stripe_for, open_call, part_of, out_of, reported_now}
+use Rattle.jc_world.proofs.Common.{◌≡◌, ℕ, zero, suc, true, false, cond, not, List, [], ◌∷◌, ◌++◌, length, take, slice_get, slice_set, Some, None, Option, option_map, zip, sym, refl, ap, ◌∙◌, subst, subst₂, inl, inr, append_assoc, append-nil, arith, take-append_seam, and_from, or_parts, nat_eq_equiv, take-append-le, filter-append, slice_get_within, get, get-empty, insert, remove, stripe_of, Caller, Config, Refusal, WriterFailed, Bytes, key_cmp, nothing_said, is_of_stripe, of_stripe, Op, Get, Out, Reply, callers_of, step_at, after_commit, State, JoinClaim, Reservation, Command, Outcome, Part, Shown, WorldEvent, CallState, new_call, has_number, op_for, is_going, has_too_many_keys, opened, going_on, with_met, settle, with_found, step_of, with_met_by, new_part, keys_reported, Happens, Step, Run, IsOpeningWorld, is_reopening, reopens, report_for, IsReplyOfStep, Stands, is_answer_at, Each, IsSoundWorld, Parts, JoinKey, join_cmp, join_key, Joins, WorldState, home, stripe_for, open_call, part_of, out_of, reported_now}
 use Rattle.jc_model.specs.declared.event.Event.{Event as StripeEvent}
-use Rattle.jc_world.proofs.Lemmas.{still_at, each_map, fact_found, each_pushed, each_filter, added, found_number, of_call-at, done_for, Left, each_settled, begun_shown, Taken, taken_of, taken_met, each_taken, join_at, joins_get, part_key, stripe_put, AnswersNone, IsStart, KeyChange, by_nothing, by_refusal, by_step, by_reservation, by_join, by_commit, by_withdrawal, by_answer, by_retry, key_change, StripeChange, by_key, beside_stripes, change_of, Move, no_move, quiet_move, step_move, move_step, each_report}
+use Rattle.jc_world.proofs.Lemmas.{still_at, each_map, fact_found, each_pushed, each_filter, added, found_number, of_call-at, done_for, Left, each_settled, begun_shown, Taken, taken_of, taken_met, each_taken, join_at, joins_get, part_key, stripe_put, AnswersNone, IsStart, KeyChange, by_nothing, by_refusal, by_step, by_reservation, by_join, by_commit, by_withdrawal, by_answer, by_retry, key_change, StripeChange, by_key, beside_stripes, by_reopening, change_of, Move, no_move, quiet_move, step_move, reopening_move, move_step, each_report}
 use Rattle.jc_world.proofs.Maps.{keys_ordered, joins_ordered, each_put, each_left}
 use Rattle.jc_world.proofs.Opened.{no_part, no_join, sound_opening}
 use Rattle.jc_world.proofs.Sounding.{Laws, sound_step}
@@ -36,19 +36,26 @@ pub record IsLater (old new : WorldState) : Type 0 where
 later_same : (old new : WorldState) → new.config ≡ old.config → new.order ≡ old.order → IsLater old new
 later_same old new config order = record { config = config; more = []; order = order ∙ sym (append-nil old.order) }
 
-later_as : (w new : WorldState) (seen : Outcome) → Move w new seen → IsLater w new
-later_as w new seen (no_move config stripes order) = later_same w new config order
-later_as w new seen (quiet_move key from to there config stripes order cache) = later_same w new config order
-later_as w new seen (step_move from to x config order shows) = record { config = config; more = added from to; order = order }
+later_as : (w new : WorldState) (seen : Outcome) → Move w new seen → is_reopening seen ≡ false → IsLater w new
+later_as w new seen (no_move config stripes order) none = later_same w new config order
+later_as w new seen (quiet_move key from to there config stripes order cache) none = later_same w new config order
+later_as w new seen (step_move from to x config order shows) none = record { config = config; more = added from to; order = order }
+later_as w new seen (reopening_move reopens) none = let t : true ≡ false = sym reopens ∙ none in cc
 
-pub later_step : (w new : WorldState) (e : WorldEvent) (seen : Shown) → Step w e seen new → IsLater w new
-later_step w new e seen step = later_as w new seen.outcome (move_step w new e seen step)
+pub later_step : (w new : WorldState) (e : WorldEvent) (seen : Shown) → Step w e seen new → is_reopening seen.outcome ≡ false → IsLater w new
+later_step w new e seen step none = later_as w new seen.outcome (move_step w new e seen step) none
 
--- a run keeps the configuration
-pub config_run : (w new : WorldState) (es : List WorldEvent) (ss : List Shown) → Run w es ss new → new.config ≡ w.config
-config_run w new [] [] run = ap (λ (x : WorldState). x.config) run
-config_run w new (e ∷ es) (s ∷ ss) (mid, step, rest) = config_run mid new es ss rest ∙ (later_step w mid e s step).config
-config_run w new es ss run = absurd run
+-- if none of these opened the cache again, neither did the first, nor one of the others
+pub reopens_none : (s : Shown) (ss : List Shown) → reopens (s ∷ ss) ≡ false → (is_reopening s.outcome ≡ false) × (reopens ss ≡ false)
+reopens_none s ss none = or_parts (is_reopening s.outcome) (reopens ss) none
+
+-- a run that opens nothing again keeps the configuration
+pub config_run : (w new : WorldState) (es : List WorldEvent) (ss : List Shown) → Run w es ss new → reopens ss ≡ false → new.config ≡ w.config
+config_run w new [] [] run none = ap (λ (x : WorldState). x.config) run
+config_run w new (e ∷ es) (s ∷ ss) (mid, step, rest) none =
+    let parts = reopens_none s ss none in
+    config_run mid new es ss rest parts.1 ∙ (later_step w mid e s step parts.0).config
+config_run w new es ss run none = absurd run
 
 -- 3. What was shown stays true.
 
@@ -216,6 +223,13 @@ begun_happens shows w new (WorldEvent.Report call left fault) seen last h old =
 begun_happens shows w new (WorldEvent.Leave call) seen last h old =
     subst (AllBegun shows) (sym h.1) (record { calls = each_filter (IsBegun shows) (λ x. not (has_number call x)) w.calls old.calls; parts = old.parts; joins = old.joins })
 begun_happens shows w new (WorldEvent.Foreign key value) seen last h old = subst (AllBegun shows) (sym h.1) (record { calls = old.calls; parts = old.parts; joins = old.joins })
+begun_happens shows w new (WorldEvent.Reopen config) seen last h old =
+    subst (AllBegun shows) (sym h.1)
+    (record {
+      calls = tt;
+      parts = λ key part is. let t : None ≡ Some part = sym (get-empty key_cmp key) ∙ is in cc;
+      joins = λ at join is. let t : None ≡ Some join = sym (get-empty join_cmp at) ∙ is in cc;
+    })
 begun_happens shows w new e seen last h old = let k = key_change w new e seen refl h in begun_key shows w new e k.0 seen k.1 old
 
 -- and of any event
@@ -302,13 +316,14 @@ stands_key shows w new e key seen (by_answer call join from to x e_is join_is th
 stands_key shows w new e key seen (by_retry call join from to e_is join_is there h is shows_it ends) later old sound begun = stands_silent new shows e seen.outcome (λ n p. ap (is_answer_at n p) shows_it)
 
 -- of any event
-stands_step : (shows : List (WorldEvent × Shown)) (w new : WorldState) (e : WorldEvent) (seen : Shown) → Step w e seen new → IsSoundWorld w → IsSoundWorld new → AllBegun shows w → Stands new shows e seen.outcome
-stands_step shows w new e seen (inl (fit, happens)) old sound begun = go (change_of w new e seen happens)
+stands_step : (shows : List (WorldEvent × Shown)) (w new : WorldState) (e : WorldEvent) (seen : Shown) → Step w e seen new → is_reopening seen.outcome ≡ false → IsSoundWorld w → IsSoundWorld new → AllBegun shows w → Stands new shows e seen.outcome
+stands_step shows w new e seen (inl (fit, happens)) kept old sound begun = go (change_of w new e seen happens)
   where
     go : StripeChange w new e seen → Stands new shows e seen.outcome
-    go (by_key key k) = stands_key shows w new e key seen k (later_step w new e seen (inl (fit, happens))) old sound begun
+    go (by_key key k) = stands_key shows w new e key seen k (later_step w new e seen (inl (fit, happens)) kept) old sound begun
     go (beside_stripes m is config stripes order joins none ends) = stands_silent new shows e seen.outcome none
-stands_step shows w new e seen (inr (unfit, shows_it, is)) old sound begun = stands_silent new shows e seen.outcome (λ n p. ap (λ (s : Shown). is_answer_at n p s.outcome) shows_it)
+    go (by_reopening config e_is reopens is) = let t : true ≡ false = sym reopens ∙ kept in cc
+stands_step shows w new e seen (inr (unfit, shows_it, is)) kept old sound begun = stands_silent new shows e seen.outcome (λ n p. ap (λ (s : Shown). is_answer_at n p s.outcome) shows_it)
 
 -- 6. A run.
 
@@ -329,18 +344,19 @@ stands_more shows w new e s later stand one at x seen is =
     subst P (sym (ap (λ i. take i now) last ∙ take-append_seam shows ((e, s) ∷ []))) (subst (λ (p : WorldEvent × Shown). Stands new shows p.0 p.1.outcome) same one))
     is
 
-pub stands_run : Laws → (shows : List (WorldEvent × Shown)) (w new : WorldState) (es : List WorldEvent) (ss : List Shown) → Run w es ss new → IsSoundWorld w → AllBegun shows w → AllStand w shows → AllStand new (shows ++ zip es ss)
-stands_run laws shows w new [] [] run old begun stand =
+pub stands_run : Laws → (shows : List (WorldEvent × Shown)) (w new : WorldState) (es : List WorldEvent) (ss : List Shown) → Run w es ss new → reopens ss ≡ false → IsSoundWorld w → AllBegun shows w → AllStand w shows → AllStand new (shows ++ zip es ss)
+stands_run laws shows w new [] [] run none old begun stand =
     rw run (rw (append-nil shows) stand)
-stands_run laws shows w new (e ∷ es) (s ∷ ss) (mid, step, rest) old begun stand =
+stands_run laws shows w new (e ∷ es) (s ∷ ss) (mid, step, rest) none old begun stand =
+    let parts = reopens_none s ss none in
     let now = shows ++ (e, s) ∷ [] in
     let sound = sound_step laws w e s mid step old in
     let more = begun_step now w mid e s (length shows, seam_at shows [] (e, s)) step (all_begun_on shows ((e, s) ∷ []) w begun) in
     rw (append_assoc shows ((e, s) ∷ []) (zip es ss)) at
-    (stands_run laws now mid new es ss rest sound more (stands_more shows w mid e s (later_step w mid e s step) stand (stands_step shows w mid e s step old sound begun)))
-stands_run laws shows w new es ss run old begun stand = absurd run
+    (stands_run laws now mid new es ss rest parts.1 sound more (stands_more shows w mid e s (later_step w mid e s step parts.0) stand (stands_step shows w mid e s step parts.0 old sound begun)))
+stands_run laws shows w new es ss run none old begun stand = absurd run
 
 -- from an opening
-pub stands_opened : Laws → (opening new : WorldState) (es : List WorldEvent) (ss : List Shown) → IsOpeningWorld opening → Run opening es ss new → AllStand new (zip es ss)
-stands_opened laws opening new es ss opens run =
-    stands_run laws [] opening new es ss run (sound_opening opening opens) (begun_opened [] opening opens) (λ at e seen is. cc)
+pub stands_opened : Laws → (opening new : WorldState) (es : List WorldEvent) (ss : List Shown) → IsOpeningWorld opening → Run opening es ss new → reopens ss ≡ false → AllStand new (zip es ss)
+stands_opened laws opening new es ss opens run none =
+    stands_run laws [] opening new es ss run none (sound_opening opening opens) (begun_opened [] opening opens) (λ at e seen is. cc)

@@ -2,7 +2,7 @@
 --     sweeps_left, sweep_found      what is left of a call once a key is settled, and once it has taken keys
 --     sweeps_happens                any event that fits
 use Rattle.jc_world.proofs.Common.{◌≡◌, ℕ, true, false, cond, not, ◌||◌, List, [], ◌∷◌, ◌++◌, is_some, ◌==◌, Some, None, Option, find, sym, refl, ap, ◌∙◌, subst, append-nil, eqb-true, and_parts, or_right, nat_eq_equiv, list_any-append, is_some-lookup, pointwise, list_any, list_all, lookup, option_or, stripe_of, Config, Refusal, Bytes, Op, Command, Shown, WorldEvent, at_each, SweepState, CallState, new_call, has_number, opened, going_on, with_met, settle, has_looked, has_looked_at_each, next_sweep, with_found, look, with_met_by, Happens, fits, Each, Sweeps, IsSoundWorld, WorldState, open_call}
-use Rattle.jc_world.proofs.Lemmas.{each_pushed, each_filter, same_bytes, Left, going_is, each_settled, opened_cases, each_taken, keys-at_each, lookup-found, KeyChange, by_nothing, by_refusal, by_step, by_reservation, by_join, by_commit, by_withdrawal, by_answer, by_retry, key_change, IsReport}
+use Rattle.jc_world.proofs.Lemmas.{each_pushed, each_filter, same_bytes, Left, going_is, each_settled, opened_cases, each_taken, keys-at_each, lookup-found, KeyChange, by_nothing, by_refusal, by_step, by_reservation, by_join, by_commit, by_withdrawal, by_answer, by_retry, key_change, IsWhole}
 use Rattle.jc_world.proofs.StripeKeys.{all_here}
 
 -- 1. One call.
@@ -89,7 +89,7 @@ sweeps_looked w call stripe keys s u here sweeps own old =
 pub sweeps_met : (w : WorldState) (call : ℕ) (met : Option Refusal) (u : CallState) → open_call w call ≡ Some u → AllSweep w → AllSweep (with_met_by w call met)
 sweeps_met w call met u here old = each_taken call (λ x. Some (with_met met x)) (Sweeps w.config) u w.calls here (λ v goes h. let is : with_met met u ≡ v = cc in subst (Sweeps w.config) is h) old
 
-pub sweeps_happens : (w new : WorldState) (e : WorldEvent) (seen : Shown) → fits w e ≡ true → Happens w e seen new → (IsReport e → IsSoundWorld new) → IsSoundWorld w → AllSweep new
+pub sweeps_happens : (w new : WorldState) (e : WorldEvent) (seen : Shown) → fits w e ≡ true → Happens w e seen new → (IsWhole e → IsSoundWorld new) → IsSoundWorld w → AllSweep new
 sweeps_happens w new (WorldEvent.Call call session command) seen fit h back old = subst AllSweep (sym h.1) (sweeps_called w call session command old)
 sweeps_happens w new (WorldEvent.Look call stripe) seen fit h back old =
     let own = all_here w stripe h.4 h.6 (old.shape.each stripe h.4 h.5) h.7 in
@@ -101,4 +101,5 @@ sweeps_happens w new (WorldEvent.Foreign key value) seen fit h back old = subst 
 sweeps_happens w new (WorldEvent.Read call key) seen fit h back old = subst AllSweep (sym h.3) old.sweeps
 sweeps_happens w new (WorldEvent.Say call key answer) seen fit h back old = subst AllSweep (sym h.3) old.sweeps
 sweeps_happens w new (WorldEvent.Process call key source calls fail) seen fit h back old = subst AllSweep (sym h.3) old.sweeps
+sweeps_happens w new (WorldEvent.Reopen config) seen fit h back old = (back tt).sweeps
 sweeps_happens w new e seen fit h back old = let k = key_change w new e seen refl h in sweeps_key w new e k.0 seen k.1 old.sweeps

@@ -1,6 +1,6 @@
 -- Coherence, the second half of the headline.
 --     Coherent       each cached value is the store's, but for keys whose writer has changed the store and whose call isn't committed
---     all_hold       write-through is on, and the premises have held so far
+--     all_hold       write-through is on, and the premises have held since the last opening
 use Rattle.std.specs.Prelude.{◌≡◌, Bool, false, ◌&&◌, Some, IfSome}
 use Rattle.std.specs.FinMap.{get}
 use Rattle.jc_model.specs.Cache.{Bytes, entry_at}

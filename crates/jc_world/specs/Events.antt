@@ -43,6 +43,10 @@
 --     progress_after              the progress once the processor has run, by what the writer is then asked for
 --     after_process               the world once the processor has run
 --     shown_process               what a processor's run shows
+--     keys_dropped                the keys that a reopening drops
+--     stripes_reopened            the stripes of the new shape, each with what it keeps
+--     after_reopening             the world once it is opened again: as a new one, but for what is cached, the store and the numbers of
+--                                 calls. Its premises count from here: the opening is coherent if what is kept is the store's
 --     Happens                     what an event that fits may show and leave. A call of many keys is over with the event after which none of
 --                                 its keys is open and no look is left; a call that leaves, or is refused whole, is given up instead
 --     Step                        one event: one that doesn't fit is shown as a fault and changes nothing
@@ -52,7 +56,7 @@
 --     AllFit                      whatever the world may choose, each of these events fits when it comes
 use Rattle.std.specs.Prelude.{◌≡◌, ◌⊎◌, ℕ, List, [], ◌∷◌, ◌++◌, length, drop, Bool, true, false, Option, None, Some, map, option_map, slice_get, slice_set, if◌then◌else◌}
 use Rattle.std.specs.List.{filter_map, list_all}
-use Rattle.std.specs.FinMap.{get, insert, remove}
+use Rattle.std.specs.FinMap.{get, insert, remove, empty}
 use Rattle.jc_types.specs.declared.caller.Caller.{Caller}
 use Rattle.jc_types.specs.declared.refusal.Refusal.{Refusal}
 use Rattle.jc_types.specs.declared.refusal.Refusal.TheVariants.{TooManyKeys, WriterFailed}
@@ -82,6 +86,7 @@ use Rattle.jc_stripe.specs.declared.begun.Picked.TheVariants as picked
 use Rattle.jc_stripe.specs.Tickets.{TicketClaim, Claim, claim_of, change_asked, JoinClaim, entry_seen, is_loadable}
 use Rattle.jc_stripe.specs.State.{State}
 use Rattle.jc_stripe.specs.Keys.{AreKeys}
+use Rattle.jc_stripe.specs.Reopening.{all_entries, dropped, opened_stripes}
 use Rattle.jc_stripe.specs.Phases.{Begins, Commits, Withdraws, PicksUp}
 use Rattle.jc_world.specs.declared.command.CallKind.{CallKind}
 use Rattle.jc_world.specs.declared.event.WorldEvent.{WorldEvent}
@@ -97,7 +102,7 @@ use Rattle.jc_world.specs.Calls.{CallState, SweepState, open_keys, puts_off, op_
 use Rattle.jc_world.specs.declared.event.Part.{Part}
 use Rattle.jc_world.specs.declared.event.PartProgress.{PartProgress}
 use Rattle.jc_world.specs.World.{WorldState, home, stripe_for, open_call, of_call, part_of, Parts, waits_for_report, has_changed, join_of, join_key, out_of, writer_change}
-use Rattle.jc_world.specs.Premises.{read_answer, changed_to, report_for, is_true_load, is_true_report, with_loader, with_writer, with_foreign_write, load_from}
+use Rattle.jc_world.specs.Premises.{opens_coherent, read_answer, changed_to, report_for, is_true_load, is_true_report, with_loader, with_writer, with_foreign_write, load_from}
 use Rattle.jc_world.specs.declared.process.Processed.{Processed as ProcessShown}
 use Rattle.jc_world.specs.Fits.{fits, is_in_batch, writer_batch}
 
@@ -361,7 +366,32 @@ shown_process config r answer calls fail =
       change = change_due config done;
     }
 
--- 4. What an event that fits shows and leaves.
+-- 4. A reopening.
+
+-- in the order of all entries
+abbrev pub keys_dropped : Config → WorldState → List Bytes
+keys_dropped config w = map (λ entry. entry.0) (dropped config (all_entries w.stripes))
+
+abbrev pub stripes_reopened : Config → WorldState → List State
+stripes_reopened config w = opened_stripes config Played (all_entries w.stripes) 0 config.stripes
+
+-- the store stays, and the highest number of a call
+abbrev pub after_reopening : Config → WorldState → WorldState
+after_reopening config w =
+    record {
+      config = config;
+      stripes = stripes_reopened config w;
+      order = [];
+      store = w.store;
+      last = w.last;
+      calls = [];
+      parts = empty;
+      joins = empty;
+      premises = record { writers = true; loaders = true; quiet = true; opening = opens_coherent w.store (stripes_reopened config w) };
+      is_fresh = false;
+    }
+
+-- 5. What an event that fits shows and leaves.
 
 abbrev pub Happens : WorldState → WorldEvent → Shown → WorldState → Type 0
 Happens old (event.Call call session command) seen new =
@@ -420,8 +450,10 @@ Happens old (event.Foreign key value) seen new =
     let store = with_entry old.store key value in
     (seen ≡ not_over outcome.Written)
     × (new ≡ record old { store = store; premises = with_foreign_write old.premises; is_fresh = false })
+Happens old (event.Reopen config) seen new =
+    (seen ≡ not_over (outcome.Reopened (keys_dropped config old))) × (new ≡ after_reopening config old)
 
--- 5. Steps and runs.
+-- 6. Steps and runs.
 
 -- what happens, if it fits
 abbrev pub Step : WorldState → WorldEvent → Shown → WorldState → Type 0
@@ -440,7 +472,7 @@ abbrev pub RunAppending : WorldState → List WorldEvent → List Shown → List
 RunAppending old events before after new =
     (seen : List Shown) × Run old events seen new × (after ≡ before ++ seen)
 
--- 6. Events that fit.
+-- 7. Events that fit.
 
 abbrev pub is_fit : Outcome → Bool
 is_fit outcome.Unfit = false

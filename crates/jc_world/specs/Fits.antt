@@ -21,8 +21,9 @@
 --     fits           an event fits
 use Rattle.std.specs.Prelude.{ℕ, Bool, true, false, not, ◌&&◌, Option, None, Some, is_some, nat_lt, if◌then◌else◌}
 use Rattle.std.specs.List.{list_all, list_any}
+use Rattle.std.specs.Result.{is_ok}
 use Rattle.std.specs.FinMap.{get}
-use Rattle.jc_types.specs.Limits.{is_session}
+use Rattle.jc_types.specs.Limits.{check, is_session}
 use Rattle.jc_model.specs.declared.event.Op.{Op}
 use Rattle.jc_model.specs.declared.event.Op.TheVariants.{Get, ContainsKey, Put, GetAndPut, PutIfAbsent, Remove, RemoveIf, GetAndRemove, Replace, ReplaceIf, GetAndReplace, Clear, LoadAll, Invoke}
 use Rattle.jc_model.specs.Cache.{Bytes}
@@ -37,7 +38,7 @@ use Rattle.jc_world.specs.declared.event.WorldEvent.TheVariants as event
 use Rattle.jc_world.specs.declared.reports.WriterBatch.{WriterBatch}
 use Rattle.jc_world.specs.declared.reports.WriterBatch.TheVariants as batch
 use Rattle.jc_world.specs.Calls.{CallState, SweepState, has_looked, open_keys, op_at}
-use Rattle.jc_world.specs.World.{WorldState, is_busy, open_call, of_call, part_of, Parts, is_free_of, waits_for_load, waits_for_report, waits_for_write, is_answered, is_untouched, is_joined, has_progress, waits_for_process}
+use Rattle.jc_world.specs.World.{WorldState, is_busy, is_idle, open_call, of_call, part_of, Parts, is_free_of, waits_for_load, waits_for_report, waits_for_write, is_answered, is_untouched, is_joined, has_progress, waits_for_process}
 
 -- the operations that are calls by themselves: the others are keys of a bulk call
 abbrev pub is_single : Op → Bool
@@ -152,3 +153,4 @@ fits w (event.Withdraw call key) = has_progress is_untouched (part_of w call key
 fits w (event.Leave call) = may_leave w call (open_call w call)
 fits w (event.PickUp call key) = is_joined w call key
 fits w (event.Foreign key value) = true
+fits w (event.Reopen config) = is_idle w && is_ok (check config)

@@ -5,18 +5,22 @@
 --     start_with        a world at its start, with nothing cached and these values in its store
 --     StartsOpen        such a world is an opening
 --     Reaches           after a list of events, which showed a list, an opening world is at this state
---     StaysLegal        after every list of events the order is one legal history, what is cached is what it leaves, and each
---                       stripe's history is its part of the order
---     StaysCoherent     after every list of events, as long as the premises held, the world is coherent
+--     is_reopening      an outcome says that the cache was opened again
+--     reopens           one of these does
+--     ReachesSince      after a list of events, of which none opened it again, an opening world is at this state
+--     StaysLegal        after every list of events the order is one legal history from what the cache opened with last, what is cached
+--                       is what it leaves, and each stripe's history is its part of the order
+--     StaysCoherent     after every list of events, as long as the premises held since the last opening, the world is coherent
 --     with_all_premises  a world in which the premises have held so far, whatever came before
 --     StaysCoherentFrom from any world that is reached and coherent, in which no key is reserved: after every list of events, as long
 --                       as the premises held since then, the world is coherent
 --     is_answer         an event is an answer of the loader for a key, and was taken, by its outcome
 --     is_load           an event is a step of a key that had the loader asked, and isn't shared
 --     is_loaded         an answer of the loader is kept for the commit
---     CountsLoads       after every list of events, the answers that loaders gave for a key are as many as its steps that had the
---                       loader asked and aren't shared, and the answer that is kept for a commit, together
+--     CountsLoads       after every list of events since the last opening, the answers that loaders gave for a key are as many as its
+--                       steps that had the loader asked and aren't shared, and the answer that is kept for a commit, together
 use Rattle.std.specs.Prelude.{◌≡◌, ◌==◌, ◌+◌, ◌&&◌, ℕ, List, length, slice_get, [], ◌∷◌, zip, count_by, Bool, true, false, Option, None, Some, Ok, if◌then◌else◌}
+use Rattle.std.specs.List.{list_any}
 use Rattle.std.specs.Cmp.Lexicographic.{pointwise}
 use Rattle.std.specs.FinMap.{get, empty}
 use Rattle.jc_types.specs.declared.config.Config.{Config}
@@ -38,6 +42,8 @@ use Rattle.jc_world.specs.World.{WorldState, start, out_of, with_stored, cached_
 use Rattle.jc_world.specs.Events.{Run}
 use Rattle.jc_world.specs.Coherent.{Coherent, all_hold}
 use Rattle.jc_world.specs.Audit.{IsOrder, HasShares}
+
+-- 1. Openings.
 
 -- nothing has happened in a stripe yet
 pub record IsOpeningStripe (config : Config) (number : ℕ) (s : State) : Type 0 where
@@ -77,6 +83,21 @@ StartsOpen =
 abbrev pub Reaches : WorldState → List WorldEvent → List Shown → WorldState → Type 0
 Reaches opening events seen new = IsOpeningWorld opening × Run opening events seen new
 
+-- 2. Runs that open nothing again.
+
+abbrev pub is_reopening : Outcome → Bool
+is_reopening (outcome.Reopened keys) = true
+is_reopening o = false
+
+abbrev pub reopens : List Shown → Bool
+reopens seen = list_any (λ s. is_reopening s.outcome) seen
+
+-- and none of them opened it again
+abbrev pub ReachesSince : WorldState → List WorldEvent → List Shown → WorldState → Type 0
+ReachesSince opening events seen new = Reaches opening events seen new × (reopens seen ≡ false)
+
+-- 3. The laws.
+
 abbrev pub StaysLegal : Type 0
 StaysLegal =
     (opening : WorldState) (events : List WorldEvent) (seen : List Shown) (new : WorldState)
@@ -89,7 +110,7 @@ StaysCoherent =
 
 abbrev pub with_all_premises : WorldState → WorldState
 with_all_premises w =
-    record w { premises = record { writers = true; loaders = true; quiet = true } }
+    record w { premises = record { writers = true; loaders = true; quiet = true; opening = true } }
 
 abbrev pub StaysCoherentFrom : Type 0
 StaysCoherentFrom =
@@ -123,6 +144,6 @@ abbrev pub CountsLoads : Type 0
 CountsLoads =
     (opening : WorldState) (events : List WorldEvent) (seen : List Shown) (new : WorldState)
     (key : Bytes)
-    → Reaches opening events seen new
+    → ReachesSince opening events seen new
     → count_by (λ (e : WorldEvent × Shown). is_answer key e.0 e.1.outcome) (zip events seen)
     ≡ count_by (is_load key) new.order + (if is_loaded (get new.parts key) then 1 else 0)

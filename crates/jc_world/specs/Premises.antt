@@ -12,9 +12,13 @@
 --     with_loader, with_writer     the premises behind an answer of a loader, and behind a report of a writer, by whether it was
 --                                  honest
 --     with_foreign_write           the premises once somebody else has written the store
---     premises_hold                all of them have held so far: loaders and writers were honest, and the store was quiet
+--     is_stored                    an entry is the store's
+--     opens_coherent               each entry with which these stripes opened is the store's
+--     premises_hold                all of them have held so far: loaders and writers were honest, the store was quiet, and the last
+--                                  opening was coherent
 use Rattle.std.specs.Prelude.{ℕ, List, Bool, true, false, ◌&&◌, Option, None, Some, is_none}
 use Rattle.std.specs.Bool.{beq}
+use Rattle.std.specs.List.{list_all}
 use Rattle.jc_model.specs.declared.event.Change.{Change}
 use Rattle.jc_model.specs.declared.event.Change.TheVariants.{Write, Delete}
 use Rattle.jc_model.specs.declared.event.LoadAnswer.{LoadAnswer}
@@ -22,8 +26,9 @@ use Rattle.jc_model.specs.declared.event.LoadAnswer.TheVariants as load
 use Rattle.jc_model.specs.declared.event.WriteAnswer.{WriteAnswer}
 use Rattle.jc_model.specs.declared.event.WriteAnswer.TheVariants as write
 use Rattle.jc_model.specs.Batches.{answer_in_batch}
-use Rattle.jc_model.specs.Cache.{Bytes}
+use Rattle.jc_model.specs.Cache.{Bytes, Cache, entry_at}
 use Rattle.jc_model.specs.Table.{holds}
+use Rattle.jc_stripe.specs.State.{State}
 use Rattle.jc_world.specs.declared.command.CallKind.{CallKind}
 use Rattle.jc_world.specs.declared.command.CallKind.TheVariants as kind
 use Rattle.jc_world.specs.declared.event.Premises.{Premises}
@@ -76,5 +81,11 @@ with_writer p honest = record p { writers = p.writers && honest }
 abbrev pub with_foreign_write : Premises → Premises
 with_foreign_write p = record p { quiet = false }
 
+abbrev pub is_stored : Cache → Bytes × Bytes → Bool
+is_stored store entry = holds (entry_at store entry.0) entry.1
+
+abbrev pub opens_coherent : Cache → List State → Bool
+opens_coherent store stripes = list_all (λ s. list_all (is_stored store) s.opening) stripes
+
 abbrev pub premises_hold : Premises → Bool
-premises_hold p = p.writers && p.loaders && p.quiet
+premises_hold p = p.writers && p.loaders && p.quiet && p.opening

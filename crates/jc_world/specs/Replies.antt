@@ -1,12 +1,15 @@
--- What callers were shown, over every run: each answer is the reply of a step of the order, and each step was answered once.
+-- What callers were shown, over every run since the last opening: each answer is the reply of a step of the order, and each step was
+-- answered once.
 --     IsReplyOfStep  the event at a place of the order is a step of a call that has begun before, with this reply
 --     Stands          the outcome of an event, if it is an answer, is that of its call's step
---     RepliesStand    after every list of events, each answer that was shown is that of the step at its place
+--     RepliesStand    after every list of events since the last opening, each answer that was shown is that of the step at its
+--                     place
 --     is_answer_at    an outcome is the answer of the step at a place
 --     joiners_in, joiners_at
 --                     the joiners of a stripe, and of the one with a number; none if there is no such stripe
 --     times_shown     once, or not yet if the answer is still parked
---     StepsShownOnce  after every list of events, each step of the order was shown exactly once, or its answer is parked
+--     StepsShownOnce  after every list of events since the last opening, each step of the order was shown exactly once, or its
+--                     answer is parked
 use Rattle.std.specs.Prelude.{◌≡◌, ◌==◌, ◌&&◌, ℕ, List, [], take, zip, count_by, slice_get, Bool, false, Option, None, Some, if◌then◌else◌}
 use Rattle.jc_types.specs.declared.caller.Caller.{Caller}
 use Rattle.jc_model.specs.declared.event.Op.{Op}
@@ -26,7 +29,7 @@ use Rattle.jc_world.specs.declared.event.Outcome.TheVariants as outcome
 use Rattle.jc_world.specs.declared.event.Shown.{Shown}
 use Rattle.jc_world.specs.World.{WorldState, home}
 use Rattle.jc_world.specs.Calls.{op_for, new_call}
-use Rattle.jc_world.specs.Headline.{Reaches}
+use Rattle.jc_world.specs.Headline.{ReachesSince}
 
 -- 1. Each answer is that of a step.
 
@@ -62,7 +65,7 @@ Stands w shows e o = Unit {0}
 abbrev pub RepliesStand : Type 0
 RepliesStand =
     (opening : WorldState) (events : List WorldEvent) (seen : List Shown) (new : WorldState)
-    → Reaches opening events seen new
+    → ReachesSince opening events seen new
     → (at : ℕ) (e : WorldEvent) (s : Shown) → slice_get (zip events seen) at ≡ Some (e, s)
     → Stands new (take at (zip events seen)) e s.outcome
 
@@ -86,7 +89,7 @@ times_shown parked = if parked then 0 else 1
 abbrev pub StepsShownOnce : Type 0
 StepsShownOnce =
     (opening : WorldState) (events : List WorldEvent) (seen : List Shown) (new : WorldState)
-    → Reaches opening events seen new
+    → ReachesSince opening events seen new
     → (stripe place : ℕ) (caller : Caller) (op : Op) (key : Bytes) (out : Out) (shared : Option ℕ)
     (reply : Reply)
     → slice_get (of_stripe opening.config.stripes stripe new.order) place

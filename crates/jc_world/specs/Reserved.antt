@@ -1,8 +1,10 @@
 -- What stays while nothing is appended, and while a key is reserved.
---     is_appended       an outcome is a step's answer, which was given as the step was appended
---     OnlyStepsChange   an event that doesn't append a step leaves the order, and all that is cached: so do a reservation, an outside
---                       answer, a withdrawal and a pick-up
---     EntryStays        the cached entry of a reserved key stays as long as the reservation is out, whatever happens meanwhile
+--     changes_cache     an outcome is a step's answer, which was given as the step was appended, or says that the cache was opened
+--                       again
+--     OnlyStepsChange   an event that neither appends a step nor opens the cache again leaves the order, and all that is cached: so
+--                       do a reservation, an outside answer, a withdrawal and a pick-up
+--     EntryStays        the cached entry of a reserved key stays as long as the reservation is out, whatever happens meanwhile (the
+--                       cache isn't opened again then)
 use Rattle.std.specs.Prelude.{◌≡◌, List, Bool, true, false, Some}
 use Rattle.std.specs.FinMap.{get}
 use Rattle.jc_model.specs.Cache.{Bytes}
@@ -15,15 +17,16 @@ use Rattle.jc_world.specs.World.{WorldState, cached_entry}
 use Rattle.jc_world.specs.Events.{Step, Run}
 use Rattle.jc_world.specs.Headline.{Reaches}
 
-abbrev pub is_appended : Outcome → Bool
-is_appended (outcome.Stepped x) = true
-is_appended o = false
+abbrev pub changes_cache : Outcome → Bool
+changes_cache (outcome.Stepped x) = true
+changes_cache (outcome.Reopened keys) = true
+changes_cache o = false
 
 abbrev pub OnlyStepsChange : Type 0
 OnlyStepsChange =
     (opening : WorldState) (events : List WorldEvent) (seen : List Shown)
     (old new : WorldState) (e : WorldEvent) (s : Shown)
-    → Reaches opening events seen old → Step old e s new → is_appended s.outcome ≡ false
+    → Reaches opening events seen old → Step old e s new → changes_cache s.outcome ≡ false
     → (new.order ≡ old.order) × ((key : Bytes) → cached_entry new key ≡ cached_entry old key)
 
 -- the part of a key names its reservation: it is out in both worlds

@@ -78,6 +78,7 @@ key_at call (event.Withdraw other key) = at_call call other key
 key_at call (event.Leave other) = None
 key_at call (event.PickUp other key) = at_call call other key
 key_at call (event.Foreign key value) = None
+key_at call (event.Reopen config) = None
 
 abbrev pub AreAt : ℕ → List Bytes → List WorldEvent → Type 0
 AreAt call [] [] = Unit {0}
@@ -99,6 +100,7 @@ is_start (event.Withdraw call key) = false
 is_start (event.Leave call) = false
 is_start (event.PickUp call key) = false
 is_start (event.Foreign key value) = false
+is_start (event.Reopen config) = false
 
 abbrev pub is_change : WorldEvent → Bool
 is_change (event.Call call session command) = false
@@ -114,6 +116,7 @@ is_change (event.Withdraw call key) = false
 is_change (event.Leave call) = false
 is_change (event.PickUp call key) = false
 is_change (event.Foreign key value) = false
+is_change (event.Reopen config) = false
 
 -- of keys that differ
 pub record FitTogether (w : WorldState) : Type 0 where

@@ -12,6 +12,7 @@
 --     empty_stripe, empty_stripes     a stripe in which nothing has happened, and as many as are asked for, from a number on
 --     start                           a world before anything has happened
 --     is_busy                         a session has a call under way
+--     is_idle                         no call is under way
 --     open_call                       the call with this number, if it is under way
 --     of_call                         a part, if it is this call's
 --     part_of                         what a call has asked and heard for a key that it has reserved
@@ -31,7 +32,7 @@
 --     has_joined, is_joined           among these joins, and in a world, a call has joined a load of a key, and hasn't its answer
 --     is_free_of                      a call has neither reserved a key nor joined a load of it
 --     with_stored                     the world with this value in its store
-use Rattle.std.specs.Prelude.{◌==◌, ℕ, zero, suc, ◌+◌, List, [], ◌∷◌, Bool, true, false, not, ◌&&◌, Option, None, Some, find, is_none, is_some, slice_get, if◌then◌else◌}
+use Rattle.std.specs.Prelude.{◌==◌, ℕ, zero, suc, ◌+◌, List, [], ◌∷◌, length, Bool, true, false, not, ◌&&◌, Option, None, Some, find, is_none, is_some, slice_get, if◌then◌else◌}
 use Rattle.std.specs.declared.cmp.Ordering.{Ordering}
 use Rattle.std.specs.Ordering.{nat_cmp, on, then_cmp}
 use Rattle.std.specs.List.{list_any}
@@ -74,14 +75,14 @@ Joins = FinMap join_cmp JoinClaim
 pub record WorldState : Type 0 where
   pub config : Config
   pub stripes : List State
-  pub order : List Event  -- all events, over all stripes
+  pub order : List Event  -- all events since the world was opened last, over all stripes
   pub store : Cache
   pub last : Option ℕ  -- the highest number of a call so far
   pub calls : List CallState  -- the calls under way, in the order in which they began
   pub parts : Parts
   pub joins : Joins
-  pub premises : Premises  -- what has held so far of loaders, writers and others
-  pub is_fresh : Bool  -- no call has begun yet, and nobody else has written the store
+  pub premises : Premises  -- what has held since then of loaders, writers and others, and of that opening
+  pub is_fresh : Bool  -- no call has begun yet, nobody else has written the store, and nobody has opened the cache again
 
 -- 1. Stripes.
 
@@ -131,7 +132,7 @@ start config =
       calls = [];
       parts = empty;
       joins = empty;
-      premises = record { writers = true; loaders = true; quiet = true };
+      premises = record { writers = true; loaders = true; quiet = true; opening = true };
       is_fresh = true;
     }
 
@@ -140,6 +141,10 @@ start config =
 -- the session has a call under way
 abbrev pub is_busy : WorldState → ℕ → Bool
 is_busy w session = list_any (is_of_session session) w.calls
+
+-- no call is under way
+abbrev pub is_idle : WorldState → Bool
+is_idle w = length w.calls == 0
 
 abbrev pub open_call : WorldState → ℕ → Option CallState
 open_call w call = find (has_number call) w.calls

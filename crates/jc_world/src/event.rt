@@ -5,10 +5,11 @@ ghost use Rattle.jc_world.specs.Events.{not_over};
 
 use crate::command::Command;
 use crate::process::{EntryCalls, LoadSource, Processed};
+use crate::read_only::ReadOnlyList;
 use crate::reports::{LeftKeys, Reported};
 use jc_model::{Change, LoadAnswer, Out, Reply};
 use jc_stripe::{Eviction, Reservation};
-use jc_types::{Key, Refusal, Value};
+use jc_types::{Config, Key, Refusal, Value};
 
 /// What may happen next. An event that names a call is about a call under way, but for `Call`. What doesn't fit is shown as
 /// `Outcome::Unfit`, and changes nothing.
@@ -140,6 +141,15 @@ pub enum WorldEvent {
         /// What the store then holds for it: a value, or none if it is deleted.
         value: Option<Value>,
     },
+    /// The cache is closed, and opened again in this shape. Of what was cached, stripe by stripe and in each the most recently used
+    /// first, a stripe of the new shape keeps the first entries of its keys, as many as it has room for, in this order of use; the
+    /// others are dropped. The histories are empty then. The store stays, and call numbers go on rising.
+    ///
+    /// It fits if no call is under way, and `Config::check` accepts the shape.
+    Reopen {
+        /// The new shape.
+        config: Config,
+    },
 }
 
 /// A step that was appended to the history of its stripe.
@@ -234,6 +244,8 @@ pub enum Outcome {
     Again,
     /// Somebody else has written the store.
     Written,
+    /// The cache was opened again, and these keys were dropped: old stripe by old stripe, the most recently used first.
+    Reopened(ReadOnlyList<Key>),
     /// The event doesn't fit, and nothing was changed.
     Unfit,
 }
@@ -287,7 +299,7 @@ pub struct PartProgress {
     pub is_changed: bool,
 }
 
-/// What has held so far of loaders, writers and other programs.
+/// What has held, since the world was opened last, of loaders, writers and other programs, and of that opening.
 #[derive(Clone, Copy, Debug, PartialEq, Eq)]
 pub struct Premises {
     /// Honest writers: for each key each report said that it was written exactly if the writer had changed the store.
@@ -296,4 +308,6 @@ pub struct Premises {
     pub loaders: bool,
     /// A quiet store: nobody else wrote it.
     pub quiet: bool,
+    /// A coherent opening: each entry with which the cache opened was the store's.
+    pub opening: bool,
 }

@@ -4,13 +4,15 @@ ghost use Rattle.jc_world.specs.Headline.{StartsOpen, StaysLegal, StaysCoherent,
 use jc_stripe::phase_laws::{keeps_reserved, stays_reached};
 
 /// A world at its start, of any shape within its limits, with nothing cached and any values in its store, is an opening: nothing
-/// has happened in it yet. The laws over runs start from an opening, which may also cache entries from before.
+/// has happened in it yet. The laws over runs start from an opening, which may also cache entries from before. What a reopening
+/// leaves is one too: [`reopens_open`](crate::openings::reopens_open).
 pub fn starts_open()
     ensures { StartsOpen }
 {}
 
 /// After every list of events, from an opening: the order of all events is one legal history over all stripes, each stripe's
-/// history is its part of it, and what each stripe caches is what its part leaves.
+/// history is its part of it, and what each stripe caches is what its part leaves. If the cache was opened again meanwhile, that is
+/// the order since its last opening, from what it opened with.
 ///
 /// That a reply and a place that are shown are those of a step of that history is the law
 /// [`replies_stand`](crate::replies::replies_stand).
@@ -21,9 +23,10 @@ pub fn stays_legal()
     keeps_reserved();
 }
 
-/// After every list of events, from a coherent opening: if write-through is on, nobody else has written the store, each writer has
-/// reported success exactly if it had changed the store, and each loader has answered what the store held or failed, then each
-/// cached value is the store's, but for keys whose writer has changed the store and whose call isn't committed.
+/// After every list of events: if write-through is on, each entry with which the cache opened last was the store's, and since then
+/// nobody else has written the store, each writer has reported success exactly if it had changed the store, and each loader has
+/// answered what the store held or failed, then each cached value is the store's, but for keys whose writer has changed the store
+/// and whose call isn't committed.
 pub fn stays_coherent()
     ensures { StaysCoherent }
 {
@@ -41,8 +44,9 @@ pub fn stays_coherent_from()
     keeps_reserved();
 }
 
-/// After every list of events, from an opening, for each key: the answers that loaders gave for it are as many as the steps of the
-/// order that had the loader asked and aren't shared, and the answer that is kept for a commit, if there is one, together.
+/// After every list of events since the last opening, for each key: the answers that loaders gave for it are as many as the steps
+/// of the order that had the loader asked and aren't shared, and the answer that is kept for a commit, if there is one, together.
+/// That every run has a last opening is [`has_last_opening`](crate::openings::has_last_opening).
 ///
 /// It is a count, and doesn't say which answer is in which step.
 pub fn counts_loads()

@@ -12,6 +12,7 @@ mod held_keys;
 mod joined;
 mod machine;
 pub mod open_call;
+pub mod openings;
 mod outside;
 pub mod pick_ups;
 pub mod process;

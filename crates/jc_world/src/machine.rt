@@ -4,7 +4,7 @@ ghost use Rattle.std.specs.FinMap as map;
 ghost use Rattle.jc_types.specs.Limits.{check};
 ghost use Rattle.jc_model.specs.Cache.{entry_at};
 ghost use Rattle.jc_world.specs.declared.event.WorldEvent.TheVariants as event;
-ghost use Rattle.jc_world.specs.World.{start, is_busy, open_call, part_of, is_joined, with_stored};
+ghost use Rattle.jc_world.specs.World.{start, is_busy, is_idle, open_call, part_of, is_joined, with_stored};
 ghost use Rattle.jc_world.specs.Fits.{fits, is_new};
 ghost use Rattle.jc_world.specs.Events.{Happens, Step};
 ghost use Rattle.jc_world.specs.Sound.{IsSoundWorld};
@@ -14,6 +14,7 @@ mod auditing;
 mod fitting;
 mod looking;
 mod processing;
+mod reopening;
 
 use crate::calls::{begin, drop_call, fault_in, find_call, has_call, is_above, refuse, settle};
 use crate::command::Command;
@@ -78,12 +79,13 @@ impl Machine {
                 writers: true,
                 loaders: true,
                 quiet: true,
+                opening: true,
             },
             is_fresh: true,
         })
     }
 
-    /// Whether no call has begun, and nobody else has written the store.
+    /// Whether no call has begun, nobody else has written the store, and nobody has opened the cache again.
     pub(crate) fn is_fresh(&self) -> bool
         ensures { result ≡ self.now.is_fresh }
     {
@@ -109,6 +111,13 @@ impl Machine {
         ensures { result ≡ is_busy self.now session }
     {
         has_call(&self.calls, session)
+    }
+
+    /// Whether no call is under way.
+    pub(crate) fn is_idle(&self) -> bool
+        ensures { result ≡ is_idle self.now }
+    {
+        self.calls.is_empty()
     }
 
     /// The call, if it is under way.
@@ -221,6 +230,7 @@ impl Machine {
             }
             WorldEvent::PickUp { call, key } => self.pick_up(*call, key, seen),
             WorldEvent::Foreign { key, value } => self.foreign_write(key, *value, seen),
+            WorldEvent::Reopen { config } => self.reopen(config, seen),
         }
     }
 

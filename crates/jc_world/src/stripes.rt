@@ -1,6 +1,6 @@
 //! The stripes of a world, and the order of all that they append to their histories.
 ghost use Rattle.std.specs.Prelude.{◌≡◌, false, ◌+◌, ◌-◌, ◌≤◌, ◌<◌, ◌++◌, [], Ok, true, Some, IsSomeAnd, IfOk, OnOk, length};
-ghost use Rattle.std.specs.Prelude.{replicate, vec_len, vec_capacity, slice_get};
+ghost use Rattle.std.specs.Prelude.{ℕ, replicate, vec_len, vec_capacity, slice_get};
 ghost use Rattle.jc_types.specs.declared.limits.TheConstants.{STEP_PLACES, JOINERS_MAX, STRIPES_MAX};
 ghost use Rattle.jc_types.specs.Limits.{check};
 ghost use Rattle.jc_stripe.specs.State.{IsOut, IsJoined};
@@ -26,6 +26,7 @@ const EVENTS_MAX: usize = STEP_PLACES + JOINERS_MAX;
 
 /// The stripes, and the order of all their events. An event is kept once, in the history of its stripe: the order has a turn for
 /// it, which is the number of that stripe.
+#[derive(Drop)]
 pub(crate) struct Stripes {
     items: Vec<Stripe>,
     turns: Vec<u8>,
@@ -54,10 +55,20 @@ impl Stripes {
         ensures order { IfOk result (λ made. made.order ≡ []) }
     {
         let items = make_stripes(alloc, config)?;
-        Ok(Stripes {
+        Ok(Stripes::of(alloc, items))
+    }
+
+    /// These stripes, in which nothing has happened yet.
+    pub(crate) fn of(alloc: Global, items: Vec<Stripe>) -> Self
+        requires count { length items.items ≤ STRIPES_MAX }
+        requires empty { (number : ℕ) → history_at items.items number ≡ [] }
+        ensures stripes { result.stripes ≡ items.items }
+        ensures order { result.order ≡ [] }
+    {
+        Stripes {
             items,
             turns: Vec::new(alloc),
-        })
+        }
     }
 
     /// Takes room for what one phase may append, before its first change.

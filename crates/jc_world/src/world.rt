@@ -2,7 +2,7 @@
 ghost use Rattle.std.specs.Prelude.{[], ◌≡◌, ◌≤◌, ◌⊎◌, ◌<◌, true, IsTrue, IfOk, IfErr, IsOk, option_copied, OnErr, OnOk, Ok, is_some};
 ghost use Rattle.std.specs.Prelude.{Err, take, length};
 ghost use Rattle.jc_types.specs.Limits.{check};
-ghost use Rattle.jc_world.specs.World.{start, is_busy, open_call, part_of, has_progress, waits_for_load, waits_for_process};
+ghost use Rattle.jc_world.specs.World.{start, is_busy, is_idle, open_call, part_of, has_progress, waits_for_load, waits_for_process};
 ghost use Rattle.jc_world.specs.World.{waits_for_report, is_joined, with_stored};
 ghost use Rattle.jc_world.specs.Fits.{fits, is_asked, is_new};
 ghost use Rattle.jc_world.specs.Events.{RunAppending};
@@ -108,8 +108,9 @@ impl World {
         self.played
     }
 
-    /// All events, over all stripes: one legal history, and what is cached is what it leaves. The history of each stripe
-    /// is its part of it: a place in a stripe, as it is shown, counts the events of that stripe alone.
+    /// All events since the world was opened last, over all stripes: one legal history from what it opened with, and what is cached is
+    /// what it leaves. The history of each stripe is its part of it: a place in a stripe, as it is shown, counts the events of that
+    /// stripe alone.
     ///
     /// The list is built at each call, in one pass. An `Err` says that an allocation failed; the world is as it was.
     pub fn order(&self, alloc: Global) -> Result<Vec<Event>, AllocError>
@@ -120,7 +121,7 @@ impl World {
         self.machine.order(alloc)
     }
 
-    /// Whether no call has begun, and nobody else has written the store.
+    /// Whether no call has begun, nobody else has written the store, and nobody has opened the cache again.
     pub fn is_fresh(&self) -> bool
         ensures { result ≡ self.now.world.is_fresh }
     {
@@ -146,6 +147,13 @@ impl World {
         ensures { result ≡ is_busy self.now.world session }
     {
         self.machine.is_busy(session)
+    }
+
+    /// Whether no call is under way: then the cache may be opened again.
+    pub fn is_idle(&self) -> bool
+        ensures { result ≡ is_idle self.now.world }
+    {
+        self.machine.is_idle()
     }
 
     /// The call with this number, if it is under way.
@@ -238,9 +246,10 @@ impl World {
 
     /// What there is to see of the world.
     ///
-    /// If write-through is on, nobody else wrote the store, each writer reported success exactly if it had changed the store,
-    /// and each loader answered what the store held or failed, then no key differs: each cached value is the store's, but for
-    /// keys whose writer has changed the store and whose call isn't committed. It looks at all entries.
+    /// If write-through is on, and since the world was opened last nobody else wrote the store, each writer reported success exactly if
+    /// it had changed the store, each loader answered what the store held or failed, and each entry with which it opened was the
+    /// store's, then no key differs: each cached value is the store's, but for keys whose writer has changed the store and whose call
+    /// isn't committed. It looks at all entries.
     pub fn audit(&self, alloc: Global) -> Result<Audit, AllocError>
         ensures audit { IfOk result (λ a.
             IsAudit self.now.world a.cache.items a.store.items a.differing.items a.events a.is_legal) }

@@ -5,12 +5,16 @@
 --                       was written
 --     ExitOfThreads     a report on these threads was shown; or they were too much work; or an allocation failed, and nothing was written
 --     ExitOfTask        a task was carried out, and this status says how that ended
---     ExitOfFault       what is written for these words with an error of this kind: a text that they asked for on standard
+--     version_text      what `--version` shows
+--     statuses_text     what help ends with: what the statuses mean
+--     IsHelp            a text of help; what `clap` says before the statuses, its contract leaves open
+--     Shows             a text that was asked for was written; or a write failed
+--     ExitOfFault       what is written for these words with an error of this kind: the text that they asked for on standard
 --                       output, or what is wrong with them on standard error
 --     Exit              the task of right words is carried out; wrong ones are reported, and nothing is read; or an allocation failed,
 --                       and nothing was read or written
 --     FailsByStreams    status 3 comes if a stream failed, and only then or if the script is too long; after a failed read nothing is on standard output
-use Rattle.std.specs.Prelude.{◌≡◌, ◌⊎◌, ◌<◌, ◌≤◌, ◌*◌, ℕ, List, [], Bool, true, Option, IfSome, length, if◌then◌else◌}
+use Rattle.std.specs.Prelude.{◌≡◌, ◌⊎◌, ◌<◌, ◌≤◌, ◌*◌, ◌++◌, ℕ, List, [], Bool, true, Option, IfSome, codes, length, if◌then◌else◌}
 use Rattle.std.specs.Io.KnownBytes.{Appends}
 use Rattle.clap.specs.Walk.{Row, Text}
 use Rattle.clap.specs.Words.{IsAmong, Kinds}
@@ -55,16 +59,31 @@ abbrev pub ExitOfTask : Task → (played : Type 0) (counted : Plan → Type 0) (
 ExitOfTask task.Run played counted unread = played
 ExitOfTask (task.Threads plan) played counted unread = counted plan × unread
 
-abbrev pub ExitOfFault : ErrorKind → (status : ℕ) (silent : Type 0) → Type 0
-ExitOfFault kind.DisplayHelp status silent = (status ≡ 0) ⊎ (status ≡ 3)
-ExitOfFault kind.DisplayVersion status silent = (status ≡ 0) ⊎ (status ≡ 3)
-ExitOfFault k status silent = (status ≡ 2) × silent
+abbrev pub version_text : List ℕ
+version_text = codes "jcache 0.2.0\n"
+
+abbrev pub statuses_text : List ℕ
+statuses_text =
+    codes "\nExit status: 0 done, 1 a line has a fault, 2 wrong words, 3 a stream failed, 4 out of memory, 5 wrong report\n"
+
+abbrev pub IsHelp : List ℕ → Type 0
+IsHelp text = (before : List ℕ) × (text ≡ before ++ statuses_text)
+
+abbrev pub Shows : (asked : List ℕ → Type 0) (status : ℕ) (old new : Option (List ℕ)) → Type 0
+Shows asked status old new =
+    ((status ≡ 0) × ((text : List ℕ) × asked text × Appends old new text))
+    ⊎ (status ≡ 3)
+
+abbrev pub ExitOfFault : ErrorKind → (status : ℕ) (old new : Option (List ℕ)) (silent : Type 0) → Type 0
+ExitOfFault kind.DisplayHelp status old new silent = Shows IsHelp status old new
+ExitOfFault kind.DisplayVersion status old new silent = Shows (λ text. text ≡ version_text) status old new
+ExitOfFault k status old new silent = (status ≡ 2) × silent
 
 -- found: the subcommand with its options; done: that a task was carried out
-abbrev pub Exit : Kinds → (found : Option (Text × List Row)) → (status : ℕ) (done : Task → Type 0) (unread silent : Type 0) → Type 0
-Exit kinds found status done unread silent =
+abbrev pub Exit : Kinds → (found : Option (Text × List Row)) → (status : ℕ) (done : Task → Type 0) (unread : Type 0) (old new : Option (List ℕ)) (silent : Type 0) → Type 0
+Exit kinds found status done unread old new silent =
     ((kinds ≡ []) × ((t : Task) × IsAsked found t × done t))
-    ⊎ (((k : ErrorKind) × IsAmong k kinds × ExitOfFault k status silent × unread)
+    ⊎ (((k : ErrorKind) × IsAmong k kinds × ExitOfFault k status old new silent × unread)
     ⊎ ((status ≡ 4) × unread × silent))
 
 abbrev pub FailsByStreams : (status : ℕ) (read_failed write_failed : Bool) (before : Option (List ℕ)) (silent : Type 0) → Type 0

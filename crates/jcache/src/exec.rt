@@ -1,18 +1,19 @@
 //! What the program does with its words, and the status that it ends with.
-ghost use Rattle.std.specs.Prelude.{◌≡◌, ◌⊎◌, ◌↔◌, map, string_bytes, true, false};
+ghost use Rattle.std.specs.Prelude.{◌≡◌, ◌⊎◌, ◌↔◌, map, string_bytes, true, false, IfOk};
 ghost use Rattle.std.specs.Io.KnownBytes.{Appends};
 ghost use Rattle.jcache.specs.CommandLine.{faults_at, subcommand_at};
-ghost use Rattle.jcache.specs.Exit.{Exit, ExitOfPlay, ExitOfTask, ExitOfThreads, FailsByStreams, ShowsReport, status_of};
+ghost use Rattle.clap.specs.Words.{kind_of};
+ghost use Rattle.jcache.specs.Exit.{Exit, ExitOfFault, ExitOfPlay, ExitOfTask, ExitOfThreads, FailsByStreams, IsHelp, ShowsReport, status_of};
 
 use crate::commands::{Task, read_task};
 use crate::plan::{INCREMENTS_MAX, Plan};
 use crate::report::Report;
-use crate::threads::{Outfit, count_on_threads};
+use crate::threads::{Crew, count_on_threads};
+use clap::Error;
 use clap::error::ErrorKind;
 use jc_script::run::run;
 use jc_script::{Noted, RunEnd, RunFault};
-use jc_store::SharedStore;
-use std::alloc::Global;
+use std::alloc::{AllocError, Global};
 use std::io::{Read, Write};
 use std::sync::Wait;
 use std::thread::Threads;
@@ -29,6 +30,13 @@ const STREAMS: u8 = 3;
 const MEMORY: u8 = 4;
 /// What was counted on threads isn't what the plan says.
 const MISCOUNTED: u8 = 5;
+
+/// What `--version` shows.
+const VERSION: &str = "jcache 0.2.0\n";
+
+/// What help ends with.
+const STATUSES: &str =
+    "\nExit status: 0 done, 1 a line has a fault, 2 wrong words, 3 a stream failed, 4 out of memory, 5 wrong report\n";
 
 /// Says that an allocation failed, before there was anything to carry out, and answers the status.
 pub fn end_without_memory<E: Write>(err: &mut E) -> u8
@@ -92,6 +100,40 @@ fn show<W: Write, E: Write>(text: &str, out: &mut Noted<W>, err: &mut E) -> u8
     }
 }
 
+/// Says what is wrong with the words, or shows the text that they ask for, and answers the status.
+fn answer<W: Write, E: Write>(alloc: Global, error: &Error, out: &mut Noted<W>, err: &mut E) -> u8
+    ensures answered { ExitOfFault (kind_of error.now) result (W.contents out.old.inner) (W.contents out.new.inner) (out.new ≡ out.old)
+        ⊎ ((result ≡ 4) × (out.new ≡ out.old)) }
+    ensures streams { out.old.failed ≡ false → (result ≡ 3 ↔ out.new.failed ≡ true) }
+{
+    if error.use_stderr() {
+        let _ = write!(err, "{error}");
+        return USAGE;
+    }
+    if error.kind() == ErrorKind::DisplayVersion {
+        return show(VERSION, out, err);
+    }
+    match help(alloc, error) {
+        Ok(text) => show(&text, out, err),
+        Err(_) => {
+            complain(err, "jcache: out of memory\n");
+            MEMORY
+        }
+    }
+}
+
+/// The help that the words ask for, and after it what the statuses mean.
+fn help(alloc: Global, error: &Error) -> Result<String, AllocError>
+    ensures { IfOk result (λ text. IsHelp (string_bytes text)) }
+{
+    let mut text = match format!(in alloc; "{error}") {
+        Ok(text) => text,
+        Err(_) => return Err(AllocError),
+    };
+    text.push_str(STATUSES)?;
+    Ok(text)
+}
+
 /// Writes a report, and answers the status.
 fn show_report<W: Write, E: Write>(
     alloc: Global,
@@ -124,8 +166,7 @@ fn status_of(report: &Report) -> u8
 fn count<Rt: Threads + Wait + Sync, W: Write, E: Write>(
     rt: &Rt,
     alloc: Global,
-    store: &SharedStore,
-    outfits: Vec<Outfit>,
+    crew: Crew,
     plan: &Plan,
     out: &mut Noted<W>,
     err: &mut E,
@@ -137,7 +178,7 @@ fn count<Rt: Threads + Wait + Sync, W: Write, E: Write>(
         complain(err, "jcache: too much work\n");
         return USAGE;
     }
-    match count_on_threads(rt, alloc, store, outfits, plan) {
+    match count_on_threads(rt, alloc, crew, plan) {
         Ok(report) => show_report(alloc, &report, out, err),
         Err(_) => {
             complain(err, "jcache: out of memory\n");
@@ -150,8 +191,7 @@ fn count<Rt: Threads + Wait + Sync, W: Write, E: Write>(
 fn carry_out<Rt: Threads + Wait + Sync, R: Read, W: Write, E: Write>(
     rt: &Rt,
     alloc: Global,
-    store: &SharedStore,
-    outfits: Vec<Outfit>,
+    crew: Crew,
     task: &Task,
     reader: &mut Noted<R>,
     out: &mut Noted<W>,
@@ -167,7 +207,7 @@ fn carry_out<Rt: Threads + Wait + Sync, R: Read, W: Write, E: Write>(
 {
     match task {
         Task::Run => play(alloc, reader, out, err),
-        Task::Threads(plan) => count(rt, alloc, store, outfits, plan, out, err),
+        Task::Threads(plan) => count(rt, alloc, crew, plan, out, err),
     }
 }
 
@@ -177,13 +217,11 @@ fn carry_out<Rt: Threads + Wait + Sync, R: Read, W: Write, E: Write>(
 /// failed, or the input is too long; 4 if an allocation failed; 5 if the report that was written shows a wrong number, or that the
 /// history isn't legal. If a thread can't be started, another one makes its calls after its own.
 ///
-/// For threads it waits until all have ended. Nothing else waits. Their sessions are made with the outfits, of which there are to
-/// be `WORKERS_MAX` and one, over the store, which is to be empty.
+/// For threads it waits until all have ended. Nothing else waits.
 pub fn exec<Rt: Threads + Wait + Sync, R: Read, W: Write, E: Write>(
     rt: &Rt,
     alloc: Global,
-    store: &SharedStore,
-    outfits: Vec<Outfit>,
+    crew: Crew,
     words: &[String],
     reader: &mut Noted<R>,
     out: &mut Noted<W>,
@@ -197,29 +235,19 @@ pub fn exec<Rt: Threads + Wait + Sync, R: Read, W: Write, E: Write>(
         (W.contents out.new.inner) (out.new ≡ out.old))
         (λ plan. ExitOfThreads plan result (W.contents out.old.inner) (W.contents out.new.inner) (out.new ≡ out.old))
         (reader.new ≡ reader.old))
-        (reader.new ≡ reader.old) (out.new ≡ out.old) }
+        (reader.new ≡ reader.old) (W.contents out.old.inner) (W.contents out.new.inner) (out.new ≡ out.old) }
     // Status 3 comes if a stream failed in this call, and only then or if the script is too long.
     ensures streams { reader.old.failed ≡ false → out.old.failed ≡ false
         → FailsByStreams result reader.new.failed out.new.failed (R.remaining reader.old.inner) (out.new ≡ out.old) }
 {
     match read_task(alloc, words) {
-        Ok(task) => carry_out(rt, alloc, store, outfits, &task, reader, out, err),
+        Ok(task) => carry_out(rt, alloc, crew, &task, reader, out, err),
         Err(error) => {
             if error.kind() == ErrorKind::OutOfMemory {
                 complain(err, "jcache: out of memory\n");
                 return MEMORY;
             }
-            if error.use_stderr() {
-                let _ = write!(err, "{error}");
-                return USAGE;
-            }
-            match format!(in alloc; "{error}") {
-                Ok(text) => show(&text, out, err),
-                Err(_) => {
-                    complain(err, "jcache: out of memory\n");
-                    MEMORY
-                }
-            }
+            answer(alloc, &error, out, err)
         }
     }
 }

@@ -10,18 +10,9 @@ mod threads;
 use jc_cache::{CacheLoader, CacheWriter, EntryProcessor};
 use jc_script::Noted;
 use jc_store::{Increment, SharedStore, Store};
-use plan::WORKERS_MAX;
 use std::io;
 use std::process::ExitCode;
-use threads::Outfit;
-
-/// How many outfits the words may ask for: one for each thread and one more, or none if they don't name `threads`.
-fn outfits_for(words: &[String]) -> u32 {
-    match words {
-        [_, name, ..] if name.as_str() == "threads" => WORKERS_MAX + 1,
-        _ => 0,
-    }
-}
+use threads::{Crew, OUTFITS, Outfit};
 
 /// What was made. If an allocation failed meanwhile, the program ends here, and says so.
 macro_rules! or_end {
@@ -39,7 +30,7 @@ fn main(rt: HostRuntime) -> ExitCode {
     let words: Vec<String> = or_end!(rt, args.collect(alloc));
     let store = or_end!(rt, SharedStore::new(alloc, Store::new(alloc)));
     let mut outfits = Vec::new(alloc);
-    for _ in 0..outfits_for(&words) {
+    for _ in 0..OUTFITS {
         let loader = or_end!(rt, store.loader(rt));
         let loader: Box<dyn CacheLoader + Send + Drop> = or_end!(rt, Box::new(alloc, loader));
         let writer = or_end!(rt, store.writer(rt));
@@ -58,8 +49,7 @@ fn main(rt: HostRuntime) -> ExitCode {
     let status = exec::exec(
         &rt,
         alloc,
-        &store,
-        outfits,
+        Crew { store, outfits },
         &words,
         &mut Noted::new(rt.reader()),
         &mut Noted::new(io::writer(&rt)),

@@ -7,7 +7,7 @@ ghost use Rattle.jc_cache.specs.Sessions.{IsOf, MayCall};
 ghost use Rattle.jcache.specs.Reports.{IsReportOf};
 ghost use Rattle.jcache.specs.Teams.{HasCounted};
 
-use crate::plan::Plan;
+use crate::plan::{Plan, WORKERS_MAX};
 use crate::report::Report;
 use jc_cache::{
     Cache, CacheLoader, CacheOwner, CacheWriter, Config, EntryProcessor, Key, Refusal, Session,
@@ -46,8 +46,6 @@ fn shape(plan: &Plan) -> Config {
 }
 
 /// What a session on a thread is made with: a loader and a writer of its own, and an entry processor that increments.
-///
-/// `main` makes them, since only code that knows the runtime can make a loader that waits into one.
 #[derive(Drop)]
 pub struct Outfit {
     /// The session's loader.
@@ -58,24 +56,39 @@ pub struct Outfit {
     pub increment: Box<dyn EntryProcessor + Send + Drop>,
 }
 
-/// Counts on threads, as the plan says, and reports what was found. The outfits' loaders and writers are those of the store, which
-/// is empty; there is one for each thread, and one more.
+/// What threads bring that count: the store of record, which is to be empty, and an outfit over it for each session, of which there
+/// are to be [`OUTFITS`].
 ///
-/// It waits until all threads have ended. An `Err` says that an allocation failed, or that there are too few outfits.
+/// `main` makes it, before it looks at what the words ask for. Elsewhere it can't be made: a loader that waits is made into a box
+/// only where the runtime is known, and a function that makes a boxed `dyn` value and hands it out is refused.
+#[derive(Drop)]
+pub struct Crew {
+    /// The store of record.
+    pub store: SharedStore,
+    /// What the sessions are made with.
+    pub outfits: Vec<Outfit>,
+}
+
+/// How many outfits a crew has: one for each of the most threads, and one for the session that reads the counter in the end.
+pub const OUTFITS: u32 = WORKERS_MAX + 1;
+
+/// Counts on threads, as the plan says, and reports what was found.
+///
+/// It waits until all threads have ended. An `Err` says that an allocation failed, or that the crew has too few outfits.
 pub fn count_on_threads<R: Threads + Wait + Sync>(
     rt: &R,
     alloc: Global,
-    store: &SharedStore,
-    outfits: Vec<Outfit>,
+    crew: Crew,
     plan: &Plan,
 ) -> Result<Report, AllocError>
     ensures { IfOk result (λ report. IsReportOf plan.now report) }
 {
+    let Crew { store, outfits } = crew;
     let Ok(mut owner) = CacheOwner::new(alloc, &shape(plan)) else {
         return Err(AllocError);
     };
     let team = hire(alloc, &mut owner, outfits, plan.workers)?;
-    count(rt, alloc, owner, store, team, plan)
+    count(rt, alloc, owner, &store, team, plan)
 }
 
 /// So many workers, and one more, each with a session of its own.

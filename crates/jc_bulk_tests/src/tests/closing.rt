@@ -84,7 +84,11 @@ pub fn closed(
     let own = own_of(rt, alloc, &sessions);
     let config = *owner.cache().config();
     let closed = owner.close(alloc, sessions).ok();
-    let Closed { stripes, legal } = closed.expect(rt, "a closed cache");
+    let Closed {
+        stripes,
+        outside: _outside,
+        legal,
+    } = closed.expect(rt, "a closed cache");
     assert!(rt; legal);
     for stripe in &stripes {
         is_legal(rt, alloc, &config, stripe);

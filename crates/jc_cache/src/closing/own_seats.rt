@@ -1,62 +1,71 @@
 //! The cache's own seats take all stripes, and learn what the sessions have seen.
 //!
 //! They are passed as a `&mut Vec<Seat>`: a seat takes no bytes, and a pointer to an element of no size in a slice gets no proof.
-ghost use Rattle.std.specs.Prelude.{◌≡◌, ◌≤◌, [], IfSome, IfNone, All, length, map, vec_capacity};
+ghost use Rattle.std.specs.Prelude.{◌≡◌, ◌≤◌, ◌+◌, ◌++◌, [], IfOk, IfErr, OnOk, All, length, map, vec_len, vec_capacity};
 ghost use Rattle.atomic_table.specs.Seated.{TableId};
+ghost use Rattle.jc_stripe.specs.State.{IsIdle};
 ghost use Rattle.jc_lock.specs.declared.view.View.{View};
+ghost use Rattle.jc_cache.specs.Caches.{noted_by};
 ghost use Rattle.jc_cache.specs.Closing.{HasFront};
-ghost use Rattle.jc_cache.specs.ClosingInside.{AreAtLocks, HasTaken, HaveTaken, IsFreeSeat, KeepSeats, KeepsSeat};
+ghost use Rattle.jc_cache.specs.ClosingInside.{AreAtLocks, AreIdle, HasTaken, HaveTaken, IsFreeSeat, IsRowRefusal, IsTakeRefusal, KeepSeats, KeepsSeat};
 
 use crate::closing::ClosedStripe;
 use crate::session::Session;
 use jc_lock::{HistLock, Seat};
+use jc_outside::Outside;
+use jc_types::Refusal;
 
-/// Whether nothing is out at the stripe, and nobody else holds it. It is given back as it was.
-fn is_idle(lock: &HistLock, seat: &mut Seat) -> bool
+/// Tests that nothing is out at the stripe, and nobody else holds it. It is given back as it was.
+fn test_idle(lock: &HistLock, seat: &mut Seat) -> Result<(), Refusal>
     requires lock { seat.old.0 ≡ lock.now }
     requires free { IsFreeSeat seat.old.1 }
     ensures keeps { KeepsSeat seat.old seat.new }
     ensures free { IsFreeSeat seat.new.1 }
+    ensures ok { OnOk result (IsIdle seat.new.1.noted) }
+    ensures err { IfErr result (λ r. IsTakeRefusal r seat.new.1.noted) }
 {
-    match lock.try_take(seat) {
-        Some(stripe) => {
-            let idle = stripe.is_idle();
-            lock.give(seat, stripe);
-            idle
-        }
-        None => false,
+    let Some(stripe) = lock.try_take(seat) else {
+        return Err(Refusal::Busy);
+    };
+    let is_idle = stripe.is_idle();
+    lock.give(seat, stripe);
+    if !is_idle {
+        return Err(Refusal::StillReserved);
     }
+    Ok(())
 }
 
-/// Whether nothing is out at any stripe, and nobody else holds one. All are given back as they were.
-pub(super) fn all_idle(locks: &[HistLock], own: &mut Vec<Seat>) -> bool
+/// Tests that nothing is out at any stripe, and nobody else holds one. All are given back as they were.
+pub(super) fn test_all_idle(locks: &[HistLock], own: &mut Vec<Seat>) -> Result<(), Refusal>
     requires locks { map (λ (seat : TableId × View). seat.0) own.old.items ≡ locks.now }
     requires free { HaveTaken own.old.items [] }
     ensures keeps { KeepSeats own.old.items own.new.items }
     ensures free { HaveTaken own.new.items [] }
+    ensures ok { OnOk result (AreIdle own.new.items) }
+    ensures err { IfErr result (λ r. IsRowRefusal r own.new.items) }
 {
     for i in 0..locks.len() {
-        if !is_idle(&locks[i], &mut own[i]) {
-            return false;
-        }
+        test_idle(&locks[i], &mut own[i])?;
     }
-    true
+    Ok(())
 }
 
 /// The stripe, if nothing is out there and nobody else holds it.
-fn take_idle(lock: &HistLock, seat: &mut Seat) -> Option<ClosedStripe>
+fn take_idle(lock: &HistLock, seat: &mut Seat) -> Result<ClosedStripe, Refusal>
     requires lock { seat.old.0 ≡ lock.now }
     requires free { IsFreeSeat seat.old.1 }
     ensures keeps { KeepsSeat seat.old seat.new }
-    ensures some { IfSome result (λ s. HasTaken seat.new.1 s) }
-    ensures none { IfNone result (IsFreeSeat seat.new.1) }
+    ensures ok { IfOk result (λ s. HasTaken seat.new.1 s) }
+    ensures err { IfErr result (λ r. IsFreeSeat seat.new.1 × IsTakeRefusal r seat.new.1.noted) }
 {
-    let stripe = lock.try_take(seat)?;
+    let Some(stripe) = lock.try_take(seat) else {
+        return Err(Refusal::Busy);
+    };
     if !stripe.is_idle() {
         lock.give(seat, stripe);
-        return None;
+        return Err(Refusal::StillReserved);
     }
-    Some(ClosedStripe { stripe })
+    Ok(ClosedStripe { stripe })
 }
 
 /// All stripes, into a list with room for them. If something is out at one, or somebody else holds one, none is taken.
@@ -64,27 +73,27 @@ pub(super) fn take_all(
     locks: &[HistLock],
     own: &mut Vec<Seat>,
     stripes: Vec<ClosedStripe>,
-) -> Option<Vec<ClosedStripe>>
+) -> Result<Vec<ClosedStripe>, Refusal>
     requires locks { map (λ (seat : TableId × View). seat.0) own.old.items ≡ locks.now }
     requires free { HaveTaken own.old.items [] }
     requires empty { stripes.items ≡ [] }
     requires room { length locks.now ≤ vec_capacity stripes }
     ensures keeps { KeepSeats own.old.items own.new.items }
-    ensures some { IfSome result (λ s. HaveTaken own.new.items s.items
+    ensures ok { IfOk result (λ s. HaveTaken own.new.items s.items
         × (length s.items ≡ length own.new.items)) }
-    ensures none { IfNone result (HaveTaken own.new.items []) }
+    ensures err { IfErr result (λ r. HaveTaken own.new.items [] × IsRowRefusal r own.new.items) }
 {
     let mut stripes = stripes;
     for i in 0..locks.len() {
         match take_idle(&locks[i], &mut own[i]) {
-            Some(stripe) => stripes.push_reserved(stripe),
-            None => {
+            Ok(stripe) => stripes.push_reserved(stripe),
+            Err(refusal) => {
                 give_all(locks, own, stripes);
-                return None;
+                return Err(refusal);
             }
         }
     }
-    Some(stripes)
+    Ok(stripes)
 }
 
 /// Gives these stripes back to their locks.
@@ -93,6 +102,7 @@ fn give_all(locks: &[HistLock], own: &mut Vec<Seat>, stripes: Vec<ClosedStripe>)
     requires taken { HaveTaken own.old.items stripes.items }
     ensures keeps { KeepSeats own.old.items own.new.items }
     ensures free { HaveTaken own.new.items [] }
+    ensures noted { noted_by own.new.items ≡ noted_by own.old.items }
 {
     let mut stripes = stripes;
     while let Some(closed) = stripes.pop() {
@@ -119,34 +129,42 @@ fn join_seats(locks: &[HistLock], own: &mut Vec<Seat>, stripes: &[ClosedStripe],
     }
 }
 
-/// Ends a session, but for its seats.
-fn seats_of(session: Session) -> Vec<Seat>
-    ensures { result.items ≡ session.seats.items }
+/// Ends a session, but for its seats, and its loader and writer.
+///
+/// Condition: it holds no stripe.
+fn parts_of(session: Session) -> (Vec<Seat>, Outside)
+    requires { session.agent.hands.held ≡ 0 }
+    ensures seats { result.0.items ≡ session.seats.items }
+    ensures outside { result.1 ≡ session.agent.hands.outside }
 {
-    let Session {
-        seats,
-        agent: _agent,
-    } = session;
-    seats
+    let Session { seats, agent } = session;
+    (seats, agent.into_outside())
 }
 
-/// Ends these sessions. The own seats, which have taken the stripes, learn what they have seen.
+/// Ends these sessions, and puts the loader and the writer of each into the list, in the order of the sessions. The own seats,
+/// which have taken the stripes, learn what they have seen.
+///
+/// Conditions: no session holds a stripe, and there is room for them in the list.
 pub(super) fn join_all(
     locks: &[HistLock],
     own: &mut Vec<Seat>,
     stripes: &[ClosedStripe],
     sessions: Vec<Session>,
+    outside: &mut Vec<Outside>,
 )
     requires locks { map (λ (seat : TableId × View). seat.0) own.old.items ≡ locks.now }
     requires taken { HaveTaken own.old.items stripes.now }
     requires count { length stripes.now ≡ length locks.now }
-    requires sessions { All (λ s. AreAtLocks locks.now s.seats.items) sessions.items }
+    requires sessions { All (λ s. AreAtLocks locks.now s.seats.items × (s.agent.hands.held ≡ 0)) sessions.items }
+    requires room { vec_len outside.old + length sessions.items ≤ vec_capacity outside.old }
     ensures keeps { KeepSeats own.old.items own.new.items }
     ensures taken { HaveTaken own.new.items stripes.now }
     ensures fronts { All (λ s. HasFront stripes.now s.seats.items) sessions.items }
+    ensures outside { outside.new.items ≡ outside.old.items ++ map (λ s. s.agent.hands.outside) sessions.items }
 {
-    let mut sessions = sessions;
-    while let Some(session) = sessions.pop() {
-        join_seats(locks, own, stripes, seats_of(session));
+    for session in sessions {
+        let (seats, brought) = parts_of(session);
+        join_seats(locks, own, stripes, seats);
+        outside.push_reserved(brought);
     }
 }

@@ -99,7 +99,11 @@ pub fn closed<R: Abort + Wait>(
     let keys = cached(rt, alloc, owner.cache(), &mut sessions);
     let config = *owner.cache().config();
     let closed = owner.close(alloc, sessions).ok();
-    let Closed { stripes, legal } = closed.expect(rt, "a closed cache");
+    let Closed {
+        stripes,
+        outside: _outside,
+        legal,
+    } = closed.expect(rt, "a closed cache");
     assert!(rt; legal);
     for stripe in &stripes {
         is_legal(rt, alloc, &config, stripe);

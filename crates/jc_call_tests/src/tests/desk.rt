@@ -79,7 +79,7 @@ impl Desk {
 }
 
 /// The entries that a text names. A dash names none.
-fn entries_of(rt: &impl Abort, alloc: Global, text: &str) -> Vec<(Key, Value)> {
+pub fn entries_of(rt: &impl Abort, alloc: Global, text: &str) -> Vec<(Key, Value)> {
     let mut entries = Vec::new(alloc);
     for pair in text.split(' ') {
         if let Some((at, word)) = pair.split_once('=') {

@@ -57,16 +57,16 @@ const SESSIONS: usize = 4;
 
 /// What a text says.
 #[derive(Clone, Copy)]
-struct Scene<'a> {
-    shape: Config,
-    stored: &'a str,
+pub struct Scene<'a> {
+    pub shape: Config,
+    pub stored: &'a str,
     with: &'a str,
-    lines: &'a str,
+    pub lines: &'a str,
     steps: &'a str,
 }
 
 /// The shape that a line says.
-fn shape_of(rt: &impl Abort, line: &str) -> Config {
+pub fn shape_of(rt: &impl Abort, line: &str) -> Config {
     let (_open, line) = first_word(line);
     let (stripes, line) = first_word(line);
     let (capacity, line) = first_word(line);
@@ -86,7 +86,7 @@ fn header<'a>(text: &'a str, word: &str) -> Option<(&'a str, &'a str)> {
 }
 
 impl<'a> Scene<'a> {
-    fn of(rt: &impl Abort, text: &'a str) -> Self {
+    pub fn of(rt: &impl Abort, text: &'a str) -> Self {
         let (open, rest) = text.split_once('\n').expect(rt, "a shape");
         let (stored, rest) = header(rest, "store ").unwrap_or(("a=1", rest));
         let (with, rest) = header(rest, "with ").unwrap_or(("all plain plain", rest));

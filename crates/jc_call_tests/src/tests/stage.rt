@@ -175,8 +175,16 @@ impl Stage {
     pub fn new(rt: &impl Abort, alloc: Global, config: &Config) -> Stage
         ensures { All (MayCall result.owner.cache) result.sessions.items }
     {
+        let owner = CacheOwner::new(alloc, config).ok().expect(rt, "a cache");
+        Stage::of(alloc, owner)
+    }
+
+    /// The cache of this owner, without sessions.
+    pub fn of(alloc: Global, owner: CacheOwner) -> Stage
+        ensures { All (MayCall result.owner.cache) result.sessions.items }
+    {
         Stage {
-            owner: CacheOwner::new(alloc, config).ok().expect(rt, "a cache"),
+            owner,
             sessions: Vec::new(alloc),
         }
     }

@@ -11,7 +11,7 @@ use super::scenes::{State, Way, loader, played, say, state_of, writer};
 use super::stage::push;
 use super::words::Line;
 use super::*;
-use jc_cache::{CloseFault, Event, SessionFault};
+use jc_cache::{CloseFault, Closed, Event, SessionFault};
 use jc_loadall::load_all;
 use jc_model::Cause;
 use std::thread::Threads;
@@ -307,6 +307,53 @@ fn closes(rt: HostRuntime) {
     let (loader, writer) = (loader(&rt, alloc), writer(&rt, alloc));
     match owner.session(alloc, Some(loader), Some(writer)) {
         Ok(session) => puts_and_closes(&rt, alloc, owner, session),
+        Err(_fault) => panic!(rt; "memory"),
+    }
+}
+
+/// Opens a closed cache again, whose one session has made a put.
+fn opens_closed<R: Abort + Print>(rt: &R, alloc: Global, closed: Closed) {
+    say(rt, "> reopen");
+    let again = CacheOwner::reopen(alloc, closed, &SHAPE);
+    say(rt, "=");
+    match again {
+        Ok(reopened) => {
+            is(rt, (reopened.dropped.len(), reopened.outside.len()), (0, 1));
+            say_end(rt, "done");
+        }
+        Err(fault) => {
+            is(rt, fault.refusal, Refusal::OutOfMemory);
+            is(rt, fault.closed.outside.len(), 1);
+            has_one_step(rt, &state_of(rt, alloc, &fault.closed, 1));
+            say_end(rt, "refused whole");
+        }
+    }
+}
+
+/// Makes a put, closes the cache, and opens it again.
+fn puts_and_opens_again<R: Abort + Wait + Print>(
+    rt: &R,
+    alloc: Global,
+    owner: CacheOwner,
+    session: Session,
+)
+    requires { MayCall owner.cache session }
+{
+    let mut session = session;
+    puts(rt, owner.cache(), &mut session);
+    let sessions = only(rt, alloc, session);
+    let closed = owner.close(alloc, sessions).ok().expect(rt, "memory");
+    opens_closed(rt, alloc, closed);
+}
+
+/// A closed cache that finds no memory to be opened again comes back as it was.
+#[test]
+fn opens_again(rt: HostRuntime) {
+    let alloc = rt.alloc();
+    let mut owner = CacheOwner::new(alloc, &SHAPE).ok().expect(&rt, "memory");
+    let (loader, writer) = (loader(&rt, alloc), writer(&rt, alloc));
+    match owner.session(alloc, Some(loader), Some(writer)) {
+        Ok(session) => puts_and_opens_again(&rt, alloc, owner, session),
         Err(_fault) => panic!(rt; "memory"),
     }
 }

@@ -194,7 +194,11 @@ fn close<R: Abort + Wait>(
     requires { All (λ s. IsOf owner.cache s) sessions.items }
 {
     let closed = owner.close(alloc, sessions).ok();
-    let Closed { stripes, legal } = closed.expect(rt, "a closed cache");
+    let Closed {
+        stripes,
+        outside: _outside,
+        legal,
+    } = closed.expect(rt, "a closed cache");
     assert!(rt; legal);
     for stripe in &stripes {
         is_sound(rt, alloc, outside, stripe);

@@ -6,6 +6,7 @@ ghost use Rattle.jc_model.specs.Cache.{key_cmp};
 ghost use Rattle.jc_model.specs.Listed.{has_distinct_keys};
 ghost use Rattle.jc_stripe.specs.OrderOfUse.{by_use};
 ghost use Rattle.jc_stripe.specs.Keys.{Looks};
+ghost use Rattle.jc_stripe.specs.Reopening.{shares_key};
 
 use super::Stripe;
 use jc_types::Key;
@@ -26,6 +27,19 @@ impl Stripe {
         let _bounded = self.entries.capacity();
         self.entries.keys(out);
         sort_from(out, start);
+    }
+
+    /// Whether a key is cached both here and in the other stripe. It takes no memory.
+    ///
+    /// The answer is known at once of two stripes of as many, with different numbers: no key is of both. Else each key of this one
+    /// is looked up in the other.
+    pub fn shares_key(&self, other: &Stripe) -> bool
+        ensures { result ≡ shares_key self.now other.now }
+    {
+        if self.config.stripes == other.config.stripes && self.number != other.number {
+            return false;
+        }
+        self.entries.shares_key(&other.entries)
     }
 }
 

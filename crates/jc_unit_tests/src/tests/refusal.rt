@@ -20,9 +20,10 @@ NoLoader: a session of a read-through cache needs a loader
 NoWriter: a session of a write-through cache needs a writer
 TooManySessions: the cache has handed out all of its sessions
 StillReserved: the cache is in use and can't be closed
+RepeatedKey: a key is there twice in the closed cache
 ";
 
-const REFUSALS: [Refusal; 16] = [
+const REFUSALS: [Refusal; 17] = [
     Refusal::HistoryFull,
     Refusal::Busy,
     Refusal::TooManyInFlight,
@@ -39,6 +40,7 @@ const REFUSALS: [Refusal; 16] = [
     Refusal::NoWriter,
     Refusal::TooManySessions,
     Refusal::StillReserved,
+    Refusal::RepeatedKey,
 ];
 
 #[test]

@@ -17,11 +17,13 @@
 pub mod desk;
 pub mod words;
 
+use super::reopenings::is_once;
 use super::script::{answer, caller, first_word, key, number, op};
 use super::{is, pairs};
 use desk::Desk;
-use jc_stripe::Stripe;
-use jc_types::Config;
+use jc_model::legal;
+use jc_stripe::{Origin, Stripe, reopen};
+use jc_types::{Config, Key, Value};
 use std::alloc::Global;
 use std::process::Abort;
 use words::{Seen, seen_of};
@@ -301,4 +303,86 @@ fn shows_what_it_has(rt: HostRuntime) {
     lists_entries(&rt, rt.alloc(), &desk.stripe);
     lists_events(&rt, rt.alloc(), &desk.stripe);
     desk.close(&rt);
+}
+
+// The least recently used entry of the opening goes for a new key.
+const OPENED: &str = "\
+begin 1 s1 get b = 2 at 0
+begin 2 s1 get c = asks loader
+commit 2 read 3 = 3 at 2
+begin 3 s1 contains a = false at 3
+begin 3 s2 get b = 2 at 4";
+
+/// Whether its history is legal from these entries.
+fn is_legal(rt: &impl Abort, alloc: Global, stripe: &Stripe, opening: &[(Key, Value)]) -> bool {
+    let mut events = Vec::new(alloc);
+    let appended = stripe.append_events(0, stripe.events_len(), &mut events);
+    appended.expect(rt, "memory");
+    legal(alloc, stripe.config(), opening, &events).expect(rt, "memory")
+}
+
+#[test]
+fn opens_with_entries(rt: HostRuntime) {
+    let config = shape(&rt, "open 100 read");
+    let opening = pairs(&rt, rt.alloc(), "a=1 b=2");
+    let mut desk = Desk::open_with(&rt, rt.alloc(), &config, &opening);
+    assert!(rt;
+        is_legal(&rt, rt.alloc(), &desk.stripe, &[]),
+        "nothing has happened"
+    );
+    play_all(&rt, rt.alloc(), &mut desk, OPENED);
+    assert!(rt;
+        is_legal(&rt, rt.alloc(), &desk.stripe, &opening),
+        "from its opening"
+    );
+    assert!(rt;
+        !is_legal(&rt, rt.alloc(), &desk.stripe, &[]),
+        "from nothing"
+    );
+    desk.close(&rt);
+}
+
+/// Stripes that open with these entries, as many as the shape says.
+fn opened(rt: &impl Abort, alloc: Global, config: &Config, text: &str) -> Vec<Stripe> {
+    config.check().expect(rt, "a shape");
+    let entries = pairs(rt, alloc, text);
+    assert!(rt; is_once(rt, alloc, &entries), "each key once");
+    let reopened = reopen(alloc, config, Origin::Played, &entries);
+    reopened.expect(rt, "memory").stripes
+}
+
+// How many stripes one cache has and what it has, the same of another cache, and whether any two of their stripes share a key. By
+// the sum of its bytes a is of stripe 1 of two, and b of stripe 0.
+const SHARED: &[(usize, &str, usize, &str, bool)] = &[
+    (1, "a=1 b=2", 1, "b=3", true),
+    (1, "a=1 b=2", 1, "c=3", false),
+    (2, "a=1 b=2", 2, "b=3", true),
+    (2, "a=1", 2, "b=1", false),
+    (1, "a=1", 2, "a=1", true),
+    (1, "a=1", 2, "b=1", false),
+];
+
+#[test]
+fn finds_keys_of_two_stripes(rt: HostRuntime) {
+    for (one, text, other, others, want) in SHARED {
+        let config = shape(&rt, "open 100");
+        let (config, next) = (
+            Config {
+                stripes: *one,
+                ..config
+            },
+            Config {
+                stripes: *other,
+                ..config
+            },
+        );
+        let (stripes, others) = (
+            opened(&rt, rt.alloc(), &config, text),
+            opened(&rt, rt.alloc(), &next, others),
+        );
+        let found = stripes
+            .iter()
+            .any(|s| others.iter().any(|o| s.shares_key(o)));
+        is(&rt, text, found, *want);
+    }
 }

@@ -65,7 +65,7 @@ impl Machine {
 }
 
 /// Whether this value is held.
-fn is_held(held: Option<Value>, value: &Value) -> bool
+pub(super) fn is_held(held: Option<Value>, value: &Value) -> bool
     ensures { result ≡ holds held value.now }
 {
     match held {

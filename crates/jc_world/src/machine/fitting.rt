@@ -48,6 +48,7 @@ impl Machine {
             WorldEvent::Leave { call } => self.may_leave(*call),
             WorldEvent::PickUp { call, key } => self.is_joined(*call, key),
             WorldEvent::Foreign { key: _, value: _ } => true,
+            WorldEvent::Reopen { config } => self.is_idle() && config.check().is_ok(),
         }
     }
 

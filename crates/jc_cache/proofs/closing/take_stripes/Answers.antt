@@ -3,10 +3,10 @@ use Rattle.jc_cache.proofs.ClosingSeats.{keep_on, keep_locks}
 use Rattle.jc_cache.proofs.closing.take_stripes.Goals as goal
 
 pub take_all-requires-clause-locks : goal.take_all-requires-clause-locks
-take_all-requires-clause-locks c = keep_locks _ _ c.all_idle.ensures.keeps ∙ c.requires.locks
+take_all-requires-clause-locks g c = keep_locks _ _ c.test_all_idle.ensures.keeps ∙ c.requires.locks
 
-pub returns-in-Some-clause-keeps : goal.returns-in-Some-clause-keeps
-returns-in-Some-clause-keeps c = keep_on _ _ _ c.all_idle.ensures.keeps c.take_all.ensures.keeps
+pub returns-in_err-stripes-clause-keeps : goal.returns-in_err-stripes-clause-keeps
+returns-in_err-stripes-clause-keeps g c = keep_on _ _ _ c.test_all_idle.ensures.keeps c.take_all.ensures.keeps
 
-pub returns-in-None-clause-keeps : goal.returns-in-None-clause-keeps
-returns-in-None-clause-keeps c = keep_on _ _ _ c.all_idle.ensures.keeps c.take_all.ensures.keeps
+pub returns-clause-keeps : goal.returns-clause-keeps
+returns-clause-keeps g c = keep_on _ _ _ c.test_all_idle.ensures.keeps c.take_all.ensures.keeps

@@ -1,14 +1,21 @@
-use Rattle.std.proofs.Common.{◌≡◌, ◌≤◌, ℕ, Some, slice_get, vec_len, vec_capacity}
-use Rattle.jc_cache.specs.CacheInside.{IsOwnSeat}
-use Rattle.jc_cache.proofs.Rows.{Seated, locks_of}
+use Rattle.std.proofs.Common.{◌≡◌, ◌≤◌, ◌++◌, length, map, vec_len, vec_capacity}
+use Rattle.std.specs.Vec.Iter.{into_iter_items, into_iter_len}
+use Rattle.jc_stripe.specs.State.{State}
+use Rattle.jc_cache.specs.Caches.{noted_by, fronts_of}
+use Rattle.jc_cache.proofs.Rows.{locks_of}
+use Rattle.jc_cache.proofs.Noted.{AreFirst}
 use Rattle.jc_cache.proofs.owner.locks.Given as goal
 
-abbrev pub invariant-loop-i : goal.invariant-loop-i
-invariant-loop-i l = record {
+abbrev pub invariant-loop-stripe : goal.invariant-loop-stripe
+invariant-loop-stripe l = record {
+  all : l.yielded ++ into_iter_items l.stripe-iterator ≡ into_iter_items l.initial.stripe-iterator;
+  count : into_iter_len l.stripe-iterator ≡ length (into_iter_items l.stripe-iterator);
+  noted : noted_by l.seats.items ≡ l.yielded;
+  fronts : fronts_of l.seats.items ≡ map (λ (s : State). s.history) l.yielded;
   own : locks_of l.seats.items ≡ l.locks.items;
-  each : (k : ℕ) (seat : Seated) → slice_get l.seats.items k ≡ Some seat → IsOwnSeat l.config k 0 seat.1;
-  long : vec_len l.locks ≡ l.i;
-  seated : vec_len l.seats ≡ l.i;
+  first : AreFirst l.seats.items;
+  long : vec_len l.locks ≡ length l.yielded;
+  seated : vec_len l.seats ≡ length l.yielded;
   room : l.config.stripes ≤ vec_capacity l.locks;
   rooms : l.config.stripes ≤ vec_capacity l.seats;
 }

@@ -6,6 +6,7 @@ use Rattle.jc_bulk.specs.declared.progress.Progress.TheVariants.{Ended, Reserved
 use Rattle.jc_bulk.specs.KeyProgress.{OnlyEnd, StayEnded, is_reserved}
 use Rattle.jc_bulk.specs.SoFar.{AreUnder}
 use Rattle.jc_bulk.proofs.CallerLemmas.{last_first, only_itself, only_set, reserved_at, stay_set, under_next, under_set}
+use Rattle.jc_stripe.specs.Tickets.{entry_seen}
 use Rattle.jc_invoke.specs.Keys.{IsUnderway}
 use Rattle.jc_invoke.specs.Room.{AreReported, reservations_of}
 use Rattle.jc_invoke.specs.Runs.{IsRunOf}
@@ -50,6 +51,6 @@ returns-in-Some-clause-underway g c caller rounds first reported u =
     subst (λ rs. AreReported through rounds rs (reverse c.args.written.now.items) (reverse c.args.deleted.now.items)) first_one reported in
     let told = c.next_report-report.ensures.reported rounds (reverse c.pop.new.self.items) (subst (λ t. AreReported t rounds (c.in-Some.run' ∷ reverse c.pop.new.self.items) (reverse c.args.written.now.items) (reverse c.args.deleted.now.items)) (sym same) now) in (
       subst (λ t. AreReported t rounds (reverse c.pop.new.self.items) (reverse c.next_report-report.new.written.items) (reverse c.next_report-report.new.deleted.items)) same told.1,
-      c.commit_next.ensures.underway caller rounds first (reservations_of (reverse c.pop.new.self.items)) (subst (λ t. IsRunOf t rounds c.in-Some.run'.reservation.key (record { load = c.in-Some.run'.load; write = report_answer c.next_report-report.result; process = c.in-Some.run'.process })) same told.0)
+      c.commit_next.ensures.underway caller rounds first (reservations_of (reverse c.pop.new.self.items)) (subst (λ t. IsRunOf t rounds c.in-Some.run'.reservation.key (entry_seen c.in-Some.run'.reservation.first) (record { load = c.in-Some.run'.load; write = report_answer c.next_report-report.result; process = c.in-Some.run'.process })) same told.0)
           (subst (λ rs. IsUnderway (IsRunOf through rounds) c.args.cache.now caller c.args.keys.now first c.args.session.now c.args.progress.now (reservations_of rs)) first_one u),
     )

@@ -60,8 +60,8 @@ commit_round-requires-clause-underway g c =
     let removed = c.ask-deleted.ensures.writer in
     let rounds = r.1 ++ round_of runs wrote.0 removed.0 ∷ [] in
     let u1 = c.start_round.ensures.underway r.0 r.1 r.2 r.3 in
-    let u2 = asked_on (IsRunOf through r.1) (IsRunOf through r.1) (λ key out is. is) c.args.cache.now r.0 c.args.keys.now r.2 c.start_round.new.session c.run_each.new.session c.start_round.new.progress _ (c.run_each.ensures.own c.args.cache.now u1.own) c.run_each.ensures.rest u1 in
-    let u3 = asked_on (IsRunOf through r.1) (IsRunOf through r.1) (λ key out is. is) c.args.cache.now r.0 c.args.keys.now r.2 c.run_each.new.session c.ask-written.new.session c.start_round.new.progress _ (c.ask-written.ensures.own c.args.cache.now u2.own) c.ask-written.ensures.rest u2 in
+    let u2 = asked_on (IsRunOf through r.1) (IsRunOf through r.1) (λ key entry out is. is) c.args.cache.now r.0 c.args.keys.now r.2 c.start_round.new.session c.run_each.new.session c.start_round.new.progress _ (c.run_each.ensures.own c.args.cache.now u1.own) c.run_each.ensures.rest u1 in
+    let u3 = asked_on (IsRunOf through r.1) (IsRunOf through r.1) (λ key entry out is. is) c.args.cache.now r.0 c.args.keys.now r.2 c.run_each.new.session c.ask-written.new.session c.start_round.new.progress _ (c.ask-written.ensures.own c.args.cache.now u2.own) c.ask-written.ensures.rest u2 in
     let u4 = asked_on (IsRunOf through r.1) (IsRunOf through rounds) (said_more through r.1 (round_of runs wrote.0 removed.0 ∷ [])) c.args.cache.now r.0 c.args.keys.now r.2 c.ask-written.new.session c.ask-deleted.new.session c.start_round.new.progress _ (c.ask-deleted.ensures.own c.args.cache.now u3.own) c.ask-deleted.ensures.rest u3 in (
       r.0,
       rounds,
@@ -84,8 +84,8 @@ returns-clause-underway g c caller before first u has =
     let removed = c.ask-deleted.ensures.writer in
     let rounds = before ++ round_of runs wrote.0 removed.0 ∷ [] in
     let u1 = c.start_round.ensures.underway caller before first u in
-    let u2 = asked_on (IsRunOf through before) (IsRunOf through before) (λ key out is. is) c.args.cache.now caller c.args.keys.now first c.start_round.new.session c.run_each.new.session c.start_round.new.progress _ (c.run_each.ensures.own c.args.cache.now u1.own) c.run_each.ensures.rest u1 in
-    let u3 = asked_on (IsRunOf through before) (IsRunOf through before) (λ key out is. is) c.args.cache.now caller c.args.keys.now first c.run_each.new.session c.ask-written.new.session c.start_round.new.progress _ (c.ask-written.ensures.own c.args.cache.now u2.own) c.ask-written.ensures.rest u2 in
+    let u2 = asked_on (IsRunOf through before) (IsRunOf through before) (λ key entry out is. is) c.args.cache.now caller c.args.keys.now first c.start_round.new.session c.run_each.new.session c.start_round.new.progress _ (c.run_each.ensures.own c.args.cache.now u1.own) c.run_each.ensures.rest u1 in
+    let u3 = asked_on (IsRunOf through before) (IsRunOf through before) (λ key entry out is. is) c.args.cache.now caller c.args.keys.now first c.run_each.new.session c.ask-written.new.session c.start_round.new.progress _ (c.ask-written.ensures.own c.args.cache.now u2.own) c.ask-written.ensures.rest u2 in
     let u4 = asked_on (IsRunOf through before) (IsRunOf through rounds) (said_more through before (round_of runs wrote.0 removed.0 ∷ [])) c.args.cache.now caller c.args.keys.now first c.ask-written.new.session c.ask-deleted.new.session c.start_round.new.progress _ (c.ask-deleted.ensures.own c.args.cache.now u3.own) c.ask-deleted.ensures.rest u3 in
     let answers = reported through c.config.result.now.write_through before runs (reverse c.reverse.new.self.items) (reverse c.ask-written.result.items) (reverse c.ask-deleted.result.items) wrote.0 removed.0 c.run_each.new.writes.items c.run_each.new.deletes.items same back
     wrote.2 c.run_each.ensures.writes.0 removed.2 c.run_each.ensures.deletes.0 in

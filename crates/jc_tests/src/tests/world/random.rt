@@ -312,7 +312,7 @@ impl Shelf {
 
 // 3. The runs.
 
-/// How many kinds of things are shown, but for those of entry processors, which these runs do not have.
+/// How many kinds of things are shown, but for those of entry processors and of reopenings, which these runs do not have.
 const KINDS: usize = 19;
 
 fn kind(outcome: &Outcome) -> usize {
@@ -336,7 +336,7 @@ fn kind(outcome: &Outcome) -> usize {
         Outcome::Unfit => 16,
         Outcome::Looked => 17,
         Outcome::PutOff(_) => 18,
-        Outcome::Processes(_) | Outcome::Processed(_) => KINDS,
+        Outcome::Processes(_) | Outcome::Processed(_) | Outcome::Reopened(_) => KINDS,
     }
 }
 

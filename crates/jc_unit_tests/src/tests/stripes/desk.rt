@@ -2,12 +2,14 @@
 ghost use Rattle.std.specs.Prelude.{◌≡◌, IsTrue};
 ghost use Rattle.jc_outside.specs.declared.done.Origin.TheVariants.{Played};
 
+use super::super::reopenings::is_once;
 use super::words::Seen;
 use jc_model::{Op, Out};
 use jc_stripe::{
-    Begun, First, Join, Origin, Picked, StepDone, Stripe, Ticket, played_load, played_write,
+    Begun, First, Join, Origin, Picked, Reopened, StepDone, Stripe, Ticket, played_load,
+    played_write, reopen,
 };
-use jc_types::{Caller, Config, Key};
+use jc_types::{Caller, Config, Key, Value};
 use std::alloc::Global;
 use std::marker::Model;
 use std::process::Abort;
@@ -76,6 +78,28 @@ impl Desk {
         let stripe = Stripe::new_from(alloc, config, 0, Origin::Played, next);
         Desk {
             stripe: stripe.expect(rt, "memory"),
+            tickets: Vec::new(alloc),
+            joins: Vec::new(alloc),
+        }
+    }
+
+    /// A stripe of this shape, which has one, and which opens with these entries.
+    pub fn open_with(
+        rt: &impl Abort,
+        alloc: Global,
+        config: &Config,
+        opening: &[(Key, Value)],
+    ) -> Self {
+        config.check().expect(rt, "a shape");
+        assert!(rt; is_once(rt, alloc, opening), "each key once");
+        let reopened = reopen(alloc, config, Origin::Played, opening);
+        let Reopened {
+            mut stripes,
+            dropped,
+        } = reopened.expect(rt, "memory");
+        assert!(rt; dropped.is_empty() && stripes.len() == 1, "one stripe");
+        Desk {
+            stripe: stripes.pop().expect(rt, "a stripe"),
             tickets: Vec::new(alloc),
             joins: Vec::new(alloc),
         }

@@ -8,5 +8,5 @@ from_zero : (n a b : ℕ) → n ≡ a + b → b ≡ 0 → a ≡ n
 from_zero n a b e z = omega arith
 
 pub returns : goal.returns
-returns c = λ opening events seen new key (opens, run).
-    from_zero _ _ _ (total_run (record { stays = c.stays_reached.ensures; kept = c.keeps_reserved.ensures }) opening new events seen key run (sound_opening opening opens)) (total_opened opening key opens)
+returns c = λ opening events seen new key ((opens, run), none).
+    from_zero _ _ _ (total_run (record { stays = c.stays_reached.ensures; kept = c.keeps_reserved.ensures }) opening new events seen key run none (sound_opening opening opens)) (total_opened opening key opens)

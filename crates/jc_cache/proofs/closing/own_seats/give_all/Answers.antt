@@ -1,9 +1,10 @@
-use Rattle.std.proofs.Common.{◌∙◌, ◌<◌, ℕ, sym, subst, rules}
+use Rattle.std.proofs.Common.{◌∙◌, ◌<◌, ℕ, refl, sym, subst, rules}
 use Rattle.jc_cache.proofs.ClosingSeats.{keep_all, keep_set, none_phase, given_back, near_row, give_near, give_there, give_step}
+use Rattle.jc_cache.proofs.Noted.{noted_set}
 use Rattle.jc_cache.proofs.closing.own_seats.give_all.Goals as goal
 
 pub loop-closed-init : goal.loop-closed-init
-loop-closed-init c = record { keeps = keep_all _; taken = c.requires.taken }
+loop-closed-init c = record { keeps = keep_all _; taken = c.requires.taken; noted = refl }
 
 pub offset_bounds-locks-i : goal.offset_bounds-locks-i
 offset_bounds-locks-i c =
@@ -38,4 +39,5 @@ loop-closed-preserved c =
     record {
       keeps = keep_set _ _ c.len-i.result _ _ c.loop-closed.invariant.keeps there.0 given.0;
       taken = give_step _ _ _ _ c.len-i.result _ c.loop-closed.invariant.taken c.in-Some.ensures.items (c.len-i.ensures ∙ c.pop.new.self.ok.0) given.1;
+      noted = noted_set _ c.len-i.result _ _ there.0 given.2 ∙ c.loop-closed.invariant.noted;
     }

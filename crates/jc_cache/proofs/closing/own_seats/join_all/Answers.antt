@@ -1,27 +1,42 @@
-use Rattle.std.proofs.Common.{◌∙◌, List, subst}
+use Rattle.std.proofs.Common.{◌≡◌, ◌∷◌, [], List, length, refl, sym, ap, subst, ◌∙◌, append_assoc, append-nil, arith, rules}
+use Rattle.std.proofs.lemmas.List.Elements.{All-nil, All-push}
+use Rattle.std.specs.Vec.Iter.{into_iter_items}
 use Rattle.atomic_table.specs.Seated.{TableId}
 use Rattle.jc_lock.specs.declared.view.View.{View}
 use Rattle.jc_cache.specs.Closing.{HasFront}
-use Rattle.jc_cache.proofs.ClosingSeats.{keep_all, keep_on, keep_locks, all_left, one_less, last_session}
+use Rattle.jc_cache.proofs.ClosingSeats.{keep_all, keep_on, keep_locks, brought_push}
 use Rattle.jc_cache.proofs.closing.own_seats.join_all.Goals as goal
 
 pub loop-session-init : goal.loop-session-init
-loop-session-init g c = record { keeps = keep_all _; taken = c.requires.taken; rest = c.requires.sessions; left = all_left _ _ }
+loop-session-init g c =
+    let given = c.into_iter-session-iterator.ensures.into_iter_gives in
+    record {
+      all = refl;
+      count = search rules;
+      keeps = keep_all _;
+      taken = c.requires.taken;
+      fronts = All-nil _;
+      outside = sym (append-nil _);
+      room = let all = ap length given.0 in let room = c.requires.room in omega arith;
+    }
 
 pub join_seats-requires-clause-locks : goal.join_seats-requires-clause-locks
 join_seats-requires-clause-locks g c = keep_locks _ _ c.loop-session.invariant.keeps ∙ c.requires.locks
 
-pub join_seats-requires-clause-seats : goal.join_seats-requires-clause-seats
-join_seats-requires-clause-seats g c =
-    rw c.seats_of.ensures (last_session _ _ _ _ c.in-Some.ensures.items c.loop-session.invariant.rest).1
-
 pub loop-session-preserved : goal.loop-session-preserved
 loop-session-preserved g c =
-    let i = c.loop-session.invariant in
-    let front = subst (λ (seats : List (TableId × View)). HasFront c.args.stripes.now seats) c.seats_of.ensures c.join_seats.ensures.front in
+    let at = c.loop-session in
+    let x = c.in-Some.session in
+    let steps : into_iter_items at.session-iterator ≡ x ∷ into_iter_items c.next.new.self = c.in-Some.ensures.steps.0 in
+    let brought = c.parts_of-seats.ensures in
+    let pushed = c.push_reserved.ensures in
     record {
-      keeps = keep_on _ _ _ i.keeps c.join_seats.ensures.keeps;
+      all = append_assoc at.yielded (x ∷ []) _ ∙ rw (← steps) at.invariant.all;
+      count = let was = at.invariant.count in let gone = c.in-Some.ensures.steps.1 in let short = ap length steps in omega arith;
+      keeps = keep_on _ _ _ at.invariant.keeps c.join_seats.ensures.keeps;
       taken = c.join_seats.ensures.taken;
-      rest = (last_session _ _ _ _ c.in-Some.ensures.items i.rest).0;
-      left = one_less _ _ _ _ _ c.in-Some.ensures.items front i.left;
+      fronts = All-push (λ s. HasFront c.args.stripes.now s.seats.items) at.yielded x at.invariant.fronts
+          (subst (λ (seats : List (TableId × View)). HasFront c.args.stripes.now seats) brought.seats c.join_seats.ensures.front);
+      outside = brought_push _ _ _ _ at.yielded x _ pushed.items at.invariant.outside brought.outside;
+      room = let short = ap length steps in let was = at.invariant.room in let long = pushed.len in let room = pushed.capacity in omega arith;
     }

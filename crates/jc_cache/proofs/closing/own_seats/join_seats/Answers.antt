@@ -29,7 +29,7 @@ loop-seat-preserved c =
     let there = join_there _ _ _ _ c.len-i.result _ _ _ c.requires.locks i.keeps c.requires.seats at c.index_mut.ensures.value c.index-locks-i.is in
     let next = popped_long _ _ _ c.len-i.result c.in-Some.ensures.items (c.len-i.ensures ∙ c.pop.new.self.ok.0) in
     let s = join_step _ _ _ c.len-i.result (length c.loop-seat.seats.items) _ _ _ (c.requires.count ∙ sym (length_locks _ _ c.requires.seats.at)) i.taken there.0 at next
-    c.join.ensures.lock c.join.ensures.seat c.join.ensures.joined c.join.ensures.held i.front in
+    c.join.ensures.lock c.join.ensures.seat c.join.ensures.seen c.join.ensures.joined c.join.ensures.held i.front in
     record {
       keeps = keep_set _ _ c.len-i.result _ _ i.keeps there.0 s.0;
       taken = s.1;

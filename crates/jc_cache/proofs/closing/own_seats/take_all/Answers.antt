@@ -1,5 +1,6 @@
 use Rattle.std.proofs.Common.{◌∙◌, refl, rules}
 use Rattle.jc_cache.proofs.ClosingSeats.{keep_all, keep_on, keep_set, keep_locks, own_there, next_free, next_stays, take_next}
+use Rattle.jc_cache.proofs.Noted.{row_refusal, same_refusal}
 use Rattle.jc_cache.proofs.closing.own_seats.take_all.Goals as goal
 
 pub loop-i-init : goal.loop-i-init
@@ -22,12 +23,17 @@ give_all-requires-clause-locks c =
 pub give_all-requires-clause-taken : goal.give_all-requires-clause-taken
 give_all-requires-clause-taken c =
     let there = own_there _ _ _ c.loop-i.i _ _ c.requires.locks c.loop-i.invariant.keeps c.loop-i-test.true c.index_mut.ensures.value c.index-locks-i.is in
-    next_stays _ _ c.loop-i.i _ _ c.loop-i.invariant.long c.loop-i.invariant.taken there.0 c.in-None.ensures.none
+    next_stays _ _ c.loop-i.i _ _ c.loop-i.invariant.long c.loop-i.invariant.taken there.0 c.in-Err.ensures.err.0
 
-pub returns-in-None-clause-keeps : goal.returns-in-None-clause-keeps
-returns-in-None-clause-keeps c =
+pub returns-in-Err-clause-keeps : goal.returns-in-Err-clause-keeps
+returns-in-Err-clause-keeps c =
     let there = own_there _ _ _ c.loop-i.i _ _ c.requires.locks c.loop-i.invariant.keeps c.loop-i-test.true c.index_mut.ensures.value c.index-locks-i.is in
     keep_on _ _ _ (keep_set _ _ c.loop-i.i _ _ c.loop-i.invariant.keeps there.0 c.take_idle.ensures.keeps) c.give_all.ensures.keeps
+
+pub returns-in-Err-clause-err : goal.returns-in-Err-clause-err
+returns-in-Err-clause-err c =
+    let there = own_there _ _ _ c.loop-i.i _ _ c.requires.locks c.loop-i.invariant.keeps c.loop-i-test.true c.index_mut.ensures.value c.index-locks-i.is in
+    (c.give_all.ensures.free, same_refusal _ _ _ c.give_all.ensures.noted (row_refusal _ c.loop-i.i _ _ _ there.0 c.in-Err.ensures.err.1))
 
 pub loop-i-preserved : goal.loop-i-preserved
 loop-i-preserved c =
@@ -35,7 +41,7 @@ loop-i-preserved c =
     let there = own_there _ _ _ c.loop-i.i _ _ c.requires.locks i.keeps c.loop-i-test.true c.index_mut.ensures.value c.index-locks-i.is in
     record {
       keeps = keep_set _ _ c.loop-i.i _ _ i.keeps there.0 c.take_idle.ensures.keeps;
-      taken = rw c.push_reserved.ensures.items (take_next _ _ c.loop-i.i _ _ _ i.long i.taken there.0 c.in-Some.ensures.some);
+      taken = rw c.push_reserved.ensures.items (take_next _ _ c.loop-i.i _ _ _ i.long i.taken there.0 c.in-Ok.ensures.ok);
       long = rw c.push_reserved.ensures.items (search rules);
       room = rw c.push_reserved.ensures.capacity i.room;
     }

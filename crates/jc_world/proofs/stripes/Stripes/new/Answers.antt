@@ -1,5 +1,10 @@
-use Rattle.jc_world.proofs.Merging.{starts_mergeable}
+use Rattle.jc_world.proofs.Common.{List, length, ◌≤◌, sym, ap, ◌∙◌, subst, STRIPES_MAX, State, history_at}
+use Rattle.jc_world.proofs.Merging.{few_empty, no_history}
 use Rattle.jc_world.proofs.stripes.Stripes.new.Goals as goal
 
-pub invariant_of-result : goal.invariant_of-result
-invariant_of-result c = starts_mergeable _ c.args.config.now c.requires c.in_ok-items.ensures c.new.ensures.items
+pub of-requires-clause-count : goal.of-requires-clause-count
+of-requires-clause-count c = subst (λ (ss : List State). length ss ≤ STRIPES_MAX) (sym c.in_ok-items.ensures) (few_empty c.args.config.now c.requires)
+
+pub of-requires-clause-empty : goal.of-requires-clause-empty
+of-requires-clause-empty c number =
+    ap (λ (ss : List State). history_at ss number) c.in_ok-items.ensures ∙ no_history c.args.config.now 0 c.args.config.now.stripes number

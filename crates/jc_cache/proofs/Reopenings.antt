@@ -1,0 +1,39 @@
+-- A closed cache that is opened again, and the keys that two of its stripes share.
+--     rest_at, rest_whole        what is left of a list from a place on
+--     asked_of                   whether one more of all stripes shares a key with a later one
+--     found_repeated             what is known once that was asked of all
+use Rattle.std.proofs.Common.{◌≡◌, ◌<◌, ◌+◌, ◌-◌, ℕ, suc, List, [], ◌∷◌, length, length-drop, take, drop, get_or, Bool, true, false, not, ◌||◌, refl, sym, ap, ◌∙◌, drop-cons, arith}
+use Rattle.std.proofs.Math.Bool.{or_assoc}
+use Rattle.std.proofs.Math.Seq.{take-length}
+use Rattle.std.specs.List.{list_any, All}
+use Rattle.jc_model.specs.Listed.{has_distinct_keys}
+use Rattle.jc_stripe.specs.State.{State}
+use Rattle.jc_stripe.specs.Reached.{IsReached}
+use Rattle.jc_stripe.specs.Reopening.{all_entries, shares_key, some_share_key}
+use Rattle.jc_stripe.proofs.CallerLemmas.{once_unless_shared}
+
+rest_at : (xs : List State) (i : ℕ) (x : State) → i < length xs → x ≡ get_or xs i x → drop i xs ≡ x ∷ drop (i + 1) xs
+rest_at xs i x near is = let next : suc i ≡ i + 1 = omega arith in drop-cons xs i x near ∙ (λ j. sym is j ∷ drop (next j) xs)
+
+pub rest_whole : (xs : List State) (n : ℕ) → take (length xs - n) (drop n xs) ≡ drop n xs
+rest_whole xs n = ap (λ (m : ℕ). take m (drop n xs)) (sym (length-drop n xs)) ∙ take-length (drop n xs)
+
+-- 1. Keys in two stripes.
+
+pub asked_of : (stripes : List State) (i : ℕ) (s : State) (found shares : Bool) → i < length stripes → s ≡ get_or stripes i s → shares ≡ list_any (shares_key s) (drop (i + 1) stripes)
+    → (found || some_share_key (drop i stripes)) ≡ some_share_key stripes → ((found || shares) || some_share_key (drop (i + 1) stripes)) ≡ some_share_key stripes
+asked_of stripes i s found shares near is any all =
+    or_assoc found shares (some_share_key (drop (i + 1) stripes)) ∙ ap (λ (b : Bool). found || (b || some_share_key (drop (i + 1) stripes))) any
+    ∙ ap (λ (ss : List State). found || some_share_key ss) (sym (rest_at stripes i s near is)) ∙ all
+
+or_none : (b : Bool) → (b || false) ≡ b
+or_none true = refl
+or_none false = refl
+
+not_not : (b : Bool) → b ≡ not (not b)
+not_not true = refl
+not_not false = refl
+
+pub found_repeated : (stripes left : List State) (found : Bool) → left ≡ [] → All IsReached stripes → (found || some_share_key left) ≡ some_share_key stripes → found ≡ not (has_distinct_keys (all_entries stripes))
+found_repeated stripes left found none all is =
+    sym (or_none found) ∙ ap (λ (ss : List State). found || some_share_key ss) (sym none) ∙ is ∙ not_not (some_share_key stripes) ∙ ap not (sym (once_unless_shared stripes all))

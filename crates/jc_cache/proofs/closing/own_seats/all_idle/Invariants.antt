@@ -1,6 +1,0 @@
-use Rattle.std.proofs.Common.{[]}
-use Rattle.jc_cache.specs.ClosingInside.{KeepSeats, HaveTaken}
-use Rattle.jc_cache.proofs.closing.own_seats.all_idle.Given as goal
-
-abbrev pub invariant-loop-i : goal.invariant-loop-i
-invariant-loop-i l = record { keeps : KeepSeats l.initial.own.items l.own.items; free : HaveTaken l.own.items [] }

@@ -1,0 +1,11 @@
+use Rattle.std.proofs.Common.{◌≡◌, ◌||◌, drop, take}
+use Rattle.std.specs.List.{All}
+use Rattle.jc_stripe.specs.Reached.{IsReached}
+use Rattle.jc_stripe.specs.Reopening.{some_share_key}
+use Rattle.jc_cache.proofs.reopening.has_repeated_key.Given as goal
+
+abbrev pub invariant-loop-i : goal.invariant-loop-i
+invariant-loop-i l = record {
+  found : (l.found || some_share_key (drop l.i l.stripes)) ≡ some_share_key l.stripes;
+  reached : All IsReached (take l.i l.stripes);
+}

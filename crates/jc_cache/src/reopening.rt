@@ -1,0 +1,135 @@
+//! A closed cache that is opened again, in the same shape or another.
+ghost use Rattle.std.specs.Prelude.{◌≡◌, ◌⊎◌, None, Some, IfOk, IfErr, not};
+ghost use Rattle.std.specs.List.{list_any};
+ghost use Rattle.jc_types.specs.declared.refusal.Refusal.TheVariants.{OutOfMemory};
+ghost use Rattle.jc_model.specs.Listed.{has_distinct_keys};
+ghost use Rattle.jc_stripe.specs.Reached.{IsReached};
+ghost use Rattle.jc_stripe.specs.Reopening.{all_entries, shares_key};
+ghost use Rattle.jc_cache.specs.Reopening.{IsReopened, reopen_refusal};
+
+use crate::closing::{Closed, ClosedStripe};
+use crate::owner::{CacheOwner, open_with};
+use jc_outside::Outside;
+use jc_stripe::keeps_or_drops;
+use jc_types::{Config, Key, Refusal, Value};
+use std::alloc::{AllocError, Global};
+
+/// A cache that was opened again.
+#[derive(Drop)]
+pub struct Reopened {
+    /// Who owns the cache.
+    pub owner: CacheOwner,
+    /// The entries for which the stripe of their key had no room, old stripe by old stripe, the most recently used first.
+    pub dropped: Vec<(Key, Value)>,
+    /// The loaders and writers that the closed cache had, in the same order.
+    pub outside: Vec<Outside>,
+}
+
+/// A closed cache that was not opened again, as it was handed in.
+#[derive(Drop)]
+pub struct ReopenFault {
+    /// Why: `BadConfig`, `RepeatedKey` or `OutOfMemory`.
+    pub refusal: Refusal,
+    /// The closed cache.
+    pub closed: Closed,
+}
+
+impl CacheOwner {
+    /// Opens a closed cache again, in this shape, with what it had cached. Old stripe by old stripe, each from its most recently used
+    /// entry on, every entry goes to the stripe of its key, which keeps as many as it has room for. They are in this order of use
+    /// there, and the others are dropped.
+    ///
+    /// The new histories are empty, and legal from what is kept. The closed histories end here: read them before. A stripe doesn't
+    /// tell what it was opened with: to check a later history by `legal`, keep the entries that
+    /// [`ClosedStripe::append_entries`] gives of each old stripe, in their order; a stripe's opening is the first `capacity` of
+    /// those that `stripe_of` sends to it.
+    ///
+    /// It is refused, and hands the closed cache back, if the shape is out of its limits (`BadConfig`), if a key is there twice, as in
+    /// stripes of two caches (`RepeatedKey`), and if an allocation failed (`OutOfMemory`), tested in this order. Old and new stripes
+    /// are there together until it returns.
+    pub fn reopen(alloc: Global, closed: Closed, config: &Config) -> Result<Reopened, ReopenFault>
+        ensures ok { IfOk result (λ r. IsReopened config.now (all_entries closed.stripes.items) r.owner r.dropped.items) }
+        ensures outside { IfOk result (λ r. r.outside ≡ closed.outside) }
+        ensures why { IfErr result (λ f. (reopen_refusal config.now (all_entries closed.stripes.items) ≡ Some f.refusal)
+            ⊎ ((reopen_refusal config.now (all_entries closed.stripes.items) ≡ None) × (f.refusal ≡ OutOfMemory))) }
+        ensures back { IfErr result (λ f. f.closed ≡ closed) }
+    {
+        match open_again(alloc, &closed.stripes, config) {
+            Ok((owner, dropped)) => {
+                let Closed {
+                    stripes: _stripes,
+                    outside,
+                    legal: _,
+                } = closed;
+                Ok(Reopened {
+                    owner,
+                    dropped,
+                    outside,
+                })
+            }
+            Err(refusal) => Err(ReopenFault { refusal, closed }),
+        }
+    }
+}
+
+/// Who owns a cache of this shape that opens with what these stripes have cached, and the entries that were dropped.
+fn open_again(
+    alloc: Global,
+    stripes: &[ClosedStripe],
+    config: &Config,
+) -> Result<(CacheOwner, Vec<(Key, Value)>), Refusal>
+    ensures ok { IfOk result (λ r. IsReopened config.now (all_entries stripes.now) r.0 r.1.items) }
+    ensures why { IfErr result (λ r. (reopen_refusal config.now (all_entries stripes.now) ≡ Some r)
+        ⊎ ((reopen_refusal config.now (all_entries stripes.now) ≡ None) × (r ≡ OutOfMemory))) }
+{
+    keeps_or_drops();
+    config.check()?;
+    if has_repeated_key(stripes) {
+        return Err(Refusal::RepeatedKey);
+    }
+    let Ok(entries) = copy_entries(alloc, stripes) else {
+        return Err(Refusal::OutOfMemory);
+    };
+    match open_with(alloc, config, &entries) {
+        Ok(made) => Ok(made),
+        Err(_) => Err(Refusal::OutOfMemory),
+    }
+}
+
+/// Whether a key is in two of these stripes. It takes no memory.
+fn has_repeated_key(stripes: &[ClosedStripe]) -> bool
+    ensures { result ≡ not (has_distinct_keys (all_entries stripes.now)) }
+{
+    let mut found = false;
+    for i in 0..stripes.len() {
+        // Each stripe is looked at, since its contract is needed of all: it is as every stripe is.
+        let shares = shares_with_any(&stripes[i], &stripes[i + 1..]);
+        found = found || shares;
+    }
+    found
+}
+
+/// Whether a key is in a stripe and in one of the others.
+fn shares_with_any(stripe: &ClosedStripe, others: &[ClosedStripe]) -> bool
+    ensures shares { result ≡ list_any (shares_key stripe.now) others.now }
+    ensures reached { IsReached stripe.now }
+{
+    let _reached = stripe.events_len();
+    for other in others {
+        if stripe.shares_key(other) {
+            return true;
+        }
+    }
+    false
+}
+
+/// What these stripes have cached, stripe by stripe. An `Err` says that an allocation failed.
+fn copy_entries(alloc: Global, stripes: &[ClosedStripe]) -> Result<Vec<(Key, Value)>, AllocError>
+    ensures { IfOk result (λ r. r.items ≡ all_entries stripes.now) }
+{
+    let mut entries = Vec::new(alloc);
+    for stripe in stripes {
+        stripe.append_entries(&mut entries)?;
+    }
+    Ok(entries)
+}
