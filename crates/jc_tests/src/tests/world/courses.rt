@@ -95,6 +95,7 @@ pub fn word_of(outcome: &Outcome) -> &'static str {
         Outcome::Written => "written",
         Outcome::Processes(_) => "processes",
         Outcome::Processed(_) => "processed",
+        Outcome::Reopened(_) => "reopened",
         Outcome::Unfit => "unfit",
     }
 }
