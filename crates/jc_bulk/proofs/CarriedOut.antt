@@ -25,6 +25,7 @@ use Rattle.jc_model.specs.declared.event.Event.{Event}
 use Rattle.jc_model.specs.declared.event.Op.{Op}
 use Rattle.jc_model.specs.declared.event.Reply.{Reply}
 use Rattle.jc_outside.specs.CallingAll.{LoadAllRelation, WriteAllRelation, DeleteAllRelation}
+use Rattle.jc_stripe.proofs.CallerLemmas.{lacks_room}
 use Rattle.jc_stripe.specs.OwnSteps.{is_before_call}
 use Rattle.jc_stripe.specs.Reached.{IsReached}
 use Rattle.jc_stripe.specs.Refusals.{first_refusal, has_room, last_number, needs_free_key, places_needed}
@@ -40,7 +41,7 @@ use Rattle.jc_cache.specs.Sessions.{IsOf, MayCall}
 use Rattle.jc_cache.specs.declared.session.Session.{Session}
 use Rattle.jc_bulk.specs.declared.progress.Progress.{Progress}
 use Rattle.jc_bulk.specs.declared.progress.Progress.TheVariants.{Waiting, Reserved, Joined, Ended}
-use Rattle.jc_bulk.specs.Bulk.{AsksEachOnce, FailsInPart, FailsToGet, GetsAll, IsCarriedOut, IsNearFull, IsOutOfMemory, IsRefusedWhole, Succeeds, causes_of, near_places}
+use Rattle.jc_bulk.specs.Bulk.{AsksEachOnce, FailsInPart, FailsToGet, GetsAll, IsCarriedOut, IsNearFull, IsOutOfMemory, IsRefusedWhole, Succeeds, WasNearFull, causes_of, near_places}
 use Rattle.jc_bulk.specs.Carrying.{EndsSo}
 use Rattle.jc_bulk.specs.Ends.{KeyEnd, failed_entries, found_entries, key_end, key_ends, key_ops}
 use Rattle.jc_bulk.specs.KeyProgress.{IsCauseIn, StillWaits, all_waiting, failures, is_joined, is_reserved}
@@ -55,13 +56,6 @@ use Rattle.jc_bulk.proofs.SeatPhases.{Seated, view_there}
 use Rattle.jc_bulk.proofs.SoFar.{opens, waiting_there}
 
 -- 1. Near full.
-
-full_by : (room b c d : Bool) → cond (not room) (Some HistoryFull) (cond b (Some Busy) (cond c (Some TooManyInFlight) (cond d (Some TooManyJoiners) None))) ≡ Some HistoryFull → room ≡ false
-full_by false b c d is = refl
-full_by true true c d is = let bad : Some Busy ≡ Some HistoryFull = is in cc
-full_by true false true d is = let bad : Some TooManyInFlight ≡ Some HistoryFull = is in cc
-full_by true false false true is = let bad : Some TooManyJoiners ≡ Some HistoryFull = is in cc
-full_by true false false false is = let bad : None ≡ Some HistoryFull = is in cc
 
 which : (a b c : Bool) → (a && b && c) ≡ false → (a ≡ false) ⊎ (b ≡ false) ⊎ (c ≡ false)
 which false b c is = inl refl
@@ -85,25 +79,22 @@ few_needed : (b : Bool) → places_needed b ≤ STEP_PLACES
 few_needed true = omega arith
 few_needed false = omega arith
 
-longer : (xs ys : List Event) → IsPrefix xs ys → length xs ≤ length ys
-longer xs ys p = let n = length-append xs p.0 in let e = ap length p.1 in omega arith
+too_long : (h p n c : ℕ) → c < h + p + n → p ≤ STEP_PLACES * RESERVATIONS_MAX + JOINERS_MAX → n ≤ STEP_PLACES → c < h + (STEP_PLACES * RESERVATIONS_MAX + JOINERS_MAX + STEP_PLACES)
+too_long h p n c over few need = omega arith
 
-too_long : (h p n c f : ℕ) → c < h + p + n → p ≤ STEP_PLACES * RESERVATIONS_MAX + JOINERS_MAX → n ≤ STEP_PLACES → h ≤ f → c < f + (STEP_PLACES * RESERVATIONS_MAX + JOINERS_MAX + STEP_PLACES)
-too_long h p n c f over few need more = omega arith
-
-pub near_full : (caller : Caller) (before after : View) (key : Bytes) (op : Op) → WasRefused caller before after key op HistoryFull → IsNearFull caller after
+pub near_full : (caller : Caller) (before after : View) (key : Bytes) (op : Op) → WasRefused caller before after key op HistoryFull → WasNearFull caller before after
 near_full caller before after key op was =
     let s = was.seen in
     let needed = places_needed (needs_free_key s key op) in
-    let none : has_room s caller.call needed ≡ false = full_by (has_room s caller.call needed) _ _ _ was.why in
-    let history : after.noted.config.history ≡ s.config.history = ap (λ c. c.history) was.same.config in
+    let none : has_room s caller.call needed ≡ false = lacks_room s caller key op was.why in
+    let full : IsNearFull caller s =
     ⊎_elim
-    (λ full. inl (subst (λ c. c < length after.front + near_places) (sym history)
-    (too_long (length s.history) (promised s) needed s.config.history (length after.front) (over_by (length s.history + promised s + needed) s.config.history full) (few_promised s was.reached) (few_needed (needs_free_key s key op)) (longer s.history after.front was.later))))
-    (λ number. ⊎_elim (λ call. inr (inl (at_end caller.call last_number call))) (λ next. inr (inr (let one = at_end s.next last_number next in let two = was.next in omega arith))) number)
-    (which (nat_le (length s.history + promised s + needed) s.config.history) (nat_lt caller.call last_number) (nat_lt s.next last_number) none)
+    (λ full. inl (too_long (length s.history) (promised s) needed s.config.history (over_by (length s.history + promised s + needed) s.config.history full) (few_promised s was.reached) (few_needed (needs_free_key s key op))))
+    (λ number. ⊎_elim (λ call. inr (inl (at_end caller.call last_number call))) (λ next. inr (inr (at_end s.next last_number next))) number)
+    (which (nat_le (length s.history + promised s + needed) s.config.history) (nat_lt caller.call last_number) (nat_lt s.next last_number) none) in
+    record { seen = s; reached = was.reached; same = was.same; since = was.since; later = was.later; full = full }
 
-refused_near : (caller : Caller) (rounds : List Round) (v w : View) (key : Bytes) (op : Op) (ended : Result Reply Refusal) → HasEnded caller rounds v w key op ended → ended ≡ Err HistoryFull → IsNearFull caller w
+refused_near : (caller : Caller) (rounds : List Round) (v w : View) (key : Bytes) (op : Op) (ended : Result Reply Refusal) → HasEnded caller rounds v w key op ended → ended ≡ Err HistoryFull → WasNearFull caller v w
 refused_near caller rounds v w key op (Ok reply) has is = let bad : Ok reply ≡ Err HistoryFull = is in cc
 refused_near caller rounds v w key op (Err refusal) has is =
     let same : refusal ≡ HistoryFull = cc in
@@ -220,7 +211,7 @@ module _ {I J : Type 0} {D : I → Type 0} {E : J → Type 0} (loads_all : LoadA
           targets_are = ops_are targets ps u.so_far.many over;
           grown = u.so_far.grown;
           each = all_ended (λ key op ended. HasEnded caller rounds (view_of n old.seats.items key) (view_of n new.seats.items key) key op ended) targets ps each;
-          refused = all_ended (λ key op ended. ended ≡ Err HistoryFull → IsNearFull caller (view_of n new.seats.items key)) targets ps
+          refused = all_ended (λ key op ended. ended ≡ Err HistoryFull → WasNearFull caller (view_of n old.seats.items key) (view_of n new.seats.items key)) targets ps
               (λ i key op ended at there. refused_near caller rounds (view_of n old.seats.items key) (view_of n new.seats.items key) key op ended (each i key op ended at there));
           others = u.so_far.others;
           former = u.so_far.former;

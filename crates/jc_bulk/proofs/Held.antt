@@ -27,6 +27,7 @@ use Rattle.jc_stripe.specs.Tickets.{JoinClaim}
 use Rattle.jc_stripe.specs.declared.begun.Begun.{Begun}
 use Rattle.jc_stripe.specs.declared.begun.Begun.TheVariants as begun
 use Rattle.jc_stripe.specs.declared.ticket.Reservation.{Reservation}
+use Rattle.jc_stripe.specs.Generations.{whole_history}
 use Rattle.jc_lock.specs.declared.view.View.{View}
 use Rattle.jc_lock.proofs.CallerLemmas.{prefix-trans, same_on}
 use Rattle.jc_bulk.specs.declared.progress.Progress.{Progress}
@@ -70,7 +71,7 @@ joined_later u v w key op grown was = record {
   seen = was.seen;
   reached = was.reached;
   since = was.since;
-  later = prefix-trans was.seen.history v.front w.front was.later grown.front;
+  later = prefix-trans (whole_history was.seen) v.front w.front was.later grown.front;
   same = same_on was.seen v.noted w.noted was.same grown.same;
   load = was.load;
   why = was.why;
@@ -80,7 +81,7 @@ joined_since : (u v w : View) (key : Bytes) (op : Op) → HasGrown u v → HasJo
 joined_since u v w key op grown was = record {
   seen = was.seen;
   reached = was.reached;
-  since = prefix-trans u.front v.front was.seen.history grown.front was.since;
+  since = prefix-trans u.front v.front (whole_history was.seen) grown.front was.since;
   later = was.later;
   same = was.same;
   load = was.load;

@@ -12,7 +12,6 @@ use Rattle.jc_model.specs.declared.event.Op.{Op}
 use Rattle.jc_model.specs.declared.event.Op.TheVariants.{Get}
 use Rattle.jc_model.specs.declared.event.Out.{Out}
 use Rattle.jc_stripe.specs.State.{State}
-use Rattle.jc_stripe.specs.Laws.{ReachedIsLegal}
 use Rattle.jc_stripe.specs.OnePhase.{OnePhase}
 use Rattle.jc_stripe.specs.OwnSteps.{OwnSteps, StepsBehind, may_come_all}
 use Rattle.jc_stripe.specs.Phases.{Commits}
@@ -54,16 +53,16 @@ module _ {I J : Type 0} {D : I → Type 0} {E : J → Type 0} where
   view_now : {old new : Session I J D E} {stripe : ℕ} {phase : State → State → Type 0} {counted : Counted} → (x : PhaseAt stripe old phase counted new) → view_at new.seats.items stripe ≡ x.after
   view_now {old} {new} {stripe} x = ap (λ (xs : List Seated). view_at xs stripe) x.now ∙ view_here old.seats.items stripe (x.lock, x.before) (x.lock, x.after) x.was
 
-  module _ (law : OnePhase) (legal : ReachedIsLegal) (steps : OwnSteps) (cache : CacheState) (old new : Session I J D E) (own : IsOf cache old) where
+  module _ (law : OnePhase) (steps : OwnSteps) (cache : CacheState) (old new : Session I J D E) (own : IsOf cache old) where
     pub start_told : (key : Bytes) (op : Op) (b : Begun) (counted : Counted) → PhaseAt (stripe_of key cache.config.stripes) old (λ a z. StartsAt old.agent.caller key op b a z) counted new
-        → steps_of old.agent.caller key (view_of cache.config.stripes old.seats.items key).own ≡ []
+        → AreBefore old.agent.caller old.seats.items → steps_of old.agent.caller key (view_of cache.config.stripes old.seats.items key).own ≡ []
         → Moves old.agent.caller cache.config.stripes key old.seats.items new.seats.items
         × HasBegun old.agent.caller cache.config (view_of cache.config.stripes old.seats.items key) (view_of cache.config.stripes new.seats.items key) key op b
-    start_told key op b counted x none =
+    start_told key op b counted x before none =
         let caller = old.agent.caller in
         let n = cache.config.stripes in
-        let k = key_begun law legal steps caller cache.config key op b x.before x.after x.seat (own.seats (stripe_of key n) (x.lock, x.before) x.was).config_is
-        (ap (λ (v : View). steps_of caller key v.own) (sym (view_was x)) ∙ none) in (
+        let k = key_begun law steps caller cache.config key op b x.before x.after x.seat (own.seats (stripe_of key n) (x.lock, x.before) x.was).config_is
+        (may_start cache old key before none (x.lock, x.before) x.was) (ap (λ (v : View). steps_of caller key v.own) (sym (view_was x)) ∙ none) in (
           moves_all caller n key old.seats.items new.seats.items x.lock x.before x.after x.was x.now k.0,
           subst (λ (v : View). HasBegun caller cache.config v (view_of n new.seats.items key) key op b) (sym (view_was x)) (subst (λ (w : View). HasBegun caller cache.config x.before w key op b) (sym (view_now x)) k.1),
         )
@@ -74,7 +73,7 @@ module _ {I J : Type 0} {D : I → Type 0} {E : J → Type 0} where
         × IsCommitted old.agent.caller r out (view_of cache.config.stripes old.seats.items r.key) (view_of cache.config.stripes new.seats.items r.key) done.reply
     commit_told r out done counted x mine early none =
         let n = cache.config.stripes in
-        let k = key_committed law legal steps old.agent.caller.session r out done x.before x.after x.seat (sym (ap (λ (c : Caller). c.session) mine)) (subst IsEarly (sym mine) early)
+        let k = key_committed law steps old.agent.caller.session r out done x.before x.after x.seat (sym (ap (λ (c : Caller). c.session) mine)) (subst IsEarly (sym mine) early)
         ((λ i. steps_of (mine i) r.key (sym (view_was x) i).own) ∙ none) in (
           subst (λ (c : Caller). Moves c n r.key old.seats.items new.seats.items) mine (moves_all r.caller n r.key old.seats.items new.seats.items x.lock x.before x.after x.was x.now k.0),
           subst (λ (c : Caller). IsCommitted c r out (view_of n old.seats.items r.key) (view_of n new.seats.items r.key) done.reply) mine
@@ -88,7 +87,7 @@ module _ {I J : Type 0} {D : I → Type 0} {E : J → Type 0} where
         → HasPicked old.agent.caller first (view_of cache.config.stripes new.seats.items join.key) join.key Get p)
     pick_told places join p counted x mine early none =
         let n = cache.config.stripes in
-        let k = key_picked law legal steps places old.agent.caller.session join p x.before x.after x.seat (sym (ap (λ (c : Caller). c.session) mine)) (subst IsEarly (sym mine) early)
+        let k = key_picked law steps places old.agent.caller.session join p x.before x.after x.seat (sym (ap (λ (c : Caller). c.session) mine)) (subst IsEarly (sym mine) early)
         ((λ i. steps_of (mine i) join.key (sym (view_was x) i).own) ∙ none) in (
           subst (λ (c : Caller). Moves c n join.key old.seats.items new.seats.items) mine (moves_all join.caller n join.key old.seats.items new.seats.items x.lock x.before x.after x.was x.now k.0),
           λ first grown is. subst (λ (w : View). HasPicked old.agent.caller first w join.key Get p) (sym (view_now x))

@@ -1,6 +1,5 @@
 -- What each phase of the call at a key tells of the key.
 --     early_none         a call that isn't refused isn't the last
---     refused_as         a first phase refuses for the history's sake, or is put off
 --     key_begun          a first phase
 --     key_committed      a commit
 --     key_picked         a pick-up that isn't too early
@@ -27,9 +26,10 @@ use Rattle.jc_model.specs.declared.event.Op.TheVariants.{Get}
 use Rattle.jc_model.specs.declared.event.Out.{Out}
 use Rattle.jc_model.specs.declared.event.Reply.{Reply}
 use Rattle.jc_stripe.specs.State.{State, is_key}
-use Rattle.jc_stripe.specs.Laws.{ReachedIsLegal}
+use Rattle.jc_stripe.specs.Generations.{whole_history, whole_place}
+use Rattle.jc_stripe.specs.Renewal.{all_own_steps}
 use Rattle.jc_stripe.specs.OnePhase.{OnePhase, own_steps}
-use Rattle.jc_stripe.specs.OwnSteps.{AddsOwn, OwnSteps, StepsBehind}
+use Rattle.jc_stripe.specs.OwnSteps.{AddsOwn, OwnSteps, StepsBehind, may_come_all}
 use Rattle.jc_stripe.specs.Phases.{Commits, after_commit}
 use Rattle.jc_stripe.specs.Refusals.{first_asked, first_refusal, last_number, may_join}
 use Rattle.jc_stripe.specs.Tickets.{TicketClaim, JoinClaim}
@@ -43,6 +43,7 @@ use Rattle.jc_lock.specs.declared.view.View.{View}
 use Rattle.jc_lock.proofs.CallerLemmas.{prefix-refl, prefix-trans}
 use Rattle.jc_engine.specs.Needs.{PicksUpLate, StartsAt}
 use Rattle.jc_stripe.proofs.Beside.{ask_found}
+use Rattle.jc_stripe.proofs.CallerLemmas.{adds_whole, call_below, gains_whole, may_in_all, of_same, put_off_or_full}
 use Rattle.jc_cache.specs.Fronts.{IsNext}
 use Rattle.jc_cache.specs.PhaseCalls.{SeatPhase}
 use Rattle.jc_cache.proofs.CallEnds.{next_place}
@@ -50,27 +51,12 @@ use Rattle.jc_bulk.specs.Keys.{HasBegun, HasPicked, IsCommitted, IsEarly, IsJoin
 use Rattle.jc_bulk.specs.Recorded.{steps_of}
 use Rattle.jc_bulk.specs.Seats.{HasGrown}
 use Rattle.jc_bulk.proofs.CallSteps.{steps-gained}
-use Rattle.jc_bulk.proofs.SeatPhases.{MovesSeat, front_found, gained_phase, grown_phase, legal_now, seen_own, seen_phase, uniform}
+use Rattle.jc_bulk.proofs.SeatPhases.{MovesSeat, all_now, front_found, gained_phase, grown_phase, seen_own, seen_phase, uniform}
 
 -- 1. Refusals.
 
-early_by : (a b c : Bool) (rest : Option Refusal) → cond (not (a && b && c)) (Some HistoryFull) rest ≡ None → b ≡ true
-early_by true true c rest none = refl
-early_by true false c rest none = cc
-early_by false b c rest none = cc
-
 pub early_none : (state : State) (caller : Caller) (key : Bytes) (op : Op) → first_refusal state caller key op ≡ None → IsEarly caller
-early_none state caller key op none = early_by _ (nat_lt caller.call last_number) _ _ none
-
-as_one : (a b c d : Bool) (refusal : Refusal) → cond a (Some HistoryFull) (cond b (Some Busy) (cond c (Some TooManyInFlight) (cond d (Some TooManyJoiners) None))) ≡ Some refusal → (is_put_off refusal ≡ true) ⊎ (refusal ≡ HistoryFull)
-as_one true b c d refusal is = inr (sym (same_Some HistoryFull refusal is))
-as_one false true c d refusal is = inl (ap is_put_off (sym (same_Some Busy refusal is)))
-as_one false false true d refusal is = inl (ap is_put_off (sym (same_Some TooManyInFlight refusal is)))
-as_one false false false true refusal is = inl (ap is_put_off (sym (same_Some TooManyJoiners refusal is)))
-as_one false false false false refusal is = cc
-
-pub refused_as : (state : State) (caller : Caller) (key : Bytes) (op : Op) (refusal : Refusal) → first_refusal state caller key op ≡ Some refusal → (is_put_off refusal ≡ true) ⊎ (refusal ≡ HistoryFull)
-refused_as state caller key op refusal is = as_one _ _ _ _ refusal is
+early_none state caller key op none = call_below state caller key op none
 
 -- 2. What is behind a front.
 
@@ -90,66 +76,66 @@ get_joins op is = cc
 
 -- 3. Phases.
 
-module _ (law : OnePhase) (legal : ReachedIsLegal) (steps : OwnSteps) where
+module _ (law : OnePhase) (steps : OwnSteps) where
   -- a step that the phase adds behind all that was there
   added : (session : ℕ) (phase : State → State → Type 0) (caller : Caller) (key : Bytes) (op : Op) (out : Out) (reply : Reply) (place : ℕ) (v w : View) (x : SeatPhase session v phase w) → session ≡ caller.session
       → AddsOwn caller.session x.found w.noted (Step caller op key out None reply) place → IsEarly caller → steps_of caller key v.own ≡ []
-      → MovesSeat caller key v w × (steps_of caller key w.own ≡ Step caller op key out None reply ∷ []) × (slice_get w.front place ≡ Some (Step caller op key out None reply)) × (length v.front ≤ place)
+      → MovesSeat caller key v w × (steps_of caller key w.own ≡ Step caller op key out None reply ∷ []) × (slice_get w.front (whole_place w.noted place) ≡ Some (Step caller op key out None reply)) × (length v.front ≤ whole_place w.noted place)
   added session phase caller key op out reply place v w x mine adds early none =
-      let is : w.own ≡ v.own ++ Step caller op key out None reply ∷ [] =
-      x.own_is ∙ ap (λ (n : ℕ). own_steps n w.noted) mine ∙ adds.own ∙ ap (λ (n : ℕ). own_steps n x.found ++ Step caller op key out None reply ∷ []) (sym mine)
-      ∙ ap (λ (es : List Event). es ++ Step caller op key out None reply ∷ []) x.own in
-      let was : v.own ≡ v.own ++ [] = sym (append-nil v.own) in (
-        gained_phase law legal session phase v w x caller key op out None reply v.own [] was is early,
-        steps-gained caller key op out None reply v.own w.own v.own [] was is none,
-        ap (λ (es : List Event). slice_get es place) x.front_is ∙ adds.there,
-        (let one = longer v.front x.found.history x.front in let two = adds.behind in omega arith),
+      let whole = adds_whole caller.session x.found w.noted (Step caller op key out None reply) place (uniform law session phase v w x).grows.same.ended adds in
+      let more = whole.2 in
+      let was : v.own ≡ more.before ++ more.after = sym x.own ∙ ap (λ (n : ℕ). all_own_steps n x.found) mine ∙ more.was in
+      let is : w.own ≡ more.before ++ Step caller op key out None reply ∷ more.after = x.own_is ∙ ap (λ (n : ℕ). all_own_steps n w.noted) mine ∙ more.is in (
+        gained_phase law session phase v w x caller key op out None reply more.before more.after was is early,
+        steps-gained caller key op out None reply v.own w.own more.before more.after was is none,
+        ap (λ (es : List Event). slice_get es (whole_place w.noted place)) x.front_is ∙ whole.1,
+        (let one = longer v.front (whole_history x.found) x.front in let two = whole.0 in omega arith),
       )
 
-  pub key_begun : (caller : Caller) (config : Config) (key : Bytes) (op : Op) (b : Begun) (v w : View) (x : SeatPhase caller.session v (StartsAt caller key op b) w) → v.noted.config ≡ config → steps_of caller key v.own ≡ []
+  pub key_begun : (caller : Caller) (config : Config) (key : Bytes) (op : Op) (b : Begun) (v w : View) (x : SeatPhase caller.session v (StartsAt caller key op b) w) → v.noted.config ≡ config → may_come_all v.own caller key ≡ true → steps_of caller key v.own ≡ []
       → MovesSeat caller key v w × HasBegun caller config v w key op b
-  key_begun caller config key op (begun.Done done) v w x shape none =
+  key_begun caller config key op (begun.Done done) v w x shape may none =
       let early = early_none x.found caller key op x.made.begins.0 in
       let a = added caller.session _ caller key op nothing_said done.reply done.place v w x refl (steps.done x.found w.noted caller key op done x.made.may x.made.begins) early none in (
         a.0,
         record {
           out = nothing_said;
           shared_with = None;
-          place = done.place;
+          place = whole_place w.noted done.place;
           said = inl refl;
           one = a.1;
-          legal = legal_now law legal caller.session _ v w x;
+          all = all_now law caller.session _ v w x;
           there = a.2;
           behind = a.3;
         },
       )
-  key_begun caller config key op (begun.Refused refusal) v w x shape none =
+  key_begun caller config key op (begun.Refused refusal) v w x shape may none =
       let same = steps.refused x.found w.noted caller key op refusal x.made.begins in
-      let own = seen_own law legal caller.session _ v w x same in
+      let own = seen_own law caller.session _ v w x same in
       let why : first_refusal w.noted caller key op ≡ Some refusal = ap (λ (s : State). first_refusal s caller key op) x.made.begins.1 ∙ x.made.begins.0 in
-      let grown = grown_phase law legal caller.session _ v w x in (
-        seen_phase law legal caller.session _ v w x caller key same,
+      let grown = grown_phase law caller.session _ v w x in (
+        seen_phase law caller.session _ v w x caller key same,
         (
           ap (steps_of caller key) own ∙ none,
-          refused_as w.noted caller key op refusal why,
+          put_off_or_full w.noted caller key op refusal why,
           why,
           record {
             seen = w.noted;
-            reached = (uniform law legal caller.session _ v w x).reached;
+            reached = (uniform law caller.session _ v w x).reached;
             since = subst (IsPrefix v.front) x.front_is grown.front;
-            later = subst (IsPrefix w.noted.history) (sym x.front_is) (prefix-refl w.noted.history);
+            later = subst (IsPrefix (whole_history w.noted)) (sym x.front_is) (prefix-refl (whole_history w.noted));
             next = le_refl w.noted.next;
-            same = record { config = refl; stripe = refl; origin = refl; opening = refl };
+            same = record { config = refl; stripe = refl; origin = refl; lives = refl; opening = refl };
             why = why;
           },
         ),
       )
-  key_begun caller config key op (begun.Asks ticket) v w x shape none =
+  key_begun caller config key op (begun.Asks ticket) v w x shape may none =
       let b = x.made.begins in
       let same = steps.reserves x.found w.noted caller key op ticket b in
-      let own = seen_own law legal caller.session _ v w x same in
+      let own = seen_own law caller.session _ v w x same in
       let found_shape : x.found.config ≡ config = x.same.config ∙ shape in (
-        seen_phase law legal caller.session _ v w x caller key same,
+        seen_phase law caller.session _ v w x caller key same,
         (
           ap (steps_of caller key) own ∙ none,
           ap (λ (t : TicketClaim). t.asked) b.4,
@@ -164,11 +150,11 @@ module _ (law : OnePhase) (legal : ReachedIsLegal) (steps : OwnSteps) where
           },
         ),
       )
-  key_begun caller config key op (begun.Joined join) v w x shape none =
+  key_begun caller config key op (begun.Joined join) v w x shape may none =
       let b = x.made.begins in
       let same = steps.joins x.found w.noted caller key op join b in
-      let own = seen_own law legal caller.session _ v w x same in (
-        seen_phase law legal caller.session _ v w x caller key same,
+      let own = seen_own law caller.session _ v w x same in (
+        seen_phase law caller.session _ v w x caller key same,
         (
           ap (steps_of caller key) own ∙ none,
           record {
@@ -176,14 +162,15 @@ module _ (law : OnePhase) (legal : ReachedIsLegal) (steps : OwnSteps) where
             key_is = ap (λ (j : JoinClaim). j.key) b.2;
             op_is = get_joins op (joins_by (may_join op) _ _ _ None join.load b.1);
             early = early_none x.found caller key op b.0;
-            fresh = all_before (λ e. may_come e caller key) v.front x.found.history x.front x.made.may.behind;
+            fresh = all_before (λ e. may_come e caller key) v.front (whole_history x.found) x.front
+                (may_in_all x.found caller key x.made.may (ap (λ (es : List Event). may_come_all es caller key) x.own ∙ may));
           },
           record {
             seen = x.found;
             reached = x.reached;
             since = x.front;
-            later = front_found law legal caller.session _ v w x;
-            same = (uniform law legal caller.session _ v w x).grows.same;
+            later = front_found law caller.session _ v w x;
+            same = of_same x.found w.noted (uniform law caller.session _ v w x).grows;
             load = join.load;
             why = b.1;
           },
@@ -196,16 +183,16 @@ module _ (law : OnePhase) (legal : ReachedIsLegal) (steps : OwnSteps) where
       let a = added session _ r.caller r.key r.op out done.reply done.place v w x mine (steps.commits x.found w.noted r out done x.reached x.made) early none in (
         a.0,
         record {
-          place = done.place;
+          place = whole_place w.noted done.place;
           one = a.1;
-          legal = legal_now law legal session _ v w x;
+          all = all_now law session _ v w x;
           there = a.2;
           behind = a.3;
           decided = x.found;
           reached = x.reached;
-          later = front_found law legal session _ v w x;
-          same = (uniform law legal session _ v w x).grows.same;
-          next = subst (λ (es : List Event). IsNext x.found r.key done.place es) (sym x.front_is) (next_place (after_commit x.found r done.place) w.noted r.caller r.key r.op out _ done x.made.1);
+          later = front_found law session _ v w x;
+          same = of_same x.found w.noted (uniform law session _ v w x).grows;
+          next = subst (λ (es : List Event). IsNext x.found r.key (whole_place w.noted done.place) es) (sym x.front_is) (next_place (after_commit x.found r done.place) w.noted r.caller r.key r.op out _ done x.made.1);
           asks = ask_found x.found.config x.found.cache (is_key r.key) x.found.reservations r x.made.0 x.reached.asks;
         },
       )
@@ -214,29 +201,31 @@ module _ (law : OnePhase) (legal : ReachedIsLegal) (steps : OwnSteps) where
       → MovesSeat join.caller join.key v w × ((first : View) → HasGrown first v → IsJoinFor join.caller first join.key Get join → HasPicked join.caller first w join.key Get p)
   key_picked places session join (picked.Answer reply place shared_with) v w x mine early none =
       let gains = steps.picks_up x.found w.noted join reply place shared_with x.reached x.made in
-      let g = gains.1 in
-      let was : v.own ≡ g.before ++ g.after = sym x.own ∙ ap (λ (n : ℕ). own_steps n x.found) mine ∙ g.was in
-      let is : w.own ≡ g.before ++ Step join.caller Get join.key gains.0 (Some shared_with) reply ∷ g.after = x.own_is ∙ ap (λ (n : ℕ). own_steps n w.noted) mine ∙ g.own in
-      let there : slice_get w.front place ≡ Some (Step join.caller Get join.key gains.0 (Some shared_with) reply) = ap (λ (es : List Event). slice_get es place) x.front_is ∙ g.there in
-      let grown = grown_phase law legal session _ v w x in (
-        gained_phase law legal session _ v w x join.caller join.key Get gains.0 (Some shared_with) reply g.before g.after was is early,
+      let at : ℕ = whole_place w.noted place in
+      let whole = gains_whole join.caller.session x.found w.noted (Step join.caller Get join.key gains.0 (Some shared_with) reply) place (uniform law session _ v w x).grows.same.ended gains.1 in
+      let g = whole.1 in
+      let was : v.own ≡ g.before ++ g.after = sym x.own ∙ ap (λ (n : ℕ). all_own_steps n x.found) mine ∙ g.was in
+      let is : w.own ≡ g.before ++ Step join.caller Get join.key gains.0 (Some shared_with) reply ∷ g.after = x.own_is ∙ ap (λ (n : ℕ). all_own_steps n w.noted) mine ∙ g.is in
+      let there : slice_get w.front at ≡ Some (Step join.caller Get join.key gains.0 (Some shared_with) reply) = ap (λ (es : List Event). slice_get es at) x.front_is ∙ whole.0 in
+      let grown = grown_phase law session _ v w x in (
+        gained_phase law session _ v w x join.caller join.key Get gains.0 (Some shared_with) reply g.before g.after was is early,
         λ first older for. (
             let front = prefix-trans first.front v.front w.front older.front grown.front in
             record {
               out = gains.0;
               shared_with = Some shared_with;
-              place = place;
+              place = at;
               said = tt;
               one = steps-gained join.caller join.key Get gains.0 (Some shared_with) reply v.own w.own g.before g.after was is none;
-              legal = legal_now law legal session _ v w x;
+              all = all_now law session _ v w x;
               there = there;
-              behind = places first.front front.0 join.caller Get join.key gains.0 (Some shared_with) reply place for.fresh
-                  (subst (λ (es : List Event). slice_get es place ≡ Some (Step join.caller Get join.key gains.0 (Some shared_with) reply)) (sym front.1) there);
+              behind = places first.front front.0 join.caller Get join.key gains.0 (Some shared_with) reply at for.fresh
+                  (subst (λ (es : List Event). slice_get es at ≡ Some (Step join.caller Get join.key gains.0 (Some shared_with) reply)) (sym front.1) there);
             }
             ),
       )
   key_picked places session join picked.Again v w x mine early none =
       let same : own_steps session w.noted ≡ own_steps session x.found =
       ap (λ (n : ℕ). own_steps n w.noted) mine ∙ steps.again x.found w.noted join x.reached x.made ∙ ap (λ (n : ℕ). own_steps n x.found) (sym mine) in
-      (seen_phase law legal session _ v w x join.caller join.key same, λ first older for. ap (steps_of join.caller join.key) (seen_own law legal session _ v w x same) ∙ none)
+      (seen_phase law session _ v w x join.caller join.key same, λ first older for. ap (steps_of join.caller join.key) (seen_own law session _ v w x same) ∙ none)
   key_picked places session join (picked.NotYet back) v w x mine early none = absurd x.made

@@ -6,7 +6,7 @@
 --     apart_next                the keys still differ, and are of the stripes that were looked at
 --     since_looked              a call that is carried out for these keys is since before the looks
 --     sweep_ok, sweep_err       and what it returns
-use Rattle.std.proofs.Common.{◌≡◌, ◌==◌, ◌&&◌, ◌⊎◌, ⊎_elim, inl, inr, ◌<◌, ◌≤◌, ◌+◌, ◌++◌, ℕ, zero, suc, List, [], ◌∷◌, All, length, Bool, true, false, nat_lt, Option, None, Some, Result, slice_get, slice_set, refl, sym, ap, subst, ◌∙◌, arith}
+use Rattle.std.proofs.Common.{◌≡◌, ◌==◌, ◌&&◌, ◌⊎◌, ⊎_elim, inl, inr, ◌<◌, ◌≤◌, ◌+◌, ◌++◌, ℕ, zero, suc, List, [], ◌∷◌, All, length, Bool, true, false, nat_lt, Option, None, Some, Result, Err, slice_get, slice_set, refl, sym, ap, subst, ◌∙◌, arith}
 use Rattle.std.proofs.lemmas.Bool.{and_parts}
 use Rattle.std.proofs.lemmas.Bool.Decides.{nat_tests}
 use Rattle.std.proofs.lemmas.List.{append-nil, append_assoc, length-append}
@@ -21,12 +21,14 @@ use Rattle.jc_types.proofs.CallerLemmas.{all_imply}
 use Rattle.jc_types.specs.Stripes.{stripe_of}
 use Rattle.jc_types.specs.declared.config.Config.{Config}
 use Rattle.jc_types.specs.declared.refusal.Refusal.{Refusal}
+use Rattle.jc_types.specs.declared.refusal.Refusal.TheVariants.{HistoryFull}
+use Rattle.jc_types.specs.declared.caller.Caller.{Caller}
 use Rattle.jc_model.specs.Cache.{Bytes}
 use Rattle.jc_model.specs.declared.event.Op.{Op}
 use Rattle.jc_outside.specs.CallingAll.{LoadAllRelation, WriteAllRelation, DeleteAllRelation}
 use Rattle.jc_stripe.proofs.CallerLemmas.{keys_once, keys_own, none_twice}
 use Rattle.jc_stripe.specs.Keys.{AreKeys, Looks}
-use Rattle.jc_stripe.specs.Laws.{IsSameStripe, ReachedIsLegal}
+use Rattle.jc_stripe.specs.Generations.{whole_history, IsOfSameStripe}
 use Rattle.jc_stripe.specs.OnePhase.{OnePhase, own_steps}
 use Rattle.jc_stripe.specs.OwnSteps.{is_before_call}
 use Rattle.jc_stripe.specs.Reached.{IsReached}
@@ -41,7 +43,7 @@ use Rattle.jc_cache.specs.PhaseCalls.{PhaseAt}
 use Rattle.jc_cache.specs.Sessions.{IsOf, MayCall}
 use Rattle.jc_cache.specs.declared.session.Session.{Session}
 use Rattle.jc_bulk.specs.declared.progress.Progress.TheVariants.{Ended}
-use Rattle.jc_bulk.specs.Bulk.{FailsInPart, HasLooked, IsCarriedOut, IsLookedAt, IsOutOfMemory, IsSweepRefused, OnlyLooks, Succeeds}
+use Rattle.jc_bulk.specs.Bulk.{FailsInPart, HasLooked, IsCarriedOut, IsLookedAt, IsOutOfMemory, IsSweepRefused, OnlyLooks, Succeeds, WasNearFull}
 use Rattle.jc_bulk.specs.Ends.{KeyEnd}
 use Rattle.jc_bulk.specs.Keys.{HasEnded}
 use Rattle.jc_bulk.specs.Recorded.{former_steps}
@@ -107,7 +109,7 @@ looked_later u v w keys grown at = record {
   reached = at.reached;
   same = same_on at.seen v.noted w.noted at.same grown.same;
   since = at.since;
-  later = prefix-trans at.seen.history v.front w.front at.later grown.front;
+  later = prefix-trans (whole_history at.seen) v.front w.front at.later grown.front;
   keys_are = at.keys_are;
 }
 
@@ -116,7 +118,7 @@ looked_since u v w keys grown at = record {
   seen = at.seen;
   reached = at.reached;
   same = at.same;
-  since = prefix-trans u.front v.front at.seen.history grown.front at.since;
+  since = prefix-trans u.front v.front (whole_history at.seen) grown.front at.since;
   later = at.later;
   keys_are = at.keys_are;
 }
@@ -182,7 +184,7 @@ module _ {I J : Type 0} {D : I → Type 0} {E : J → Type 0} where
         (subst (λ es. list_all (is_before_call old.agent.caller.session (one_more old.agent.caller.call)) es ≡ true) (sym (looks.own i) ∙ ap (λ (v : View). v.own) (view_there new.seats.items i seat there)) (all_early cache old may i));
   }
 
-  module _ (law : OnePhase) (legal : ReachedIsLegal) (cache : CacheState) (old new : Session I J D E) (own : IsOf cache old) (number : ℕ) (out out' : List Bytes) (x : PhaseAt number old (λ a b. (b ≡ a) × Looks a out out') Nothing new) where
+  module _ (law : OnePhase) (cache : CacheState) (old new : Session I J D E) (own : IsOf cache old) (number : ℕ) (out out' : List Bytes) (x : PhaseAt number old (λ a b. (b ≡ a) × Looks a out out') Nothing new) where
     same_phase : State → State → Type 0
     same_phase a b = (b ≡ a) × Looks a out out'
 
@@ -195,8 +197,8 @@ module _ {I J : Type 0} {D : I → Type 0} {E : J → Type 0} where
 
     pub looks_at : OnlyLooks old new
     looks_at = record {
-      grown = seats_on HasGrown grown_itself (grown_phase law legal old.agent.caller.session _ x.before x.after x.seat);
-      own = seats_on (λ u v. v.own ≡ u.own) (λ u. refl) (seen_own law legal old.agent.caller.session _ x.before x.after x.seat (ap (own_steps old.agent.caller.session) x.seat.made.0));
+      grown = seats_on HasGrown grown_itself (grown_phase law old.agent.caller.session _ x.before x.after x.seat);
+      own = seats_on (λ u v. v.own ≡ u.own) (λ u. refl) (seen_own law old.agent.caller.session _ x.before x.after x.seat (ap (own_steps old.agent.caller.session) x.seat.made.0));
       agent = x.left;
     }
 
@@ -216,9 +218,9 @@ module _ {I J : Type 0} {D : I → Type 0} {E : J → Type 0} where
         let at : IsLookedAt x.before x.after found = record {
           seen = s;
           reached = x.seat.reached;
-          same = subst (IsSameStripe s) (sym x.seat.made.0) (same_itself s);
+          same = subst (IsOfSameStripe s) (sym x.seat.made.0) (same_itself s);
           since = x.seat.front;
-          later = front_found law legal old.agent.caller.session _ x.before x.after x.seat;
+          later = front_found law old.agent.caller.session _ x.before x.after x.seat;
           keys_are = x.seat.made.1.2;
         } in
         let was : view_at old.seats.items number ≡ x.before = view_there old.seats.items number (x.lock, x.before) x.was in
@@ -232,6 +234,10 @@ module _ {I J : Type 0} {D : I → Type 0} {E : J → Type 0} where
         )
 
 -- 4. The call.
+
+full_since : (caller : Caller) (u v w : View) → HasGrown u v → WasNearFull caller v w → WasNearFull caller u w
+full_since caller u v w grown was =
+    record { seen = was.seen; reached = was.reached; same = was.same; since = prefix-trans u.front v.front (whole_history was.seen) grown.front was.since; later = was.later; full = was.full }
 
 module _ {I J : Type 0} {D : I → Type 0} {E : J → Type 0} (loads_all : LoadAllRelation ((i : I) × D i)) (load_state : (i : I) × D i → List ℕ) (writes_all : WriteAllRelation ((j : J) × E j)) (deletes_all : DeleteAllRelation ((j : J) × E j)) (write_state : (j : J) × E j → List ℕ) where
   pub since_looked : (cache : CacheState) (old mid new : Session I J D E) (targets : List (Bytes × Op)) (ends : List KeyEnd) (rounds : List Round) → OnlyLooks old mid
@@ -251,7 +257,11 @@ module _ {I J : Type 0} {D : I → Type 0} {E : J → Type 0} (loads_all : LoadA
             (λ (e : KeyEnd). HasEnded caller rounds (view_of n old.seats.items e.key) (view_of n new.seats.items e.key) e.key e.op e.ended)
             (λ e ended. at_since caller rounds (view_of n old.seats.items e.key) (view_of n mid.seats.items e.key) (view_of n new.seats.items e.key) e.key e.op (Ended e.ended) (looks.grown (stripe_of e.key n)) ended)
             ends c.each;
-        refused = c.refused;
+        refused = All-weaker
+            (λ (e : KeyEnd). e.ended ≡ Err HistoryFull → WasNearFull caller (view_of n mid.seats.items e.key) (view_of n new.seats.items e.key))
+            (λ (e : KeyEnd). e.ended ≡ Err HistoryFull → WasNearFull caller (view_of n old.seats.items e.key) (view_of n new.seats.items e.key))
+            (λ e was full. full_since caller (view_of n old.seats.items e.key) (view_of n mid.seats.items e.key) (view_of n new.seats.items e.key) (looks.grown (stripe_of e.key n)) (was full))
+            ends c.refused;
         others = c.others;
         former = λ i. c.former i ∙ ap (former_steps caller) (looks.own i);
         asked = c.asked;

@@ -14,17 +14,18 @@ use Rattle.atomic_table.specs.Seated.{TableId}
 use Rattle.jc_types.specs.Stripes.{stripe_of}
 use Rattle.jc_types.specs.declared.caller.Caller.{Caller}
 use Rattle.jc_model.specs.Cache.{Bytes}
-use Rattle.jc_model.specs.Legal.{Legal}
 use Rattle.jc_model.specs.declared.event.Event.{Event}
 use Rattle.jc_model.specs.declared.event.Event.TheVariants.{Step}
 use Rattle.jc_model.specs.declared.event.Op.{Op}
 use Rattle.jc_model.specs.declared.event.Out.{Out}
 use Rattle.jc_model.specs.declared.event.Reply.{Reply}
 use Rattle.jc_stripe.specs.State.{State}
-use Rattle.jc_stripe.specs.Laws.{ReachedIsLegal}
+use Rattle.jc_stripe.specs.Generations.{whole_history}
 use Rattle.jc_stripe.specs.OnePhase.{OnePhase, IsUniform, own_steps}
+use Rattle.jc_stripe.proofs.CallerLemmas.{whole_goes_on, own_stay}
 use Rattle.jc_lock.specs.declared.view.View.{View}
 use Rattle.jc_lock.proofs.CallerLemmas.{prefix-refl, prefix-trans, same_itself, same_on}
+use Rattle.jc_cache.specs.Fronts.{HasAllSeen}
 use Rattle.jc_cache.specs.PhaseCalls.{SeatPhase}
 use Rattle.jc_bulk.specs.Keys.{IsEarly}
 use Rattle.jc_bulk.specs.Recorded.{steps_of, former_steps, are_before}
@@ -43,31 +44,31 @@ pub record MovesSeat (caller : Caller) (key : Bytes) (v w : View) : Type 0 where
   pub numbers : are_before caller v.own ≡ true → are_before caller w.own ≡ true
 
 pub grown_itself : (v : View) → HasGrown v v
-grown_itself v = record { front = prefix-refl v.front; same = same_itself v.noted; next = le_refl v.noted.next; legal = λ l. l }
+grown_itself v = record { front = prefix-refl v.front; same = same_itself v.noted; next = le_refl v.noted.next; all = λ a. a }
 
 pub grown_on : (u v w : View) → HasGrown u v → HasGrown v w → HasGrown u w
-grown_on u v w p q = record { front = prefix-trans u.front v.front w.front p.front q.front; same = same_on u.noted v.noted w.noted p.same q.same; next = (let one = p.next in let two = q.next in omega arith); legal = λ l. q.legal (p.legal l) }
+grown_on u v w p q = record { front = prefix-trans u.front v.front w.front p.front q.front; same = same_on u.noted v.noted w.noted p.same q.same; next = (let one = p.next in let two = q.next in omega arith); all = λ a. q.all (p.all a) }
 
-module _ (law : OnePhase) (legal : ReachedIsLegal) (session : ℕ) (phase : State → State → Type 0) (v w : View) (x : SeatPhase session v phase w) where
+module _ (law : OnePhase) (session : ℕ) (phase : State → State → Type 0) (v w : View) (x : SeatPhase session v phase w) where
   pub uniform : IsUniform session x.found w.noted
   uniform = law session x.found w.noted x.reached x.one
 
-  pub front_found : IsPrefix x.found.history w.front
-  front_found = (uniform.grows.more, sym uniform.grows.history ∙ sym x.front_is)
+  pub front_found : IsPrefix (whole_history x.found) w.front
+  front_found = subst (IsPrefix (whole_history x.found)) (sym x.front_is) (whole_goes_on x.found w.noted uniform.grows)
 
-  pub legal_now : Legal w.noted.config w.noted.opening w.front
-  legal_now = subst (λ (es : List Event). Legal w.noted.config w.noted.opening es) (sym x.front_is) (legal w.noted uniform.reached)
+  pub all_now : HasAllSeen w
+  all_now = record { reached = uniform.reached; front = x.front_is }
 
   pub grown_phase : HasGrown v w
   grown_phase = record {
-    front = prefix-trans v.front x.found.history w.front x.front front_found;
+    front = prefix-trans v.front (whole_history x.found) w.front x.front front_found;
     same = x.seat.same;
     next = x.seat.next;
-    legal = λ l. legal_now;
+    all = λ a. all_now;
   }
 
   pub seen_own : own_steps session w.noted ≡ own_steps session x.found → w.own ≡ v.own
-  seen_own same = x.own_is ∙ same ∙ x.own
+  seen_own same = x.own_is ∙ own_stay session x.found w.noted uniform.grows.same.ended same ∙ x.own
 
   pub seen_phase : (caller : Caller) (key : Bytes) → own_steps session w.noted ≡ own_steps session x.found → MovesSeat caller key v w
   seen_phase caller key same = record {

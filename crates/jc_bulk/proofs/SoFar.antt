@@ -28,6 +28,7 @@ use Rattle.jc_model.specs.declared.event.Op.{Op}
 use Rattle.jc_model.specs.declared.event.Out.{Out}
 use Rattle.jc_stripe.specs.OwnSteps.{is_before_call}
 use Rattle.jc_outside.proofs.CallerLemmas.{at_place}
+use Rattle.jc_stripe.specs.Generations.{whole_history}
 use Rattle.jc_lock.specs.declared.view.View.{View}
 use Rattle.jc_lock.proofs.CallerLemmas.{prefix-trans, same_on}
 use Rattle.jc_bulk.specs.declared.progress.Progress.{Progress}
@@ -75,7 +76,7 @@ refused_later caller u v w key op refusal grown was = record {
   seen = was.seen;
   reached = was.reached;
   since = was.since;
-  later = prefix-trans was.seen.history v.front w.front was.later grown.front;
+  later = prefix-trans (whole_history was.seen) v.front w.front was.later grown.front;
   next = (let one = was.next in let two = grown.next in omega arith);
   same = same_on was.seen v.noted w.noted was.same grown.same;
   why = was.why;
@@ -85,7 +86,7 @@ pub refused_since : (caller : Caller) (u v w : View) (key : Bytes) (op : Op) (re
 refused_since caller u v w key op refusal grown was = record {
   seen = was.seen;
   reached = was.reached;
-  since = prefix-trans u.front v.front was.seen.history grown.front was.since;
+  since = prefix-trans u.front v.front (whole_history was.seen) grown.front was.since;
   later = was.later;
   next = was.next;
   same = was.same;
@@ -103,7 +104,7 @@ at_later caller rounds u v w key op (Ended (Ok reply)) grown same at = record {
   place = at.place;
   said = at.said;
   one = same ∙ at.one;
-  legal = grown.legal at.legal;
+  all = grown.all at.all;
   there = there_on v.front w.front at.place _ grown.front at.there;
   behind = at.behind;
 }
@@ -119,7 +120,7 @@ at_since caller rounds u v w key op (Ended (Ok reply)) grown at = record {
   place = at.place;
   said = at.said;
   one = at.one;
-  legal = at.legal;
+  all = at.all;
   there = at.there;
   behind = (let one = longer u.front v.front grown.front in let two = at.behind in omega arith);
 }
@@ -135,7 +136,7 @@ at_more caller rounds more u w key op (Ended (Ok reply)) at = record {
   place = at.place;
   said = said_more rounds more key at.shared_with at.out at.said;
   one = at.one;
-  legal = at.legal;
+  all = at.all;
   there = at.there;
   behind = at.behind;
 }

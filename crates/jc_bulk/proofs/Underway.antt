@@ -226,7 +226,7 @@ module _ {I J : Type 0} {D : I → Type 0} {E : J → Type 0} where
         place = made.place;
         said = said;
         one = made.one;
-        legal = made.legal;
+        all = made.all;
         there = made.there;
         behind = made.behind;
       } in

@@ -4,7 +4,8 @@
 --     AsksEachOnce   the calls outside of a call: each asks for some key, and no key is asked for twice
 --     HasAsked       the same of a call that has no reservation out: each key that was asked for is over
 --     near_places    how many places of a history may be held by promises, and how many one step more needs
---     IsNearFull     the history has hardly any place left, or a number has come to its end
+--     IsNearFull     the present generation's history has hardly any place left, or a number has come to its end
+--     WasNearFull    so was the stripe in a state between the former front and the present one
 --     causes_of      the faults and refusals that a call has met: those of its keys, and those that the writer returned
 --     IsCarriedOut   a session's next call, carried out for these keys, each of which ended in one way, with these calls outside
 --     Succeeds       the same, and it has met no fault and no refusal
@@ -35,7 +36,7 @@ use Rattle.jc_model.specs.declared.event.Reply.{Reply}
 use Rattle.jc_batch.specs.Changes.{changes_of}
 use Rattle.jc_outside.specs.CallingAll.{LoadAllRelation, WriteAllRelation, DeleteAllRelation}
 use Rattle.jc_stripe.specs.Keys.{AreKeys}
-use Rattle.jc_stripe.specs.Laws.{IsSameStripe}
+use Rattle.jc_stripe.specs.Generations.{whole_history, IsOfSameStripe}
 use Rattle.jc_stripe.specs.Reached.{IsReached}
 use Rattle.jc_stripe.specs.Refusals.{first_asked, last_number}
 use Rattle.jc_stripe.specs.State.{State}
@@ -81,8 +82,16 @@ pub record HasAsked (config : Config) (targets : List (Bytes × Op)) (rounds : L
 abbrev pub near_places : ℕ
 near_places = STEP_PLACES * RESERVATIONS_MAX + JOINERS_MAX + STEP_PLACES
 
-abbrev pub IsNearFull : Caller → View → Type 0
-IsNearFull caller view = (view.noted.config.history < length view.front + near_places) ⊎ (last_number ≤ caller.call) ⊎ (last_number ≤ view.noted.next)
+abbrev pub IsNearFull : Caller → State → Type 0
+IsNearFull caller state = (state.config.history < length state.history + near_places) ⊎ (last_number ≤ caller.call) ⊎ (last_number ≤ state.next)
+
+pub record WasNearFull (caller : Caller) (before after : View) : Type 0 where
+  pub seen : State
+  pub reached : IsReached seen
+  pub same : IsOfSameStripe seen after.noted
+  pub since : IsPrefix before.front (whole_history seen)
+  pub later : IsPrefix (whole_history seen) after.front
+  pub full : IsNearFull caller seen
 
 abbrev pub causes_of : List KeyEnd → List Round → List Refusal
 causes_of ends rounds = map (λ (e : Bytes × Refusal). e.1) (failed_entries ends) ++ faults_in rounds
@@ -96,7 +105,7 @@ module _ {I J : Type 0} {D : I → Type 0} {E : J → Type 0}
     pub targets_are : key_ops ends ≡ targets
     pub grown : (i : ℕ) → HasGrown (view_at old.seats.items i) (view_at new.seats.items i)
     pub each : All (λ (e : KeyEnd). HasEnded (next_call old).agent.caller rounds (view_of cache.config.stripes old.seats.items e.key) (view_of cache.config.stripes new.seats.items e.key) e.key e.op e.ended) ends
-    pub refused : All (λ (e : KeyEnd). e.ended ≡ Err HistoryFull → IsNearFull (next_call old).agent.caller (view_of cache.config.stripes new.seats.items e.key)) ends
+    pub refused : All (λ (e : KeyEnd). e.ended ≡ Err HistoryFull → WasNearFull (next_call old).agent.caller (view_of cache.config.stripes old.seats.items e.key) (view_of cache.config.stripes new.seats.items e.key)) ends
     pub others : (key : Bytes) (i : ℕ) → is_due cache.config.stripes targets key i ≡ false → steps_of (next_call old).agent.caller key (view_at new.seats.items i).own ≡ []
     pub former : (i : ℕ) → former_steps (next_call old).agent.caller (view_at new.seats.items i).own ≡ former_steps (next_call old).agent.caller (view_at old.seats.items i).own
     pub asked : AsksEachOnce cache.config targets rounds
@@ -135,9 +144,9 @@ IsRefusedWhole old keys cause failed found new =
 pub record IsLookedAt (before after : View) (keys : List Bytes) : Type 0 where
   pub seen : State
   pub reached : IsReached seen
-  pub same : IsSameStripe seen after.noted
-  pub since : IsPrefix before.front seen.history
-  pub later : IsPrefix seen.history after.front
+  pub same : IsOfSameStripe seen after.noted
+  pub since : IsPrefix before.front (whole_history seen)
+  pub later : IsPrefix (whole_history seen) after.front
   pub keys_are : AreKeys seen keys
 
 pub record HasLooked (stripes : ℕ) (old new : List (TableId × View)) (keys : List Bytes) : Type 0 where

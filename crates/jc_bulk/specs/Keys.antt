@@ -1,6 +1,6 @@
 -- How far a call with many keys is at one of them, by what its session has seen of the key's stripe.
---     HasStep        of the call's steps at this key there is exactly one, with this operation and reply; it is in the front, which is legal,
---                    behind the former front; what it says of the loader and the writer is what a round of the call was told, or another
+--     HasStep        of the call's steps at this key there is exactly one, with this operation and reply; it is in the front, which is the
+--                    whole history of the noted state, behind the former front; what it says of the loader and the writer is what a round of the call was told, or another
 --                    call whose load it shares
 --     WasRefused     the stripe was in a state, between the former front and the present one, in which this is the first refusal of the
 --                    call at this key
@@ -25,14 +25,13 @@ use Rattle.jc_types.specs.Refusals.{is_put_off}
 use Rattle.jc_types.specs.declared.refusal.Refusal.{Refusal}
 use Rattle.jc_types.specs.declared.refusal.Refusal.TheVariants.{HistoryFull, OutOfMemory}
 use Rattle.jc_model.specs.Cache.{Bytes, entry_at}
-use Rattle.jc_model.specs.Legal.{Legal}
 use Rattle.jc_model.specs.declared.event.Event.TheVariants.{Step}
 use Rattle.jc_model.specs.declared.event.Op.{Op}
 use Rattle.jc_model.specs.declared.event.Op.TheVariants.{Get}
 use Rattle.jc_model.specs.declared.event.Out.{Out}
 use Rattle.jc_model.specs.declared.event.Reply.{Reply}
 use Rattle.jc_stripe.specs.State.{State}
-use Rattle.jc_stripe.specs.Laws.{IsSameStripe}
+use Rattle.jc_stripe.specs.Generations.{whole_history, IsOfSameStripe}
 use Rattle.jc_stripe.specs.Reached.{IsReached}
 use Rattle.jc_stripe.specs.Refusals.{first_asked, first_refusal, last_number, load_joined, reserves}
 use Rattle.jc_stripe.specs.OwnSteps.{may_come_all}
@@ -43,7 +42,7 @@ use Rattle.jc_stripe.specs.declared.begun.Begun.TheVariants as begun
 use Rattle.jc_stripe.specs.declared.begun.Picked.{Picked}
 use Rattle.jc_stripe.specs.declared.begun.Picked.TheVariants as picked
 use Rattle.jc_lock.specs.declared.view.View.{View}
-use Rattle.jc_cache.specs.Fronts.{IsNext}
+use Rattle.jc_cache.specs.Fronts.{HasAllSeen, IsNext}
 use Rattle.jc_session.specs.declared.counts.Counted.{Counted}
 use Rattle.jc_session.specs.declared.counts.Counted.TheVariants as counted
 use Rattle.jc_bulk.specs.declared.progress.Progress.{Progress}
@@ -59,17 +58,17 @@ pub record HasStep (caller : Caller) (rounds : List Round) (before after : View)
   pub place : ℕ
   pub said : IsSaid rounds key shared_with out
   pub one : steps_of caller key after.own ≡ Step caller op key out shared_with reply ∷ []
-  pub legal : Legal after.noted.config after.noted.opening after.front
+  pub all : HasAllSeen after
   pub there : slice_get after.front place ≡ Some (Step caller op key out shared_with reply)
   pub behind : length before.front ≤ place
 
 pub record WasRefused (caller : Caller) (before after : View) (key : Bytes) (op : Op) (refusal : Refusal) : Type 0 where
   pub seen : State
   pub reached : IsReached seen
-  pub since : IsPrefix before.front seen.history
-  pub later : IsPrefix seen.history after.front
+  pub since : IsPrefix before.front (whole_history seen)
+  pub later : IsPrefix (whole_history seen) after.front
   pub next : seen.next ≤ after.noted.next
-  pub same : IsSameStripe seen after.noted
+  pub same : IsOfSameStripe seen after.noted
   pub why : first_refusal seen caller key op ≡ Some refusal
 
 abbrev pub HasEnded : Caller → List Round → View → View → Bytes → Op → Result Reply Refusal → Type 0
@@ -107,9 +106,9 @@ pub record IsJoinFor (caller : Caller) (before : View) (key : Bytes) (op : Op) (
 pub record HasJoined (before after : View) (key : Bytes) (op : Op) : Type 0 where
   pub seen : State
   pub reached : IsReached seen
-  pub since : IsPrefix before.front seen.history
-  pub later : IsPrefix seen.history after.front
-  pub same : IsSameStripe seen after.noted
+  pub since : IsPrefix before.front (whole_history seen)
+  pub later : IsPrefix (whole_history seen) after.front
+  pub same : IsOfSameStripe seen after.noted
   pub load : ℕ
   pub why : load_joined seen key op ≡ Some load
 
@@ -135,13 +134,13 @@ counted_start (Err refusal) = counted.Nothing
 pub record IsCommitted (caller : Caller) (r : Reservation) (out : Out) (before after : View) (reply : Reply) : Type 0 where
   pub place : ℕ
   pub one : steps_of caller r.key after.own ≡ Step caller r.op r.key out None reply ∷ []
-  pub legal : Legal after.noted.config after.noted.opening after.front
+  pub all : HasAllSeen after
   pub there : slice_get after.front place ≡ Some (Step caller r.op r.key out None reply)
   pub behind : length before.front ≤ place
   pub decided : State
   pub reached : IsReached decided
-  pub later : IsPrefix decided.history after.front
-  pub same : IsSameStripe decided after.noted
+  pub later : IsPrefix (whole_history decided) after.front
+  pub same : IsOfSameStripe decided after.noted
   pub next : IsNext decided r.key place after.front
   pub asks : first_asked decided.config r.op (entry_at decided.cache r.key) ≡ r.first
 

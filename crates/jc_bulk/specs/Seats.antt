@@ -1,8 +1,8 @@
 -- What a session has seen of each stripe, in a call with many keys.
 --     view_at      the view of the session's seat at the stripe with this number; one of a seat that is gone, if there is no such stripe
 --     view_of      that of the key's stripe, of so many stripes
---     HasGrown     the front begins with the former one, the stripe is the same, its next reservation's number hasn't fallen, and a legal
---                  front stays one
+--     HasGrown     the front begins with the former one, the stripe is the same, its next reservation's number hasn't fallen, and a front
+--                  that is the whole history of the noted state stays so
 --     is_at        this is the key, and it is of the stripe with this number
 --     Moves        one phase of the call at this key: every front may have grown; what is said of any other key stays, and so do the steps
 --                  of former calls
@@ -14,10 +14,10 @@ use Rattle.atomic_table.specs.Seated.{TableId}
 use Rattle.jc_types.specs.declared.caller.Caller.{Caller}
 use Rattle.jc_types.specs.Stripes.{stripe_of}
 use Rattle.jc_model.specs.Cache.{Bytes}
-use Rattle.jc_model.specs.Legal.{Legal}
-use Rattle.jc_stripe.specs.Laws.{IsSameStripe}
+use Rattle.jc_stripe.specs.Generations.{IsOfSameStripe}
 use Rattle.jc_lock.specs.declared.view.View.{View}
 use Rattle.jc_lock.specs.Views.{spent_view}
+use Rattle.jc_cache.specs.Fronts.{HasAllSeen}
 use Rattle.jc_bulk.specs.Recorded.{steps_of, former_steps, are_before}
 
 abbrev pub view_at : List (TableId × View) → ℕ → View
@@ -30,9 +30,9 @@ view_of stripes seats key = view_at seats (stripe_of key stripes)
 
 pub record HasGrown (before after : View) : Type 0 where
   pub front : IsPrefix before.front after.front
-  pub same : IsSameStripe before.noted after.noted
+  pub same : IsOfSameStripe before.noted after.noted
   pub next : before.noted.next ≤ after.noted.next
-  pub legal : Legal before.noted.config before.noted.opening before.front → Legal after.noted.config after.noted.opening after.front
+  pub all : HasAllSeen before → HasAllSeen after
 
 abbrev pub is_at : ℕ → Bytes → Bytes → ℕ → Bool
 is_at stripes key other i = pointwise ◌==◌ key other && (stripe_of key stripes == i)

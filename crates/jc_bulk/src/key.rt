@@ -15,7 +15,7 @@ ghost use Rattle.jc_bulk.specs.Seats.{AreBefore, HasGrown, Moves, view_of};
 
 use jc_cache::{Cache, Session};
 use jc_model::{Op, Reply};
-use jc_stripe::phase_laws::{is_legal, is_uniform, own_steps, steps_behind};
+use jc_stripe::phase_laws::{is_uniform, own_steps, steps_behind};
 use jc_stripe::{Ask, Begun, Join, LoadDone, Picked, Ticket, WriteDone};
 use jc_types::Key;
 use std::sync::Wait;
@@ -39,7 +39,6 @@ pub fn start_key<R: Wait>(rt: &R, cache: &Cache, session: &mut Session, key: &Ke
         (view_of cache.now.config.stripes session.new.seats.items key.now) key.now op.now result }
 {
     is_uniform();
-    is_legal();
     own_steps();
     cache.start(rt, session, key, op)
 }
@@ -73,7 +72,6 @@ pub fn commit_loaded<R: Wait>(
         (view_of cache.now.config.stripes session.new.seats.items ticket.reservation.key) result }
 {
     is_uniform();
-    is_legal();
     own_steps();
     cache.commit_load(rt, session, ticket, done).reply
 }
@@ -106,7 +104,6 @@ pub fn commit_written<R: Wait>(
         (view_of cache.now.config.stripes session.new.seats.items ticket.reservation.key) result }
 {
     is_uniform();
-    is_legal();
     own_steps();
     cache.commit_write(rt, session, ticket, done).reply
 }
@@ -135,7 +132,6 @@ pub fn pick_key<R: Wait>(rt: &R, cache: &Cache, session: &mut Session, join: Joi
         (view_of cache.now.config.stripes session.new.seats.items join.key) join.key Get result }
 {
     is_uniform();
-    is_legal();
     own_steps();
     steps_behind();
     cache.wait_for_load(rt, session, join)

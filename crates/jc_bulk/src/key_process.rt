@@ -14,7 +14,7 @@ ghost use Rattle.jc_bulk.specs.Seats.{AreBefore, Moves, view_of};
 
 use jc_cache::{Cache, Session};
 use jc_model::{Op, Reply};
-use jc_stripe::phase_laws::{is_legal, is_uniform, own_steps};
+use jc_stripe::phase_laws::{is_uniform, own_steps};
 use jc_stripe::{Ask, Begun, ProcDone, Ticket, WriteDone};
 use jc_types::{Key, Refusal};
 use std::sync::Wait;
@@ -49,7 +49,6 @@ pub fn start_process<R: Wait>(
         (view_of cache.now.config.stripes session.new.seats.items key.now) key.now Invoke (Refused refusal)) }
 {
     is_uniform();
-    is_legal();
     own_steps();
     match cache.start(rt, session, key, &Op::Invoke) {
         Begun::Asks(ticket) => Ok(ticket),
@@ -91,7 +90,6 @@ pub fn commit_processed<R: Wait>(
         (view_of cache.now.config.stripes session.new.seats.items ticket.reservation.key) result }
 {
     is_uniform();
-    is_legal();
     own_steps();
     cache
         .commit_process(rt, session, ticket, done, report)

@@ -13,7 +13,7 @@ use crate::carrying::call_all;
 use crate::fault::BulkFault;
 use crate::targets::Targets;
 use jc_cache::{Cache, Session};
-use jc_stripe::phase_laws::{is_legal, is_uniform};
+use jc_stripe::phase_laws::is_uniform;
 use jc_types::{Key, Refusal};
 use std::alloc::{AllocError, Global};
 use std::sync::Wait;
@@ -157,6 +157,5 @@ fn look_at<R: Wait>(
     ensures room { vec_capacity keys.new ≡ vec_capacity keys.old }
 {
     is_uniform();
-    is_legal();
     cache.look(rt, session, number, keys);
 }

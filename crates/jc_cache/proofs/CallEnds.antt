@@ -1,6 +1,5 @@
 -- What a whole call over a lock leaves of its session's seat.
 --     refused_full     of the refusals that are not waited out a first phase gives the full history alone
---     call_below       a first phase that is not refused is of a call that is not the last one
 --     joins_get        what joins a load is a `Get`
 --     IsBelow          a call that has made its step is not the last one
 --     CallLeft         a whole call's seat: it is of the same lock, what it has seen, and that
@@ -11,8 +10,9 @@
 --     committed_left   a call that had somebody to ask: it is between, and its step was made, in the state in which it was committed
 --     shown_same       a processor's call: the entry is the same in the state in which it was committed as in the one that was found first
 --     invoked_left     a whole call that runs a processor: its step was made in a state with the entry that was found first
-use Rattle.std.proofs.Common.{◌≡◌, ◌==◌, ◌&&◌, ◌≤◌, ◌+◌, ◌++◌, ◌∷◌, map, ⊎_elim, inl, inr, ℕ, zero, suc, Bool, true, false, not, if◌then◌else◌, nat_lt, nat_le, Option, None, Some, is_some, is_none, Result, Ok, Err, List, length, slice_get, refl, sym, ap, subst, ◌∙◌, arith}
+use Rattle.std.proofs.Common.{◌≡◌, ◌==◌, ◌&&◌, ◌≤◌, ◌+◌, ◌++◌, ◌∷◌, map, ⊎_elim, inl, inr, ℕ, zero, suc, Bool, true, false, not, if◌then◌else◌, nat_lt, nat_le, Option, None, Some, is_some, is_none, Result, Ok, Err, List, length, slice_get, append_assoc, refl, sym, ap, subst, ◌∙◌, arith}
 use Rattle.std.proofs.lemmas.Bool.{and_parts}
+use Rattle.std.proofs.lemmas.List.{length-append}
 use mathlib.Core.List.{IsPrefix}
 use Rattle.jc_types.specs.declared.caller.Caller.{Caller}
 use Rattle.jc_types.specs.declared.limits.TheConstants.{RESERVATIONS_MAX, JOINERS_MAX}
@@ -31,13 +31,13 @@ use Rattle.jc_model.specs.declared.event.Out.{Out}
 use Rattle.jc_model.specs.declared.event.Reply.{Reply}
 use Rattle.std.specs.FinMap.{len}
 use Rattle.jc_stripe.specs.State.{State, is_reserved, is_key, reservation_of}
-use Rattle.jc_stripe.specs.Laws.{ReachedIsLegal}
+use Rattle.jc_stripe.specs.Generations.{past_events, whole_history, whole_place}
 use Rattle.jc_stripe.specs.OrderOfUse.{least_used}
 use Rattle.jc_stripe.specs.Reached.{IsReached}
 use Rattle.jc_stripe.specs.Tickets.{TicketClaim, JoinClaim, entry_seen}
 use Rattle.jc_stripe.specs.Refusals.{first_asked, first_refusal, has_room, last_number, load_at, load_joined, may_join, needs_free_key, needs_reservation, places_needed}
 use Rattle.jc_stripe.specs.OnePhase.{OnePhase}
-use Rattle.jc_stripe.specs.OwnSteps.{OwnSteps, StepsBehind}
+use Rattle.jc_stripe.specs.OwnSteps.{OwnSteps, StepsBehind, may_come_all}
 use Rattle.jc_stripe.specs.Phases.{Begins, Commits, PicksUp, Steps, after_commit, new_group}
 use Rattle.jc_stripe.specs.declared.begun.Begun.{Begun}
 use Rattle.jc_stripe.specs.declared.begun.Begun.TheVariants as begun
@@ -47,6 +47,7 @@ use Rattle.jc_stripe.specs.declared.ticket.First.{First as Whom}
 use Rattle.jc_stripe.specs.declared.ticket.First.TheVariants as first
 use Rattle.jc_stripe.specs.declared.ticket.Reservation.{Reservation}
 use Rattle.jc_stripe.proofs.Beside.{ask_found}
+use Rattle.jc_stripe.proofs.CallerLemmas.{call_below, may_in_all, put_off_or_full}
 use Rattle.jc_stripe.proofs.SharedSteps.{stands_at}
 use Rattle.jc_lock.specs.declared.view.View.{View}
 use Rattle.jc_lock.proofs.CallerLemmas.{prefix-trans, same_on}
@@ -56,33 +57,13 @@ use Rattle.jc_engine.specs.Chain.{LentPhase}
 use Rattle.jc_engine.specs.Needs.{Starts, StartsAt}
 use Rattle.jc_engine.specs.Calls.{Rejoins, Retries, EntersAs, Enters, EndsAs, IsTried}
 use Rattle.jc_cache.specs.Fronts.{HasSeen, HasMade, MakesStep, SeatAfter, SeatTried, IsBetween, IsNext, IsMadeIn}
-use Rattle.jc_cache.proofs.Lendings.{lock_takes, lock_gives, lock_finds, Lending, HasGrown, seen_itself, seen_on, made_on, grown_on, grown_behind, kept, added, gained, longer_on, rests_seen, phase_lent}
+use Rattle.jc_cache.proofs.Lendings.{lock_takes, lock_gives, lock_finds, Lending, HasGrown, seen_itself, seen_on, made_on, grown_on, grown_behind, kept, added, gained, front_grows, longer_on, rests_seen, phase_lent}
 
 -- 1. First phases.
 
-full_alone : (full busy flying joining : Bool) (r : Refusal)
-    → (if full then Some refusal.HistoryFull else (if busy then Some refusal.Busy else (if flying then Some refusal.TooManyInFlight else (if joining then Some refusal.TooManyJoiners else None)))) ≡ Some r
-    → is_put_off r ≡ false → r ≡ refusal.HistoryFull
-full_alone true busy flying joining r e last = cc
-full_alone false true flying joining r e last = cc
-full_alone false false true joining r e last = cc
-full_alone false false false true r e last = cc
-full_alone false false false false r e last = cc
-
 pub refused_full : (state : State) (caller : Caller) (key : Bytes) (op : Op) (r : Refusal) → first_refusal state caller key op ≡ Some r → is_put_off r ≡ false → r ≡ refusal.HistoryFull
 refused_full state caller key op r e last =
-    full_alone (not (has_room state caller.call (places_needed (needs_free_key state key op)))) (is_reserved state key && needs_free_key state key op)
-    (needs_reservation state key op && nat_le RESERVATIONS_MAX (length state.reservations)) (is_some (load_joined state key op) && nat_le JOINERS_MAX (length state.joiners)) r e last
-
-roomy : (room : Bool) (rest : Option Refusal) → (if not room then Some refusal.HistoryFull else rest) ≡ None → room ≡ true
-roomy true rest e = refl
-roomy false rest e = cc
-
-pub call_below : (state : State) (caller : Caller) (key : Bytes) (op : Op) → first_refusal state caller key op ≡ None → nat_lt caller.call last_number ≡ true
-call_below state caller key op e =
-    let needed = places_needed (needs_free_key state key op) in
-    let room = roomy (has_room state caller.call needed) _ e in
-    (and_parts (nat_le _ state.config.history) (nat_lt caller.call last_number) (and_parts _ (nat_lt state.next last_number) room).0).1
+    ⊎_elim (λ again. absurd (let bad : true ≡ false = sym again ∙ last in cc)) (λ full. full) (put_off_or_full state caller key op r e)
 
 may_join_get : (op : Op) → may_join op ≡ true → op ≡ Get
 may_join_get Get h = refl
@@ -119,16 +100,16 @@ between_on : (u v : View) (state : State) (w : View) → HasSeen u v → IsBetwe
 between_on u v state w p x = record {
   reached = x.reached;
   same = same_on u.noted v.noted state p.seat.same x.same;
-  front = prefix-trans u.front v.front state.history p.front x.front;
+  front = prefix-trans u.front v.front (whole_history state) p.front x.front;
   later = x.later;
 }
 
 between_grows : (u : View) (state : State) (v w : View) → IsBetween u state v → IsPrefix v.front w.front → IsBetween u state w
-between_grows u state v w x p = record { reached = x.reached; same = x.same; front = x.front; later = prefix-trans state.history v.front w.front x.later p }
+between_grows u state v w x p = record { reached = x.reached; same = x.same; front = x.front; later = prefix-trans (whole_history state) v.front w.front x.later p }
 
 -- the state that a lending found
 found_between : (session : ℕ) (v : View) (a b : State) (w : View) → Lending session v a b w → IsBetween v a w
-found_between session v a b w x = record { reached = x.reached; same = x.same; front = x.front; later = (x.uniform.grows.more, sym x.uniform.grows.history ∙ sym x.front_is) }
+found_between session v a b w x = record { reached = x.reached; same = x.same; front = x.front; later = front_grows session v a b w x }
 
 entered_on : (u v : View) (caller : Caller) (key : Bytes) (op : Op) (met : Entered) (w : View) → HasSeen u v → EnteredAt v caller key op met w → EnteredAt u caller key op met w
 entered_on u v caller key op (entered.Done reply) w p x =
@@ -179,11 +160,12 @@ module _ {G L : Type 0} where
   First caller key op b g t k v = LentPhase lock_takes lock_gives lock_finds caller.session g t (Starts caller key op b) k v
 
   -- a call that has joined a load, and picks its answer up
-  shares : OnePhase → OwnSteps → ReachedIsLegal → StepsBehind → (caller : Caller) (key : Bytes) (op : Op) (join : JoinClaim) (reply : Reply) (place shared_with : ℕ) (g : G) (t : L × View) (k : G) (v : L × View) (h : G) (u : L × View)
-      → t.1.session ≡ Some caller.session → t.1.holds ≡ false → (x : First caller key op (begun.Joined join) g t k v)
+  shares : OnePhase → OwnSteps → StepsBehind → (caller : Caller) (key : Bytes) (op : Op) (join : JoinClaim) (reply : Reply) (place shared_with : ℕ) (g : G) (t : L × View) (k : G) (v : L × View) (h : G) (u : L × View)
+      → t.1.session ≡ Some caller.session → t.1.holds ≡ false → may_come_all t.1.own caller key ≡ true → (x : First caller key op (begun.Joined join) g t k v)
       → LentPhase lock_takes lock_gives lock_finds join.caller.session k v (λ a b. PicksUp a join (picked.Answer reply place shared_with) b) h u
       → (u.0 ≡ t.0) × IsBetween t.1 x.before u.1 × EnteredAt t.1 caller key op (entered.Done reply) u.1
-  shares law own legal behind caller key op join reply place shared_with g t k v h u mine free x y =
+  shares law own behind caller key op join reply place shared_with g t k v h u mine free may x y =
+      let whole_at : ℕ = whole_place y.after place in
       let begins = x.made.first.begins in
       let j = phase_lent law caller.session g t (Starts caller key op (begun.Joined join)) k v mine free x in
       let seen = kept caller.session t.1 x.before x.after v.1 j.1 (own.joins x.before x.after caller key op join begins) in
@@ -194,27 +176,28 @@ module _ {G L : Type 0} where
       let gains = own.picks_up y.before y.after join reply place shared_with y.lent.reached y.made in
       let out : Out = gains.0 in
       let is : Step join.caller Get join.key out (Some shared_with) reply ≡ Step caller op key out (Some shared_with) reply = λ i. Step (who.0 i) (to_get i) (who.1 i) out (Some shared_with) reply in
-      let grown = subst (λ (e : Event). HasGrown v.1 u.1 e place) is (gained legal join.caller.session v.1 y.before y.after u.1 (Step join.caller Get join.key out (Some shared_with) reply) place p.1 gains.1) in
-      let whole = grown_on t.1 v.1 u.1 (Step caller op key out (Some shared_with) reply) place seen grown in
+      let grown = subst (λ (e : Event). HasGrown v.1 u.1 e whole_at) is (gained join.caller.session v.1 y.before y.after u.1 (Step join.caller Get join.key out (Some shared_with) reply) place p.1 gains.1) in
+      let whole = grown_on t.1 v.1 u.1 (Step caller op key out (Some shared_with) reply) whole_at seen grown in
       let between = between_grows t.1 x.before v.1 u.1 (found_between caller.session t.1 x.before x.after v.1 j.1) grown.front in
       let later = between.later in
-      let le = behind x.before.history later.0 caller op key out (Some shared_with) reply place x.made.first.may.behind (ap (λ (es : List Event). slice_get es place) later.1 ∙ grown.there) in
-      (p.0 ∙ j.0, between, (record { out = out; shared_with = Some shared_with; place = place; asked_for = refl; made = grown_behind t.1 u.1 (Step caller op key out (Some shared_with) reply) place (front_le t.1.front x.before.history place between.front le) whole }, call_below x.before caller key op begins.0))
+      let come : may_come_all (whole_history x.before) caller key ≡ true = may_in_all x.before caller key x.made.first.may (ap (λ (es : List Event). may_come_all es caller key) j.1.own ∙ may) in
+      let le = behind (whole_history x.before) later.0 caller op key out (Some shared_with) reply whole_at come (ap (λ (es : List Event). slice_get es whole_at) later.1 ∙ grown.there) in
+      (p.0 ∙ j.0, between, (record { out = out; shared_with = Some shared_with; place = whole_at; asked_for = refl; made = grown_behind t.1 u.1 (Step caller op key out (Some shared_with) reply) whole_at (front_le t.1.front (whole_history x.before) whole_at between.front le) whole }, call_below x.before caller key op begins.0))
 
-  enters_left : OnePhase → OwnSteps → ReachedIsLegal → StepsBehind → (caller : Caller) (key : Bytes) (op : Op) (b : Begun) (met : Entered) (g : G) (t : L × View) (k : G) (v : L × View) (h : G) (u : L × View)
-      → t.1.session ≡ Some caller.session → t.1.holds ≡ false → (x : First caller key op b g t k v) → EntersAs lock_takes lock_gives lock_finds caller key op b met k v h u
+  enters_left : OnePhase → OwnSteps → StepsBehind → (caller : Caller) (key : Bytes) (op : Op) (b : Begun) (met : Entered) (g : G) (t : L × View) (k : G) (v : L × View) (h : G) (u : L × View)
+      → t.1.session ≡ Some caller.session → t.1.holds ≡ false → may_come_all t.1.own caller key ≡ true → (x : First caller key op b g t k v) → EntersAs lock_takes lock_gives lock_finds caller key op b met k v h u
       → (u.0 ≡ t.0) × IsBetween t.1 x.before u.1 × EnteredAt t.1 caller key op met u.1
-  enters_left law own legal behind caller key op (begun.Done done) met g t k v h u mine free x ends =
+  enters_left law own behind caller key op (begun.Done done) met g t k v h u mine free may x ends =
       let begins = x.made.first.begins in
       let l = phase_lent law caller.session g t (Starts caller key op (begun.Done done)) k v mine free x in
-      let made = added legal caller.session t.1 x.before x.after v.1 (Step caller op key nothing_said None done.reply) done.place l.1 (own.done x.before x.after caller key op done x.made.first.may begins) in
+      let made = added caller.session t.1 x.before x.after v.1 (Step caller op key nothing_said None done.reply) done.place l.1 (own.done x.before x.after caller key op done x.made.first.may begins) in
       subst (λ (z : L × View). (z.0 ≡ t.0) × IsBetween t.1 x.before z.1 × EnteredAt t.1 caller key op met z.1) (sym ends.2) (
         l.0,
         found_between caller.session t.1 x.before x.after v.1 l.1,
         subst (λ (m : Entered). EnteredAt t.1 caller key op m v.1) (sym ends.0)
-            (record { out = nothing_said; shared_with = None; place = done.place; asked_for = refl; made = made }, call_below x.before caller key op begins.0),
+            (record { out = nothing_said; shared_with = None; place = whole_place x.after done.place; asked_for = refl; made = made }, call_below x.before caller key op begins.0),
       )
-  enters_left law own legal behind caller key op (begun.Refused refusal) met g t k v h u mine free x ends =
+  enters_left law own behind caller key op (begun.Refused refusal) met g t k v h u mine free may x ends =
       let begins = x.made.first.begins in
       let l = phase_lent law caller.session g t (Starts caller key op (begun.Refused refusal)) k v mine free x in
       let seen = kept caller.session t.1 x.before x.after v.1 l.1 (own.refused x.before x.after caller key op refusal begins) in
@@ -224,7 +207,7 @@ module _ {G L : Type 0} where
         subst (λ (m : Entered). EnteredAt t.1 caller key op m v.1) (sym ends.0)
             (seen, refused_full x.before caller key op refusal begins.0 x.made.last, ap (λ (s : State). first_refusal s caller key op) (l.1.noted ∙ begins.1) ∙ begins.0),
       )
-  enters_left law own legal behind caller key op (begun.Asks ticket) met g t k v h u mine free x ends =
+  enters_left law own behind caller key op (begun.Asks ticket) met g t k v h u mine free may x ends =
       let begins = x.made.first.begins in
       let l = phase_lent law caller.session g t (Starts caller key op (begun.Asks ticket)) k v mine free x in
       let seen = kept caller.session t.1 x.before x.after v.1 l.1 (own.reserves x.before x.after caller key op ticket begins) in
@@ -234,71 +217,72 @@ module _ {G L : Type 0} where
         subst (λ (m : Entered). EnteredAt t.1 caller key op m v.1) (sym ends.0)
             (seen, call_below x.before caller key op begins.0, ap (λ (k : TicketClaim). k.reservation.caller) begins.4, ap (λ (k : TicketClaim). k.reservation.key) begins.4, ap (λ (k : TicketClaim). k.reservation.op) begins.4),
       )
-  enters_left law own legal behind caller key op (begun.Joined join) met g t k v h u mine free x ends =
-      let s = shares law own legal behind caller key op join ends.0 ends.1 ends.2 g t k v h u mine free x ends.4 in
+  enters_left law own behind caller key op (begun.Joined join) met g t k v h u mine free may x ends =
+      let s = shares law own behind caller key op join ends.0 ends.1 ends.2 g t k v h u mine free may x ends.4 in
       (s.0, s.1, subst (λ (m : Entered). EnteredAt t.1 caller key op m u.1) (sym ends.3) s.2)
 
   -- 4. The whole.
 
-  ends_left : OnePhase → OwnSteps → ReachedIsLegal → (caller : Caller) (key : Bytes) (op : Op) (met : Entered) (asked : Out) (ended : Result Reply Refusal) (decided : State) (t : L × View) (k : G) (v : L × View) (h : G) (u : L × View)
+  ends_left : OnePhase → OwnSteps → (caller : Caller) (key : Bytes) (op : Op) (met : Entered) (asked : Out) (ended : Result Reply Refusal) (decided : State) (t : L × View) (k : G) (v : L × View) (h : G) (u : L × View)
       → t.1.session ≡ Some caller.session → v.0 ≡ t.0 → IsBetween t.1 decided v.1 → EnteredAt t.1 caller key op met v.1
       → EndsAs lock_takes lock_gives lock_finds caller key op met asked ended k v h u → CallLeft t caller key op asked ended decided u
-  ends_left law own legal caller key op (entered.Done reply) asked ended decided t k v h u mine lock between at ends =
+  ends_left law own caller key op (entered.Done reply) asked ended decided t k v h u mine lock between at ends =
       let Q : Result Reply Refusal → Out → L × View → Type 0 = λ e o z. CallLeft t caller key op o e decided z in
       subst (λ (z : L × View). Q ended asked z) (sym ends.3) (subst (λ (e : Result Reply Refusal). Q e asked v) (sym ends.0) (subst (λ (o : Out). Q (Ok reply) o v) (sym ends.1)
       (record { lock = lock; between = between; seat = at.0; below = at.1 })))
-  ends_left law own legal caller key op (entered.Refused refusal) asked ended decided t k v h u mine lock between at ends =
+  ends_left law own caller key op (entered.Refused refusal) asked ended decided t k v h u mine lock between at ends =
       let Q : Result Reply Refusal → Out → L × View → Type 0 = λ e o z. CallLeft t caller key op o e decided z in
       subst (λ (z : L × View). Q ended asked z) (sym ends.3) (subst (λ (e : Result Reply Refusal). Q e asked v) (sym ends.0) (subst (λ (o : Out). Q (Err refusal) o v) (sym ends.1)
       (record { lock = lock; between = between; seat = (at.0, refl, at.1, at.2); below = tt })))
-  ends_left law own legal caller key op (entered.Asks ticket) asked ended decided t k v h u mine lock between at ends =
+  ends_left law own caller key op (entered.Asks ticket) asked ended decided t k v h u mine lock between at ends =
       let r : Reservation = ticket.reservation in
       let done : StepDone = ends.0 in
       let y = ends.2 in
       let seen = at.0 in
       let mine' : v.1.session ≡ Some r.caller.session = seen.seat.session ∙ mine ∙ ap (λ (c : Caller). Some c.session) (sym at.2) in
       let l = phase_lent law r.caller.session k v (λ a b. Commits a r asked done b) h u mine' seen.seat.free y in
-      let made = added legal r.caller.session v.1 y.before y.after u.1 (Step r.caller r.op r.key asked None done.reply) done.place l.1 (own.commits y.before y.after r asked done y.lent.reached y.made) in
+      let made = added r.caller.session v.1 y.before y.after u.1 (Step r.caller r.op r.key asked None done.reply) done.place l.1 (own.commits y.before y.after r asked done y.lent.reached y.made) in
       let is : Step r.caller r.op r.key asked None done.reply ≡ Step caller op key asked None done.reply = λ i. Step (at.2 i) (at.4 i) (at.3 i) asked None done.reply in
-      let here = made_on t.1 v.1 u.1 (Step caller op key asked None done.reply) done.place seen (subst (λ (e : Event). HasMade v.1 u.1 e done.place) is made) in
+      let here = made_on t.1 v.1 u.1 (Step caller op key asked None done.reply) (whole_place y.after done.place) seen (subst (λ (e : Event). HasMade v.1 u.1 e (whole_place y.after done.place)) is made) in
       subst (λ (e : Result Reply Refusal). CallLeft t caller key op asked e decided u) (sym ends.1) (record {
         lock = l.0 ∙ lock;
         between = between_grows t.1 decided v.1 u.1 between made.front;
-        seat = record { out = asked; shared_with = None; place = done.place; asked_for = refl; made = here };
+        seat = record { out = asked; shared_with = None; place = whole_place y.after done.place; asked_for = refl; made = here };
         below = at.1;
       })
 
-  pub call_left : OnePhase → OwnSteps → ReachedIsLegal → StepsBehind → (caller : Caller) (key : Bytes) (op : Op) (met : Entered) (asked : Out) (ended : Result Reply Refusal) (g : G) (t : L × View) (k : G) (v : L × View) (h : G) (u : L × View)
-      → t.1.session ≡ Some caller.session → t.1.holds ≡ false → (x : Enters lock_takes lock_gives lock_finds caller key op g t met k v)
+  pub call_left : OnePhase → OwnSteps → StepsBehind → (caller : Caller) (key : Bytes) (op : Op) (met : Entered) (asked : Out) (ended : Result Reply Refusal) (g : G) (t : L × View) (k : G) (v : L × View) (h : G) (u : L × View)
+      → t.1.session ≡ Some caller.session → t.1.holds ≡ false → may_come_all t.1.own caller key ≡ true → (x : Enters lock_takes lock_gives lock_finds caller key op g t met k v)
       → EndsAs lock_takes lock_gives lock_finds caller key op met asked ended k v h u → CallLeft t caller key op asked ended x.first.before u
-  call_left law own legal behind caller key op met asked ended g t k v h u mine free x ends =
+  call_left law own behind caller key op met asked ended g t k v h u mine free may x ends =
       let retried = retries_seen law own caller key op x.rounds g t x.gate x.token mine free x.retried in
       let mine' : x.token.1.session ≡ Some caller.session = retried.1.seat.session ∙ mine in
-      let first = enters_left law own legal behind caller key op x.begun met x.gate x.token x.gate' x.token' k v mine' retried.1.seat.free x.first x.ends in
-      ends_left law own legal caller key op met asked ended x.first.before t k v h u mine (first.0 ∙ retried.0) (between_on t.1 x.token.1 x.first.before v.1 retried.1 first.1)
+      let may' : may_come_all x.token.1.own caller key ≡ true = ap (λ (es : List Event). may_come_all es caller key) retried.1.own ∙ may in
+      let first = enters_left law own behind caller key op x.begun met x.gate x.token x.gate' x.token' k v mine' retried.1.seat.free may' x.first x.ends in
+      ends_left law own caller key op met asked ended x.first.before t k v h u mine (first.0 ∙ retried.0) (between_on t.1 x.token.1 x.first.before v.1 retried.1 first.1)
       (entered_on t.1 x.token.1 caller key op met v.1 retried.1 first.2) ends
 
 -- 5. A call that waits for nobody.
 
 module _ {G L : Type 0} where
-  pub tried_left : OnePhase → OwnSteps → ReachedIsLegal → (caller : Caller) (key : Bytes) (op : Op) (ended : Result Reply Refusal) (g : G) (t : L × View) (h : G) (u : L × View)
+  pub tried_left : OnePhase → OwnSteps → (caller : Caller) (key : Bytes) (op : Op) (ended : Result Reply Refusal) (g : G) (t : L × View) (h : G) (u : L × View)
       → t.1.session ≡ Some caller.session → t.1.holds ≡ false → IsTried lock_takes lock_gives lock_finds caller key op g t ended h u
       → (u.0 ≡ t.0) × SeatTried t.1 caller key op ended u.1 × IsBelow caller ended
-  tried_left law own legal caller key op (Ok reply) g t h u mine free x =
+  tried_left law own caller key op (Ok reply) g t h u mine free x =
       let done : StepDone = x.0 in
       let y = x.2 in
       let begins = y.made.begins in
       let l = phase_lent law caller.session g t (StartsAt caller key op (begun.Done done)) h u mine free y in
-      let made = added legal caller.session t.1 y.before y.after u.1 (Step caller op key nothing_said None done.reply) done.place l.1 (own.done y.before y.after caller key op done y.made.may begins) in
-      (l.0, record { out = nothing_said; shared_with = None; place = done.place; asked_for = refl; made = subst (λ (z : Reply). HasMade t.1 u.1 (Step caller op key nothing_said None z) done.place) x.1 made }, call_below y.before caller key op begins.0)
-  tried_left law own legal caller key op (Err refusal) g t h u mine free x =
+      let made = added caller.session t.1 y.before y.after u.1 (Step caller op key nothing_said None done.reply) done.place l.1 (own.done y.before y.after caller key op done y.made.may begins) in
+      (l.0, record { out = nothing_said; shared_with = None; place = whole_place y.after done.place; asked_for = refl; made = subst (λ (z : Reply). HasMade t.1 u.1 (Step caller op key nothing_said None z) (whole_place y.after done.place)) x.1 made }, call_below y.before caller key op begins.0)
+  tried_left law own caller key op (Err refusal) g t h u mine free x =
       ⊎_elim
       (λ y.
       let begins = y.made.begins in
       let l = phase_lent law caller.session g t (StartsAt caller key op (begun.Refused refusal)) h u mine free y in
       let seen = kept caller.session t.1 y.before y.after u.1 l.1 (own.refused y.before y.after caller key op refusal begins) in
       (l.0, (seen, inr (ap (λ (s : State). first_refusal s caller key op) (l.1.noted ∙ begins.1) ∙ begins.0)), tt))
-      (λ y. let r = rests_seen law caller.session g t h u mine free y.1 in (r.0, (r.1, inl y.0), tt))
+      (λ y. let r = rests_seen caller.session g t h u mine free y.1 in (r.0, (r.1, inl y.0), tt))
       x
 
 -- 6. A call that runs a processor.
@@ -306,27 +290,32 @@ module _ {G L : Type 0} where
 -- the step's place, by whether its key is missing before it, is there after it, the stripe is full, and which entry could go
 at_next : (state : State) (key : Bytes) (place : ℕ) (history : List Event) (missing has full : Bool) (least : Option Bytes) (middle last : List Event)
     → (missing ≡ true → entry_at state.cache key ≡ None)
-    → place ≡ length state.history + length (victim_events (if (missing && has) && full then least else None))
-    → history ≡ state.history ++ ((victim_events (if (missing && has) && full then least else None) ++ middle) ++ last)
+    → place ≡ length (whole_history state) + length (victim_events (if (missing && has) && full then least else None))
+    → history ≡ whole_history state ++ ((victim_events (if (missing && has) && full then least else None) ++ middle) ++ last)
     → IsNext state key place history
 at_next state key place history false has full least middle last none at is = inl (omega (arith, at))
 at_next state key place history true false full least middle last none at is = inl (omega (arith, at))
 at_next state key place history true true false least middle last none at is = inl (omega (arith, at))
 at_next state key place history true true true None middle last none at is = inl (omega (arith, at))
 at_next state key place history true true true (Some victim) middle last none at is =
-    inr (omega (arith, at), none refl, (victim, ap (λ (es : List Event). slice_get es (length state.history)) is ∙ stands_at state.history (Evict victim Full) (middle ++ last)))
+    inr (omega (arith, at), none refl, (victim, ap (λ (es : List Event). slice_get es (length (whole_history state))) is ∙ stands_at (whole_history state) (Evict victim Full) (middle ++ last)))
 
 none_is : (entry : Option Bytes) → is_none entry ≡ true → entry ≡ None
 none_is None h = refl
 none_is (Some value) h = cc
 
-pub next_place : (old new : State) (caller : Caller) (key : Bytes) (op : Op) (out : Out) (callers : List Caller) (done : StepDone) → Steps old caller key op out callers done new → IsNext old key done.place new.history
+pub next_place : (old new : State) (caller : Caller) (key : Bytes) (op : Op) (out : Out) (callers : List Caller) (done : StepDone) → Steps old caller key op out callers done new → IsNext old key (whole_place new done.place) (whole_history new)
 next_place old new caller key op out callers done x =
     let group : Group = new_group old caller key op out callers x.short in
     let entry : Option Bytes = entry_at old.cache key in
-    at_next old key done.place new.history (is_none entry) (is_some (entry_after op entry out)) (len old.cache == old.config.capacity) (least_used old)
+    let past : List Event = past_events old.ended in
+    let ended : past_events new.ended ≡ past = ap (λ (s : State). past_events s.ended) x.after in
+    let far : length (past_events new.ended) ≡ length past = ap length ended in
+    let long = length-append past old.history in
+    let at = x.place in
+    at_next old key (whole_place new done.place) (whole_history new) (is_none entry) (is_some (entry_after op entry out)) (len old.cache == old.config.capacity) (least_used old)
     (step_event group ∷ map (shared_event (step_place (length old.history) group) key out.load) group.joined) (evicted_events key group.evicted)
-    (none_is entry) x.place (ap (λ (s : State). s.history) x.after)
+    (none_is entry) (omega arith) ((λ i. ended i ++ (x.after i).history) ∙ sym (append_assoc past old.history _))
 
 -- whom an entered call asks first
 abbrev first_of : Entered → Whom
@@ -352,27 +341,27 @@ pub record AloneLeft {L : Type 0} (t : L × View) (caller : Caller) (key : Bytes
   pub entry : entry_at decided.cache key ≡ entry_at first.cache key
 
 module _ {G L : Type 0} where
-  pub committed_left : OnePhase → OwnSteps → ReachedIsLegal → (caller : Caller) (key : Bytes) (op : Op) (ticket : TicketClaim) (asked : Out) (ended : Result Reply Refusal) (t : L × View) (k : G) (v : L × View) (h : G) (u : L × View)
+  pub committed_left : OnePhase → OwnSteps → (caller : Caller) (key : Bytes) (op : Op) (ticket : TicketClaim) (asked : Out) (ended : Result Reply Refusal) (t : L × View) (k : G) (v : L × View) (h : G) (u : L × View)
       → t.1.session ≡ Some caller.session → v.0 ≡ t.0 → EnteredAt t.1 caller key op (entered.Asks ticket) v.1
       → (ends : EndsAs lock_takes lock_gives lock_finds caller key op (entered.Asks ticket) asked ended k v h u)
       → (left : CallLeft t caller key op asked ended ends.2.before u) × IsMadeIn t.1 caller key op asked ended u.1 left.seat ends.2.before
-  committed_left law own legal caller key op ticket asked ended t k v h u mine lock at ends =
+  committed_left law own caller key op ticket asked ended t k v h u mine lock at ends =
       let r : Reservation = ticket.reservation in
       let done : StepDone = ends.0 in
       let y = ends.2 in
       let seen = at.0 in
       let mine' : v.1.session ≡ Some r.caller.session = seen.seat.session ∙ mine ∙ ap (λ (c : Caller). Some c.session) (sym at.2) in
       let l = phase_lent law r.caller.session k v (λ a b. Commits a r asked done b) h u mine' seen.seat.free y in
-      let made = added legal r.caller.session v.1 y.before y.after u.1 (Step r.caller r.op r.key asked None done.reply) done.place l.1 (own.commits y.before y.after r asked done y.lent.reached y.made) in
+      let made = added r.caller.session v.1 y.before y.after u.1 (Step r.caller r.op r.key asked None done.reply) done.place l.1 (own.commits y.before y.after r asked done y.lent.reached y.made) in
       let is : Step r.caller r.op r.key asked None done.reply ≡ Step caller op key asked None done.reply = λ i. Step (at.2 i) (at.4 i) (at.3 i) asked None done.reply in
-      let here = made_on t.1 v.1 u.1 (Step caller op key asked None done.reply) done.place seen (subst (λ (e : Event). HasMade v.1 u.1 e done.place) is made) in
-      let next : IsNext y.before key done.place u.1.front =
-      subst (λ (q : Bytes). IsNext y.before q done.place u.1.front) at.3 (subst (λ (es : List Event). IsNext y.before r.key done.place es) (sym l.1.front_is) (next_place (after_commit y.before r done.place) y.after r.caller r.key r.op asked _ done y.made.1)) in
+      let here = made_on t.1 v.1 u.1 (Step caller op key asked None done.reply) (whole_place y.after done.place) seen (subst (λ (e : Event). HasMade v.1 u.1 e (whole_place y.after done.place)) is made) in
+      let next : IsNext y.before key (whole_place y.after done.place) u.1.front =
+      subst (λ (q : Bytes). IsNext y.before q (whole_place y.after done.place) u.1.front) at.3 (subst (λ (es : List Event). IsNext y.before r.key (whole_place y.after done.place) es) (sym l.1.front_is) (next_place (after_commit y.before r done.place) y.after r.caller r.key r.op asked _ done y.made.1)) in
       subst (λ (e : Result Reply Refusal). (left : CallLeft t caller key op asked e y.before u) × IsMadeIn t.1 caller key op asked e u.1 left.seat y.before) (sym ends.1) (
         record {
           lock = l.0 ∙ lock;
           between = between_on t.1 v.1 y.before u.1 seen (found_between r.caller.session v.1 y.before y.after u.1 l.1);
-          seat = record { out = asked; shared_with = None; place = done.place; asked_for = refl; made = here };
+          seat = record { out = asked; shared_with = None; place = whole_place y.after done.place; asked_for = refl; made = here };
           below = at.1;
         },
         next,
@@ -395,16 +384,16 @@ module _ {G L : Type 0} where
   not_done caller key (begun.Asks mine) reply before after g t h u s ends = let bad = ends.0 in cc
   not_done caller key (begun.Joined join) reply before after g t h u s ends = let bad = s.first.begins.1 in cc
 
-  ends_alone : OnePhase → OwnSteps → ReachedIsLegal → (caller : Caller) (key : Bytes) (b : Begun) (met : Entered) (asked : Out) (ended : Result Reply Refusal) (first next : State) (m : G) (w : L × View) (t : L × View) (k : G) (v : L × View) (h : G) (u : L × View)
+  ends_alone : OnePhase → OwnSteps → (caller : Caller) (key : Bytes) (b : Begun) (met : Entered) (asked : Out) (ended : Result Reply Refusal) (first next : State) (m : G) (w : L × View) (t : L × View) (k : G) (v : L × View) (h : G) (u : L × View)
       → t.1.session ≡ Some caller.session → v.0 ≡ t.0 → EnteredAt t.1 caller key Invoke met v.1 → Starts caller key Invoke b first next → EntersAs lock_takes lock_gives lock_finds caller key Invoke b met m w k v
       → EndsAs lock_takes lock_gives lock_finds caller key Invoke met asked ended k v h u → CallLeft t caller key Invoke asked ended first u → AloneLeft t caller key asked ended first u
-  ends_alone law own legal caller key b (entered.Done reply) asked ended first next m w t k v h u mine lock at starts enters ends left = absurd (not_done caller key b reply first next m w k v starts enters)
-  ends_alone law own legal caller key b (entered.Refused refusal) asked ended first next m w t k v h u mine lock at starts enters ends left =
+  ends_alone law own caller key b (entered.Done reply) asked ended first next m w t k v h u mine lock at starts enters ends left = absurd (not_done caller key b reply first next m w k v starts enters)
+  ends_alone law own caller key b (entered.Refused refusal) asked ended first next m w t k v h u mine lock at starts enters ends left =
       let both = subst (λ (e : Result Reply Refusal). (l : CallLeft t caller key Invoke asked e first u) × IsMadeIn t.1 caller key Invoke asked e u.1 l.seat first) (sym ends.0)
       (subst (λ (e : Result Reply Refusal). CallLeft t caller key Invoke asked e first u) ends.0 left, tt) in
       record { decided = first; left = both.0; made = both.1; entry = refl }
-  ends_alone law own legal caller key b (entered.Asks ticket) asked ended first next m w t k v h u mine lock at starts enters ends left =
-      let both = committed_left law own legal caller key Invoke ticket asked ended t k v h u mine lock at ends in
+  ends_alone law own caller key b (entered.Asks ticket) asked ended first next m w t k v h u mine lock at starts enters ends left =
+      let both = committed_left law own caller key Invoke ticket asked ended t k v h u mine lock at ends in
       let y = ends.2 in
       record {
         decided = y.before;
@@ -413,12 +402,13 @@ module _ {G L : Type 0} where
         entry = shown_same y.before caller key ticket first asked ends.0 y.after y.lent.reached y.made at.3 at.4 (asks_first caller key b ticket first next m w k v starts enters);
       }
 
-  pub invoked_left : OnePhase → OwnSteps → ReachedIsLegal → StepsBehind → (caller : Caller) (key : Bytes) (met : Entered) (asked : Out) (ended : Result Reply Refusal) (g : G) (t : L × View) (k : G) (v : L × View) (h : G) (u : L × View)
-      → t.1.session ≡ Some caller.session → t.1.holds ≡ false → (x : Enters lock_takes lock_gives lock_finds caller key Invoke g t met k v)
+  pub invoked_left : OnePhase → OwnSteps → StepsBehind → (caller : Caller) (key : Bytes) (met : Entered) (asked : Out) (ended : Result Reply Refusal) (g : G) (t : L × View) (k : G) (v : L × View) (h : G) (u : L × View)
+      → t.1.session ≡ Some caller.session → t.1.holds ≡ false → may_come_all t.1.own caller key ≡ true → (x : Enters lock_takes lock_gives lock_finds caller key Invoke g t met k v)
       → EndsAs lock_takes lock_gives lock_finds caller key Invoke met asked ended k v h u → AloneLeft t caller key asked ended x.first.before u
-  invoked_left law own legal behind caller key met asked ended g t k v h u mine free x ends =
+  invoked_left law own behind caller key met asked ended g t k v h u mine free may x ends =
       let retried = retries_seen law own caller key Invoke x.rounds g t x.gate x.token mine free x.retried in
       let mine' : x.token.1.session ≡ Some caller.session = retried.1.seat.session ∙ mine in
-      let first = enters_left law own legal behind caller key Invoke x.begun met x.gate x.token x.gate' x.token' k v mine' retried.1.seat.free x.first x.ends in
-      ends_alone law own legal caller key x.begun met asked ended x.first.before x.first.after x.gate' x.token' t k v h u mine (first.0 ∙ retried.0)
-      (entered_on t.1 x.token.1 caller key Invoke met v.1 retried.1 first.2) x.first.made x.ends ends (call_left law own legal behind caller key Invoke met asked ended g t k v h u mine free x ends)
+      let may' : may_come_all x.token.1.own caller key ≡ true = ap (λ (es : List Event). may_come_all es caller key) retried.1.own ∙ may in
+      let first = enters_left law own behind caller key Invoke x.begun met x.gate x.token x.gate' x.token' k v mine' retried.1.seat.free may' x.first x.ends in
+      ends_alone law own caller key x.begun met asked ended x.first.before x.first.after x.gate' x.token' t k v h u mine (first.0 ∙ retried.0)
+      (entered_on t.1 x.token.1 caller key Invoke met v.1 retried.1 first.2) x.first.made x.ends ends (call_left law own behind caller key Invoke met asked ended g t k v h u mine free may x ends)

@@ -16,7 +16,8 @@ use Rattle.jc_model.specs.Cache.{Bytes}
 use Rattle.jc_model.specs.Legal.{Legal, IsHistory}
 use Rattle.jc_model.specs.declared.event.Event.{Event}
 use Rattle.jc_stripe.specs.State.{State}
-use Rattle.jc_stripe.specs.Laws.{IsSameStripe, ReachedIsLegal}
+use Rattle.jc_stripe.specs.Laws.{ReachedIsLegal}
+use Rattle.jc_stripe.specs.Generations.{IsChain, first_opening, IsOfSameStripe}
 use Rattle.jc_lock.proofs.CallerLemmas.{prefix-refl, same_itself}
 use Rattle.jc_cache.specs.declared.session.Session.{Session}
 use Rattle.jc_cache.specs.Caches.{OwnerState, noted_by, fronts_of}
@@ -56,9 +57,9 @@ whole_again config given locks old new whole keeps free = record {
       origin_is = keeps.same.origin ∙ own.origin_is;
     }
 
-closed_at : (config : Config) (i given : ℕ) (x y : Seated) (state : State) → ReachedIsLegal → IsOwnSeat config i given x.1 → KeepsSeat x y → HasTaken y.1 state → IsClosedAt config i x.1.noted.opening state
+closed_at : (config : Config) (i given : ℕ) (x y : Seated) (state : State) → ReachedIsLegal → IsOwnSeat config i given x.1 → KeepsSeat x y → HasTaken y.1 state → IsClosedAt config i (first_opening x.1.noted) state
 closed_at config i given x y state legal own keeps taken =
-    let opening : state.opening ≡ x.1.noted.opening = ap (λ (s : State). s.opening) (sym taken.noted) ∙ keeps.same.opening in
+    let opening : first_opening state ≡ first_opening x.1.noted = ap first_opening (sym taken.noted) ∙ keeps.same.opening in
     let shape : state.config ≡ config = ap (λ (s : State). s.config) (sym taken.noted) ∙ keeps.same.config ∙ own.config_is in
     record {
       reached = taken.reached;
@@ -67,8 +68,9 @@ closed_at config i given x y state legal own keeps taken =
       stripe_is = ap (λ (s : State). s.stripe) (sym taken.noted) ∙ keeps.same.stripe ∙ own.stripe_is;
       opening_is = opening;
       origin_is = ap (λ (s : State). s.origin) (sym taken.noted) ∙ keeps.same.origin ∙ own.origin_is;
-      legal = subst₂ (λ (c : Config) (entries : List (Bytes × Bytes)). Legal c entries state.history) shape opening (legal state taken.reached);
-      leaves = subst₂ (λ (c : Config) (entries : List (Bytes × Bytes)). IsHistory c (from_entries entries) state.history state.cache) shape opening taken.reached.legal;
+      chain = subst (λ (c : Config). IsChain c state.ended state.opening) shape taken.reached.chain;
+      legal = subst (λ (c : Config). Legal c state.opening state.history) shape (legal state taken.reached);
+      leaves = subst (λ (c : Config). IsHistory c (from_entries state.opening) state.history state.cache) shape taken.reached.legal;
     }
 
 pub closed : {I J : Type 0} {D : I → Type 0} {E : J → Type 0} (owner : OwnerState) (own seats : List Seated) (stripes : List State) (sessions : List (Session I J D E)) → ReachedIsLegal
@@ -88,7 +90,7 @@ closed {I} {J} {D} {E} owner own seats stripes sessions legal whole noted keeps 
       subst (λ (s : Session I J D E). HasFront stripes s.seats.items) (get_or_from_slice_get sessions n session session at) (fronts n session (slice_get_within sessions n session at));
 }
 
-same_all : (states : List State) → AllZip IsSameStripe states states
+same_all : (states : List State) → AllZip IsOfSameStripe states states
 same_all [] = tt
 same_all (state ∷ states) = (same_itself state, same_all states)
 
@@ -106,7 +108,7 @@ back owner left old new cache given noted fronts noted' fronts' keeps =
     record {
       cache = cache;
       given = given;
-      noted = subst₂ (AllZip IsSameStripe) (sym noted) (sym noted') both.0;
+      noted = subst₂ (AllZip IsOfSameStripe) (sym noted) (sym noted') both.0;
       fronts = subst₂ (AllZip IsPrefix) (sym fronts) (sym fronts') both.1;
     }
 

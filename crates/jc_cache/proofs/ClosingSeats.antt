@@ -12,7 +12,7 @@
 --     popped_at, popped_done, popped_long   the last seat of a session that is left
 --     no_front, join_near, join_there, join_step    it is joined
 --     brought_push                          what one session more brings
-use Rattle.std.proofs.Common.{◌≡◌, ◌∙◌, ◌<◌, ◌≤◌, ◌+◌, ℕ, zero, suc, true, List, [], ◌∷◌, ◌++◌, length, map, set, get_or, Option, Some, refl, sym, ap, subst, subst₂, append_assoc, length-append, arith}
+use Rattle.std.proofs.Common.{◌≡◌, ◌∙◌, ◌<◌, ◌≤◌, ◌+◌, inl, ℕ, zero, suc, true, List, [], ◌∷◌, ◌++◌, length, map, set, get_or, Option, Some, refl, sym, ap, subst, subst₂, append_assoc, length-append, arith}
 use Rattle.std.proofs.lemmas.List.{length-map, map-append}
 use Rattle.std.proofs.lemmas.Option.{none-some, same_Some, slice_get_read, slice_get_within}
 use Rattle.std.specs.List.{slice_get}
@@ -21,7 +21,8 @@ use mathlib.Core.Logic.{dite}
 use native.Mathlib.Decide.{ℕ_discrete}
 use Rattle.atomic_table.specs.Seated.{TableId}
 use Rattle.jc_stripe.specs.State.{State}
-use Rattle.jc_lock.specs.Views.{IsPhaseBy, after_give, after_join}
+use Rattle.jc_stripe.specs.Generations.{whole_history}
+use Rattle.jc_lock.specs.Views.{IsPhaseBy, IsTurnBy, after_give, after_join}
 use Rattle.jc_lock.specs.declared.view.View.{View}
 use Rattle.jc_lock.proofs.CallerLemmas.{prefix-refl, prefix-trans, same_itself, same_at, same_on}
 use Rattle.jc_cache.specs.ClosingInside.{KeepsSeat, KeepSeats, IsFreeSeat, HasTaken, HaveTaken, AreAtLocks}
@@ -164,8 +165,8 @@ taken_fits (a ∷ seats) (s ∷ states) h = let ih = taken_fits seats states h.1
 -- 5. Calls of the lock.
 
 -- what a seat that has taken its stripe may give back
-pub none_phase : (view : View) (closed stripe : State) → HasTaken view closed → stripe ≡ closed → IsPhaseBy view.session view.noted stripe
-none_phase view closed stripe h is = subst (λ (o : Option ℕ). IsPhaseBy o view.noted stripe) (sym h.of_none) (is ∙ sym h.noted)
+pub none_phase : (view : View) (closed stripe : State) → HasTaken view closed → stripe ≡ closed → IsTurnBy view.session view.noted stripe
+none_phase view closed stripe h is = inl (subst (λ (o : Option ℕ). IsPhaseBy o view.noted stripe) (sym h.of_none) (is ∙ sym h.noted))
 
 pub given_back : (x y : Seated) (closed stripe : State) → HasTaken x.1 closed → stripe ≡ closed → y.0 ≡ x.0 → y.1 ≡ after_give x.1 stripe → KeepsSeat x y × IsFreeSeat y.1 × (y.1.noted ≡ x.1.noted)
 given_back x y closed stripe h is lock after = (
@@ -175,13 +176,13 @@ given_back x y closed stripe h is lock after = (
     next_session = ap (λ (v : View). v.next_session) after;
     spent = ap (λ (v : View). v.spent) after;
     same = same_at x.1.noted y.1.noted (h.noted ∙ sym is ∙ sym (ap (λ (v : View). v.noted) after));
-    front = subst (IsPrefix x.1.front) (ap (λ (s : State). s.history) (sym is) ∙ sym (ap (λ (v : View). v.front) after)) h.front;
+    front = subst (IsPrefix x.1.front) (ap whole_history (sym is) ∙ sym (ap (λ (v : View). v.front) after)) h.front;
   },
   record { of_none = ap (λ (v : View). v.session) after ∙ h.of_none; free = ap (λ (v : View). v.holds) after },
   ap (λ (v : View). v.noted) after ∙ is ∙ sym h.noted,
 )
 
-pub learned : (x y : Seated) (w : View) (state : State) → HasTaken x.1 state → y.0 ≡ x.0 → y.1 ≡ after_join x.1 w → IsPrefix x.1.front y.1.front → IsPrefix y.1.front state.history → KeepsSeat x y × HasTaken y.1 state
+pub learned : (x y : Seated) (w : View) (state : State) → HasTaken x.1 state → y.0 ≡ x.0 → y.1 ≡ after_join x.1 w → IsPrefix x.1.front y.1.front → IsPrefix y.1.front (whole_history state) → KeepsSeat x y × HasTaken y.1 state
 learned x y w state h lock after seen front = (
   record {
     lock = lock;
@@ -225,7 +226,7 @@ give_step ys old new closed i y h popped at free = subst (λ (n : ℕ). HaveTake
 
 -- a session has seen no more of each stripe from the place `from` on than is in its history
 abbrev pub HasFrontFrom : ℕ → List State → List Seated → Type 0
-HasFrontFrom from stripes seats = (i : ℕ) (state : State) (seat : Seated) → from ≤ i → slice_get stripes i ≡ Some state → slice_get seats i ≡ Some seat → IsPrefix seat.1.front state.history
+HasFrontFrom from stripes seats = (i : ℕ) (state : State) (seat : Seated) → from ≤ i → slice_get stripes i ≡ Some state → slice_get seats i ≡ Some seat → IsPrefix seat.1.front (whole_history state)
 
 pub no_front : (stripes : List State) (all : List Seated) → HasFrontFrom (length all) stripes all
 no_front stripes all i state seat le there at = absurd (let near = slice_get_within all i seat at in omega arith)
@@ -256,25 +257,25 @@ join_there xs ys locks all i x seat lock is keeps fit at at_seat at_lock =
     let there = own_there xs ys locks i seat lock is keeps near at_seat at_lock in
     (there.0, there.1, lock_there all locks i x lock fit.at at (slice_get_read locks (length locks) i lock refl near at_lock))
 
-front_step : (n m : ℕ) (stripes : List State) (all : List Seated) (x : Seated) (state : State) → m ≡ n + 1 → slice_get all n ≡ Some x → slice_get stripes n ≡ Some state → IsPrefix x.1.front state.history
+front_step : (n m : ℕ) (stripes : List State) (all : List Seated) (x : Seated) (state : State) → m ≡ n + 1 → slice_get all n ≡ Some x → slice_get stripes n ≡ Some state → IsPrefix x.1.front (whole_history state)
     → HasFrontFrom m stripes all → HasFrontFrom n stripes all
 front_step n m stripes all x state next at there front later i state' x' le there' at' =
     dite (ℕ_discrete i n)
     (λ e. let xs = same_Some x x' (sym at ∙ ap (slice_get all) (sym e) ∙ at') in
     let ss = same_Some state state' (sym there ∙ ap (slice_get stripes) (sym e) ∙ there') in
-    subst₂ (λ (a : Seated) (b : State). IsPrefix a.1.front b.history) xs ss front)
+    subst₂ (λ (a : Seated) (b : State). IsPrefix a.1.front (whole_history b)) xs ss front)
     (λ ne. later i state' x' (omega arith) there' at')
 
 -- one of a session's seats was joined
 pub join_step : (ys : List Seated) (stripes : List State) (all : List Seated) (n m : ℕ) (x seat after : Seated) → length stripes ≡ length all → HaveTaken ys stripes → slice_get ys n ≡ Some seat → slice_get all n ≡ Some x → m ≡ n + 1
-    → after.0 ≡ seat.0 → after.1 ≡ after_join seat.1 x.1 → IsPrefix seat.1.front after.1.front → IsPrefix x.1.front after.1.front → (seat.1.holds ≡ true → IsPrefix after.1.front seat.1.noted.history) → HasFrontFrom m stripes all
+    → after.0 ≡ seat.0 → after.1 ≡ after_join seat.1 x.1 → IsPrefix seat.1.front after.1.front → IsPrefix x.1.front after.1.front → (seat.1.holds ≡ true → IsPrefix after.1.front (whole_history seat.1.noted)) → HasFrontFrom m stripes all
     → KeepsSeat seat after × HaveTaken (set ys n after) stripes × HasFrontFrom n stripes all
 join_step ys stripes all n m x seat after count h at_own at next lock is seen joined held later =
     let s = seat_there stripes n (subst (λ (k : ℕ). n < k) (sym count) (slice_get_within all n x at)) in
     let taken = taken_at ys stripes n seat s.0 h at_own s.1 in
-    let front = subst (λ (state : State). IsPrefix after.1.front state.history) taken.noted (held taken.holds) in
+    let front = subst (λ (state : State). IsPrefix after.1.front (whole_history state)) taken.noted (held taken.holds) in
     let l = learned seat after x.1 s.0 taken lock is seen front in
-    (l.0, taken_set ys stripes n after s.0 h s.1 l.1, front_step n m stripes all x s.0 next at s.1 (prefix-trans x.1.front after.1.front s.0.history joined front) later)
+    (l.0, taken_set ys stripes n after s.0 h s.1 l.1, front_step n m stripes all x s.0 next at s.1 (prefix-trans x.1.front after.1.front (whole_history s.0) joined front) later)
 
 -- 8. All sessions.
 

@@ -18,8 +18,8 @@ use Rattle.atomic_table.specs.Seated.{TableId}
 use Rattle.jc_model.specs.declared.event.Event.{Event}
 use Rattle.jc_stripe.specs.OwnSteps.{is_before_call}
 use Rattle.jc_stripe.specs.State.{State}
-use Rattle.jc_stripe.specs.Laws.{IsSameStripe}
-use Rattle.jc_lock.specs.Views.{IsPhaseBy, Finds, after_take, after_give, after_join, own_steps_of}
+use Rattle.jc_stripe.specs.Generations.{IsOfSameStripe}
+use Rattle.jc_lock.specs.Views.{IsPhaseBy, IsTurnBy, Finds, after_take, after_give, after_join, own_steps_of}
 use Rattle.jc_lock.specs.declared.view.View.{View}
 use Rattle.jc_lock.proofs.CallerLemmas.{same_itself}
 use Rattle.jc_session.specs.Counting.{one_more}
@@ -85,9 +85,9 @@ tell_all xs ys xs' ys' n locks long le below i a b a' b' at_a = let near = slice
 own_found : (v : View) (state : State) → (session : ℕ) × (v.session ≡ Some session) → Finds v state → own_steps_of v.session state ≡ v.own
 own_found v state session finds = ap (λ o. own_steps_of o state) session.1 ∙ finds.own session.0 session.1
 
-pub idle_phase : (v w : View) (state : State) → (session : ℕ) × (v.session ≡ Some session) → w ≡ after_take v state → IsPhaseBy w.session w.noted state
+pub idle_phase : (v w : View) (state : State) → (session : ℕ) × (v.session ≡ Some session) → w ≡ after_take v state → IsTurnBy w.session w.noted state
 idle_phase v w state session is =
-    subst (λ (z : View). IsPhaseBy z.session z.noted state) (sym is) (subst (λ (o : Option ℕ). IsPhaseBy o state state) (sym session.1) (inl refl))
+    inl (subst (λ (z : View). IsPhaseBy z.session z.noted state) (sym is) (subst (λ (o : Option ℕ). IsPhaseBy o state state) (sym session.1) (inl refl)))
 
 pub refreshed_seen : (v w : View) (state : State) → (session : ℕ) × (v.session ≡ Some session) → Finds v state → w ≡ after_give v state → HasSeen v w
 refreshed_seen v w state session finds is = subst (HasSeen v) (sym is) record {
@@ -103,7 +103,7 @@ joined_seen v w other free is front = record {
     next_session = ap (λ (z : View). z.next_session) is;
     spent = ap (λ (z : View). z.spent) is;
     free = ap (λ (z : View). z.holds) is ∙ free;
-    same = subst (λ (z : View). IsSameStripe v.noted z.noted) (sym is) (same_itself v.noted);
+    same = subst (λ (z : View). IsOfSameStripe v.noted z.noted) (sym is) (same_itself v.noted);
     next = subst (λ (z : View). v.noted.next ≤ z.noted.next) (sym is) (le_refl v.noted.next);
   };
   front = front;

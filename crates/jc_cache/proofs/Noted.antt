@@ -6,10 +6,11 @@
 --     handed_back              the seats of a cache that was not closed
 --     idle_set, idle_noted     nothing is out in the states that the first seats, and all, have noted
 --     row_refusal, same_refusal    the stripe of one seat is not taken; another row that has noted the same
---     new_histories, new_history, new_within    stripes in which nothing has happened: each history is empty; one of them
+--     opening_histories, opening_len, new_history, new_within    stripes in which nothing has happened: each history is empty; how
+--                              many there are; one of them
 --     first_push, new_each     first seats at their locks
-use Rattle.std.proofs.Common.{◌≡◌, ◌∙◌, ◌⊎◌, ⊎_elim, inl, inr, ◌+◌, ◌<◌, ℕ, zero, suc, Some, List, [], ◌∷◌, ◌++◌, length, map, set, replicate, slice_get, option_map, refl, sym, ap, subst, length-append, arith}
-use Rattle.std.proofs.lemmas.List.{map-append}
+use Rattle.std.proofs.Common.{◌≡◌, ◌∙◌, ◌⊎◌, ⊎_elim, inl, inr, ◌+◌, ◌<◌, ℕ, zero, suc, Bool, true, false, Some, List, [], ◌∷◌, ◌++◌, length, map, set, replicate, slice_get, option_map, refl, sym, ap, subst, length-append, arith}
+use Rattle.std.proofs.lemmas.List.{length-map, map-append}
 use Rattle.std.proofs.lemmas.Option.{same_Some, none-some, slice_get-map}
 use Rattle.std.specs.List.{AllZip}
 use mathlib.Core.List.{IsPrefix}
@@ -21,12 +22,13 @@ use Rattle.jc_model.specs.declared.event.Event.{Event}
 use Rattle.jc_outside.specs.declared.done.Origin.{Origin}
 use Rattle.jc_outside.specs.declared.done.Origin.TheVariants.{Live}
 use Rattle.jc_stripe.specs.State.{State, IsIdle}
-use Rattle.jc_stripe.specs.Laws.{IsSameStripe}
+use Rattle.jc_stripe.specs.Generations.{whole_history, IsOfSameStripe}
+use Rattle.jc_stripe.specs.Renewal.{live_on}
 use Rattle.jc_stripe.specs.Reopening.{kept, opened_stripe, opened_stripes}
 use Rattle.jc_stripe.proofs.CallerLemmas.{opened_len}
 use Rattle.jc_lock.specs.Views.{first_view}
 use Rattle.jc_lock.specs.declared.view.View.{View}
-use Rattle.jc_cache.specs.Caches.{noted_by, fronts_of}
+use Rattle.jc_cache.specs.Caches.{noted_by, fronts_of, stripes_opening}
 use Rattle.jc_cache.specs.CacheInside.{IsOwnSeat}
 use Rattle.jc_cache.specs.Closing.{IsInUse}
 use Rattle.jc_cache.specs.ClosingInside.{KeepSeats, AreIdle, IsTakeRefusal, IsRowRefusal}
@@ -44,11 +46,11 @@ pub noted_push : (seats : List Seated) (states : List State) (seat : Seated) (st
 noted_push seats states seat state are is =
     map-append (λ (s : Seated). s.1.noted) seats (seat ∷ []) ∙ ap (λ (ss : List State). ss ++ seat.1.noted ∷ []) are ∙ ap (λ (s : State). states ++ s ∷ []) is
 
-pub fronts_push : (seats : List Seated) (states : List State) (seat : Seated) (state : State) → fronts_of seats ≡ map (λ (s : State). s.history) states → seat.1.front ≡ state.history
-    → fronts_of (seats ++ seat ∷ []) ≡ map (λ (s : State). s.history) (states ++ state ∷ [])
+pub fronts_push : (seats : List Seated) (states : List State) (seat : Seated) (state : State) → fronts_of seats ≡ map whole_history states → seat.1.front ≡ whole_history state
+    → fronts_of (seats ++ seat ∷ []) ≡ map whole_history (states ++ state ∷ [])
 fronts_push seats states seat state are is =
     map-append (λ (s : Seated). s.1.front) seats (seat ∷ []) ∙ ap (λ (ss : List (List Event)). ss ++ seat.1.front ∷ []) are
-    ∙ ap (λ (front : List Event). map (λ (s : State). s.history) states ++ front ∷ []) is ∙ sym (map-append (λ (s : State). s.history) states (state ∷ []))
+    ∙ ap (λ (front : List Event). map whole_history states ++ front ∷ []) is ∙ sym (map-append whole_history states (state ∷ []))
 
 pub noted_set : (seats : List Seated) (i : ℕ) (x y : Seated) → slice_get seats i ≡ Some x → y.1.noted ≡ x.1.noted → noted_by (set seats i y) ≡ noted_by seats
 noted_set [] i x y at is = absurd (none-some x at)
@@ -65,7 +67,7 @@ pub fronts_same : (f : View → View) → ((v : View) → (f v).front ≡ v.fron
 fronts_same f same [] = refl
 fronts_same f same (seat ∷ seats) = let head = same seat.1 in let tail = fronts_same f same seats in λ j. head j ∷ tail j
 
-pub handed_back : (old new : List Seated) → KeepSeats old new → AllZip IsSameStripe (noted_by old) (noted_by new) × AllZip IsPrefix (fronts_of old) (fronts_of new)
+pub handed_back : (old new : List Seated) → KeepSeats old new → AllZip IsOfSameStripe (noted_by old) (noted_by new) × AllZip IsPrefix (fronts_of old) (fronts_of new)
 handed_back [] [] keeps = (tt, tt)
 handed_back [] (y ∷ new) keeps = absurd keeps
 handed_back (x ∷ old) [] keeps = absurd keeps
@@ -103,11 +105,11 @@ same_refusal old new refusal same why =
 
 -- 4. Stripes in which nothing has happened.
 
-pub new_histories : (config : Config) (origin : Origin) (entries : List (Bytes × Bytes)) (number count : ℕ) → map (λ (s : State). s.history) (opened_stripes config origin entries number count) ≡ replicate count []
+new_histories : (config : Config) (origin : Origin) (entries : List (Bytes × Bytes)) (number count : ℕ) → map whole_history (opened_stripes config origin entries number count) ≡ replicate count []
 new_histories config origin entries number zero = refl
 new_histories config origin entries number (suc count) = ap (λ (hs : List (List Event)). [] ∷ hs) (new_histories config origin entries (number + 1) count)
 
-pub new_there : (config : Config) (origin : Origin) (entries : List (Bytes × Bytes)) (number count i : ℕ) (state : State) → slice_get (opened_stripes config origin entries number count) i ≡ Some state
+new_there : (config : Config) (origin : Origin) (entries : List (Bytes × Bytes)) (number count i : ℕ) (state : State) → slice_get (opened_stripes config origin entries number count) i ≡ Some state
     → state ≡ opened_stripe config origin (number + i) (kept config (number + i) entries)
 new_there config origin entries number zero i state at = absurd (none-some state at)
 new_there config origin entries number (suc count) zero state at =
@@ -121,13 +123,53 @@ seam : (done rest : List State) (state : State) → slice_get (done ++ state ∷
 seam [] rest state = refl
 seam (a ∷ done) rest state = seam done rest state
 
-pub new_history : (config : Config) (entries : List (Bytes × Bytes)) (done rest : List State) (state : State) → done ++ state ∷ rest ≡ opened_stripes config Live entries 0 config.stripes → state.history ≡ []
-new_history config entries done rest state are =
-    ap (λ (s : State). s.history) (new_there config Live entries 0 config.stripes (length done) state (ap (λ (ss : List State). slice_get ss (length done)) (sym are) ∙ seam done rest state))
+living_histories : (states : List State) → map whole_history (map live_on states) ≡ map whole_history states
+living_histories [] = refl
+living_histories (state ∷ states) = ap (λ (hs : List (List Event)). whole_history state ∷ hs) (living_histories states)
 
-pub new_within : (config : Config) (entries : List (Bytes × Bytes)) (done rest : List State) (state : State) → done ++ state ∷ rest ≡ opened_stripes config Live entries 0 config.stripes → length done < config.stripes
-new_within config entries done rest state are =
-    let all = ap length are ∙ opened_len config Live entries 0 config.stripes in
+pub opening_histories : (lives : Bool) (config : Config) (entries : List (Bytes × Bytes)) → map whole_history (stripes_opening lives config entries) ≡ replicate config.stripes []
+opening_histories false config entries = new_histories config Live entries 0 config.stripes
+opening_histories true config entries = living_histories (opened_stripes config Live entries 0 config.stripes) ∙ new_histories config Live entries 0 config.stripes
+
+pub opening_len : (lives : Bool) (config : Config) (entries : List (Bytes × Bytes)) → length (stripes_opening lives config entries) ≡ config.stripes
+opening_len false config entries = opened_len config Live entries 0 config.stripes
+opening_len true config entries = length-map (opened_stripes config Live entries 0 config.stripes) live_on ∙ opened_len config Live entries 0 config.stripes
+
+-- one of them
+record IsNew (config : Config) (stripe : ℕ) (state : State) : Type 0 where
+  pub config_is : state.config ≡ config
+  pub stripe_is : state.stripe ≡ stripe
+  pub origin_is : state.origin ≡ Live
+  pub history : whole_history state ≡ []
+
+new_one : (config : Config) (entries : List (Bytes × Bytes)) (i : ℕ) (state : State) → slice_get (opened_stripes config Live entries 0 config.stripes) i ≡ Some state → IsNew config i state
+new_one config entries i state at =
+    let n : 0 + i ≡ i = omega arith in
+    let is = new_there config Live entries 0 config.stripes i state at in record {
+      config_is = ap (λ (s : State). s.config) is;
+      stripe_is = ap (λ (s : State). s.stripe) is ∙ n;
+      origin_is = ap (λ (s : State). s.origin) is;
+      history = ap whole_history is;
+    }
+
+opening_at : (lives : Bool) (config : Config) (entries : List (Bytes × Bytes)) (i : ℕ) (state : State) → slice_get (stripes_opening lives config entries) i ≡ Some state → IsNew config i state
+opening_at false config entries i state at = new_one config entries i state at
+opening_at true config entries i state at =
+    let there = map_get live_on (opened_stripes config Live entries 0 config.stripes) i state at in
+    let new = new_one config entries i there.0 there.1 in record {
+      config_is = ap (λ (s : State). s.config) there.2 ∙ new.config_is;
+      stripe_is = ap (λ (s : State). s.stripe) there.2 ∙ new.stripe_is;
+      origin_is = ap (λ (s : State). s.origin) there.2 ∙ new.origin_is;
+      history = ap whole_history there.2 ∙ new.history;
+    }
+
+pub new_history : (lives : Bool) (config : Config) (entries : List (Bytes × Bytes)) (done rest : List State) (state : State) → done ++ state ∷ rest ≡ stripes_opening lives config entries → whole_history state ≡ []
+new_history lives config entries done rest state are =
+    (opening_at lives config entries (length done) state (ap (λ (ss : List State). slice_get ss (length done)) (sym are) ∙ seam done rest state)).history
+
+pub new_within : (lives : Bool) (config : Config) (entries : List (Bytes × Bytes)) (done rest : List State) (state : State) → done ++ state ∷ rest ≡ stripes_opening lives config entries → length done < config.stripes
+new_within lives config entries done rest state are =
+    let all = ap length are ∙ opening_len lives config entries in
     let long = length-append done (state ∷ rest) in
     omega arith
 
@@ -143,15 +185,13 @@ first_push seats seat state are is i other there =
     (λ t. are i other t)
     (push_get seats seat (length seats) i other refl there)
 
-own_seat : (config : Config) (stripe : ℕ) (opening : List (Bytes × Bytes)) (view : View) (state : State) → view ≡ first_view state → state ≡ opened_stripe config Live stripe opening → IsOwnSeat config stripe 0 view
-own_seat config stripe opening view state seen is =
-    subst (IsOwnSeat config stripe 0) (sym (seen ∙ ap first_view is))
-    record { of_none = refl; gives = refl; free = refl; unspent = refl; config_is = refl; stripe_is = refl; origin_is = refl }
+own_seat : (config : Config) (stripe : ℕ) (view : View) (state : State) → view ≡ first_view state → IsNew config stripe state → IsOwnSeat config stripe 0 view
+own_seat config stripe view state seen new =
+    subst (IsOwnSeat config stripe 0) (sym seen)
+    record { of_none = refl; gives = refl; free = refl; unspent = refl; config_is = new.config_is; stripe_is = new.stripe_is; origin_is = new.origin_is }
 
-pub new_each : (config : Config) (entries : List (Bytes × Bytes)) (stripes : List State) (seats : List Seated) → stripes ≡ opened_stripes config Live entries 0 config.stripes → noted_by seats ≡ stripes → AreFirst seats
+pub new_each : (lives : Bool) (config : Config) (entries : List (Bytes × Bytes)) (stripes : List State) (seats : List Seated) → stripes ≡ stripes_opening lives config entries → noted_by seats ≡ stripes → AreFirst seats
     → (i : ℕ) (seat : Seated) → slice_get seats i ≡ Some seat → IsOwnSeat config i 0 seat.1
-new_each config entries stripes seats are noted first i seat at =
-    let n : 0 + i ≡ i = omega arith in
-    own_seat config i (kept config i entries) seat.1 seat.1.noted (first i seat at)
-    (new_there config Live entries 0 config.stripes i seat.1.noted (ap (λ (ss : List State). slice_get ss i) (sym (noted ∙ are)) ∙ noted_there seats i seat at)
-    ∙ ap (λ (k : ℕ). opened_stripe config Live k (kept config k entries)) n)
+new_each lives config entries stripes seats are noted first i seat at =
+    own_seat config i seat.1 seat.1.noted (first i seat at)
+    (opening_at lives config entries i seat.1.noted (ap (λ (ss : List State). slice_get ss i) (sym (noted ∙ are)) ∙ noted_there seats i seat at))

@@ -2,14 +2,23 @@
 --     rest_at, rest_whole        what is left of a list from a place on
 --     asked_of                   whether one more of all stripes shares a key with a later one
 --     found_repeated             what is known once that was asked of all
-use Rattle.std.proofs.Common.{◌≡◌, ◌<◌, ◌+◌, ◌-◌, ℕ, suc, List, [], ◌∷◌, length, length-drop, take, drop, get_or, Bool, true, false, not, ◌||◌, refl, sym, ap, ◌∙◌, drop-cons, arith}
+--     reopened_so                a cache that was opened with all entries
+use Rattle.std.proofs.Common.{◌≡◌, ◌<◌, ◌+◌, ◌-◌, ℕ, suc, List, [], ◌∷◌, ◌++◌, Ok, map, subst, length, length-drop, take, drop, get_or, Bool, true, false, not, ◌||◌, refl, sym, ap, ◌∙◌, drop-cons, arith}
 use Rattle.std.proofs.Math.Bool.{or_assoc}
 use Rattle.std.proofs.Math.Seq.{take-length}
 use Rattle.std.specs.List.{list_any, All}
+use Rattle.std.specs.List.Sorted.{IsPermutation}
+use Rattle.jc_types.specs.Limits.{check}
+use Rattle.jc_types.specs.declared.config.Config.{Config}
+use Rattle.jc_model.specs.Cache.{Bytes}
 use Rattle.jc_model.specs.Listed.{has_distinct_keys}
+use Rattle.jc_outside.specs.declared.done.Origin.TheVariants.{Live}
 use Rattle.jc_stripe.specs.State.{State}
 use Rattle.jc_stripe.specs.Reached.{IsReached}
-use Rattle.jc_stripe.specs.Reopening.{all_entries, shares_key, some_share_key}
+use Rattle.jc_stripe.specs.Renewal.{live_on}
+use Rattle.jc_stripe.specs.Reopening.{all_entries, dropped, entries_of, opened_stripes, shares_key, some_share_key, KeepsOrDrops}
+use Rattle.jc_cache.specs.Caches.{OpensWith, OwnerState, stripes_opening}
+use Rattle.jc_cache.specs.Reopening.{IsReopened, refusal_by}
 use Rattle.jc_stripe.proofs.CallerLemmas.{once_unless_shared}
 
 rest_at : (xs : List State) (i : ℕ) (x : State) → i < length xs → x ≡ get_or xs i x → drop i xs ≡ x ∷ drop (i + 1) xs
@@ -37,3 +46,26 @@ not_not false = refl
 pub found_repeated : (stripes left : List State) (found : Bool) → left ≡ [] → All IsReached stripes → (found || some_share_key left) ≡ some_share_key stripes → found ≡ not (has_distinct_keys (all_entries stripes))
 found_repeated stripes left found none all is =
     sym (or_none found) ∙ ap (λ (ss : List State). found || some_share_key ss) (sym none) ∙ is ∙ not_not (some_share_key stripes) ∙ ap not (sym (once_unless_shared stripes all))
+
+-- 2. What is kept and what is dropped.
+
+living_entries : (states : List State) → all_entries (map live_on states) ≡ all_entries states
+living_entries [] = refl
+living_entries (state ∷ states) = ap (λ (es : List (Bytes × Bytes)). entries_of state ++ es) (living_entries states)
+
+opening_entries : (lives : Bool) (config : Config) (entries : List (Bytes × Bytes)) → all_entries (stripes_opening lives config entries) ≡ all_entries (opened_stripes config Live entries 0 config.stripes)
+opening_entries false config entries = refl
+opening_entries true config entries = living_entries (opened_stripes config Live entries 0 config.stripes)
+
+pub reopened_so : KeepsOrDrops → (lives lived_on : Bool) (config : Config) (given entries : List (Bytes × Bytes)) (owner : OwnerState) (gone : List (Bytes × Bytes)) → check config ≡ Ok tt → has_distinct_keys entries ≡ true → lives ≡ lived_on → given ≡ entries
+    → OpensWith lives config given owner → gone ≡ dropped config given → IsReopened lived_on config entries owner gone
+reopened_so law lives lived_on config given entries owner gone fits once same all opens is =
+    let distinct : has_distinct_keys given ≡ true = ap has_distinct_keys all ∙ once in
+    let kept : all_entries owner.noted ≡ all_entries (opened_stripes config Live given 0 config.stripes) = ap all_entries opens.noted ∙ opening_entries lives config given in
+    let made : IsReopened lives config given owner gone = record {
+      may = λ i. refusal_by (fits i) (distinct i);
+      opens = opens;
+      gone_is = is;
+      all = subst (λ (es : List (Bytes × Bytes)). IsPermutation given es) (λ i. sym kept i ++ sym is i) (law config Live given fits);
+    } in
+    subst (λ (z : Bool × List (Bytes × Bytes)). IsReopened z.0 config z.1 owner gone) (λ i. (same i, all i)) made

@@ -11,8 +11,9 @@
 --     phase_left               a phase: what is said of the session, which is of the cache as before
 --     LooksSo, looked_longer, look_lent    a look is a phase in which nothing was done
 --     number_at, shape_found, agent_same   the seat at a stripe with a number, the shape of the stripe, and the agent after a look
-use Rattle.std.proofs.Common.{◌≡◌, ⊎_elim, inl, ◌+◌, ◌<◌, ℕ, false, None, Some, IsSome, List, [], length, get_or, le_refl, zero, suc, ◌∷◌, slice_get, slice_set, refl, sym, ap, subst, ◌∙◌, arith}
+use Rattle.std.proofs.Common.{◌≡◌, ⊎_elim, inl, ◌+◌, ◌<◌, ℕ, false, None, Some, IsSome, List, [], ◌++◌, filter, length, get_or, le_refl, zero, suc, ◌∷◌, slice_get, slice_set, refl, sym, ap, subst, ◌∙◌, arith}
 use Rattle.std.proofs.lemmas.Option.{slice_get_read, same_Some}
+use Rattle.std.proofs.lemmas.List.{length-append}
 use Rattle.jc_types.specs.Stripes.{stripe_of}
 use Rattle.jc_types.specs.declared.caller.Caller.{Caller}
 use Rattle.jc_types.specs.declared.config.Config.{Config}
@@ -25,7 +26,9 @@ use Rattle.jc_model.specs.declared.event.Out.{Out}
 use Rattle.jc_stripe.specs.Keys.{Looks}
 use Rattle.jc_stripe.specs.State.{State}
 use Rattle.jc_stripe.specs.Reached.{IsReached}
-use Rattle.jc_stripe.specs.OnePhase.{OnePhase, IsPhaseOf, own_steps}
+use Rattle.jc_stripe.specs.Generations.{past_events, whole_history}
+use Rattle.jc_stripe.specs.Renewal.{all_own_steps}
+use Rattle.jc_stripe.specs.OnePhase.{OnePhase, IsPhaseOf, is_own_step, own_steps}
 use Rattle.jc_stripe.specs.OwnSteps.{OwnSteps, may_come_all}
 use Rattle.jc_stripe.specs.Phases.{MayBegin, Begins, Commits, PicksUp}
 use Rattle.jc_stripe.specs.Tickets.{TicketClaim, JoinClaim}
@@ -70,6 +73,15 @@ steps_in Retried = 0
 
 abbrev pub HasLonger : ℕ → Counted → State → State → Type 0
 HasLonger session counted old new = length (own_steps session new) ≡ length (own_steps session old) + steps_in counted
+
+-- so many more in the present generation are so many more in all of them
+all_longer : (session more : ℕ) (old new : State) → new.ended ≡ old.ended → length (own_steps session new) ≡ length (own_steps session old) + more → length (all_own_steps session new) ≡ length (all_own_steps session old) + more
+all_longer session more old new ended longer =
+    let past : List Event = filter (is_own_step session []) (past_events old.ended) in
+    let was = length-append past (own_steps session old) in
+    let is = length-append past (own_steps session new) in
+    let same : length (all_own_steps session new) ≡ length (past ++ own_steps session new) = λ i. length (filter (is_own_step session []) (past_events (ended i)) ++ own_steps session new) in
+    omega arith
 
 as_long : (session : ℕ) (old new : State) → own_steps session new ≡ own_steps session old → length (own_steps session new) ≡ length (own_steps session old) + 0
 as_long session old new same = let long = ap length same in omega arith
@@ -130,8 +142,8 @@ module _ {G : Type 0} where
           made = subst (phase x.before) (sym l.noted) (makes x.before x.after l.reached x.made);
           one = subst (IsPhaseOf session x.before) (sym l.noted) l.one;
           seat = l.seat;
-          front_is = l.front_is ∙ ap (λ (s : State). s.history) (sym l.noted);
-          own_is = l.own_is ∙ ap (own_steps session) (sym l.noted);
+          front_is = l.front_is ∙ ap whole_history (sym l.noted);
+          own_is = l.own_is ∙ ap (all_own_steps session) (sym l.noted);
         },
       )
 
@@ -139,7 +151,7 @@ module _ {G : Type 0} where
       → ((a b : State) → IsReached a → made a b → HasLonger session counted a b) → LentPhase lock_takes lock_gives lock_finds session g t made h u → length u.1.own ≡ length t.1.own + steps_in counted
   seat_longer law session counted made g t h u mine free longer x =
       let l = (phase_lent law session g t made h u mine free x).1 in
-      ap length l.own_is ∙ longer x.before x.after l.reached x.made ∙ ap (λ (es : List Event). length es + steps_in counted) l.own
+      ap length l.own_is ∙ all_longer session (steps_in counted) x.before x.after l.uniform.grows.same.ended (longer x.before x.after l.reached x.made) ∙ ap (λ (es : List Event). length es + steps_in counted) l.own
 
 -- 3. The session.
 
@@ -220,10 +232,10 @@ pub look_lent : {G : Type 0} (session : ℕ) (made : State → State → Type 0)
 look_lent session made g t a gate token h u mine took reached gave next is = record {
   gate = g;
   token = t;
-  rests = record { idle = []; same = tt; lent = (refl, refl) };
+  rests = record { idle = []; quiet = tt; lent = (refl, refl) };
   before = a;
   after = a;
-  since = record { first = a; finds_first = took.1; after = record { same = same_itself a; front = prefix-refl a.history; next = le_refl a.next; own = refl } };
+  since = record { first = a; finds_first = took.1; after = record { same = same_itself a; front = prefix-refl (whole_history a); next = le_refl a.next; own = refl } };
   lent = record { gate = gate; token = token; took = took; reached = reached; gave = gave };
   made = is;
   one = inl refl;

@@ -35,7 +35,6 @@ use Rattle.jc_model.specs.declared.event.Reply.{Reply}
 use Rattle.jc_outside.specs.Calling.{LoadRelation, WriteRelation}
 use Rattle.jc_mutentry.specs.Running.{ProcessRelation, RunsOnce}
 use Rattle.jc_stripe.specs.State.{State}
-use Rattle.jc_stripe.specs.Laws.{ReachedIsLegal}
 use Rattle.jc_stripe.specs.OnePhase.{OnePhase}
 use Rattle.jc_stripe.specs.OwnSteps.{OwnSteps, OwnNumbers, StepsBehind, may_come_all}
 use Rattle.jc_lock.specs.declared.view.View.{View}
@@ -123,14 +122,14 @@ module _ {I J : Type 0} {D : I → Type 0} {E : J → Type 0} where
 
   -- 3. What it leaves.
 
-  pub tried : {G : Type 0} → OnePhase → OwnSteps → ReachedIsLegal → OwnNumbers → (cache : CacheState) (old new : Session I J D E) (a : Agent I J D E) (key : Bytes) (op : Op) (at : ℕ) (ended : Result Reply Refusal) (g : G) (t : TableId × View) (h : G) (u : TableId × View)
+  pub tried : {G : Type 0} → OnePhase → OwnSteps → OwnNumbers → (cache : CacheState) (old new : Session I J D E) (a : Agent I J D E) (key : Bytes) (op : Op) (at : ℕ) (ended : Result Reply Refusal) (g : G) (t : TableId × View) (h : G) (u : TableId × View)
       → MayCall cache old → a ≡ (next_call old).agent → at ≡ stripe_of key cache.config.stripes → slice_get old.seats.items at ≡ Some t → new.seats.items ≡ slice_set old.seats.items at u
       → new.agent ≡ record a { counts = record a.counts { own = own_after a.counts.own ended } } → IsTried lock_takes lock_gives lock_finds a.caller key op g t ended h u
       → Tried cache old key op ended new × MayCall cache new
-  tried law own legal numbers cache old new a key op at ended g t h u may is at_is there now agent x =
+  tried law own numbers cache old new a key op at ended g t h u may is at_is there now agent x =
       let b : Agent I J D E = (next_call old).agent in
       let seat = may.own.seats at t there in
-      let left = tried_left law own legal b.caller key op ended g t h u seat.of_session seat.free (subst (λ (z : Agent I J D E). IsTried lock_takes lock_gives lock_finds z.caller key op g t ended h u) is x) in
+      let left = tried_left law own b.caller key op ended g t h u seat.of_session seat.free (subst (λ (z : Agent I J D E). IsTried lock_takes lock_gives lock_finds z.caller key op g t ended h u) is x) in
       let new_is : new.agent ≡ record b { counts = record b.counts { own = own_after b.counts.own ended } } = agent ∙ ap (λ (z : Agent I J D E). record z { counts = record z.counts { own = own_after z.counts.own ended } }) is in
       let hands : new.agent.hands ≡ b.hands = ap (λ (z : Agent I J D E). z.hands) new_is in
       let now' : new.seats.items ≡ slice_set old.seats.items at (t.0, u.1) = now ∙ ap (slice_set old.seats.items at) (seat_is t u left.0) in
@@ -157,11 +156,12 @@ module _ {I J : Type 0} {D : I → Type 0} {E : J → Type 0} where
     abbrev Whole : Agent I J D E → Bytes → Op → G → TableId × View → Result Reply Refusal → Agent I J D E → G → TableId × View → Type 0
     Whole a key op g t ended new h u = IsCall loads load_state writes write_state lock_takes lock_gives lock_finds a key op g t ended new h u
 
-    left_of : OnePhase → OwnSteps → ReachedIsLegal → StepsBehind → (cache : CacheState) (old new : Session I J D E) (key : Bytes) (op : Op) (at : ℕ) (ended : Result Reply Refusal) (g : G) (t : TableId × View) (h : G) (u : TableId × View)
+    left_of : OnePhase → OwnSteps → StepsBehind → OwnNumbers → (cache : CacheState) (old new : Session I J D E) (key : Bytes) (op : Op) (at : ℕ) (ended : Result Reply Refusal) (g : G) (t : TableId × View) (h : G) (u : TableId × View)
         → MayCall cache old → slice_get old.seats.items at ≡ Some t → (x : Whole (next_call old).agent key op g t ended new.agent h u) → CallLeft t (next_call old).agent.caller key op x.asked ended x.enters.first.before u
-    left_of law own legal behind cache old new key op at ended g t h u may there x =
+    left_of law own behind numbers cache old new key op at ended g t h u may there x =
         let seat = may.own.seats at t there in
-        call_left law own legal behind (next_call old).agent.caller key op x.met x.asked ended g t x.gate x.token h u seat.of_session seat.free x.enters x.ends
+        let caller : Caller = (next_call old).agent.caller in
+        call_left law own behind caller key op x.met x.asked ended g t x.gate x.token h u seat.of_session seat.free (numbers.may_come t.1.own caller key (may.numbers at t there)) x.enters x.ends
 
     abbrev calls_at : (cache : CacheState) (old new : Session I J D E) (key : Bytes) (op : Op) (at : ℕ) (ended : Result Reply Refusal) (g : G) (t : TableId × View) (h : G) (u : TableId × View) → at ≡ stripe_of key cache.config.stripes
         → slice_get old.seats.items at ≡ Some t → new.seats.items ≡ slice_set old.seats.items at u → (x : Whole (next_call old).agent key op g t ended new.agent h u) (decided : State) → CallLeft t (next_call old).agent.caller key op x.asked ended decided u
@@ -191,27 +191,28 @@ module _ {I J : Type 0} {D : I → Type 0} {E : J → Type 0} where
         let after = after_call t.1 (next_call old).agent.caller key op x.asked ended u.1 left.seat left.below in
         may_after numbers cache old new at t.0 t.1 u.1 ended may there (now ∙ ap (slice_set old.seats.items at) (seat_is t u left.lock)) after.0 after.1 record { left = x.agent; held = x.held; types = x.types }
 
-    pub called : OnePhase → OwnSteps → ReachedIsLegal → StepsBehind → OwnNumbers
+    pub called : OnePhase → OwnSteps → StepsBehind → OwnNumbers
         → (cache : CacheState) (old new : Session I J D E) (a : Agent I J D E) (key : Bytes) (op : Op) (at : ℕ) (ended : Result Reply Refusal) (g : G) (t : TableId × View) (h : G) (u : TableId × View)
         → MayCall cache old → a ≡ (next_call old).agent → at ≡ stripe_of key cache.config.stripes → slice_get old.seats.items at ≡ Some t → new.seats.items ≡ slice_set old.seats.items at u
         → Whole a key op g t ended new.agent h u → CallsAt loads load_state writes write_state cache (next_call old) key op ended new × MayCall cache new
-    called law own legal behind numbers cache old new a key op at ended g t h u may is at_is there now y =
+    called law own behind numbers cache old new a key op at ended g t h u may is at_is there now y =
         let x = subst (λ (z : Agent I J D E). Whole z key op g t ended new.agent h u) is y in
-        let left = left_of law own legal behind cache old new key op at ended g t h u may there x in
+        let left = left_of law own behind numbers cache old new key op at ended g t h u may there x in
         (calls_at cache old new key op at ended g t h u at_is there now x x.enters.first.before left refl, may_again numbers cache old new key op at ended g t h u may there now x x.enters.first.before left)
 
-    pub invoked : {P Z : Type 0} {F : P → Type 0} → OnePhase → OwnSteps → ReachedIsLegal → StepsBehind → OwnNumbers
+    pub invoked : {P Z : Type 0} {F : P → Type 0} → OnePhase → OwnSteps → StepsBehind → OwnNumbers
         → (processes : ProcessRelation (DynBox P Z F)) (process_state : DynBox P Z F → List ℕ)
         → (cache : CacheState) (old new : Session I J D E) (a : Agent I J D E) (key : Bytes) (args : List Bytes) (before after : DynBox P Z F) (at : ℕ) (ended : Result Reply Refusal) (g : G) (t : TableId × View) (h : G) (u : TableId × View)
         → MayCall cache old → a ≡ (next_call old).agent → at ≡ stripe_of key cache.config.stripes → slice_get old.seats.items at ≡ Some t → new.seats.items ≡ slice_set old.seats.items at u
         → IsInvocation loads load_state writes write_state processes process_state lock_takes lock_gives lock_finds a key args before g t ended new.agent after h u
         → Invoked loads load_state writes write_state processes process_state cache old key args before ended new after × MayCall cache new
-    invoked law own legal behind numbers processes process_state cache old new a key args before after at ended g t h u may is at_is there now y =
+    invoked law own behind numbers processes process_state cache old new a key args before after at ended g t h u may is at_is there now y =
         let x = subst (λ (z : Agent I J D E). IsInvocation loads load_state writes write_state processes process_state lock_takes lock_gives lock_finds z key args before g t ended new.agent after h u) is y in
         let seat = may.own.seats at t there in
         let first : State = x.call.enters.first.before in
-        let found = left_of law own legal behind cache old new key Invoke at ended g t h u may there x.call in
-        let alone = invoked_left law own legal behind (next_call old).agent.caller key x.call.met x.call.asked ended g t x.call.gate x.call.token h u seat.of_session seat.free x.call.enters x.call.ends in
+        let found = left_of law own behind numbers cache old new key Invoke at ended g t h u may there x.call in
+        let caller : Caller = (next_call old).agent.caller in
+        let alone = invoked_left law own behind caller key x.call.met x.call.asked ended g t x.call.gate x.call.token h u seat.of_session seat.free (numbers.may_come t.1.own caller key (may.numbers at t there)) x.call.enters x.call.ends in
         let decided : State = alone.decided in
         let config : first.config ≡ decided.config = found.between.same.config ∙ sym alone.left.between.same.config in
         let entry : entry_at first.cache key ≡ entry_at decided.cache key = sym {a = entry_at decided.cache key} alone.entry in

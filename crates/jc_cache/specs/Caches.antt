@@ -4,10 +4,11 @@
 --     fronts_of         what they have seen of the histories
 --     OwnerState        who owns a cache: the cache, how many sessions it has given out, and of each stripe what the owner's own seat
 --                       has noted, and what it has seen of the history
---     OpensWith         a cache that has just been opened with these entries, in this shape: no session was given out, each stripe has
---                       what it keeps of them, and nothing has happened in it
+--     stripes_opening   the stripes of a cache that opens with these entries, in this shape, and lives on or doesn't
+--     OpensWith         a cache that has just been opened so: no session was given out, each stripe has what it keeps of the entries,
+--                       and nothing has happened in it
 --     session_refusal   why a session with or without a loader and a writer is refused: too many, no loader, no writer
-use Rattle.std.specs.Prelude.{◌≡◌, ◌&&◌, ℕ, List, [], map, length, replicate, Bool, not, Option, None, Some, nat_le, if◌then◌else◌}
+use Rattle.std.specs.Prelude.{◌≡◌, ◌&&◌, ℕ, List, [], map, length, replicate, Bool, true, false, not, Option, None, Some, nat_le, if◌then◌else◌}
 use Rattle.atomic_table.specs.Seated.{TableId}
 use Rattle.jc_types.specs.declared.config.Config.{Config}
 use Rattle.jc_types.specs.declared.limits.TheConstants.{SESSIONS_MAX}
@@ -17,6 +18,7 @@ use Rattle.jc_model.specs.Cache.{Bytes}
 use Rattle.jc_model.specs.declared.event.Event.{Event}
 use Rattle.jc_outside.specs.declared.done.Origin.TheVariants.{Live}
 use Rattle.jc_stripe.specs.State.{State}
+use Rattle.jc_stripe.specs.Renewal.{live_on}
 use Rattle.jc_stripe.specs.Reopening.{opened_stripes}
 use Rattle.jc_lock.specs.declared.view.View.{View}
 
@@ -38,11 +40,15 @@ pub record OwnerState : Type 0 where
   pub noted : List State  -- stripe by stripe, as its own seat found it last, or as the stripe was opened
   pub fronts : List (List Event)
 
-pub record OpensWith (config : Config) (entries : List (Bytes × Bytes)) (owner : OwnerState) : Type 0 where
+abbrev pub stripes_opening : Bool → Config → List (Bytes × Bytes) → List State
+stripes_opening false config entries = opened_stripes config Live entries 0 config.stripes
+stripes_opening true config entries = map live_on (opened_stripes config Live entries 0 config.stripes)
+
+pub record OpensWith (lives : Bool) (config : Config) (entries : List (Bytes × Bytes)) (owner : OwnerState) : Type 0 where
   pub config_is : owner.cache.config ≡ config
   pub locks : length owner.cache.locks ≡ config.stripes
   pub given : owner.given ≡ 0
-  pub noted : owner.noted ≡ opened_stripes config Live entries 0 config.stripes
+  pub noted : owner.noted ≡ stripes_opening lives config entries
   pub fronts : owner.fronts ≡ replicate config.stripes []
 
 -- 2. Sessions that are refused.

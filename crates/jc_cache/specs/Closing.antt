@@ -1,7 +1,8 @@
 -- What a closed cache tells.
---     IsClosedAt     the stripe with this number of a closed cache of this shape, which was opened with these entries: its history is
---                    legal from them and leads to its entries, nothing is out, and its outside answers were live
---     HasFront       a session has seen no more of each stripe than is in its history
+--     IsClosedAt     the stripe with this number of a closed cache of this shape, which was opened with these entries: its first
+--                    generation opened with them, each one left what the next one opened with, the last one's history is legal from its
+--                    opening and leads to the stripe's entries, nothing is out, and its outside answers were live
+--     HasFront       a session has seen no more of each stripe than is in its whole history
 --     IsClosed       a cache is closed: its stripes, each from the opening that its owner has noted, and that each session handed in has
 --                    seen no more of them
 --     IsInUse        at one of these stripes a reservation or a join is out
@@ -21,7 +22,7 @@ use Rattle.jc_outside.specs.declared.done.Origin.TheVariants.{Live}
 use Rattle.jc_model.specs.Cache.{Bytes}
 use Rattle.jc_model.specs.Legal.{Legal, IsHistory}
 use Rattle.jc_stripe.specs.State.{State, IsIdle}
-use Rattle.jc_stripe.specs.Laws.{IsSameStripe}
+use Rattle.jc_stripe.specs.Generations.{IsChain, whole_history, first_opening, IsOfSameStripe}
 use Rattle.jc_stripe.specs.Reached.{IsReached}
 use Rattle.jc_lock.specs.declared.view.View.{View}
 use Rattle.jc_cache.specs.declared.session.Session.{Session}
@@ -34,18 +35,19 @@ pub record IsClosedAt (config : Config) (stripe : ℕ) (opening : List (Bytes ×
   pub idle : IsIdle state
   pub config_is : state.config ≡ config
   pub stripe_is : state.stripe ≡ stripe
-  pub opening_is : state.opening ≡ opening
+  pub opening_is : first_opening state ≡ opening
   pub origin_is : state.origin ≡ Live
-  pub legal : Legal config opening state.history
-  pub leaves : IsHistory config (from_entries opening) state.history state.cache
+  pub chain : IsChain config state.ended state.opening
+  pub legal : Legal config state.opening state.history
+  pub leaves : IsHistory config (from_entries state.opening) state.history state.cache
 
 abbrev pub HasFront : List State → List (TableId × View) → Type 0
-HasFront stripes seats = (i : ℕ) (state : State) (seat : TableId × View) → slice_get stripes i ≡ Some state → slice_get seats i ≡ Some seat → IsPrefix seat.1.front state.history
+HasFront stripes seats = (i : ℕ) (state : State) (seat : TableId × View) → slice_get stripes i ≡ Some state → slice_get seats i ≡ Some seat → IsPrefix seat.1.front (whole_history state)
 
 pub record IsClosed {I J : Type 0} {D : I → Type 0} {E : J → Type 0} (owner : OwnerState) (sessions : List (Session I J D E)) (stripes : List State) : Type 0 where
   pub count : length stripes ≡ owner.cache.config.stripes
   pub each : (i : ℕ) (state : State) → slice_get stripes i ≡ Some state
-      → (noted : State) × (slice_get owner.noted i ≡ Some noted) × IsClosedAt owner.cache.config i noted.opening state
+      → (noted : State) × (slice_get owner.noted i ≡ Some noted) × IsClosedAt owner.cache.config i (first_opening noted) state
   pub all : length sessions ≡ owner.given
   pub fronts : (n : ℕ) (session : Session I J D E) → slice_get sessions n ≡ Some session → HasFront stripes session.seats.items
 
@@ -57,7 +59,7 @@ IsInUse states = (i : ℕ) × (state : State) × (slice_get states i ≡ Some st
 pub record IsHandedBack (owner left : OwnerState) : Type 0 where
   pub cache : left.cache ≡ owner.cache
   pub given : left.given ≡ owner.given
-  pub noted : AllZip IsSameStripe owner.noted left.noted
+  pub noted : AllZip IsOfSameStripe owner.noted left.noted
   pub fronts : AllZip IsPrefix owner.fronts left.fronts
 
 abbrev pub IsCloseRefusal : OwnerState → ℕ → Refusal → OwnerState → Type 0

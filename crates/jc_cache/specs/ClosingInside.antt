@@ -15,7 +15,7 @@ use Rattle.atomic_table.specs.Seated.{TableId}
 use Rattle.jc_types.specs.declared.refusal.Refusal.{Refusal}
 use Rattle.jc_types.specs.declared.refusal.Refusal.TheVariants.{Busy, StillReserved}
 use Rattle.jc_stripe.specs.State.{State, IsIdle}
-use Rattle.jc_stripe.specs.Laws.{IsSameStripe}
+use Rattle.jc_stripe.specs.Generations.{whole_history, IsOfSameStripe}
 use Rattle.jc_stripe.specs.Reached.{IsReached}
 use Rattle.jc_lock.specs.declared.view.View.{View}
 use Rattle.jc_cache.specs.Caches.{noted_by}
@@ -28,7 +28,7 @@ pub record KeepsSeat (before after : TableId × View) : Type 0 where
   pub session : after.1.session ≡ before.1.session
   pub next_session : after.1.next_session ≡ before.1.next_session
   pub spent : after.1.spent ≡ before.1.spent
-  pub same : IsSameStripe before.1.noted after.1.noted
+  pub same : IsOfSameStripe before.1.noted after.1.noted
   pub front : IsPrefix before.1.front after.1.front
 
 abbrev pub KeepSeats : List (TableId × View) → List (TableId × View) → Type 0
@@ -42,7 +42,7 @@ pub record HasTaken (view : View) (state : State) : Type 0 where
   pub of_none : view.session ≡ None
   pub holds : view.holds ≡ true
   pub noted : view.noted ≡ state
-  pub front : IsPrefix view.front state.history
+  pub front : IsPrefix view.front (whole_history state)
   pub reached : IsReached state
   pub idle : IsIdle state
 

@@ -1,17 +1,20 @@
--- What a call leaves of its session's view of the key's stripe. The view's front is what the session has seen of the stripe's history:
--- a prefix of it, for ever. Its own steps are the session's steps there, without those whose answer it has not picked up.
+-- What a call leaves of its session's view of the key's stripe. The view's front is what the session has seen of the stripe's whole
+-- history, all generations in a row: a prefix of it, for ever. Its own steps are the session's steps there, in all generations, without
+-- those whose answer it has not picked up.
 --     IsSameSeat     the same session's seat at the same stripe, which has not taken it; the next reservation's number hasn't fallen
+--     HasAllSeen     the noted state is reached, and the front is its whole history: so each generation in it is legal from its opening,
+--                    which is what the one before it left, and the last one leads to what is cached
 --     HasSeen        the front may be longer; the own steps are the former ones
---     HasMade        the front is a legal history, which begins with the former one; this step is in it behind that, and it is one own
---                    step more
+--     HasMade        the front is the whole history of the noted state, and begins with the former one; this step is in it behind that, in
+--                    the present generation, and it is one own step more
 --     IsAskedFor     what a call has asked outside for its step: if it shares another call's load, nothing
 --     MakesStep      the call's step: its caller, operation and key, and this reply
 --     SeatAfter      a whole call: its step was made, or it was refused as the state that the view keeps says; of the refusals that change
 --                    nothing it is the full history alone
 --     SeatTried      a call that waits for nobody: its step was made, it was refused as the state that the view keeps says, or as busy
 --     IsBetween      a state of the stripe in which a call was decided: between the former front and the present one
---     IsNext         the place of a step at a key that was made in this state: it is the next event of the state's history, or the next
---                    one behind the eviction that made room for the key, which was missing
+--     IsNext         the place of a step at a key that was made in this state: it is the next event of the state's whole history, or the
+--                    next one behind the eviction that made room for the key, which was missing
 --     IsMadeIn       the call's step, if it was made, was made in this state
 use Rattle.std.specs.Prelude.{◌≡◌, ◌≤◌, ◌⊎◌, ◌+◌, ℕ, List, false, length, Option, None, Some, Result, Ok, Err, slice_get}
 use mathlib.Core.List.{IsPrefix}
@@ -20,7 +23,6 @@ use Rattle.jc_types.specs.declared.refusal.Refusal.{Refusal}
 use Rattle.jc_types.specs.declared.refusal.Refusal.TheVariants.{Busy, HistoryFull}
 use Rattle.jc_model.specs.Cache.{Bytes, entry_at}
 use Rattle.jc_model.specs.Group.{nothing_said}
-use Rattle.jc_model.specs.Legal.{Legal}
 use Rattle.jc_model.specs.declared.event.Cause.TheVariants.{Full}
 use Rattle.jc_model.specs.declared.event.Event.{Event}
 use Rattle.jc_model.specs.declared.event.Event.TheVariants.{Step, Evict}
@@ -28,7 +30,7 @@ use Rattle.jc_model.specs.declared.event.Op.{Op}
 use Rattle.jc_model.specs.declared.event.Out.{Out}
 use Rattle.jc_model.specs.declared.event.Reply.{Reply}
 use Rattle.jc_stripe.specs.State.{State}
-use Rattle.jc_stripe.specs.Laws.{IsSameStripe}
+use Rattle.jc_stripe.specs.Generations.{past_events, whole_history, IsOfSameStripe}
 use Rattle.jc_stripe.specs.Reached.{IsReached}
 use Rattle.jc_stripe.specs.Refusals.{first_refusal}
 use Rattle.jc_stripe.specs.OwnSteps.{HasOneMore}
@@ -41,7 +43,7 @@ pub record IsSameSeat (before after : View) : Type 0 where
   pub next_session : after.next_session ≡ before.next_session
   pub spent : after.spent ≡ before.spent
   pub free : after.holds ≡ false
-  pub same : IsSameStripe before.noted after.noted
+  pub same : IsOfSameStripe before.noted after.noted
   pub next : before.noted.next ≤ after.noted.next
 
 pub record HasSeen (before after : View) : Type 0 where
@@ -49,11 +51,17 @@ pub record HasSeen (before after : View) : Type 0 where
   pub front : IsPrefix before.front after.front
   pub own : after.own ≡ before.own
 
+pub record HasAllSeen (view : View) : Type 0 where
+  pub reached : IsReached view.noted
+  pub front : view.front ≡ whole_history view.noted
+
+-- `place` is the place of the step in the whole history
 pub record HasMade (before after : View) (event : Event) (place : ℕ) : Type 0 where
   pub seat : IsSameSeat before after
-  pub legal : Legal after.noted.config after.noted.opening after.front
+  pub all : HasAllSeen after
   pub front : IsPrefix before.front after.front
   pub behind : length before.front ≤ place
+  pub present : length (past_events after.noted.ended) ≤ place
   pub there : slice_get after.front place ≡ Some event
   pub own : HasOneMore event before.own after.own
 
@@ -82,16 +90,16 @@ SeatTried before caller key op (Err refusal) after =
 
 pub record IsBetween (before : View) (state : State) (after : View) : Type 0 where
   pub reached : IsReached state
-  pub same : IsSameStripe before.noted state
-  pub front : IsPrefix before.front state.history
-  pub later : IsPrefix state.history after.front
+  pub same : IsOfSameStripe before.noted state
+  pub front : IsPrefix before.front (whole_history state)
+  pub later : IsPrefix (whole_history state) after.front
 
 -- 3. The state in which a call's step was made.
 
 abbrev pub IsNext : State → Bytes → ℕ → List Event → Type 0
 IsNext state key place history =
-    (place ≡ length state.history)
-    ⊎ ((place ≡ length state.history + 1) × (entry_at state.cache key ≡ None) × ((victim : Bytes) × (slice_get history (length state.history) ≡ Some (Evict victim Full))))
+    (place ≡ length (whole_history state))
+    ⊎ ((place ≡ length (whole_history state) + 1) × (entry_at state.cache key ≡ None) × ((victim : Bytes) × (slice_get history (length (whole_history state)) ≡ Some (Evict victim Full))))
 
 abbrev pub IsMadeIn : (before : View) (caller : Caller) (key : Bytes) (op : Op) (asked : Out) (ended : Result Reply Refusal) (after : View) → SeatAfter before caller key op asked ended after → State → Type 0
 IsMadeIn before caller key op asked (Ok reply) after seat state = IsNext state key seat.place after.front

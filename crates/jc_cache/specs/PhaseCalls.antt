@@ -8,9 +8,10 @@ use Rattle.atomic_table.specs.Seated.{TableId}
 use Rattle.jc_types.specs.Stripes.{stripe_of}
 use Rattle.jc_model.specs.Cache.{Bytes}
 use Rattle.jc_stripe.specs.State.{State}
-use Rattle.jc_stripe.specs.Laws.{IsSameStripe}
+use Rattle.jc_stripe.specs.Generations.{whole_history, IsOfSameStripe}
 use Rattle.jc_stripe.specs.Reached.{IsReached}
-use Rattle.jc_stripe.specs.OnePhase.{IsPhaseOf, own_steps}
+use Rattle.jc_stripe.specs.OnePhase.{IsPhaseOf}
+use Rattle.jc_stripe.specs.Renewal.{all_own_steps}
 use Rattle.jc_stripe.specs.OwnSteps.{may_come_all}
 use Rattle.jc_lock.specs.declared.view.View.{View}
 use Rattle.jc_session.specs.declared.counts.Counted.{Counted}
@@ -22,14 +23,14 @@ use Rattle.jc_cache.specs.Fronts.{IsSameSeat}
 pub record SeatPhase (session : ℕ) (before : View) (phase : State → State → Type 0) (after : View) : Type 0 where
   pub found : State
   pub reached : IsReached found
-  pub same : IsSameStripe before.noted found
-  pub front : IsPrefix before.front found.history
-  pub own : own_steps session found ≡ before.own
+  pub same : IsOfSameStripe before.noted found
+  pub front : IsPrefix before.front (whole_history found)
+  pub own : all_own_steps session found ≡ before.own
   pub made : phase found after.noted
   pub one : IsPhaseOf session found after.noted
   pub seat : IsSameSeat before after
-  pub front_is : after.front ≡ after.noted.history
-  pub own_is : after.own ≡ own_steps session after.noted
+  pub front_is : after.front ≡ whole_history after.noted
+  pub own_is : after.own ≡ all_own_steps session after.noted
 
 pub record PhaseAt {I J : Type 0} {D : I → Type 0} {E : J → Type 0} (stripe : ℕ) (old : Session I J D E) (phase : State → State → Type 0) (counted : Counted) (new : Session I J D E) : Type 0 where
   pub lock : TableId

@@ -2,9 +2,10 @@
 --     refusal_by       why, by what `check` says of the shape, and by whether all keys are distinct
 --     reopen_refusal   why a closed cache with these entries is not opened in this shape, if enough memory is there: the shape is out of
 --                      its limits, or a key is there twice
---     IsReopened       who owns a cache that was opened with these entries, and which of them were dropped: what the stripes open with
+--     lived            whether the cache of these stripes lived on, by the first of them
+--     IsReopened       who owns a cache, which lives on or doesn't, that was opened with these entries, and which of them were dropped: what the stripes open with
 --                      and what was dropped are all entries, in another order
-use Rattle.std.specs.Prelude.{◌≡◌, List, ◌++◌, Bool, Option, None, Some, Result, Ok, Err, if◌then◌else◌}
+use Rattle.std.specs.Prelude.{◌≡◌, List, [], ◌∷◌, ◌++◌, Bool, false, Option, None, Some, Result, Ok, Err, if◌then◌else◌}
 use Rattle.std.specs.List.Sorted.{IsPermutation}
 use Rattle.jc_types.specs.declared.config.Config.{Config}
 use Rattle.jc_types.specs.declared.refusal.Refusal.{Refusal}
@@ -12,6 +13,7 @@ use Rattle.jc_types.specs.declared.refusal.Refusal.TheVariants.{RepeatedKey}
 use Rattle.jc_types.specs.Limits.{check}
 use Rattle.jc_model.specs.Cache.{Bytes}
 use Rattle.jc_model.specs.Listed.{has_distinct_keys}
+use Rattle.jc_stripe.specs.State.{State}
 use Rattle.jc_stripe.specs.Reopening.{all_entries, dropped}
 use Rattle.jc_cache.specs.Caches.{OwnerState, OpensWith}
 
@@ -22,8 +24,12 @@ refusal_by (Ok fits) distinct = if distinct then None else Some RepeatedKey
 abbrev pub reopen_refusal : Config → List (Bytes × Bytes) → Option Refusal
 reopen_refusal config entries = refusal_by (check config) (has_distinct_keys entries)
 
-pub record IsReopened (config : Config) (entries : List (Bytes × Bytes)) (owner : OwnerState) (gone : List (Bytes × Bytes)) : Type 0 where
+abbrev pub lived : List State → Bool
+lived [] = false
+lived (state ∷ states) = state.lives
+
+pub record IsReopened (lives : Bool) (config : Config) (entries : List (Bytes × Bytes)) (owner : OwnerState) (gone : List (Bytes × Bytes)) : Type 0 where
   pub may : reopen_refusal config entries ≡ None
-  pub opens : OpensWith config entries owner
+  pub opens : OpensWith lives config entries owner
   pub gone_is : gone ≡ dropped config entries
   pub all : IsPermutation entries (all_entries owner.noted ++ gone)

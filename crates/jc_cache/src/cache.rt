@@ -5,7 +5,6 @@ ghost use Rattle.jc_types.specs.declared.refusal.Refusal.{Refusal};
 ghost use Rattle.jc_model.specs.Table.{is_invoke};
 ghost use Rattle.jc_model.specs.declared.event.Reply.{Reply};
 ghost use Rattle.jc_model.specs.declared.event.Op.TheVariants.{Get};
-ghost use Rattle.jc_stripe.specs.Laws.{ReachedIsLegal};
 ghost use Rattle.jc_stripe.specs.OnePhase.{OnePhase};
 ghost use Rattle.jc_stripe.specs.OwnSteps.{OwnSteps, OwnNumbers, StepsBehind};
 ghost use Rattle.jc_engine.specs.Values.{value_told};
@@ -18,7 +17,7 @@ use jc_engine::{call, get, invoke, try_call};
 use jc_lock::HistLock;
 use jc_model::{Op, Reply};
 use jc_mutentry::EntryProcessor;
-use jc_stripe::phase_laws::{is_legal, is_uniform, own_numbers, own_steps, steps_behind};
+use jc_stripe::phase_laws::{is_uniform, own_numbers, own_steps, steps_behind};
 use jc_types::{Config, Key, Refusal, Value, stripe_of};
 use std::marker::Model;
 use std::sync::Wait;
@@ -172,13 +171,11 @@ impl Cache {
 /// The laws of every stripe that a whole call of a session rests on, in one call.
 fn laws()
     ensures uniform { OnePhase }
-    ensures legal { ReachedIsLegal }
     ensures steps { OwnSteps }
     ensures numbers { OwnNumbers }
     ensures behind { StepsBehind }
 {
     is_uniform();
-    is_legal();
     own_steps();
     own_numbers();
     steps_behind();

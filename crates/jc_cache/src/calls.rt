@@ -10,8 +10,9 @@
 //! (`TooManyInFlight`), or less than `JOINERS_MAX` calls have joined a load there (`TooManyJoiners`), and for the answer of a
 //! load that it has joined. Nothing says that a call that waits returns, nor in which order those who wait are served.
 //!
-//! After a call its session has seen the key's stripe up to there: a legal history, which begins with what it had seen before and
-//! has the call's own step behind that. Its own steps there are the former ones and this one.
+//! After a call its session has seen the key's stripe up to there: its whole history, all generations in a row, which begins with
+//! what it had seen before and has the call's own step behind that. Each generation is legal, from what the one before left. The
+//! session's own steps there are the former ones and this one.
 //!
 //! Condition of each call: the session may call the cache. It is one that this cache has given out, and has no reservation and no
 //! join out.

@@ -1,8 +1,9 @@
 //! The end of a cache.
-ghost use Rattle.std.specs.Prelude.{◌≡◌, ◌⊎◌, ◌≤◌, ◌++◌, true, [], IsTrue, IfOk, IfErr, OnOk, OnErr, All, length, map, vec_capacity};
+ghost use Rattle.std.specs.Prelude.{◌≡◌, ◌⊎◌, ◌≤◌, ◌++◌, true, [], IsTrue, IfOk, IfErr, OnOk, OnErr, All, length, map, min, vec_capacity};
 ghost use Rattle.atomic_table.specs.Seated.{TableId};
 ghost use Rattle.jc_lock.specs.declared.view.View.{View};
 ghost use Rattle.std.specs.FinMap.{from_entries};
+ghost use Rattle.jc_types.specs.declared.limits.TheConstants.{LAST_NUMBER};
 ghost use Rattle.jc_types.specs.declared.refusal.Refusal.TheVariants.{OutOfMemory};
 ghost use Rattle.jc_model.specs.Legal.{Legal};
 ghost use Rattle.jc_model.specs.Listed.{has_distinct_keys};
@@ -28,7 +29,7 @@ use own_seats::{join_all, take_all, test_all_idle};
 use std::alloc::{AllocError, Global};
 use std::marker::Model;
 
-/// A stripe of a closed cache: its whole history, and what was cached at its end. Contracts see its last state.
+/// A stripe of a closed cache: the history of its present generation, and what was cached at its end. Contracts see its last state.
 ///
 /// The history is stored as the cache stored it, in a few bytes for each event. What the stripe opened with isn't: only contracts see
 /// it. It is nothing, if the cache was made by [`CacheOwner::new`]; [`CacheOwner::reopen`] says how to know it.
@@ -50,7 +51,7 @@ impl Model for ClosedStripe {
 }
 
 impl ClosedStripe {
-    /// How many events the history has. It is legal from the stripe's opening.
+    /// How many events the history has. It is legal from what the generation opened with.
     pub fn events_len(&self) -> usize
         ensures len { result ≡ length self.now.history }
         ensures legal { Legal self.now.config self.now.opening self.now.history }
@@ -59,7 +60,21 @@ impl ClosedStripe {
         self.stripe.events_len()
     }
 
-    /// Appends the whole history, oldest event first. An `Err` says that an allocation failed, and then nothing is appended.
+    /// Whether its cache lived on.
+    pub fn lives(&self) -> bool
+        ensures { result ≡ self.now.lives }
+    {
+        self.stripe.lives()
+    }
+
+    /// How many generations have ended before this history. A count that has reached `u64::MAX` stays there.
+    pub fn generations_ended(&self) -> u64
+        ensures { result ≡ min (length self.now.ended) LAST_NUMBER }
+    {
+        self.stripe.generations_ended()
+    }
+
+    /// Appends this history, oldest event first. An `Err` says that an allocation failed, and then nothing is appended.
     pub fn append_events(&self, out: &mut Vec<Event>) -> Result<(), AllocError>
         ensures ok { OnOk result (out.new.items ≡ out.old.items ++ self.now.history) }
         ensures err { OnErr result (out.new.items ≡ out.old.items) }

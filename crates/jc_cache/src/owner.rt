@@ -1,15 +1,15 @@
 //! Who owns a cache.
-ghost use Rattle.std.specs.Prelude.{◌≡◌, ◌⊎◌, ◌+◌, ◌++◌, ◌≤◌, true, List, [], Ok, Err, Some, None, IfOk, IfErr, is_some, map, length, replicate, vec_len, vec_capacity};
+ghost use Rattle.std.specs.Prelude.{◌≡◌, ◌⊎◌, ◌+◌, ◌++◌, ◌≤◌, Bool, true, false, List, [], Ok, Err, Some, None, IfOk, IfErr, is_some, map, length, replicate, vec_len, vec_capacity};
 ghost use Rattle.atomic_table.specs.Seated.{TableId};
 ghost use Rattle.jc_types.specs.Limits.{check};
 ghost use Rattle.jc_types.specs.declared.refusal.Refusal.TheVariants.{OutOfMemory};
 ghost use Rattle.jc_model.specs.Cache.{Bytes};
-ghost use Rattle.jc_outside.specs.declared.done.Origin.TheVariants.{Live};
 ghost use Rattle.jc_model.specs.Listed.{has_distinct_keys};
-ghost use Rattle.jc_stripe.specs.Reopening.{dropped, opened_stripes};
+ghost use Rattle.jc_stripe.specs.Renewal.{live_on};
+ghost use Rattle.jc_stripe.specs.Reopening.{dropped};
 ghost use Rattle.jc_lock.specs.Views.{after_split, session_view};
 ghost use Rattle.jc_lock.specs.declared.view.View.{View};
-ghost use Rattle.jc_cache.specs.Caches.{OpensWith, fronts_of, noted_by, session_refusal};
+ghost use Rattle.jc_cache.specs.Caches.{OpensWith, fronts_of, noted_by, session_refusal, stripes_opening};
 ghost use Rattle.jc_cache.specs.CacheInside.{IsWhole, GiveNumbers};
 ghost use Rattle.jc_cache.specs.Sessions.{BeginsAt, MayCall};
 
@@ -60,14 +60,14 @@ impl Model for CacheOwner {
 
 /// Locks round these stripes, each with its first seat. An `Err` says that an allocation failed.
 ///
-/// Condition: they are all stripes of a live cache of this shape, and nothing has happened in them.
+/// Condition: they are all stripes of a cache of this shape, and nothing has happened in them.
 fn locks(
     alloc: Global,
     config: &Config,
     stripes: Vec<Stripe>,
 ) -> Result<(Vec<HistLock>, Vec<Seat>), AllocError>
     requires fits { check config.now ≡ Ok tt }
-    requires opened { (entries : List (Bytes × Bytes)) × (stripes.items ≡ opened_stripes config.now Live entries 0 config.now.stripes) }
+    requires opened { (lives : Bool) × (entries : List (Bytes × Bytes)) × (stripes.items ≡ stripes_opening lives config.now entries) }
     ensures whole { IfOk result (λ r. IsWhole config.now 0 r.0.items r.1.items) }
     ensures noted { IfOk result (λ r. noted_by r.1.items ≡ stripes.items) }
     ensures fronts { IfOk result (λ r. fronts_of r.1.items ≡ replicate config.now.stripes []) }
@@ -82,21 +82,37 @@ fn locks(
     Ok((locks, seats))
 }
 
-/// Who owns a cache of this shape that opens with these entries, and those for which it had no room. An `Err` says that an
-/// allocation failed.
+/// Lets each of these stripes live on.
+fn live_on(stripes: &mut [Stripe])
+    ensures { stripes.new ≡ map live_on stripes.old }
+{
+    for stripe in stripes.iter_mut() {
+        stripe.live_on();
+    }
+}
+
+/// Who owns a cache of this shape that opens with these entries, and lives on or doesn't, and those for which it had no room. An
+/// `Err` says that an allocation failed.
 ///
 /// Conditions: `config.check()` is `Ok`; each key is there once.
 pub(crate) fn open_with(
     alloc: Global,
     config: &Config,
+    lives: bool,
     entries: &[(Key, Value)],
 ) -> Result<(CacheOwner, Vec<(Key, Value)>), AllocError>
     requires fits { check config.now ≡ Ok tt }
     requires once { has_distinct_keys entries.now ≡ true }
-    ensures owner { IfOk result (λ r. OpensWith config.now entries.now r.0) }
+    ensures owner { IfOk result (λ r. OpensWith lives config.now entries.now r.0) }
     ensures dropped { IfOk result (λ r. r.1.items ≡ dropped config.now entries.now) }
 {
-    let Reopened { stripes, dropped } = reopen(alloc, config, Origin::Live, entries)?;
+    let Reopened {
+        mut stripes,
+        dropped,
+    } = reopen(alloc, config, Origin::Live, entries)?;
+    if lives {
+        live_on(stripes.as_mut_slice());
+    }
     let (locks, seats) = locks(alloc, config, stripes)?;
     let cache = Cache {
         config: *config,
@@ -129,11 +145,35 @@ impl CacheOwner {
     ///
     /// It is refused if the shape is out of its limits (`BadConfig`), and if an allocation failed (`OutOfMemory`).
     pub fn new(alloc: Global, config: &Config) -> Result<CacheOwner, Refusal>
-        ensures ok { IfOk result (λ o. OpensWith config.now [] o) }
+        ensures ok { IfOk result (λ o. OpensWith false config.now [] o) }
+        ensures err { IfErr result (λ r. (check config.now ≡ Err r) ⊎ ((check config.now ≡ Ok tt) × (r ≡ OutOfMemory))) }
+    {
+        CacheOwner::empty(alloc, config, false)
+    }
+
+    /// An empty cache of this shape that lives on: no call of its sessions is refused because a history is full, up to call number
+    /// `u64::MAX`.
+    ///
+    /// A stripe whose history is full ends its *generation*: its history so far is whole and legal, and is forgotten; the next
+    /// generation begins with what is cached, in its order of use. The call that meets the full stripe does it, and takes no memory
+    /// for it. A stripe waits with it while an answer of a load is there that nobody has picked up; calls that need a place in it wait
+    /// so long, and those that wait for nobody are refused as `Busy`.
+    ///
+    /// It is refused as by [`new`](CacheOwner::new).
+    pub fn living(alloc: Global, config: &Config) -> Result<CacheOwner, Refusal>
+        ensures ok { IfOk result (λ o. OpensWith true config.now [] o) }
+        ensures err { IfErr result (λ r. (check config.now ≡ Err r) ⊎ ((check config.now ≡ Ok tt) × (r ≡ OutOfMemory))) }
+    {
+        CacheOwner::empty(alloc, config, true)
+    }
+
+    /// An empty cache of this shape, which lives on or doesn't.
+    fn empty(alloc: Global, config: &Config, lives: bool) -> Result<CacheOwner, Refusal>
+        ensures ok { IfOk result (λ o. OpensWith lives config.now [] o) }
         ensures err { IfErr result (λ r. (check config.now ≡ Err r) ⊎ ((check config.now ≡ Ok tt) × (r ≡ OutOfMemory))) }
     {
         config.check()?;
-        match open_with(alloc, config, &[]) {
+        match open_with(alloc, config, lives, &[]) {
             Ok((owner, _)) => Ok(owner),
             Err(_) => Err(Refusal::OutOfMemory),
         }

@@ -5,7 +5,7 @@ ghost use Rattle.jc_types.specs.declared.refusal.Refusal.TheVariants.{OutOfMemor
 ghost use Rattle.jc_model.specs.Listed.{has_distinct_keys};
 ghost use Rattle.jc_stripe.specs.Reached.{IsReached};
 ghost use Rattle.jc_stripe.specs.Reopening.{all_entries, shares_key};
-ghost use Rattle.jc_cache.specs.Reopening.{IsReopened, reopen_refusal};
+ghost use Rattle.jc_cache.specs.Reopening.{IsReopened, lived, reopen_refusal};
 
 use crate::closing::{Closed, ClosedStripe};
 use crate::owner::{CacheOwner, open_with};
@@ -37,7 +37,7 @@ pub struct ReopenFault {
 impl CacheOwner {
     /// Opens a closed cache again, in this shape, with what it had cached. Old stripe by old stripe, each from its most recently used
     /// entry on, every entry goes to the stripe of its key, which keeps as many as it has room for. They are in this order of use
-    /// there, and the others are dropped.
+    /// there, and the others are dropped. A cache that lived on lives on.
     ///
     /// The new histories are empty, and legal from what is kept. The closed histories end here: read them before. A stripe doesn't
     /// tell what it was opened with: to check a later history by `legal`, keep the entries that
@@ -48,7 +48,7 @@ impl CacheOwner {
     /// stripes of two caches (`RepeatedKey`), and if an allocation failed (`OutOfMemory`), tested in this order. Old and new stripes
     /// are there together until it returns.
     pub fn reopen(alloc: Global, closed: Closed, config: &Config) -> Result<Reopened, ReopenFault>
-        ensures ok { IfOk result (λ r. IsReopened config.now (all_entries closed.stripes.items) r.owner r.dropped.items) }
+        ensures ok { IfOk result (λ r. IsReopened (lived closed.stripes.items) config.now (all_entries closed.stripes.items) r.owner r.dropped.items) }
         ensures outside { IfOk result (λ r. r.outside ≡ closed.outside) }
         ensures why { IfErr result (λ f. (reopen_refusal config.now (all_entries closed.stripes.items) ≡ Some f.refusal)
             ⊎ ((reopen_refusal config.now (all_entries closed.stripes.items) ≡ None) × (f.refusal ≡ OutOfMemory))) }
@@ -78,7 +78,7 @@ fn open_again(
     stripes: &[ClosedStripe],
     config: &Config,
 ) -> Result<(CacheOwner, Vec<(Key, Value)>), Refusal>
-    ensures ok { IfOk result (λ r. IsReopened config.now (all_entries stripes.now) r.0 r.1.items) }
+    ensures ok { IfOk result (λ r. IsReopened (lived stripes.now) config.now (all_entries stripes.now) r.0 r.1.items) }
     ensures why { IfErr result (λ r. (reopen_refusal config.now (all_entries stripes.now) ≡ Some r)
         ⊎ ((reopen_refusal config.now (all_entries stripes.now) ≡ None) × (r ≡ OutOfMemory))) }
 {
@@ -90,9 +90,19 @@ fn open_again(
     let Ok(entries) = copy_entries(alloc, stripes) else {
         return Err(Refusal::OutOfMemory);
     };
-    match open_with(alloc, config, &entries) {
+    match open_with(alloc, config, lived(stripes), &entries) {
         Ok(made) => Ok(made),
         Err(_) => Err(Refusal::OutOfMemory),
+    }
+}
+
+/// Whether the cache of these stripes lived on.
+fn lived(stripes: &[ClosedStripe]) -> bool
+    ensures { result ≡ lived stripes.now }
+{
+    match stripes.first() {
+        Some(stripe) => stripe.lives(),
+        None => false,
     }
 }
 

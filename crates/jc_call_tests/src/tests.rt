@@ -36,6 +36,7 @@ mod histories;
 mod invoking;
 mod limits;
 mod lines;
+mod living;
 mod locks;
 mod manners;
 mod meeting;

@@ -1,6 +1,6 @@
--- Rows of lendings in which nothing was done, and a phase after them.
+-- Rows of quiet lendings, and a phase after them.
 --     rests-start   before the first lending
---     rests-on      one lending more in which nothing was done
+--     rests-on      one quiet lending more
 --     Tries         what a row of tries keeps: the token is free, speaks for whom it spoke, and what a take finds is still what was
 --                   asked of it
 --     tries-start   before the first try
@@ -10,25 +10,25 @@ use Rattle.std.proofs.Common.{◌≡◌, ℕ, List, [], ◌∷◌, ◌++◌, ref
 use Rattle.jc_stripe.specs.State.{State}
 use Rattle.jc_stripe.specs.Reached.{IsReached}
 use Rattle.jc_gate.specs.Lending.{ComesAfter, Lends, Lent}
-use Rattle.jc_engine.specs.Chain.{AllSame, Rests, LentPhase}
+use Rattle.jc_engine.specs.Chain.{IsQuiet, AllQuiet, Rests, LentPhase}
 
 module _ {G T : Type 0} (takes gives : G → T → State → G → T → Type 0) (finds : G → T → State → Type 0) where
   pub rests-start : (g : G) (t : T) → Rests takes gives finds g t g t
-  rests-start g t = record { idle = []; same = tt; lent = (refl, refl) }
+  rests-start g t = record { idle = []; quiet = tt; lent = (refl, refl) }
 
   lent-snoc : (g : G) (t : T) (ps : List (State × State)) (h : G) (u : T) (a b : State) (k : G) (v : T) → Lent takes gives g t ps h u → Lends takes gives h u a b k v → Lent takes gives g t (ps ++ (a, b) ∷ []) k v
   lent-snoc g t [] h u a b k v same one = (k, v, subst (λ (z : G × T). Lends takes gives z.0 z.1 a b k v) (λ i. (same.0 i, same.1 i)) one, (refl, refl))
   lent-snoc g t (p ∷ ps) h u a b k v row one = (row.0, row.1, row.2, lent-snoc row.0 row.1 ps h u a b k v row.3 one)
 
-  all-snoc : (ps : List (State × State)) (a b : State) → AllSame ps → b ≡ a → AllSame (ps ++ (a, b) ∷ [])
+  all-snoc : (ps : List (State × State)) (a b : State) → AllQuiet ps → IsQuiet a b → AllQuiet (ps ++ (a, b) ∷ [])
   all-snoc [] a b all is = (is, tt)
   all-snoc (p ∷ ps) a b all is = (all.0, all-snoc ps a b all.1 is)
 
-  pub rests-on : (g : G) (t : T) (h : G) (u : T) (a b : State) (k : G) (v : T) → Rests takes gives finds g t h u → Lends takes gives h u a b k v → b ≡ a → Rests takes gives finds g t k v
+  pub rests-on : (g : G) (t : T) (h : G) (u : T) (a b : State) (k : G) (v : T) → Rests takes gives finds g t h u → Lends takes gives h u a b k v → IsQuiet a b → Rests takes gives finds g t k v
   rests-on g t h u a b k v rests one is =
-      record { idle = rests.idle ++ (a, b) ∷ []; same = all-snoc rests.idle a b rests.same is; lent = lent-snoc g t rests.idle h u a b k v rests.lent one }
+      record { idle = rests.idle ++ (a, b) ∷ []; quiet = all-snoc rests.idle a b rests.quiet is; lent = lent-snoc g t rests.idle h u a b k v rests.lent one }
 
-  -- what a row of tries in which nothing was done keeps
+  -- what a row of quiet tries keeps
   pub record Tries (is_free : G → T → Type 0) (speaks_for : T → ℕ → Type 0) (P : State → Type 0) (g : G) (t : T) (h : G) (u : T) : Type 0 where
     pub free : is_free h u
     pub speaks : (n : ℕ) → speaks_for t n → speaks_for u n
@@ -41,12 +41,12 @@ module _ {G T : Type 0} (takes gives : G → T → State → G → T → Type 0)
   pub tries-on : (is_free : G → T → Type 0) (speaks_for : T → ℕ → Type 0) (P : State → Type 0) (g : G) (t : T) (h : G) (u : T) (a b : State) (m : G) (w : T) (k : G) (v : T) (session : ℕ)
       → ((x y : State) → ComesAfter session x y → P x → P y)
       → Tries is_free speaks_for P g t h u → takes h u a m w → finds h u a → IsReached a → gives m w b k v → is_free k v → ((n : ℕ) → speaks_for u n → speaks_for w n) → ((n : ℕ) → speaks_for w n → speaks_for v n)
-      → ((n : ℕ) (x : State) → speaks_for w n → finds k v x → ComesAfter n b x) → speaks_for t session → b ≡ a
+      → ((n : ℕ) (x : State) → speaks_for w n → finds k v x → ComesAfter n b x) → speaks_for t session → IsQuiet a b
       → Tries is_free speaks_for P g t k v
   tries-on is_free speaks_for P g t h u a b m w k v session stays tries took found reached gave free one two next speaks is = record {
     free = free;
     speaks = λ n s. two n (one n (tries.speaks n s));
-    finds_it = λ x f. stays b x (next session x (one session (tries.speaks session speaks)) f) (subst P (sym is) (tries.finds_it a found));
+    finds_it = λ x f. stays b x (next session x (one session (tries.speaks session speaks)) f) (stays a b (is.after session) (tries.finds_it a found));
     rests = rests-on g t h u a b k v tries.rests record { gate = m; token = w; took = took; reached = reached; gave = gave } is;
   }
 

@@ -2,23 +2,30 @@
 --     comes_itself    a state comes after itself
 --     comes_on        one after the other
 --     comes_by        after a phase that leaves the session's own steps
+--     comes_renewed   after a renewal
+--     left_by         what is given back of a stripe on which no phase was made
+--     quiet_by        a lending that left the stripe as it was, or ended its generation, is quiet
+--     quiet_same      one that left the stripe as it was is
 --     since_start     of what the first take finds
 --     since_on        of what is found after what was found
 --     since_both      of what is found after what a take could have found in between
 --     since_phase     of what a take finds after a phase that leaves the session's own steps
-use Rattle.std.proofs.Common.{◌≡◌, ℕ, List, [], ◌++◌, refl, sym, ap, ◌∙◌, append_assoc, append-nil, le_refl, arith}
+use Rattle.std.proofs.Common.{◌≡◌, ℕ, List, [], ◌++◌, inl, ⊎_elim, refl, sym, ap, subst, ◌∙◌, append_assoc, append-nil, le_refl, arith}
 use mathlib.Core.List.{IsPrefix}
 use Rattle.jc_model.specs.declared.event.Event.{Event}
 use Rattle.jc_stripe.specs.State.{State}
 use Rattle.jc_stripe.specs.Reached.{IsReached}
+use Rattle.jc_stripe.specs.Generations.{whole_history}
 use Rattle.jc_stripe.specs.OnePhase.{OnePhase, IsPhaseOf, own_steps}
+use Rattle.jc_stripe.specs.Renewal.{Renewal, Renews, RenewsIfFull, StaysOrRenews}
+use Rattle.jc_stripe.proofs.CallerLemmas.{of_same, whole_goes_on, own_stay, stays_or_renews}
 use Rattle.jc_gate.specs.Lending.{ComesAfter}
-use Rattle.jc_engine.specs.Chain.{Since, LentPhase}
+use Rattle.jc_engine.specs.Chain.{IsQuiet, Since, LentPhase}
 
 pub comes_itself : (session : ℕ) (a : State) → ComesAfter session a a
 comes_itself session a = record {
-  same = record { config = refl; stripe = refl; origin = refl; opening = refl };
-  front = ([], append-nil a.history);
+  same = record { config = refl; stripe = refl; origin = refl; lives = refl; opening = refl };
+  front = ([], append-nil (whole_history a));
   next = le_refl a.next;
   own = refl;
 }
@@ -28,15 +35,34 @@ prefix_on xs ys zs p q = (p.0 ++ q.0, sym (append_assoc xs p.0 q.0) ∙ ap (λ (
 
 pub comes_on : (session : ℕ) (a b c : State) → ComesAfter session a b → ComesAfter session b c → ComesAfter session a c
 comes_on session a b c p q = record {
-  same = record { config = q.same.config ∙ p.same.config; stripe = q.same.stripe ∙ p.same.stripe; origin = q.same.origin ∙ p.same.origin; opening = q.same.opening ∙ p.same.opening };
-  front = prefix_on a.history b.history c.history p.front q.front;
+  same = record { config = q.same.config ∙ p.same.config; stripe = q.same.stripe ∙ p.same.stripe; origin = q.same.origin ∙ p.same.origin; lives = q.same.lives ∙ p.same.lives; opening = q.same.opening ∙ p.same.opening };
+  front = prefix_on (whole_history a) (whole_history b) (whole_history c) p.front q.front;
   next = (let one = p.next in let two = q.next in omega arith);
   own = q.own ∙ p.own;
 }
 
 pub comes_by : OnePhase → (session : ℕ) (a b : State) → IsReached a → IsPhaseOf session a b → own_steps session b ≡ own_steps session a → ComesAfter session a b
 comes_by law session a b reached one own =
-    let u = law session a b reached one in record { same = u.grows.same; front = (u.grows.more, sym u.grows.history); next = u.next; own = own }
+    let u = law session a b reached one in
+    record { same = of_same a b u.grows; front = whole_goes_on a b u.grows; next = u.next; own = own_stay session a b u.grows.same.ended own }
+
+-- so does a renewal
+comes_renewed : Renewal → (session : ℕ) (a b : State) → IsReached a → Renews a b → ComesAfter session a b
+comes_renewed law session a b reached renews =
+    let u = law a b reached renews in
+    record { same = u.same; front = subst (IsPrefix (whole_history a)) (sym u.whole) ([], append-nil (whole_history a)); next = (let e = u.next in omega arith); own = u.own session }
+
+pub left_by : (found seen left : State) → seen ≡ found → RenewsIfFull seen left → StaysOrRenews found left
+left_by found seen left is renews = subst (λ s. StaysOrRenews s left) is (stays_or_renews seen left renews)
+
+pub quiet_by : Renewal → (a b : State) → IsReached a → StaysOrRenews a b → IsQuiet a b
+quiet_by law a b reached stays = record {
+  stays = stays;
+  after = λ session. ⊎_elim (λ same. subst (ComesAfter session a) (sym same) (comes_itself session a)) (λ renews. comes_renewed law session a b reached renews) stays;
+}
+
+pub quiet_same : (a b : State) → b ≡ a → IsQuiet a b
+quiet_same a b same = record { stays = inl same; after = λ session. subst (ComesAfter session a) (sym same) (comes_itself session a) }
 
 module _ {G T : Type 0} (finds : G → T → State → Type 0) (session : ℕ) where
   pub since_start : (g : G) (t : T) (a : State) → finds g t a → Since finds session g t a

@@ -30,7 +30,7 @@ use Rattle.jc_session.specs.Counting.{counts_after}
 use Rattle.jc_session.specs.declared.counts.Counted.TheVariants.{Step}
 use Rattle.jc_session.specs.declared.agent.Agent.{Agent}
 use Rattle.jc_engine.specs.Asking.{AsksWriter, change_wanted}
-use Rattle.jc_engine.specs.Chain.{AllSame, Rests, Since, LentPhase}
+use Rattle.jc_engine.specs.Chain.{AllQuiet, Rests, Since, LentPhase}
 use Rattle.jc_engine.specs.Needs.{BeginsIfClear, Starts, Hits, counted_hit}
 use Rattle.jc_engine.specs.Values.{value_in, value_told}
 use Rattle.jc_engine.specs.Stays.{begins-stays}
@@ -42,7 +42,7 @@ use Rattle.jc_stripe.specs.declared.begun.Begun.TheVariants as begun
 use Rattle.jc_engine.proofs.AgentAfter.{after_first}
 use Rattle.jc_engine.proofs.Chains.{rests-on}
 use Rattle.jc_engine.proofs.Rounds.{at_once}
-use Rattle.jc_engine.proofs.Coming.{since_start, since_both, since_phase}
+use Rattle.jc_engine.proofs.Coming.{quiet_same, since_both, since_phase, since_start}
 
 module _ {G T : Type 0} (takes gives : G → T → State → G → T → Type 0) (finds : G → T → State → Type 0) where
   lent-append : (g : G) (t : T) (ps : List (State × State)) (h : G) (u : T) (qs : List (State × State)) (k : G) (v : T)
@@ -50,19 +50,19 @@ module _ {G T : Type 0} (takes gives : G → T → State → G → T → Type 0)
   lent-append g t [] h u qs k v same two = subst (λ (z : G × T). Lent takes gives z.0 z.1 qs k v) (λ i. (same.0 i, same.1 i)) two
   lent-append g t (p ∷ ps) h u qs k v row two = (row.0, row.1, row.2, lent-append row.0 row.1 ps h u qs k v row.3 two)
 
-  all-append : (ps qs : List (State × State)) → AllSame ps → AllSame qs → AllSame (ps ++ qs)
+  all-append : (ps qs : List (State × State)) → AllQuiet ps → AllQuiet qs → AllQuiet (ps ++ qs)
   all-append [] qs one two = two
   all-append (p ∷ ps) qs one two = (one.0, all-append ps qs one.1 two)
 
   pub rests-both : (g : G) (t : T) (h : G) (u : T) (k : G) (v : T) → Rests takes gives finds g t h u → Rests takes gives finds h u k v → Rests takes gives finds g t k v
   rests-both g t h u k v one two = record {
     idle = one.idle ++ two.idle;
-    same = all-append one.idle two.idle one.same two.same;
+    quiet = all-append one.idle two.idle one.quiet two.quiet;
     lent = lent-append g t one.idle h u two.idle k v one.lent two.lent;
   }
 
   pub rested : (session : ℕ) (g : G) (t : T) (h : G) (u : T) → LentPhase takes gives finds session g t (λ a b. b ≡ a) h u → Rests takes gives finds g t h u
-  rested session g t h u x = rests-on takes gives finds g t x.gate x.token x.before x.after h u x.rests x.lent x.made
+  rested session g t h u x = rests-on takes gives finds g t x.gate x.token x.before x.after h u x.rests x.lent (quiet_same x.before x.after x.made)
 
   pub since_rest : OnePhase → (session : ℕ) (g : G) (t : T) (h : G) (u : T) → LentPhase takes gives finds session g t (λ a b. b ≡ a) h u
       → (a : State) → finds h u a → Since finds session g t a

@@ -24,9 +24,10 @@ use Rattle.jc_stripe.specs.Refusals.{first_asked, load_joined, reserves}
 use Rattle.jc_stripe.specs.Phases.{Steps, Begins, Commits}
 use Rattle.jc_stripe.specs.Reached.{IsReached}
 use Rattle.jc_stripe.specs.OwnSteps.{WholeCall, JoinsOnlyLoads}
+use Rattle.jc_stripe.proofs.CallerLemmas.{stays_alone}
 use Rattle.jc_session.specs.declared.agent.Agent.{Agent}
 use Rattle.jc_gate.specs.Lending.{Lent}
-use Rattle.jc_engine.specs.Chain.{AllSame, LentPhase}
+use Rattle.jc_engine.specs.Chain.{AllQuiet, LentPhase}
 use Rattle.jc_engine.specs.Needs.{Starts}
 use Rattle.jc_engine.specs.Calls.{Retries, EntersAs, Enters, EndsAs, IsCall}
 use Rattle.jc_engine.specs.Owned.{next_after, OneStep, EndsCall, IsOwnedCall}
@@ -46,16 +47,22 @@ abbrev pub owner_finds : {T : Type 0} → Option State → T → State → Type 
 owner_finds g t a = g ≡ Some a
 
 module _ {T : Type 0} where
-  idle_stays : (g : Option State) (t : T) (ps : List (State × State)) (h : Option State) (u : T) (a : State) → g ≡ Some a → Lent owner_takes owner_gives g t ps h u → AllSame ps → h ≡ Some a
-  idle_stays g t [] h u a is row all = row.0 ∙ is
-  idle_stays g t (p ∷ ps) h u a is row all =
-      idle_stays row.0 row.1 ps h u a (row.2.gave ∙ ap (λ (z : State). Some z) (all.0 ∙ same_Some p.0 a (sym row.2.took.0 ∙ is))) row.3 all.1
+  idle_stays : (g : Option State) (t : T) (ps : List (State × State)) (h : Option State) (u : T) (a : State) → g ≡ Some a → a.lives ≡ false → Lent owner_takes owner_gives g t ps h u → AllQuiet ps → h ≡ Some a
+  idle_stays g t [] h u a is alone row all = row.0 ∙ is
+  idle_stays g t (p ∷ ps) h u a is alone row all =
+      let found : p.0 ≡ a = same_Some p.0 a (sym row.2.took.0 ∙ is) in
+      let left : p.1 ≡ p.0 = stays_alone p.0 p.1 (ap (λ (s : State). s.lives) found ∙ alone) all.0.stays in
+      idle_stays row.0 row.1 ps h u a (row.2.gave ∙ ap (λ (z : State). Some z) (left ∙ found)) alone row.3 all.1
 
-  pub owner_at : (who : ℕ) (g : Option State) (t : T) (phase : State → State → Type 0) (h : Option State) (u : T) (a : State) → g ≡ Some a
+  pub owner_at : (who : ℕ) (g : Option State) (t : T) (phase : State → State → Type 0) (h : Option State) (u : T) (a : State) → g ≡ Some a → a.lives ≡ false
       → (x : LentPhase owner_takes owner_gives owner_finds who g t phase h u) → (x.before ≡ a) × (h ≡ Some x.after)
-  owner_at who g t phase h u a is x = (same_Some x.before a (sym x.lent.took.0 ∙ idle_stays g t x.rests.idle x.gate x.token a is x.rests.lent x.rests.same), x.lent.gave)
+  owner_at who g t phase h u a is alone x = (same_Some x.before a (sym x.lent.took.0 ∙ idle_stays g t x.rests.idle x.gate x.token a is alone x.rests.lent x.rests.quiet), x.lent.gave)
 
 -- 2. Nobody joins a load on an idle stripe.
+
+-- nobody else is there, and its history doesn't end
+abbrev pub IsAlone : State → Type 0
+IsAlone a = IsIdle a × (a.lives ≡ false)
 
 either_way : (b : Bool) (load : Option ℕ) → cond b load load ≡ load
 either_way true load = refl
@@ -65,13 +72,13 @@ none_joined : (a : State) (key : Bytes) (op : Op) → IsIdle a → load_joined a
 none_joined a key op idle = (λ i. load_joined (record a { reservations = idle.reservations i }) key op) ∙ either_way _ None
 
 module _ {T : Type 0} (law : JoinsOnlyLoads) (caller : Caller) (key : Bytes) (op : Op) where
-  none_joins : (join : JoinClaim) (g : Option State) (t : T) (h : Option State) (u : T) (a : State) → g ≡ Some a → IsIdle a
+  none_joins : (join : JoinClaim) (g : Option State) (t : T) (h : Option State) (u : T) (a : State) → g ≡ Some a → IsAlone a
       → LentPhase owner_takes owner_gives owner_finds caller.session g t (Starts caller key op (begun.Joined join)) h u → ⊥
   none_joins join g t h u a is idle x =
-      let at = owner_at caller.session g t (Starts caller key op (begun.Joined join)) h u a is x in
-      law x.before x.after caller key op join (none_joined x.before key op (subst IsIdle (sym at.0) idle)) x.made.first.begins
+      let at = owner_at caller.session g t (Starts caller key op (begun.Joined join)) h u a is idle.1 x in
+      law x.before x.after caller key op join (none_joined x.before key op (subst IsIdle (sym at.0) idle.0)) x.made.first.begins
 
-  pub no_retries : (n : ℕ) (g : Option State) (t : T) (h : Option State) (u : T) (a : State) → g ≡ Some a → IsIdle a
+  pub no_retries : (n : ℕ) (g : Option State) (t : T) (h : Option State) (u : T) (a : State) → g ≡ Some a → IsAlone a
       → Retries owner_takes owner_gives owner_finds caller key op n g t h u → h ≡ Some a
   no_retries zero g t h u a is idle rounds = rounds.0 ∙ is
   no_retries (suc n) g t h u a is idle rounds =
@@ -125,12 +132,12 @@ module _ {T : Type 0} (caller : Caller) (key : Bytes) (op : Op) where
   refused_by (begun.Asks ticket) refusal m w k v a c made ends = let e = ends.0 in cc
   refused_by (begun.Joined join) refusal m w k v a c made ends = let e = ends.3 in cc
 
-  pub ends_owned : WholeCall → JoinsOnlyLoads → (met : Entered) (out : Out) (ended : Result Reply Refusal) (g : Option State) (t : T) (k : Option State) (v : T) (h : Option State) (u : T) (a : State) → g ≡ Some a → IsIdle a
+  pub ends_owned : WholeCall → JoinsOnlyLoads → (met : Entered) (out : Out) (ended : Result Reply Refusal) (g : Option State) (t : T) (k : Option State) (v : T) (h : Option State) (u : T) (a : State) → g ≡ Some a → IsAlone a
       → (x : Enters owner_takes owner_gives owner_finds caller key op g t met k v) → EndsAs owner_takes owner_gives owner_finds caller key op met out ended k v h u
       → (x.first.before ≡ a) × (c : State) × (h ≡ Some c) × EndsCall x.first.before caller key op out ended c
   ends_owned whole joins (entered.Done reply) out ended g t k v h u a is idle x ends =
       let there = no_retries joins caller key op x.rounds g t x.gate x.token a is idle x.retried in
-      let at = owner_at caller.session x.gate x.token (Starts caller key op x.begun) x.gate' x.token' a there x.first in
+      let at = owner_at caller.session x.gate x.token (Starts caller key op x.begun) x.gate' x.token' a there idle.1 x.first in
       let alone : (join : JoinClaim) → x.begun ≡ begun.Joined join → ⊥ =
       λ join e. none_joins joins caller key op join x.gate x.token x.gate' x.token' a there idle (subst (λ (b : Begun). LentPhase owner_takes owner_gives owner_finds caller.session x.gate x.token (Starts caller key op b) x.gate' x.token') e x.first) in
       let done = done_by x.begun reply x.gate' x.token' k v x.first.before x.first.after alone x.first.made x.ends in (
@@ -141,7 +148,7 @@ module _ {T : Type 0} (caller : Caller) (key : Bytes) (op : Op) where
       )
   ends_owned whole joins (entered.Refused refusal) out ended g t k v h u a is idle x ends =
       let there = no_retries joins caller key op x.rounds g t x.gate x.token a is idle x.retried in
-      let at = owner_at caller.session x.gate x.token (Starts caller key op x.begun) x.gate' x.token' a there x.first in
+      let at = owner_at caller.session x.gate x.token (Starts caller key op x.begun) x.gate' x.token' a there idle.1 x.first in
       let done = refused_by x.begun refusal x.gate' x.token' k v x.first.before x.first.after x.first.made x.ends in (
         at.0,
         x.first.after,
@@ -150,10 +157,10 @@ module _ {T : Type 0} (caller : Caller) (key : Bytes) (op : Op) where
       )
   ends_owned whole joins (entered.Asks ticket) out ended g t k v h u a is idle x ends =
       let there = no_retries joins caller key op x.rounds g t x.gate x.token a is idle x.retried in
-      let at = owner_at caller.session x.gate x.token (Starts caller key op x.begun) x.gate' x.token' a there x.first in
+      let at = owner_at caller.session x.gate x.token (Starts caller key op x.begun) x.gate' x.token' a there idle.1 x.first in
       let first = asks_first owner_takes owner_gives owner_finds caller key op ticket g t k v x in
       let same = asked_by owner_takes owner_gives owner_finds caller key op x.begun ticket x.gate' x.token' k v x.ends in
-      let last = owner_at ticket.reservation.caller.session k v (λ a b. Commits a ticket.reservation out ends.0 b) h u x.first.after (same.1 ∙ at.1) ends.2 in
+      let last = owner_at ticket.reservation.caller.session k v (λ a b. Commits a ticket.reservation out ends.0 b) h u x.first.after (same.1 ∙ at.1) (ap (λ (s : State). s.lives) first.first.begins.5 ∙ ap (λ (s : State). s.lives) at.0 ∙ idle.1) ends.2 in
       let commits = subst (λ (z : State). Commits z ticket.reservation out ends.0 ends.2.after) last.0 ends.2.made in (
         at.0,
         ends.2.after,
@@ -167,7 +174,7 @@ module _ {T : Type 0} (caller : Caller) (key : Bytes) (op : Op) where
 module _ {I J T : Type 0} {D : I → Type 0} {E : J → Type 0}
     (loads : LoadRelation ((i : I) × D i)) (load_state : (i : I) × D i → List ℕ)
     (writes : WriteRelation ((j : J) × E j)) (write_state : (j : J) × E j → List ℕ) where
-  pub owned_call : WholeCall → JoinsOnlyLoads → (old new : Agent I J D E) (key : Bytes) (op : Op) (g : Option State) (t : T) (ended : Result Reply Refusal) (h : Option State) (u : T) (a : State) → g ≡ Some a → IsIdle a
+  pub owned_call : WholeCall → JoinsOnlyLoads → (old new : Agent I J D E) (key : Bytes) (op : Op) (g : Option State) (t : T) (ended : Result Reply Refusal) (h : Option State) (u : T) (a : State) → g ≡ Some a → IsAlone a
       → IsCall loads load_state writes write_state owner_takes owner_gives owner_finds old key op g t ended new h u
       → IsOwnedCall loads load_state writes write_state old key op g ended new h
   owned_call whole joins old new key op g t ended h u a is idle x =

@@ -1,17 +1,23 @@
--- A phase on a gate's stripe after lendings in which nothing was done.
---     AllSame     nothing was done in any of these lendings
---     Rests       a row of lendings in which nothing was done
+-- A phase on a gate's stripe after quiet lendings.
+--     IsQuiet     no phase was made in a lending; a generation may have ended, which changes nothing of the whole history
+--     AllQuiet    that is so of all of these lendings
+--     Rests       a row of quiet lendings
 --     Since       a state comes after one in which a take could have found the stripe at first
---     LentPhase   after a row of lendings in which nothing was done, one in which this phase of the session was made; what it found comes
+--     LentPhase   after quiet lendings, one in which this phase of the session was made; what it found comes
 --                 after what a take could have found at first, and what the next take finds comes after what it left
-use Rattle.std.specs.Prelude.{◌≡◌, ℕ, List, [], ◌∷◌}
+use Rattle.std.specs.Prelude.{ℕ, List, [], ◌∷◌}
 use Rattle.jc_stripe.specs.State.{State}
 use Rattle.jc_stripe.specs.OnePhase.{IsPhaseOf}
+use Rattle.jc_stripe.specs.Renewal.{StaysOrRenews}
 use Rattle.jc_gate.specs.Lending.{ComesAfter, Lends, Lent}
 
-abbrev pub AllSame : List (State × State) → Type 0
-AllSame [] = Unit {0}
-AllSame (p ∷ ps) = (p.1 ≡ p.0) × AllSame ps
+pub record IsQuiet (found left : State) : Type 0 where
+  pub stays : StaysOrRenews found left
+  pub after : (session : ℕ) → ComesAfter session found left
+
+abbrev pub AllQuiet : List (State × State) → Type 0
+AllQuiet [] = Unit {0}
+AllQuiet (p ∷ ps) = IsQuiet p.0 p.1 × AllQuiet ps
 
 pub record Since {G T : Type 0} (finds : G → T → State → Type 0) (session : ℕ) (g : G) (t : T) (found : State) : Type 0 where
   pub first : State
@@ -22,7 +28,7 @@ module _ {G T : Type 0} (takes gives : G → T → State → G → T → Type 0)
   -- the states in which the stripe was found and left
   pub record Rests (g : G) (t : T) (h : G) (u : T) : Type 0 where
     pub idle : List (State × State)
-    pub same : AllSame idle
+    pub quiet : AllQuiet idle
     pub lent : Lent takes gives g t idle h u
 
   pub record LentPhase (session : ℕ) (g : G) (t : T) (phase : State → State → Type 0) (h : G) (u : T) : Type 0 where

@@ -24,7 +24,7 @@ use Rattle.jc_stripe.specs.declared.begun.Begun.TheVariants as begun
 use Rattle.jc_stripe.specs.Effects.{HasReport, change_due}
 use Rattle.jc_stripe.specs.State.{State}
 use Rattle.jc_stripe.specs.Tickets.{TicketClaim, JoinClaim}
-use Rattle.jc_stripe.specs.OnePhase.{own_steps}
+use Rattle.jc_stripe.specs.Renewal.{all_own_steps}
 use Rattle.jc_stripe.specs.OwnSteps.{may_come_all}
 use Rattle.jc_stripe.specs.declared.begun.Picked.{Picked}
 use Rattle.jc_stripe.specs.declared.begun.Picked.TheVariants as picked
@@ -40,7 +40,7 @@ use Rattle.jc_engine.specs.Answered.{IsAnswered}
 
 pub record BeginsIfClear (caller : Caller) (key : Bytes) (state : State) : Type 0 where
   pub live : state.origin ≡ Live
-  pub may : may_come_all (own_steps caller.session state) caller key ≡ true
+  pub may : may_come_all (all_own_steps caller.session state) caller key ≡ true
 
 pub record StartsAt (caller : Caller) (key : Bytes) (op : Op) (begun : Begun) (before after : State) : Type 0 where
   pub live : before.origin ≡ Live

@@ -17,7 +17,8 @@ use std::sync::Wait;
 ///
 /// It waits for the loader or the writer.
 ///
-/// Conditions: those of [`call`](crate::call), and the owner has its stripe, and no reservation and no join is out there.
+/// Conditions: those of [`call`](crate::call), and the owner has its stripe, which doesn't live on, and no reservation and no join is
+/// out there.
 pub fn call_owned<R: Wait>(
     rt: &R,
     owner: &mut Owner,
@@ -30,6 +31,7 @@ pub fn call_owned<R: Wait>(
     requires op { is_invoke op.now ≡ false }
     requires needs { (a : State) → owner.old ≡ Some a → BeginsIfClear agent.old.caller key.now a }
     requires idle { (a : State) → owner.old ≡ Some a → IsIdle a }
+    requires alone { (a : State) → owner.old ≡ Some a → a.lives ≡ false }
     requires none { (agent.old.counts.reservations ≡ 0) × (agent.old.counts.joins ≡ 0) }
     requires writer { (a : State) → owner.old ≡ Some a → a.config.write_through ≡ true → IsSome agent.old.hands.outside.writer }
     ensures call { IsOwnedCall loads load_state writes write_state

@@ -7,6 +7,7 @@ ghost use Rattle.jc_engine.specs.Chain.{LentPhase, Rests};
 use jc_gate::Gate;
 use jc_session::{Agent, Counted};
 use jc_stripe::Stripe;
+use jc_stripe::phase_laws::renewal;
 use std::sync::Wait;
 
 /// A phase that a session is to make on a stripe.
@@ -49,8 +50,9 @@ pub trait Phase {
 
 /// Makes a phase, as soon as it can be made.
 ///
-/// It waits while somebody else holds the stripe. If the phase can't be made on the stripe that it finds, it gives the stripe back
-/// and tries again, after a pause if the agent has no reservation out. Nothing says that it returns.
+/// It waits while somebody else holds the stripe. If the phase can't be made on the stripe that it finds, it gives the stripe back,
+/// with its generation ended if that may end, and tries again, after a pause if the agent has no reservation out. Nothing says that
+/// it returns.
 ///
 /// Conditions: the agent holds no stripe; the token has not taken the gate's and speaks for the session, whose phase it is; the
 /// stripe that a take finds has what the phase needs.
@@ -75,6 +77,7 @@ pub fn make_phase<G: Gate, P: Phase, R: Wait>(
     ensures phase { LentPhase G.takes G.gives G.finds agent.old.caller.session gate.old token.old
         (λ a b. P.makes phase a result b) gate.new token.new }
 {
+    renewal();
     let mut next = phase;
     for _ in rt.forever() {
         let mut stripe = agent.take(rt, gate, token);
@@ -84,7 +87,8 @@ pub fn make_phase<G: Gate, P: Phase, R: Wait>(
                 return answer;
             }
             Err(back) => {
-                agent.give(gate, token, stripe, Counted::Nothing);
+                stripe.renew_if_full();
+                agent.give_back(gate, token, stripe);
                 next = back;
             }
         }
@@ -93,7 +97,8 @@ pub fn make_phase<G: Gate, P: Phase, R: Wait>(
     unreachable!()
 }
 
-/// Makes a phase, if the stripe is there and the phase can be made now. An `Err` gives it back: nothing was done.
+/// Makes a phase, if the stripe is there and the phase can be made now. An `Err` gives it back: nothing was done, but that the
+/// stripe's generation may have ended.
 ///
 /// It never waits. Conditions: those of [`make_phase`].
 pub fn try_phase<G: Gate, P: Phase>(
@@ -115,6 +120,7 @@ pub fn try_phase<G: Gate, P: Phase>(
     ensures back { IfErr result (λ back. (back ≡ phase) × (agent.new ≡ agent.old)
         × Rests G.takes G.gives G.finds gate.old token.old gate.new token.new) }
 {
+    renewal();
     match agent.try_take(gate, token) {
         Some(stripe) => {
             let mut stripe = stripe;
@@ -124,7 +130,8 @@ pub fn try_phase<G: Gate, P: Phase>(
                     Ok(answer)
                 }
                 Err(back) => {
-                    agent.give(gate, token, stripe, Counted::Nothing);
+                    stripe.renew_if_full();
+                    agent.give_back(gate, token, stripe);
                     Err(back)
                 }
             }

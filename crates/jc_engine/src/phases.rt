@@ -58,7 +58,7 @@ impl<'a> Phase for Start<'a> {
 
     fn make(self, stripe: &mut Stripe) -> Result<Begun, Self> {
         caller_numbers();
-        if !stripe.is_clear(self.caller, self.key) {
+        if !stripe.is_clear(self.caller, self.key) || stripe.is_renewable() {
             return Err(self);
         }
         let begun = stripe.begin(self.caller, self.key, self.op);
@@ -110,7 +110,7 @@ impl<'a> Phase for StartNow<'a> {
 
     fn make(self, stripe: &mut Stripe) -> Result<Begun, Self> {
         caller_numbers();
-        if !stripe.is_clear(self.caller, self.key) {
+        if !stripe.is_clear(self.caller, self.key) || stripe.is_renewable() {
             return Err(self);
         }
         Ok(stripe.begin(self.caller, self.key, self.op))
@@ -153,7 +153,7 @@ impl<'a> Phase for TryStart<'a> {
 
     fn make(self, stripe: &mut Stripe) -> Result<Begun, Self> {
         caller_numbers();
-        if !stripe.is_clear(self.caller, self.key) {
+        if !stripe.is_clear(self.caller, self.key) || stripe.is_renewable() {
             return Err(self);
         }
         if stripe.asks_outside(self.key, self.op) {

@@ -1,20 +1,20 @@
 -- What one lending of a stripe leaves, and what a row of lendings leaves.
---     ComesAfter   what a take finds comes after what was given back: the same stripe, a history that continues its history, and the
---                  same own steps of a session
+--     ComesAfter   what a take finds comes after what was given back: the same stripe, perhaps in a later generation, a whole history that
+--                  continues the whole history, and the same own steps of a session, in all generations
 --     Lends        one take that finds a state, and one give that leaves a state
 --     Lent         a row of lendings, one after another: the states that were found and left
 use Rattle.std.specs.Prelude.{◌≡◌, ◌≤◌, ℕ, List, [], ◌∷◌}
 use mathlib.Core.List.{IsPrefix}
 use Rattle.jc_stripe.specs.State.{State}
-use Rattle.jc_stripe.specs.Laws.{IsSameStripe}
+use Rattle.jc_stripe.specs.Generations.{whole_history, IsOfSameStripe}
 use Rattle.jc_stripe.specs.Reached.{IsReached}
-use Rattle.jc_stripe.specs.OnePhase.{own_steps}
+use Rattle.jc_stripe.specs.Renewal.{all_own_steps}
 
 pub record ComesAfter (session : ℕ) (left found : State) : Type 0 where
-  pub same : IsSameStripe left found
-  pub front : IsPrefix left.history found.history
+  pub same : IsOfSameStripe left found
+  pub front : IsPrefix (whole_history left) (whole_history found)
   pub next : left.next ≤ found.next
-  pub own : own_steps session found ≡ own_steps session left
+  pub own : all_own_steps session found ≡ all_own_steps session left
 
 -- `takes` and `gives` are a gate's; `g` and `t` are the gate and the token before, `h` and `u` after
 module _ {G T : Type 0} (takes gives : G → T → State → G → T → Type 0) where

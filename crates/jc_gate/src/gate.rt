@@ -4,6 +4,7 @@ ghost use Rattle.jc_gate.specs.Lending.{ComesAfter};
 ghost use Rattle.jc_stripe.specs.State.{State};
 ghost use Rattle.jc_stripe.specs.Reached.{IsReached};
 ghost use Rattle.jc_stripe.specs.OnePhase.{IsPhaseOf};
+ghost use Rattle.jc_stripe.specs.Renewal.{Renews};
 
 use crossbeam_utils::Backoff;
 use jc_stripe::Stripe;
@@ -67,11 +68,11 @@ pub trait Gate {
     /// What a later take finds comes after it, for each session that the token speaks for.
     ///
     /// Condition: it is the stripe that the token has taken, after at most one phase of a session that the token speaks for, or of
-    /// any session if the token is anonymous.
+    /// any session if the token is anonymous; or after a renewal, and no phase.
     fn give(&mut self, token: &mut Self::Token, stripe: Box<Stripe>)
         requires { (n : ℕ) × (a : State)
             × (speaks_for token.old n ⊎ is_anonymous token.old)
-            × has self.old token.old a × IsPhaseOf n a stripe.value }
+            × has self.old token.old a × (IsPhaseOf n a stripe.value ⊎ Renews a stripe.value) }
         ensures speaks { (n : ℕ) → speaks_for token.old n → speaks_for token.new n }
         ensures free { is_free self.new token.new }
         ensures gives { gives self.old token.old stripe.value self.new token.new }

@@ -135,6 +135,15 @@ impl History {
         append_hit(&mut self.bytes, &mut self.starts, caller, key, value);
     }
 
+    /// Forgets all events. The promised places stay promised, and the room stays.
+    pub fn clear(&mut self)
+        ensures after { self.new ≡ record self.old { events = [] } }
+        ensures within { IsWithinLimit self.new }
+    {
+        self.bytes.clear();
+        self.starts.clear();
+    }
+
     /// How many events there are, at most [`HISTORY_MAX`]. Promised places don't count.
     pub fn len(&self) -> usize
         ensures len { result ≡ length self.now.events }

@@ -18,7 +18,7 @@ use Rattle.jc_model.specs.declared.event.Reply.{Reply}
 use Rattle.jc_lock.specs.declared.view.View.{View}
 use Rattle.jc_bulk.specs.declared.progress.Progress.{Progress}
 use Rattle.jc_bulk.specs.declared.progress.Progress.TheVariants.{Waiting, Reserved, Joined, Ended}
-use Rattle.jc_bulk.specs.Bulk.{IsNearFull}
+use Rattle.jc_bulk.specs.Bulk.{WasNearFull}
 use Rattle.jc_bulk.specs.Ends.{key_end, key_ends}
 use Rattle.jc_bulk.specs.Keys.{WasRefused}
 use Rattle.jc_bulk.proofs.CallerLemmas.{entries_more, entries_new, entries_whole, key_at, near_full}
@@ -47,7 +47,7 @@ results_whole = entries_whole result_of
 
 -- 2. Near full.
 
-pub refused_near : (S : Bytes → Option Bytes → Out → Type 0) (caller : Caller) (v w : View) (key : Bytes) (ended : Result Reply Refusal) → HasEnded S caller v w key ended → ended ≡ Err HistoryFull → IsNearFull caller w
+pub refused_near : (S : Bytes → Option Bytes → Out → Type 0) (caller : Caller) (v w : View) (key : Bytes) (ended : Result Reply Refusal) → HasEnded S caller v w key ended → ended ≡ Err HistoryFull → WasNearFull caller v w
 refused_near S caller v w key (Ok reply) has is = let bad : Ok reply ≡ Err HistoryFull = is in cc
 refused_near S caller v w key (Err refusal) has is =
     let same : refusal ≡ HistoryFull = cc in

@@ -19,6 +19,7 @@ use Rattle.jc_model.specs.declared.event.Op.TheVariants.{Invoke}
 use Rattle.jc_model.specs.declared.event.Out.{Out}
 use Rattle.jc_stripe.specs.State.{State}
 use Rattle.jc_stripe.specs.OwnSteps.{is_before_call}
+use Rattle.jc_stripe.specs.Generations.{whole_history}
 use Rattle.jc_lock.specs.declared.view.View.{View}
 use Rattle.jc_bulk.specs.declared.progress.Progress.{Progress}
 use Rattle.jc_bulk.specs.declared.progress.Progress.TheVariants.{Waiting, Reserved, Joined, Ended}
@@ -34,7 +35,7 @@ use Rattle.jc_invoke.specs.Keys.{IsAt, IsSoFar, invoke_ops}
 
 -- the place of a step is the next one of its state in a longer history too
 next_on : (state : State) (key : Bytes) (place : ℕ) (xs ys : List Event) → IsPrefix xs ys → IsNext state key place xs → IsNext state key place ys
-next_on state key place xs ys p next = ⊎_elim (λ at. inl at) (λ at. inr (at.0, at.1, (at.2.0, there_on xs ys (length state.history) _ p at.2.1))) next
+next_on state key place xs ys p next = ⊎_elim (λ at. inl at) (λ at. inr (at.0, at.1, (at.2.0, there_on xs ys (length (whole_history state)) _ p at.2.1))) next
 
 module _ (S : Bytes → Option Bytes → Out → Type 0) where
   -- THE LEMMA: a phase at another key leaves what is said of this one
@@ -47,12 +48,12 @@ module _ (S : Bytes → Option Bytes → Out → Type 0) where
     place = at.place;
     decided = at.decided;
     reached = at.reached;
-    later = prefix-trans at.decided.history v.front w.front at.later grown.front;
+    later = prefix-trans (whole_history at.decided) v.front w.front at.later grown.front;
     same = same_on at.decided v.noted w.noted at.same grown.same;
     next = next_on at.decided key at.place v.front w.front grown.front at.next;
     said = at.said;
     one = same ∙ at.one;
-    legal = grown.legal at.legal;
+    all = grown.all at.all;
     there = there_on v.front w.front at.place _ grown.front at.there;
     behind = at.behind;
   }
@@ -73,7 +74,7 @@ module _ (S : Bytes → Option Bytes → Out → Type 0) where
     next = at.next;
     said = at.said;
     one = at.one;
-    legal = at.legal;
+    all = at.all;
     there = at.there;
     behind = (let one = longer u.front v.front grown.front in let two = at.behind in omega arith);
   }
@@ -93,7 +94,7 @@ at_more S T more caller u w key (Ended (Ok reply)) at = record {
   next = at.next;
   said = more key (entry_at at.decided.cache key) at.out at.said;
   one = at.one;
-  legal = at.legal;
+  all = at.all;
   there = at.there;
   behind = at.behind;
 }

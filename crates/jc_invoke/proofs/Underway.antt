@@ -201,7 +201,7 @@ module _ {I J : Type 0} {D : I → Type 0} {E : J → Type 0} where
         next = made'.next;
         said = subst (λ (e : Option Bytes). S r.key e out) (sym (ap entry_seen made'.asks)) said;
         one = made'.one;
-        legal = made'.legal;
+        all = made'.all;
         there = made'.there;
         behind = made'.behind;
       } in

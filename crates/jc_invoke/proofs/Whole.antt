@@ -28,7 +28,7 @@ use Rattle.jc_cache.specs.Sessions.{MayCall}
 use Rattle.jc_cache.specs.declared.session.Session.{Session}
 use Rattle.jc_bulk.specs.declared.progress.Progress.{Progress}
 use Rattle.jc_bulk.specs.declared.progress.Progress.TheVariants.{Waiting, Reserved, Joined, Ended}
-use Rattle.jc_bulk.specs.Bulk.{IsNearFull}
+use Rattle.jc_bulk.specs.Bulk.{WasNearFull}
 use Rattle.jc_bulk.specs.Ends.{KeyEnd, key_ends}
 use Rattle.jc_bulk.specs.KeyProgress.{StillWaits, all_waiting, is_reserved}
 use Rattle.jc_bulk.specs.Keys.{IsTicketFor}
@@ -162,7 +162,7 @@ module _ {I J P Z : Type 0} {D : I → Type 0} {E : J → Type 0} {F : P → Typ
             keys_are = ops_are (invoke_ops keys) ps u.so_far.many over;
             grown = u.so_far.grown;
             each = all_ended (λ key op ended. HasEnded (IsRunOf through rounds) caller (view_of n old.seats.items key) (view_of n new.seats.items key) key ended) (invoke_ops keys) ps each;
-            refused = all_ended (λ key op ended. ended ≡ Err HistoryFull → IsNearFull caller (view_of n new.seats.items key)) (invoke_ops keys) ps
+            refused = all_ended (λ key op ended. ended ≡ Err HistoryFull → WasNearFull caller (view_of n old.seats.items key) (view_of n new.seats.items key)) (invoke_ops keys) ps
                 (λ i key op ended at there. refused_near (IsRunOf through rounds) caller (view_of n old.seats.items key) (view_of n new.seats.items key) key ended (each i key op ended at there));
             others = u.so_far.others;
             former = u.so_far.former;

@@ -22,7 +22,7 @@ use Rattle.jc_cache.specs.Calls.{next_call}
 use Rattle.jc_cache.specs.declared.session.Session.{Session}
 use Rattle.jc_bulk.specs.declared.progress.Progress.{Progress}
 use Rattle.jc_bulk.specs.declared.progress.Progress.TheVariants.{Waiting, Reserved, Joined, Ended}
-use Rattle.jc_bulk.specs.Bulk.{IsNearFull}
+use Rattle.jc_bulk.specs.Bulk.{WasNearFull}
 use Rattle.jc_bulk.specs.Ends.{KeyEnd, entries_by, key_ops}
 use Rattle.jc_bulk.specs.Recorded.{former_steps, steps_of}
 use Rattle.jc_bulk.specs.Seats.{HasGrown, view_at, view_of}
@@ -58,7 +58,7 @@ pub record IsInvokedAll
   pub keys_are : key_ops ends ≡ invoke_ops keys
   pub grown : (i : ℕ) → HasGrown (view_at old.seats.items i) (view_at new.seats.items i)
   pub each : All (λ (e : KeyEnd). HasEnded (IsRunOf cache.config.write_through rounds) (next_call old).agent.caller (view_of cache.config.stripes old.seats.items e.key) (view_of cache.config.stripes new.seats.items e.key) e.key e.ended) ends
-  pub refused : All (λ (e : KeyEnd). e.ended ≡ Err HistoryFull → IsNearFull (next_call old).agent.caller (view_of cache.config.stripes new.seats.items e.key)) ends
+  pub refused : All (λ (e : KeyEnd). e.ended ≡ Err HistoryFull → WasNearFull (next_call old).agent.caller (view_of cache.config.stripes old.seats.items e.key) (view_of cache.config.stripes new.seats.items e.key)) ends
   pub others : (key : Bytes) (i : ℕ) → is_due cache.config.stripes (invoke_ops keys) key i ≡ false → steps_of (next_call old).agent.caller key (view_at new.seats.items i).own ≡ []
   pub former : (i : ℕ) → former_steps (next_call old).agent.caller (view_at new.seats.items i).own ≡ former_steps (next_call old).agent.caller (view_at old.seats.items i).own
   pub calls : CallsEach processes process_state (boxed loads) (boxed load_state) (boxed writes_all) (boxed deletes_all) (boxed write_state) args cache.config.write_through

@@ -2,7 +2,7 @@
 -- entry.
 --     invoke_ops      the keys of the call, with their operation
 --     HasStep         of the call's steps at this key there is exactly one, an `Invoke` with such outside answers and this reply; it is in
---                     the front, which is legal, behind the former front; the answers are about the entry in the state in which it was made
+--                     the front, which is the whole history of the noted state, behind the former front; the answers are about the entry in the state in which it was made
 --     HasEnded        the key's end: the call has made its one step there; or it was refused, and has none
 --     IsAt            the key is so far: it has no step of the call yet, or has ended; it never joins a load
 --     IsSoFar         what the session has seen since before the call: each key is so far, at its stripe; no other key has a step of the
@@ -19,19 +19,18 @@ use Rattle.jc_types.specs.declared.refusal.Refusal.{Refusal}
 use Rattle.jc_types.specs.declared.refusal.Refusal.TheVariants.{HistoryFull, OutOfMemory}
 use Rattle.jc_model.specs.Batches.{is_among}
 use Rattle.jc_model.specs.Cache.{Bytes, entry_at}
-use Rattle.jc_model.specs.Legal.{Legal}
 use Rattle.jc_model.specs.declared.event.Event.TheVariants.{Step}
 use Rattle.jc_model.specs.declared.event.Op.{Op}
 use Rattle.jc_model.specs.declared.event.Op.TheVariants.{Invoke}
 use Rattle.jc_model.specs.declared.event.Out.{Out}
 use Rattle.jc_model.specs.declared.event.Reply.{Reply}
 use Rattle.jc_stripe.specs.State.{State}
-use Rattle.jc_stripe.specs.Laws.{IsSameStripe}
+use Rattle.jc_stripe.specs.Generations.{whole_history, IsOfSameStripe}
 use Rattle.jc_stripe.specs.Reached.{IsReached}
 use Rattle.jc_stripe.specs.declared.ticket.Reservation.{Reservation}
 use Rattle.jc_lock.specs.declared.view.View.{View}
 use Rattle.jc_cache.specs.Caches.{CacheState}
-use Rattle.jc_cache.specs.Fronts.{IsNext}
+use Rattle.jc_cache.specs.Fronts.{HasAllSeen, IsNext}
 use Rattle.jc_cache.specs.Sessions.{IsOf}
 use Rattle.jc_cache.specs.declared.session.Session.{Session}
 use Rattle.jc_bulk.specs.declared.progress.Progress.{Progress}
@@ -54,12 +53,12 @@ module _ (Said : Bytes → Option Bytes → Out → Type 0) (caller : Caller) (b
     pub place : ℕ
     pub decided : State
     pub reached : IsReached decided
-    pub later : IsPrefix decided.history after.front
-    pub same : IsSameStripe decided after.noted
+    pub later : IsPrefix (whole_history decided) after.front
+    pub same : IsOfSameStripe decided after.noted
     pub next : IsNext decided key place after.front
     pub said : Said key (entry_at decided.cache key) out
     pub one : steps_of caller key after.own ≡ Step caller Invoke key out None reply ∷ []
-    pub legal : Legal after.noted.config after.noted.opening after.front
+    pub all : HasAllSeen after
     pub there : slice_get after.front place ≡ Some (Step caller Invoke key out None reply)
     pub behind : length before.front ≤ place
 

@@ -8,7 +8,7 @@ use Rattle.std.proofs.lemmas.Bool.Decides.{nat_tests}
 use mathlib.Core.List.{IsPrefix}
 use Rattle.jc_model.specs.declared.event.Event.{Event}
 use Rattle.jc_stripe.specs.State.{State}
-use Rattle.jc_stripe.specs.Laws.{IsSameStripe}
+use Rattle.jc_stripe.specs.Generations.{IsOfSameStripe}
 use Rattle.jc_lock.specs.Views.{longer}
 
 pub prefix-refl : (xs : List Event) → IsPrefix xs xs
@@ -20,14 +20,14 @@ prefix-nil xs = (xs, refl)
 pub prefix-trans : (xs ys zs : List Event) → IsPrefix xs ys → IsPrefix ys zs → IsPrefix xs zs
 prefix-trans xs ys zs p q = (p.0 ++ q.0, sym (append_assoc xs p.0 q.0) ∙ ap (λ (l : List Event). l ++ q.0) p.1 ∙ q.1)
 
-pub same_itself : (a : State) → IsSameStripe a a
-same_itself a = record { config = refl; stripe = refl; origin = refl; opening = refl }
+pub same_itself : (a : State) → IsOfSameStripe a a
+same_itself a = record { config = refl; stripe = refl; origin = refl; lives = refl; opening = refl }
 
-pub same_at : (a b : State) → a ≡ b → IsSameStripe a b
-same_at a b is = subst (IsSameStripe a) is (same_itself a)
+pub same_at : (a b : State) → a ≡ b → IsOfSameStripe a b
+same_at a b is = subst (IsOfSameStripe a) is (same_itself a)
 
-pub same_on : (a b c : State) → IsSameStripe a b → IsSameStripe b c → IsSameStripe a c
-same_on a b c p q = record { config = q.config ∙ p.config; stripe = q.stripe ∙ p.stripe; origin = q.origin ∙ p.origin; opening = q.opening ∙ p.opening }
+pub same_on : (a b c : State) → IsOfSameStripe a b → IsOfSameStripe b c → IsOfSameStripe a c
+same_on a b c p q = record { config = q.config ∙ p.config; stripe = q.stripe ∙ p.stripe; origin = q.origin ∙ p.origin; lives = q.lives ∙ p.lives; opening = q.opening ∙ p.opening }
 
 tail_of : List Event → List Event
 tail_of [] = []

@@ -10,10 +10,13 @@ use Rattle.atomic_table.specs.Table.{State, Me, Act, keeps, takes, gives, Valid,
 use Rattle.atomic_table.proofs.Lists.{at_set, set_else, set_again}
 use Rattle.jc_stripe.specs.State.{State as StripeState}
 use Rattle.jc_stripe.specs.Reached.{IsReached}
-use Rattle.jc_stripe.specs.Laws.{IsSameStripe}
-use Rattle.jc_stripe.specs.OnePhase.{OnePhase, own_steps, is_own_step}
+use Rattle.jc_model.specs.declared.event.Event.{Event}
+use Rattle.jc_stripe.specs.Generations.{past_events, whole_history, IsOfSameStripe}
+use Rattle.jc_stripe.specs.Renewal.{Renews, Renewal, all_own_steps}
+use Rattle.jc_stripe.specs.OnePhase.{OnePhase, is_own_step}
+use Rattle.jc_stripe.proofs.CallerLemmas.{of_same, whole_goes_on, own_stay}
 use Rattle.jc_lock.specs.declared.view.View.{View}
-use Rattle.jc_lock.specs.Views.{IsPhaseBy, unopened_view, opened_view, spent_view, Finds, after_take, own_steps_of, after_give, session_number, after_split, session_view, front_note, with_note, longer, with_longer_front}
+use Rattle.jc_lock.specs.Views.{IsPhaseBy, IsTurnBy, unopened_view, opened_view, spent_view, Finds, after_take, own_steps_of, after_give, session_number, after_split, session_view, front_note, with_note, longer, with_longer_front}
 use Rattle.jc_lock.specs.Rule.{SeatFits, LockRule, slot_while}
 use Rattle.jc_lock.specs.Plays.{Opens, state_in_hand, Takes, Gives, MergesFronts}
 use Rattle.jc_lock.proofs.Prefixes.{prefix-refl, prefix-nil, prefix-trans, same_itself, same_at, same_on, longer-left, longer-right, longer-whole}
@@ -28,6 +31,15 @@ at_end (x ∷ xs) a b (suc j) e = ⊎_elim (λ t. inl t) (λ t. inr (ap suc t.0,
 each_set : (P : ℕ → View → Type 0) (views : List View) (id : ℕ) (w : View) → ((j : ℕ) (u : View) → j ≢ id → get_elem? views j ≡ some u → P j u) → P id w → (j : ℕ) (u : View) → get_elem? (set views id w) j ≡ some u → P j u
 each_set P views id w others mine j u e =
     ⊎_elim (λ t. subst (λ (z : ℕ × View). P z.0 z.1) (λ i. (sym t.0 i, t.1 i)) mine) (λ t. others j u t.0 t.1) (at_set views id j w u e)
+
+-- what two lists make that have nothing
+no_left : (xs ys : List Event) → xs ++ ys ≡ [] → xs ≡ []
+no_left [] ys e = refl
+no_left (x ∷ xs) ys e = absurd (let n = ap length e in omega arith)
+
+no_right : (xs ys : List Event) → xs ++ ys ≡ [] → ys ≡ []
+no_right [] ys e = e
+no_right (x ∷ xs) ys e = absurd (let n = ap length e in omega arith)
 
 module _ {B : Type 0} (value : B → StripeState) where
   abbrev St : Type 0
@@ -103,10 +115,10 @@ module _ {B : Type 0} (value : B → StripeState) where
             refl,
             record {
               reached = subst IsReached (sym is) r.reached;
-              front = subst (λ (z : StripeState). IsPrefix v.front z.history) (sym is) fit.front;
+              front = subst (λ (z : StripeState). IsPrefix v.front (whole_history z)) (sym is) fit.front;
               next = (let e : st.next ≡ r.now.next = ap (λ (z : StripeState). z.next) is in let k = fit.next in omega arith);
-              same = subst (IsSameStripe v.noted) (sym is) (fit.same live);
-              own = λ n e. ap (λ (z : StripeState). own_steps n z) is ∙ (fit.own n e).2;
+              same = subst (IsOfSameStripe v.noted) (sym is) (fit.same live);
+              own = λ n e. ap (λ (z : StripeState). all_own_steps n z) is ∙ (fit.own n e).2;
             },
           )),
           λ miss. absurd (miss (ap (λ ws. get_or ws 0 0) lies.0)),
@@ -124,30 +136,43 @@ module _ {B : Type 0} (value : B → StripeState) where
   -- what a phase of a seat, or none, keeps
   pub record Follows (o : Option ℕ) (a b : StripeState) : Type 0 where
     pub reached : IsReached b
-    pub same : IsSameStripe a b
-    pub grows : IsPrefix a.history b.history
+    pub same : IsOfSameStripe a b
+    pub grows : IsPrefix (whole_history a) (whole_history b)
     pub next : a.next ≤ b.next
-    pub others : (m : ℕ) → (o ≡ Some m → ⊥) → own_steps m b ≡ own_steps m a
+    pub others : (m : ℕ) → (o ≡ Some m → ⊥) → all_own_steps m b ≡ all_own_steps m a
 
   follows : OnePhase → (o : Option ℕ) (a b : StripeState) → IsReached a → IsPhaseBy o a b → Follows o a b
-  follows law None a b reached p = subst (Follows None a) (sym p) record { reached = reached; same = same_itself a; grows = prefix-refl a.history; next = le_refl a.next; others = λ m no. refl }
+  follows law None a b reached p = subst (Follows None a) (sym p) record { reached = reached; same = same_itself a; grows = prefix-refl (whole_history a); next = le_refl a.next; others = λ m no. refl }
   follows law (Some who) a b reached p = let u = law who a b reached p in
-      record { reached = u.reached; same = u.grows.same; grows = (u.grows.more, sym u.grows.history); next = u.next; others = λ m no. u.others m (ne_eqb m who (λ e. no (ap (λ (k : ℕ). Some k) (sym e)))) }
+      record { reached = u.reached; same = of_same a b u.grows; grows = whole_goes_on a b u.grows; next = u.next; others = λ m no. own_stay m a b u.grows.same.ended (u.others m (ne_eqb m who (λ e. no (ap (λ (k : ℕ). Some k) (sym e))))) }
 
-  own-known : (o : Option ℕ) (n : ℕ) (a : StripeState) → o ≡ Some n → own_steps n a ≡ own_steps_of o a
+  -- so does a renewal
+  renewed : Renewal → (o : Option ℕ) (a b : StripeState) → IsReached a → Renews a b → Follows o a b
+  renewed law o a b reached p = let u = law a b reached p in record {
+    reached = u.reached;
+    same = u.same;
+    grows = subst (IsPrefix (whole_history a)) (sym u.whole) (prefix-refl (whole_history a));
+    next = (let e = u.next in omega arith);
+    others = λ m no. u.own m;
+  }
+
+  turned : OnePhase → Renewal → (o : Option ℕ) (a b : StripeState) → IsReached a → IsTurnBy o a b → Follows o a b
+  turned phases renewals o a b reached = ⊎_elim (λ p. follows phases o a b reached p) (λ p. renewed renewals o a b reached p)
+
+  own-known : (o : Option ℕ) (n : ℕ) (a : StripeState) → o ≡ Some n → all_own_steps n a ≡ own_steps_of o a
   own-known o n a e = ap (λ (z : Option ℕ). own_steps_of z a) (sym e)
 
-  gives_it : OnePhase → (id : ℕ) (me : M) (b : B) → me.0.holds ≡ true → me.1 ≡ (0, Some b) ∷ rest me.1 → IsPhaseBy me.0.session me.0.noted (value b)
+  gives_it : OnePhase → Renewal → (id : ℕ) (me : M) (b : B) → me.0.holds ≡ true → me.1 ≡ (0, Some b) ∷ rest me.1 → IsTurnBy me.0.session me.0.noted (value b)
       → Allows (LockRule value) 1 id me 0 (λ _. 0) (λ _. Gives value (step 1 0 0 0 none) me 0)
-  gives_it law id me b held has phase s r wide at _ = let v = me.0 in let fit = r.each id v at in let st : StripeState = value b in let w : View = after_give v (state_in_hand value me.1) in
+  gives_it law renewals id me b held has phase s r wide at _ = let v = me.0 in let fit = r.each id v at in let st : StripeState = value b in let w : View = after_give v (state_in_hand value me.1) in
       let stated : state_in_hand value me.1 ≡ st = ap (state_in_hand value) has in
       ⊎_elim
       (λ lies. absurd (true≢false (sym held ∙ lies.2 id v at)))
-      (λ place. let out = place.1 in let mine = out.2.1 id v at held in let from : IsPhaseBy v.session r.now st = subst (λ (z : StripeState). IsPhaseBy v.session z st) mine.1 phase in
-      let f = follows law v.session r.now st r.reached from in
-      let grows : IsPrefix r.now.history st.history = f.grows in
+      (λ place. let out = place.1 in let mine = out.2.1 id v at held in let from : IsTurnBy v.session r.now st = subst (λ (z : StripeState). IsTurnBy v.session z st) mine.1 phase in
+      let f = turned law renewals v.session r.now st r.reached from in
+      let grows : IsPrefix (whole_history r.now) (whole_history st) = f.grows in
       let up : r.now.next ≤ st.next = f.next in
-      let fresh : (n : ℕ) → (v.session ≡ Some n → ⊥) → own_steps n st ≡ own_steps n r.now = λ n no. f.others n no in (
+      let fresh : (n : ℕ) → (v.session ≡ Some n → ⊥) → all_own_steps n st ≡ all_own_steps n r.now = λ n no. f.others n no in (
         w,
         gives,
         tt,
@@ -160,16 +185,16 @@ module _ {B : Type 0} (value : B → StripeState) where
           later = λ n le. fresh n (λ e. let k : n < r.given = (fit.own n e).1 in absurd (omega arith)) ∙ r.later n le;
           each = each_set (SeatFits r.seat_of r.giver r.given st) s.views id w
               (λ j u ne e. let g = r.each j u e in record {
-                front = prefix-trans u.front r.now.history st.history g.front grows;
-                joined_front = prefix-trans u.joined_front r.now.history st.history g.joined_front grows;
+                front = prefix-trans u.front (whole_history r.now) (whole_history st) g.front grows;
+                joined_front = prefix-trans u.joined_front (whole_history r.now) (whole_history st) g.joined_front grows;
                 next = (let k : u.noted.next ≤ r.now.next = g.next in omega arith);
                 same = λ live. same_on u.noted r.now st (g.same live) f.same;
                 own = λ n is. let o = g.own n is in (o.0, o.1, fresh n (λ same. ne (sym o.0 ∙ (fit.own n same).0)) ∙ o.2);
                 gives = g.gives;
               })
               (subst (λ (z : StripeState). SeatFits r.seat_of r.giver r.given st id (after_give v z)) (sym stated) record {
-                front = prefix-refl st.history;
-                joined_front = prefix-trans v.joined_front r.now.history st.history fit.joined_front grows;
+                front = prefix-refl (whole_history st);
+                joined_front = prefix-trans v.joined_front (whole_history r.now) (whole_history st) fit.joined_front grows;
                 next = le_refl st.next;
                 same = λ _. same_itself st;
                 own = λ n is. let o = fit.own n is in (o.0, o.1, own-known v.session n st is);
@@ -192,14 +217,14 @@ module _ {B : Type 0} (value : B → StripeState) where
     keeps,
     tt,
     quiet s r id v (with_longer_front v) (set s.words 0 (get_or s.words 0 0)) (⊎_elim (λ lies. ap (λ ws. set ws 0 (get_or ws 0 0)) lies.0 ∙ sym lies.0) (λ held. ap (λ ws. set ws 0 (get_or ws 0 0)) held.1.0 ∙ sym held.1.0) r.place) at
-        record { front = longer-whole v.front v.joined_front r.now.history fit.front fit.joined_front; joined_front = prefix-nil r.now.history; next = fit.next; same = fit.same; own = fit.own; gives = fit.gives }
+        record { front = longer-whole v.front v.joined_front (whole_history r.now) fit.front fit.joined_front; joined_front = prefix-nil (whole_history r.now); next = fit.next; same = fit.same; own = fit.own; gives = fit.gives }
         (λ h. (h, refl, refl)),
     (
       refl,
-      longer-left v.front v.joined_front r.now.history fit.front fit.joined_front,
-      longer-right v.front v.joined_front r.now.history fit.front fit.joined_front,
+      longer-left v.front v.joined_front (whole_history r.now) fit.front fit.joined_front,
+      longer-right v.front v.joined_front (whole_history r.now) fit.front fit.joined_front,
       λ held. ⊎_elim (λ lies. absurd (true≢false (sym held ∙ lies.2 id v at)))
-          (λ place. subst (λ (z : StripeState). IsPrefix (longer v.front v.joined_front) z.history) (sym (place.1.2.1 id v at held).1) (longer-whole v.front v.joined_front r.now.history fit.front fit.joined_front)) r.place,
+          (λ place. subst (λ (z : StripeState). IsPrefix (longer v.front v.joined_front) (whole_history z)) (sym (place.1.2.1 id v at held).1) (longer-whole v.front v.joined_front (whole_history r.now) fit.front fit.joined_front)) r.place,
     ),
   )
 
@@ -221,10 +246,10 @@ module _ {B : Type 0} (value : B → StripeState) where
       }
 
   fits_note : (seat_of : ℕ → ℕ) (giver given : ℕ) (now : StripeState) (id j : ℕ) (v : View) → SeatFits seat_of giver given now id v → SeatFits seat_of giver given now j (front_note v)
-  fits_note seat_of giver given now id j v fit = record { front = fit.front; joined_front = prefix-nil now.history; next = fit.next; same = fit.same; own = λ n e. absurd (none-some n e); gives = λ n e. absurd (none-some n e) }
+  fits_note seat_of giver given now id j v fit = record { front = fit.front; joined_front = prefix-nil (whole_history now); next = fit.next; same = fit.same; own = λ n e. absurd (none-some n e); gives = λ n e. absurd (none-some n e) }
 
   fits_spent : (seat_of : ℕ → ℕ) (giver given : ℕ) (now : StripeState) (j : ℕ) → SeatFits seat_of giver given now j spent_view
-  fits_spent seat_of giver given now j = record { front = prefix-nil now.history; joined_front = prefix-nil now.history; next = (let k : 0 ≤ now.next = omega arith in k); same = λ live. absurd (true≢false live); own = λ n e. absurd (none-some n e); gives = λ n e. absurd (none-some n e) }
+  fits_spent seat_of giver given now j = record { front = prefix-nil (whole_history now); joined_front = prefix-nil (whole_history now); next = (let k : 0 ≤ now.next = omega arith in k); same = λ live. absurd (true≢false live); own = λ n e. absurd (none-some n e); gives = λ n e. absurd (none-some n e) }
 
   pub splits_note : (id : ℕ) (v : View) → Splits (LockRule value) id v v (front_note v)
   splits_note id v s r at = subst (λ (l : List View). LockRule value record { words = s.words; homes = s.homes; views = l ++ front_note v ∷ [] }) (sym (set_again s.views id v at))
@@ -247,7 +272,7 @@ module _ {B : Type 0} (value : B → StripeState) where
       let new : seat_of r.given ≡ end = ap (λ b. cond b end (r.seat_of r.given)) (eq-eqb r.given r.given refl) in
       let each_end : (P : ℕ → View → Type 0) → ((j : ℕ) (x : View) → get_elem? views j ≡ some x → P j x) → P end u → (j : ℕ) (x : View) → get_elem? (views ++ u ∷ []) j ≡ some x → P j x = λ P others mine j x e.
       ⊎_elim (λ t. others j x t) (λ t. subst (λ (z : ℕ × View). P z.0 z.1) (λ i. (sym t.0 i, t.1 i)) mine) (at_end views u x j e) in
-      let own_kept : (j : ℕ) (x : View) → SeatFits r.seat_of r.giver r.given r.now j x → (m : ℕ) → x.session ≡ Some m → (seat_of m ≡ j) × (m < given) × (own_steps m r.now ≡ x.own) =
+      let own_kept : (j : ℕ) (x : View) → SeatFits r.seat_of r.giver r.given r.now j x → (m : ℕ) → x.session ≡ Some m → (seat_of m ≡ j) × (m < given) × (all_own_steps m r.now ≡ x.own) =
       λ j x f m e. let o = f.own m e in (old m o.1 ∙ o.0, (let k : m < r.given = o.1 in omega arith), o.2) in
       record {
         seat_of = seat_of;
@@ -262,7 +287,7 @@ module _ {B : Type 0} (value : B → StripeState) where
             record { front = fit.front; joined_front = fit.joined_front; next = fit.next; same = fit.same; own = own_kept id v fit; gives = λ m e'. (g.0, sym (same_Some (session_number v.next_session + 1) m e') ∙ ap (λ (k : ℕ). k + 1) is) })
             record {
               front = fit.front;
-              joined_front = prefix-nil r.now.history;
+              joined_front = prefix-nil (whole_history r.now);
               next = fit.next;
               same = fit.same;
               own = λ m e. let same : m ≡ r.given = sym (same_Some (session_number v.next_session) m e) ∙ is in (ap seat_of same ∙ new, (let k : m ≡ r.given = same in omega arith), r.later m (let k : m ≡ r.given = same in omega arith));
@@ -276,8 +301,11 @@ module _ {B : Type 0} (value : B → StripeState) where
       }
 
   -- the table of a lock that isn't made yet
-  pub starts : (state : StripeState) → IsReached state → state.history ≡ [] → LockRule value (table_opening (1 ∷ []) (None ∷ []) (unopened_view state))
+  pub starts : (state : StripeState) → IsReached state → whole_history state ≡ [] → LockRule value (table_opening (1 ∷ []) (None ∷ []) (unopened_view state))
   starts state reached none_yet =
+      let past : past_events state.ended ≡ [] = no_left (past_events state.ended) state.history none_yet in
+      let now : state.history ≡ [] = no_right (past_events state.ended) state.history none_yet in
+      let none_own : (n : ℕ) → all_own_steps n state ≡ [] = λ n i. filter (is_own_step n []) (past i) ++ filter (is_own_step n state.joiners) (now i) in
       let v : View = unopened_view state in
       let only : (P : ℕ → View → Type 0) → P 0 v → (j : ℕ) (x : View) → get_elem? (v ∷ []) j ≡ some x → P j x = λ P p j x e.
       ⊎_elim (λ t. absurd (some-ne-none x (sym t))) (λ t. subst (λ (z : ℕ × View). P z.0 z.1) (λ i. (sym t.0 i, t.1 i)) p) (at_end [] v x j e) in
@@ -287,8 +315,8 @@ module _ {B : Type 0} (value : B → StripeState) where
         given = 0;
         now = state;
         reached = reached;
-        later = λ n _. ap (filter (is_own_step n state.joiners)) none_yet;
-        each = only (SeatFits (λ _. 0) 0 0 state) record { front = prefix-refl state.history; joined_front = prefix-nil state.history; next = le_refl state.next; same = λ _. same_itself state; own = λ n e. absurd (none-some n e); gives = λ n e. (refl, sym (same_Some 0 n e)) };
+        later = λ n _. none_own n;
+        each = only (SeatFits (λ _. 0) 0 0 state) record { front = prefix-refl (whole_history state); joined_front = prefix-nil (whole_history state); next = le_refl state.next; same = λ _. same_itself state; own = λ n e. absurd (none-some n e); gives = λ n e. (refl, sym (same_Some 0 n e)) };
         place = inr (true, (refl, refl, (0, only (λ j x. x.holds ≡ true → (j ≡ 0) × (x.noted ≡ state) × (x.spent ≡ true)) (λ _. (refl, refl, refl)))));
       }
 
@@ -332,8 +360,8 @@ module _ {B : Type 0} (value : B → StripeState) where
   pub takes_at : (slots id : ℕ) (me : M) → slots ≡ 1 → me.0.spent ≡ false → me.0.holds ≡ false → Allows (LockRule value) slots id me 0 (λ n. either (eqb n 0) 1 n) (Takes value (step slots 0 0 1 none) me)
   takes_at slots id me one live free = subst (λ (n : ℕ). Allows (LockRule value) n id me 0 (λ x. either (eqb x 0) 1 x) (Takes value (step n 0 0 1 none) me)) (sym one) (takes_it id me live free)
 
-  pub gives_at : OnePhase → (slots id : ℕ) (me : M) (b : B) → slots ≡ 1 → me.0.holds ≡ true → me.1 ≡ (0, Some b) ∷ rest me.1 → IsPhaseBy me.0.session me.0.noted (value b) → Allows (LockRule value) slots id me 0 (λ _. 0) (λ _. Gives value (step slots 0 0 0 none) me 0)
-  gives_at law slots id me b one held has phase = subst (λ (n : ℕ). Allows (LockRule value) n id me 0 (λ _. 0) (λ _. Gives value (step n 0 0 0 none) me 0)) (sym one) (gives_it law id me b held has phase)
+  pub gives_at : OnePhase → Renewal → (slots id : ℕ) (me : M) (b : B) → slots ≡ 1 → me.0.holds ≡ true → me.1 ≡ (0, Some b) ∷ rest me.1 → IsTurnBy me.0.session me.0.noted (value b) → Allows (LockRule value) slots id me 0 (λ _. 0) (λ _. Gives value (step slots 0 0 0 none) me 0)
+  gives_at law renewals slots id me b one held has phase = subst (λ (n : ℕ). Allows (LockRule value) n id me 0 (λ _. 0) (λ _. Gives value (step n 0 0 0 none) me 0)) (sym one) (gives_it law renewals id me b held has phase)
 
   pub learns_at : (slots id : ℕ) (me : M) → slots ≡ 1 → Allows (LockRule value) slots id me 0 (λ n. n) (MergesFronts (step slots 0 0 0 none) me)
   learns_at slots id me one = subst (λ (n : ℕ). Allows (LockRule value) n id me 0 (λ x. x) (MergesFronts (step n 0 0 0 none) me)) (sym one) (learns_it id me)

@@ -6,11 +6,12 @@
 --                      it held changes nothing
 --     Gives            a give leaves the seat with the state that it gives
 --     MergesFronts     the front becomes the longer one of its own and the one that was joined; both are prefixes of it, and it is one
---                      of the noted history if the seat holds
+--                      of the noted whole history if the seat holds
 use Rattle.std.specs.Prelude.{◌≡◌, ◌≢◌, ℕ, true, List, [], ◌∷◌, Option, Some, None}
 use mathlib.Core.List.{IsPrefix}
 use Rattle.atomic_table.specs.Table.{Me, Step, rest}
 use Rattle.jc_stripe.specs.State.{State}
+use Rattle.jc_stripe.specs.Generations.{whole_history}
 use Rattle.jc_lock.specs.declared.view.View.{View}
 use Rattle.jc_lock.specs.Views.{Finds, empty_stripe, opened_view, after_take, after_give, with_longer_front}
 
@@ -35,4 +36,4 @@ MergesFronts step me found me' =
     (me' ≡ (with_longer_front me.0, me.1))
     × IsPrefix me.0.front me'.0.front
     × IsPrefix me.0.joined_front me'.0.front
-    × (me.0.holds ≡ true → IsPrefix me'.0.front me.0.noted.history)
+    × (me.0.holds ≡ true → IsPrefix me'.0.front (whole_history me.0.noted))

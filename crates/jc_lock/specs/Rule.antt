@@ -1,7 +1,7 @@
 -- What a lock keeps true between any two steps of its table.
---     SeatFits     a seat agrees with the stripe's state: its front is a prefix of the history, the noted reservation number is at most
---                  the next one, and unless it is spent it has noted the same stripe; of its session, whose only seat it is, the state
---                  has its own steps; and one seat alone gives session numbers out
+--     SeatFits     a seat agrees with the stripe's state: its front is a prefix of the whole history, the noted reservation number is at
+--                  most the next one, and unless it is spent it has noted the same stripe; of its session, whose only seat it is, the
+--                  state has its own steps, in all generations; and one seat alone gives session numbers out
 --     IsFree       the word is free: the slot has the stripe, and no seat holds
 --     slot_while   the slot while the word is held: it is out with the holder, or empty at home as long as the lock isn't made
 --     IsHeld       the word is held: of all seats one alone can hold, whose view notes the state; it is unopened or not
@@ -14,17 +14,17 @@ use lib.ListN.{get_elem?}
 use Rattle.atomic_table.specs.Table.{State as TableState}
 use Rattle.jc_stripe.specs.State.{State}
 use Rattle.jc_stripe.specs.Reached.{IsReached}
-use Rattle.jc_stripe.specs.Laws.{IsSameStripe}
-use Rattle.jc_stripe.specs.OnePhase.{own_steps}
+use Rattle.jc_stripe.specs.Generations.{whole_history, IsOfSameStripe}
+use Rattle.jc_stripe.specs.Renewal.{all_own_steps}
 use Rattle.jc_lock.specs.declared.view.View.{View}
 
 -- the seat with number `seat` and this view. Each session has one seat; the seat `giver` gives the session numbers out, from `given` on
 pub record SeatFits (seat_of : ℕ → ℕ) (giver given : ℕ) (now : State) (seat : ℕ) (v : View) : Type 0 where
-  pub front : IsPrefix v.front now.history
-  pub joined_front : IsPrefix v.joined_front now.history
+  pub front : IsPrefix v.front (whole_history now)
+  pub joined_front : IsPrefix v.joined_front (whole_history now)
   pub next : v.noted.next ≤ now.next
-  pub same : v.spent ≡ false → IsSameStripe v.noted now
-  pub own : (session : ℕ) → v.session ≡ Some session → (seat_of session ≡ seat) × (session < given) × (own_steps session now ≡ v.own)
+  pub same : v.spent ≡ false → IsOfSameStripe v.noted now
+  pub own : (session : ℕ) → v.session ≡ Some session → (seat_of session ≡ seat) × (session < given) × (all_own_steps session now ≡ v.own)
   pub gives : (session : ℕ) → v.next_session ≡ Some session → (giver ≡ seat) × (session ≡ given)
 
 abbrev pub slot_while : {B : Type 0} → Bool → Option' (Option B)
@@ -51,6 +51,6 @@ module _ {B : Type 0} (value : B → State) where
     pub given : ℕ
     pub now : State
     pub reached : IsReached now
-    pub later : (session : ℕ) → given ≤ session → own_steps session now ≡ []
+    pub later : (session : ℕ) → given ≤ session → all_own_steps session now ≡ []
     pub each : (seat : ℕ) (v : View) → get_elem? table.views seat ≡ some v → SeatFits seat_of giver given now seat v
     pub place : IsFree table now ⊎ ((unopened : Bool) × IsHeld unopened table now)

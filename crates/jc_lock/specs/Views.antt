@@ -1,15 +1,17 @@
 -- What a seat knows, and what each call leaves of it.
 --     IsPhaseBy           at most one phase of a seat's session leads from one state to another; none, if the seat is no session's
+--     IsTurnBy            the same, or a renewal leads from one to the other
 --     empty_stripe        a stripe of the smallest shape with nothing in it, which a seat that is gone notes
 --     unopened_view       the first seat of a lock that isn't made yet: it holds the stripe, and the slot is empty
 --     opened_view         the same once it has taken the slot
 --     first_view          the first seat of a lock, which gives session numbers out, beginning with 0
 --     spent_view          a seat that is gone
 --     Finds               what a take of a seat may find: a reached state of the noted stripe, whose next reservation number is at least
---                         the noted one, with the seat's front as a prefix of its history, and of the seat's session just the own steps
+--                         the noted one, with the seat's front as a prefix of its whole history, and of the seat's session just the
+--                         own steps, in all generations
 --     after_take          a take notes the state that it found
---     own_steps_of        the own steps of a session in a state; none, if there is no session
---     after_give          a give leaves the seat with the whole history as its front
+--     own_steps_of        the own steps of a session in a state, in all generations; none, if there is no session
+--     after_give          a give leaves the seat with the whole history, all generations in a row, as its front
 --     session_number      the number in an option, if it has one
 --     after_split         the seat that gave a session number out
 --     session_view        the seat that was given it
@@ -27,21 +29,25 @@ use Rattle.jc_model.specs.declared.event.Event.{Event}
 use Rattle.jc_outside.specs.declared.done.Origin.TheVariants.{Played}
 use Rattle.jc_stripe.specs.State.{State}
 use Rattle.jc_stripe.specs.Reached.{IsReached}
-use Rattle.jc_stripe.specs.Laws.{IsSameStripe}
-use Rattle.jc_stripe.specs.OnePhase.{IsPhaseOf, own_steps}
+use Rattle.jc_stripe.specs.Generations.{whole_history, IsOfSameStripe}
+use Rattle.jc_stripe.specs.Renewal.{Renews, all_own_steps}
+use Rattle.jc_stripe.specs.OnePhase.{IsPhaseOf}
 use Rattle.jc_lock.specs.declared.view.View.{View}
 
 abbrev pub IsPhaseBy : Option ℕ → State → State → Type 0
 IsPhaseBy None old new = new ≡ old
 IsPhaseBy (Some session) old new = IsPhaseOf session old new
 
+abbrev pub IsTurnBy : Option ℕ → State → State → Type 0
+IsTurnBy session old new = IsPhaseBy session old new ⊎ Renews old new
+
 -- 1. Seats from the beginning, and seats that are gone.
 
 abbrev pub empty_stripe : State
-empty_stripe = record { config = record { stripes = 1; capacity = 1; history = 16; read_through = false; write_through = false }; stripe = 0; origin = Played; opening = []; cache = map.empty; reservations = []; joiners = []; history = []; next = 0 }
+empty_stripe = record { config = record { stripes = 1; capacity = 1; history = 16; read_through = false; write_through = false }; stripe = 0; origin = Played; lives = false; ended = []; opening = []; cache = map.empty; reservations = []; joiners = []; history = []; next = 0 }
 
 abbrev pub first_view : State → View
-first_view state = record { session = None; next_session = Some 0; spent = false; holds = false; front = state.history; joined_front = []; own = []; noted = state }
+first_view state = record { session = None; next_session = Some 0; spent = false; holds = false; front = whole_history state; joined_front = []; own = []; noted = state }
 
 abbrev pub unopened_view : State → View
 unopened_view state = record (first_view state) { spent = true; holds = true }
@@ -56,20 +62,20 @@ spent_view = record { session = None; next_session = None; spent = true; holds =
 
 pub record Finds (v : View) (state : State) : Type 0 where
   pub reached : IsReached state
-  pub front : IsPrefix v.front state.history
+  pub front : IsPrefix v.front (whole_history state)
   pub next : v.noted.next ≤ state.next
-  pub same : IsSameStripe v.noted state
-  pub own : (session : ℕ) → v.session ≡ Some session → own_steps session state ≡ v.own
+  pub same : IsOfSameStripe v.noted state
+  pub own : (session : ℕ) → v.session ≡ Some session → all_own_steps session state ≡ v.own
 
 abbrev pub after_take : View → State → View
 after_take v state = record v { holds = true; noted = state }
 
 abbrev pub own_steps_of : Option ℕ → State → List Event
 own_steps_of None state = []
-own_steps_of (Some session) state = own_steps session state
+own_steps_of (Some session) state = all_own_steps session state
 
 abbrev pub after_give : View → State → View
-after_give v state = record v { holds = false; front = state.history; own = own_steps_of v.session state; noted = state }
+after_give v state = record v { holds = false; front = whole_history state; own = own_steps_of v.session state; noted = state }
 
 -- 3. A new session.
 

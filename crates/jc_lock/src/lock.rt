@@ -2,7 +2,8 @@
 ghost use Rattle.std.specs.Prelude.{◌≡◌, ℕ, true, false, [], Some, IfOk, IfSome, IfNone};
 ghost use mathlib.Core.List.{IsPrefix};
 ghost use Rattle.jc_stripe.specs.Reached.{IsReached};
-ghost use Rattle.jc_lock.specs.Views.{IsPhaseBy, first_view, Finds, after_take, after_give, after_split, session_view, after_join};
+ghost use Rattle.jc_stripe.specs.Generations.{whole_history};
+ghost use Rattle.jc_lock.specs.Views.{IsTurnBy, first_view, Finds, after_take, after_give, after_split, session_view, after_join};
 
 use crate::rule::{FrontNote, Give, MergeFronts, NewSession, Open, Rule, Slot, Take};
 use crate::view::View;
@@ -67,9 +68,9 @@ impl HistLock {
     ///
     /// It takes the memory of one word and one box. Without it the stripe is lost.
     ///
-    /// Condition: the stripe's history is empty. Its opening may have entries.
+    /// Condition: nothing has happened in the stripe, in whatever generation. Its opening may have entries.
     pub fn new(alloc: Global, stripe: Box<Stripe>) -> Result<(HistLock, Seat), AllocError>
-        requires { stripe.value.history ≡ [] }
+        requires { whole_history stripe.value ≡ [] }
         ensures { IfOk result (λ r. (r.1.0 ≡ r.0) × (r.1.1 ≡ first_view stripe.value)) }
     {
         // For its contract: every stripe is reached.
@@ -138,18 +139,19 @@ impl HistLock {
         unreachable!()
     }
 
-    /// Gives the stripe back. The seat has then seen its whole history. It never waits and takes no memory.
+    /// Gives the stripe back. The seat has then seen its whole history, all generations in a row. It never waits and takes no memory.
     ///
     /// Conditions: the seat is of this lock and holds it; the stripe is the one that it took, after at most one phase of the seat's
-    /// session. A seat that is no session's gives it back as it was.
+    /// session, or after a renewal. A seat that is no session's gives it back as it was, or renewed.
     pub fn give(&self, seat: &mut Seat, stripe: Box<Stripe>)
         requires lock { seat.old.0 ≡ self.now }
         requires held { seat.old.1.holds ≡ true }
-        requires phase { IsPhaseBy seat.old.1.session seat.old.1.noted stripe.value }
+        requires phase { IsTurnBy seat.old.1.session seat.old.1.noted stripe.value }
         ensures lock { seat.new.0 ≡ seat.old.0 }
         ensures seat { seat.new.1 ≡ after_give seat.old.1 stripe.value }
     {
         phase_laws::is_uniform();
+        phase_laws::renewal();
         let token = &mut seat.token;
         match self.table.shared.exchange(token, 0, Some(stripe)) {
             None => {}
@@ -173,7 +175,7 @@ impl HistLock {
     }
 
     /// Ends `other`, and tells `seat` what it has seen: the longer one of both fronts is the seat's from now on. If the seat holds
-    /// the stripe, both are prefixes of the history in its hands.
+    /// the stripe, both are prefixes of the whole history in its hands.
     ///
     /// Conditions: both seats are of this lock, and `other` doesn't hold it.
     pub fn join(&self, seat: &mut Seat, other: Seat)
@@ -183,7 +185,7 @@ impl HistLock {
         ensures seat { seat.new.1 ≡ after_join seat.old.1 other.1 }
         ensures seen { IsPrefix seat.old.1.front seat.new.1.front }
         ensures joined { IsPrefix other.1.front seat.new.1.front }
-        ensures held { seat.old.1.holds ≡ true → IsPrefix seat.new.1.front seat.old.1.noted.history }
+        ensures held { seat.old.1.holds ≡ true → IsPrefix seat.new.1.front (whole_history seat.old.1.noted) }
     {
         let Seat { token } = other;
         self.table

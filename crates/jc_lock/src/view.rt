@@ -13,7 +13,7 @@ pub struct View {
     pub spent: bool,
     /// It has taken the stripe, and has not given it back.
     pub holds: bool,
-    /// What it has seen of the stripe's history: a prefix of it, now and later.
+    /// What it has seen of the stripe's whole history, all generations in a row: a prefix of it, now and later.
     pub front: LinkedList<Event>,
     /// The front of a seat that was joined into it, until one of both is its own.
     pub joined_front: LinkedList<Event>,

@@ -7,6 +7,7 @@ ghost use Rattle.jc_mutentry.specs.Running.{RunsOnce, LoadsIfGiven};
 ghost use Rattle.jc_stripe.specs.State.{State};
 ghost use Rattle.jc_stripe.specs.Tickets.{asks_loader, asks_processor, entry_seen, is_loadable};
 ghost use Rattle.jc_stripe.specs.Reached.{IsReached};
+ghost use Rattle.jc_stripe.specs.Renewal.{StaysOrRenews};
 ghost use Rattle.jc_gate.specs.Lending.{ComesAfter};
 ghost use Rattle.jc_session.specs.Boxed.{boxed};
 ghost use Rattle.jc_session.specs.Counting.{one_more, call_before, counts_after, IsCounted};
@@ -155,6 +156,25 @@ impl Agent {
         let stripe = gate.take(rt, token);
         self.hands.hold();
         stripe
+    }
+
+    /// Gives a stripe back in which no phase was made. Its generation may have ended.
+    ///
+    /// Conditions: the agent holds one stripe, and the token speaks for its session. This is the stripe that the token has taken, as
+    /// it was, or with its generation ended, which may end.
+    pub fn give_back<G: Gate>(&mut self, gate: &mut G, token: &mut G::Token, stripe: Box<Stripe>)
+        requires held { self.old.hands.held ≡ 1 }
+        requires speaks { G.speaks_for token.old self.old.caller.session }
+        requires rest { (a : State) × G.has gate.old token.old a × StaysOrRenews a stripe.value }
+        ensures agent { self.new ≡ record self.old { hands = record self.old.hands { held = 0 } } }
+        ensures speaks { (n : ℕ) → G.speaks_for token.old n → G.speaks_for token.new n }
+        ensures free { G.is_free gate.new token.new }
+        ensures gives { G.gives gate.old token.old stripe.value gate.new token.new }
+        ensures next { (n : ℕ) (a : State) → G.speaks_for token.old n → G.finds gate.new token.new a
+            → ComesAfter n stripe.value a }
+    {
+        gate.give(token, stripe);
+        self.hands.let_go();
     }
 
     /// Gives a stripe back, and counts what its phase was.

@@ -1,5 +1,5 @@
 -- Lemmas for the crates above: where the step of a phase is, which steps of a stripe are parked after each phase, whom an operation
--- asks first, the keys of a stripe, the entries of all stripes, and the stripes of a reopening.
+-- asks first, the keys of a stripe, the entries of all stripes, the stripes of a reopening, and all generations in a row.
 --     step_at                             a step is at its place, with its reply
 --     joined_parks, withdrawn_parks       a join and a withdrawal park what was parked
 --     beginner_parks                      a call that may begin has no parked step at its key
@@ -23,6 +23,12 @@
 --     opened_len, opened_at               a reopening makes as many stripes as it is to, each with its number and what it keeps
 --     opened_opens, opened_reached        nothing has happened in such a stripe, so it is as every stripe is
 --     adds_one, gains_one                 a step that is added or gained is one more in the list of own steps
+--     of_same, whole_goes_on, own_stay    a phase leaves the stripe the same, and continues its whole history; all own steps stay if those
+--                                         of the present generation do
+--     there_behind                        what is in a list is in a longer one, behind what comes before it
+--     adds_whole, gains_whole             a step that is added or gained is in the whole history, and one own step more
+--     may_in_all                          a step that may come after its session's own steps of all generations may come after the whole
+--                                         history
 use Rattle.std.proofs.Common.{◌≡◌, ◌==◌, ◌&&◌, ◌||◌, ◌+◌, ℕ, zero, suc, List, [], ◌∷◌, Bool, true, false, cond, not, Option, None, Some, is_none, refl, sym, ap, ◌∙◌, slice_get, append-nil}
 use Rattle.std.specs.Ordering.{eq_by_cmp}
 use Rattle.std.specs.Map.{keys_of}
@@ -71,6 +77,9 @@ pub use Rattle.jc_stripe.proofs.Numbering.{without_none}
 pub use Rattle.jc_stripe.proofs.Uniform.{next_begun}
 pub use Rattle.jc_stripe.proofs.AllEntries.{distinct-append, all_entries_once, once_unless_shared}
 pub use Rattle.jc_stripe.proofs.Kept.{kept_few, kept_once, kept_own}
+pub use Rattle.jc_stripe.proofs.Refusing.{call_below, ends_numbers, lacks_room, put_off_or_full}
+pub use Rattle.jc_stripe.proofs.Renewing.{stays_alone, stays_or_renews}
+pub use Rattle.jc_stripe.proofs.WholeSteps.{of_same, whole_goes_on, own_stay, there_behind, adds_whole, gains_whole, may_in_all}
 pub use Rattle.jc_stripe.proofs.Opened.{opened_len, opened_at, opened_opens, opened_reached}
 use Rattle.jc_stripe.proofs.ParkedSteps.{parked-joined, parked-dissolved, parked-answered, parked-callers}
 use Rattle.jc_stripe.proofs.OwnPick.{is_call, differs, before_differs, after_differs, parked_other, none_parked, parked_told}

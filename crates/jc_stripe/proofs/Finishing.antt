@@ -77,7 +77,7 @@ done_sound i caller key op entries promised_in history keys made done kept d non
     record {
       capacity = ap (λ (e : ByUse). e.capacity) d.keeps.left ∙ d.sound.capacity;
       limit = ap (λ (p : Past). p.limit) d.put ∙ ap (λ (p : Past). p.limit) d.promises ∙ d.sound.limit;
-      by_use = by_use_put m i.entries entries keys caller key op nothing_said [] made (done_entries i keys d.sound d.keys_are) d.is d.keeps ∙ ap (by_use i.opening) (sym after);
+      by_use = by_use_put m i.entries entries keys caller key op nothing_said [] made (done_entries i keys d.sound d.keys_are) d.is d.keeps ∙ ap (by_use i.life.opening) (sym after);
       promised = let same : history.promised ≡ i.history.promised = omega arith in same ∙ d.sound.promised;
       boxes = d.sound.boxes;
       state = begins_done m (state_of (done_at i entries history)) caller key op done d.sound.state may none nobody steps;
@@ -165,7 +165,7 @@ commit_sound i r out entries table js history boxes keys made done kept c =
     record {
       capacity = ap (λ (e : ByUse). e.capacity) c.keeps.left ∙ c.sound.capacity;
       limit = ap (λ (p : Past). p.limit) c.put ∙ c.sound.limit;
-      by_use = by_use_put m i.entries entries keys r.caller r.key r.op out callers made (commit_entries i r done.place table keys c.sound c.released c.keys_are) (made_after i r done.place out made c.is) c.keeps ∙ ap (by_use i.opening) (sym after);
+      by_use = by_use_put m i.entries entries keys r.caller r.key r.op out callers made (commit_entries i r done.place table keys c.sound c.released c.keys_are) (made_after i r done.place out made c.is) c.keeps ∙ ap (by_use i.life.opening) (sym after);
       promised = omega arith;
       boxes = omega arith;
       state = reached_commits (state_of i) (state_of (committed_at i entries table js history boxes)) r out done c.sound.state (c.found, commit_steps i r out entries table js history boxes keys made done kept c);

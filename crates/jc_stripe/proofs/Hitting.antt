@@ -9,6 +9,7 @@ use Rattle.std.specs.Option.{option_map_or}
 use Rattle.std.specs.FinMap as finite
 use Rattle.jc_types.specs.declared.caller.Caller.{Caller}
 use Rattle.jc_types.specs.declared.limits.TheConstants.{HIT_PLACES, RESERVATIONS_MAX, JOINERS_MAX}
+use Rattle.jc_types.specs.declared.refusal.Refusal.{Refusal}
 use Rattle.jc_types.specs.declared.refusal.Refusal.TheVariants as refusal
 use Rattle.jc_model.specs.declared.event.Op.TheVariants.{Get}
 use Rattle.jc_model.specs.Cache.{Bytes, key_cmp, entry_at}
@@ -19,7 +20,7 @@ use Rattle.jc_entries.specs.ByUse.{ByUse, after_touch, lru_victim}
 use Rattle.jc_entries.specs.MostRecent.{most_recent}
 use Rattle.jc_stripe.specs.declared.ticket.First.TheVariants.{Nobody}
 use Rattle.jc_stripe.specs.State.{State, is_reserved, reservation_of}
-use Rattle.jc_stripe.specs.Refusals.{answers_at_once, first_asked, first_refusal, has_room, load_at, load_joined, needs_free_key, needs_reservation, places_needed, reserves}
+use Rattle.jc_stripe.specs.Refusals.{answers_at_once, first_asked, first_refusal, full_refusal, has_room, load_at, load_joined, needs_free_key, needs_reservation, places_needed, reserves}
 use Rattle.jc_stripe.specs.OrderOfUse.{used_at}
 use Rattle.jc_stripe.specs.Phases.{own_cause}
 use Rattle.jc_stripe.specs.Appending.{AppliesStep}
@@ -49,14 +50,14 @@ none_of true o h = cc
 none_of false o h = refl
 
 -- none of the conditions holds
-unrefused : (room there free needs full joins crowded : Bool) → room ≡ true → free ≡ false → needs ≡ false → joins ≡ false
-    → (if not room then Some refusal.HistoryFull else (if there && free then Some refusal.Busy else (if needs && full then Some refusal.TooManyInFlight else (if joins && crowded then Some refusal.TooManyJoiners else None)))) ≡ None
-unrefused true true false false full false crowded a b c d = refl
-unrefused true false free false full false crowded a b c d = refl
-unrefused true true true needs full joins crowded a b c d = cc
-unrefused true there free true full joins crowded a b c d = cc
-unrefused true there free needs full true crowded a b c d = cc
-unrefused false there free needs full joins crowded a b c d = cc
+unrefused : (why : Refusal) (room there free needs full joins crowded : Bool) → room ≡ true → free ≡ false → needs ≡ false → joins ≡ false
+    → (if not room then Some why else (if there && free then Some refusal.Busy else (if needs && full then Some refusal.TooManyInFlight else (if joins && crowded then Some refusal.TooManyJoiners else None)))) ≡ None
+unrefused why true true false false full false crowded a b c d = refl
+unrefused why true false free false full false crowded a b c d = refl
+unrefused why true true true needs full joins crowded a b c d = cc
+unrefused why true there free true full joins crowded a b c d = cc
+unrefused why true there free needs full true crowded a b c d = cc
+unrefused why false there free needs full joins crowded a b c d = cc
 
 pub hit_refusal : (state : State) (caller : Caller) (key value : Bytes) → entry_at state.cache key ≡ Some value → has_room state caller.call HIT_PLACES ≡ true → first_refusal state caller key Get ≡ None
 hit_refusal state caller key value found room =
@@ -66,7 +67,7 @@ hit_refusal state caller key value found room =
     let needs : needs_reservation state key Get ≡ false = ap (λ f. reserves f && is_none (load_joined state key Get)) (hit_asks state key value found) in
     let joins : is_some (load_joined state key Get) ≡ false =
     none_of _ (load_at (reservation_of state key)) (ap (λ o. state.config.read_through && is_none o) found ∙ and_right state.config.read_through false refl) in
-    unrefused (has_room state caller.call (places_needed (needs_free_key state key Get))) (is_reserved state key) (needs_free_key state key Get) (needs_reservation state key Get) (nat_le RESERVATIONS_MAX (length state.reservations))
+    unrefused (full_refusal state caller.call) (has_room state caller.call (places_needed (needs_free_key state key Get))) (is_reserved state key) (needs_free_key state key Get) (needs_reservation state key Get) (nat_le RESERVATIONS_MAX (length state.reservations))
     (is_some (load_joined state key Get)) (nat_le JOINERS_MAX (length state.joiners)) places free needs joins
 
 pub touched_none : (found : Option Bytes) → is_some found ≡ false → found ≡ None

@@ -34,29 +34,29 @@ same_on old new mid is same history =
 
 steps_on : (old new : State) (caller : Caller) (key : Bytes) (op : Op) (out : Out) (callers : List Caller) (done : StepDone) → Steps old caller key op out callers done new → Extends old new
 steps_on old new caller key op out callers done steps = record {
-  same = same_stripe old new _ steps.after (record { config = refl; stripe = refl; origin = refl; opening = refl });
+  same = same_stripe old new _ steps.after (record { config = refl; stripe = refl; origin = refl; lives = refl; ended = refl; opening = refl });
   more = events_of (length old.history) (new_group old caller key op out callers steps.short);
   history = ap (λ (s : State). s.history) steps.after;
 }
 
 pub begins_on : (old new : State) (caller : Caller) (key : Bytes) (op : Op) (b : Begun) → Begins old caller key op b new → Extends old new
-begins_on old new caller key op (begun.Refused refusal) h = same_on old new _ h.1 (record { config = refl; stripe = refl; origin = refl; opening = refl }) refl
+begins_on old new caller key op (begun.Refused refusal) h = same_on old new _ h.1 (record { config = refl; stripe = refl; origin = refl; lives = refl; ended = refl; opening = refl }) refl
 begins_on old new caller key op (begun.Done done) h = steps_on old new caller key op nothing_said [] done h.2
-begins_on old new caller key op (begun.Asks ticket) h = same_on old new _ h.5 (record { config = refl; stripe = refl; origin = refl; opening = refl }) refl
-begins_on old new caller key op (begun.Joined join) h = same_on old new _ h.3 (record { config = refl; stripe = refl; origin = refl; opening = refl }) refl
+begins_on old new caller key op (begun.Asks ticket) h = same_on old new _ h.5 (record { config = refl; stripe = refl; origin = refl; lives = refl; ended = refl; opening = refl }) refl
+begins_on old new caller key op (begun.Joined join) h = same_on old new _ h.3 (record { config = refl; stripe = refl; origin = refl; lives = refl; ended = refl; opening = refl }) refl
 
 pub commits_on : (old new : State) (r : Reservation) (out : Out) (done : StepDone) → Commits old r out done new → Extends old new
 commits_on old new r out done h =
     let on = steps_on (after_commit old r done.place) new r.caller r.key r.op out (callers_of r.number old.joiners) done h.1 in
-    record { same = record { config = on.same.config; stripe = on.same.stripe; origin = on.same.origin; opening = on.same.opening }; more = on.more; history = on.history }
+    record { same = record { config = on.same.config; stripe = on.same.stripe; origin = on.same.origin; lives = on.same.lives; ended = on.same.ended; opening = on.same.opening }; more = on.more; history = on.history }
 
 pub withdraws_on : (old new : State) (r : Reservation) → Withdraws old r new → Extends old new
-withdraws_on old new r h = same_on old new _ h.1 (record { config = refl; stripe = refl; origin = refl; opening = refl }) refl
+withdraws_on old new r h = same_on old new _ h.1 (record { config = refl; stripe = refl; origin = refl; lives = refl; ended = refl; opening = refl }) refl
 
 pub picks_up_on : (old new : State) (join : JoinClaim) (p : Picked) → PicksUp old join p new → Extends old new
-picks_up_on old new join (picked.Answer reply place shared) h = same_on old new _ h.3 (record { config = refl; stripe = refl; origin = refl; opening = refl }) refl
-picks_up_on old new join picked.Again h = same_on old new _ h.2 (record { config = refl; stripe = refl; origin = refl; opening = refl }) refl
-picks_up_on old new join (picked.NotYet back) h = same_on old new _ h.3 (record { config = refl; stripe = refl; origin = refl; opening = refl }) refl
+picks_up_on old new join (picked.Answer reply place shared) h = same_on old new _ h.3 (record { config = refl; stripe = refl; origin = refl; lives = refl; ended = refl; opening = refl }) refl
+picks_up_on old new join picked.Again h = same_on old new _ h.2 (record { config = refl; stripe = refl; origin = refl; lives = refl; ended = refl; opening = refl }) refl
+picks_up_on old new join (picked.NotYet back) h = same_on old new _ h.3 (record { config = refl; stripe = refl; origin = refl; lives = refl; ended = refl; opening = refl }) refl
 
 -- 2. The entry of a reserved key stays.
 

@@ -12,6 +12,7 @@ pub mod Ordered
 pub mod Picking
 pub mod Reaching
 pub mod Refusing
+pub mod Renewing
 pub mod Hitting
 pub mod Settled
 pub mod SharedSteps
@@ -34,3 +35,5 @@ pub mod Dealing
 pub mod KeepsOrDrops
 pub mod Kept
 pub mod Opened
+pub mod Walks
+pub mod WholeSteps

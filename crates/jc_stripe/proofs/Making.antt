@@ -72,7 +72,7 @@ sound-reserved i caller key op first table history boxes sound b t h reached =
     record {
       capacity = sound.capacity;
       limit = ap (λ (p : Past). p.limit) h ∙ sound.limit;
-      by_use = sound.by_use ∙ ap (λ (p : Past). by_use i.opening p.events) (sym h);
+      by_use = sound.by_use ∙ ap (λ (p : Past). by_use i.life.opening p.events) (sym h);
       promised = kept ∙ ap (λ n. n + STEP_PLACES) sound.promised ∙ sym more ∙ ap promised (sym state);
       boxes = omega arith;
       state = subst IsReached (sym state) reached;
@@ -97,7 +97,7 @@ sound-joined i caller load key js history sound t h reached =
     record {
       capacity = sound.capacity;
       limit = ap (λ (p : Past). p.limit) h ∙ sound.limit;
-      by_use = sound.by_use ∙ ap (λ (p : Past). by_use i.opening p.events) (sym h);
+      by_use = sound.by_use ∙ ap (λ (p : Past). by_use i.life.opening p.events) (sym h);
       promised = ap (λ (p : Past). p.promised) h ∙ ap (λ n. n + HIT_PLACES) sound.promised ∙ sym more ∙ ap promised (sym state);
       boxes = sound.boxes;
       state = subst IsReached (sym state) reached;
@@ -145,7 +145,7 @@ sound-withdrawn i r table js history boxes waiting sound b found w t j h reached
     record {
       capacity = sound.capacity;
       limit = ap (λ (p : Past). p.limit) h ∙ sound.limit;
-      by_use = sound.by_use ∙ ap (λ (p : Past). by_use i.opening p.events) (sym h);
+      by_use = sound.by_use ∙ ap (λ (p : Past). by_use i.life.opening p.events) (sym h);
       promised = less ∙ ap promised (sym state);
       boxes = omega arith;
       state = subst IsReached (sym state) reached;

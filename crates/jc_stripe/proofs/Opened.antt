@@ -49,6 +49,7 @@ opened_at config origin entries n (suc count) (suc i) h =
 pub opened_opens : (config : Config) (origin : Origin) (entries : List (Bytes × Bytes)) (n : ℕ) → check config ≡ Ok tt → has_distinct_keys entries ≡ true → IsOpened (opened_stripe config origin n (kept config n entries))
 opened_opens config origin entries n fits once = record {
   config_fits = fits;
+  ended = refl;
   once = kept_once config n entries once;
   own = kept_own config n entries;
   few = kept_few config n entries;

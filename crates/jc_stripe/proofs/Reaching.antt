@@ -75,6 +75,8 @@ begins_done old new caller key op done reached may none nobody steps =
     (λ j e. or_right (not (waits j)) (is_other_join caller key j) e) may.apart in
     let next : IsReached (after_group old g) = record {
       config_fits = reached.config_fits;
+      chain = reached.chain;
+      one_life = reached.one_life;
       opened_once = reached.opened_once;
       opens = reached.opens;
       legal = legal_on old (from_entries old.opening) g reached.legal steps.lawful
@@ -123,6 +125,8 @@ commits_found old new r out done reached found steps =
     let room = reached.places in
     let next : IsReached (after_group m g) = record {
       config_fits = reached.config_fits;
+      chain = reached.chain;
+      one_life = reached.one_life;
       opened_once = reached.opened_once;
       opens = reached.opens;
       legal = legal_on m (from_entries old.opening) g reached.legal steps.lawful

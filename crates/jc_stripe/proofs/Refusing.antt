@@ -1,11 +1,14 @@
 -- What is known of a call that is not refused.
-use Rattle.std.proofs.Common.{◌≡◌, ◌≤◌, ◌<◌, ◌+◌, ◌||◌, ◌&&◌, ℕ, List, length, Bool, true, false, cond, not, Option, Some, None, is_some, is_none, nat_le, nat_lt, find, refl, sym, ap, ◌∙◌, arith, if◌then◌else◌}
+use Rattle.std.proofs.Common.{◌≡◌, ◌≤◌, ◌<◌, ◌+◌, ◌||◌, ◌&&◌, ◌⊎◌, inl, inr, subst, ℕ, List, length, Bool, true, false, cond, not, Option, Some, None, is_some, is_none, nat_le, nat_lt, find, refl, sym, ap, ◌∙◌, arith, if◌then◌else◌}
 use Rattle.std.specs.List.{list_any}
 use Rattle.std.proofs.lemmas.Bool.Decides.{nat_tests}
 use Rattle.std.proofs.lemmas.Bool.{and_parts, not-false}
 use Rattle.jc_types.specs.declared.caller.Caller.{Caller}
 use Rattle.jc_types.specs.declared.config.Config.{Config}
 use Rattle.jc_types.specs.declared.limits.TheConstants.{STEP_PLACES, HIT_PLACES, RESERVATIONS_MAX, JOINERS_MAX}
+use Rattle.std.proofs.lemmas.Option.{same_Some}
+use Rattle.jc_types.specs.Refusals.{is_put_off}
+use Rattle.jc_types.specs.declared.refusal.Refusal.{Refusal}
 use Rattle.jc_types.specs.declared.refusal.Refusal.TheVariants as refusal
 use Rattle.jc_model.specs.declared.event.Op.{Op}
 use Rattle.jc_model.specs.declared.event.Op.TheVariants.{Get, ContainsKey}
@@ -15,7 +18,7 @@ use Rattle.jc_model.specs.Group.{nothing_said}
 use Rattle.jc_stripe.specs.declared.ticket.First.{First}
 use Rattle.jc_stripe.specs.declared.ticket.First.TheVariants.{Nobody, Loader}
 use Rattle.jc_stripe.specs.State.{State, is_key, is_reserved, reservation_of, promised}
-use Rattle.jc_stripe.specs.Refusals.{first_asked, first_by, first_refusal, needs_free_key, may_join, has_room, last_number, load_at, load_joined, needs_reservation, answers_at_once, places_needed, reserves, writer_for}
+use Rattle.jc_stripe.specs.Refusals.{first_asked, first_by, first_refusal, full_refusal, needs_free_key, may_join, has_room, last_number, load_at, load_joined, needs_reservation, answers_at_once, places_needed, reserves, writer_for}
 use Rattle.jc_types.proofs.CallerLemmas.{found_any}
 use Rattle.jc_stripe.specs.declared.ticket.Reservation.{Reservation}
 
@@ -27,29 +30,29 @@ pub record IsFree (state : State) (caller : Caller) (key : Bytes) (op : Op) : Ty
   pub few : needs_reservation state key op ≡ true → nat_le RESERVATIONS_MAX (length state.reservations) ≡ false
   pub few_joined : is_some (load_joined state key op) ≡ true → nat_le JOINERS_MAX (length state.joiners) ≡ false
 
-pick : (room there free needs full joins crowded : Bool)
-    → (if not room then Some refusal.HistoryFull else (if there && free then Some refusal.Busy else (if needs && full then Some refusal.TooManyInFlight else (if joins && crowded then Some refusal.TooManyJoiners else None)))) ≡ None
+pick : (why : Refusal) (room there free needs full joins crowded : Bool)
+    → (if not room then Some why else (if there && free then Some refusal.Busy else (if needs && full then Some refusal.TooManyInFlight else (if joins && crowded then Some refusal.TooManyJoiners else None)))) ≡ None
     → (room ≡ true) × (there ≡ true → free ≡ false) × (needs ≡ true → full ≡ false) × (joins ≡ true → crowded ≡ false)
-pick false there free needs full joins crowded h = cc
-pick true true true needs full joins crowded h = cc
-pick true true false true true joins crowded h = cc
-pick true true false true false true true h = cc
-pick true true false true false true false h = (refl, λ t. refl, λ t. refl, λ t. refl)
-pick true true false true false false crowded h = (refl, λ t. refl, λ t. refl, λ t. cc)
-pick true true false false full true true h = cc
-pick true true false false full true false h = (refl, λ t. refl, λ t. cc, λ t. refl)
-pick true true false false full false crowded h = (refl, λ t. refl, λ t. cc, λ t. cc)
-pick true false free true true joins crowded h = cc
-pick true false free true false true true h = cc
-pick true false free true false true false h = (refl, λ t. cc, λ t. refl, λ t. refl)
-pick true false free true false false crowded h = (refl, λ t. cc, λ t. refl, λ t. cc)
-pick true false free false full true true h = cc
-pick true false free false full true false h = (refl, λ t. cc, λ t. cc, λ t. refl)
-pick true false free false full false crowded h = (refl, λ t. cc, λ t. cc, λ t. cc)
+pick why false there free needs full joins crowded h = cc
+pick why true true true needs full joins crowded h = cc
+pick why true true false true true joins crowded h = cc
+pick why true true false true false true true h = cc
+pick why true true false true false true false h = (refl, λ t. refl, λ t. refl, λ t. refl)
+pick why true true false true false false crowded h = (refl, λ t. refl, λ t. refl, λ t. cc)
+pick why true true false false full true true h = cc
+pick why true true false false full true false h = (refl, λ t. refl, λ t. cc, λ t. refl)
+pick why true true false false full false crowded h = (refl, λ t. refl, λ t. cc, λ t. cc)
+pick why true false free true true joins crowded h = cc
+pick why true false free true false true true h = cc
+pick why true false free true false true false h = (refl, λ t. cc, λ t. refl, λ t. refl)
+pick why true false free true false false crowded h = (refl, λ t. cc, λ t. refl, λ t. cc)
+pick why true false free false full true true h = cc
+pick why true false free false full true false h = (refl, λ t. cc, λ t. cc, λ t. refl)
+pick why true false free false full false crowded h = (refl, λ t. cc, λ t. cc, λ t. cc)
 
 pub not_refused : (state : State) (caller : Caller) (key : Bytes) (op : Op) → first_refusal state caller key op ≡ None → IsFree state caller key op
 not_refused state caller key op h =
-    let known = pick (has_room state caller.call (places_needed (needs_free_key state key op))) (is_reserved state key) (needs_free_key state key op) (needs_reservation state key op) (nat_le RESERVATIONS_MAX (length state.reservations))
+    let known = pick (full_refusal state caller.call) (has_room state caller.call (places_needed (needs_free_key state key op))) (is_reserved state key) (needs_free_key state key op) (needs_reservation state key op) (nat_le RESERVATIONS_MAX (length state.reservations))
     (is_some (load_joined state key op)) (nat_le JOINERS_MAX (length state.joiners)) h in
     record { room = known.0; free = known.1; few = known.2; few_joined = known.3 }
 
@@ -210,3 +213,57 @@ few_joined s caller key op load none joins = fewer_than JOINERS_MAX (length s.jo
 -- a call that asks somebody and does not join needs a reservation
 pub asking_needs : (s : State) (key : Bytes) (op : Op) (first : First) → load_joined s key op ≡ None → first_asked s.config op (entry_at s.cache key) ≡ first → reserves first ≡ true → needs_reservation s key op ≡ true
 asking_needs s key op first alone asks some = λ i. ((λ j. reserves (asks j)) ∙ some) i && is_none (alone i)
+
+-- 3. Which refusal it is.
+
+by_row : (why : Refusal) (full busy flying joining : Bool) (r : Refusal) → (is_put_off why ≡ true) ⊎ (why ≡ refusal.HistoryFull)
+    → (if full then Some why else (if busy then Some refusal.Busy else (if flying then Some refusal.TooManyInFlight else (if joining then Some refusal.TooManyJoiners else None)))) ≡ Some r
+    → (is_put_off r ≡ true) ⊎ (r ≡ refusal.HistoryFull)
+by_row why true busy flying joining r known is = subst (λ (x : Refusal). (is_put_off x ≡ true) ⊎ (x ≡ refusal.HistoryFull)) (same_Some why r is) known
+by_row why false true flying joining r known is = inl (ap is_put_off (sym (same_Some refusal.Busy r is)))
+by_row why false false true joining r known is = inl (ap is_put_off (sym (same_Some refusal.TooManyInFlight r is)))
+by_row why false false false true r known is = inl (ap is_put_off (sym (same_Some refusal.TooManyJoiners r is)))
+by_row why false false false false r known is = cc
+
+without_room : (again : Bool) → let why = if again then refusal.Busy else refusal.HistoryFull in (is_put_off why ≡ true) ⊎ (why ≡ refusal.HistoryFull)
+without_room true = inl refl
+without_room false = inr refl
+
+pub put_off_or_full : (state : State) (caller : Caller) (key : Bytes) (op : Op) (r : Refusal) → first_refusal state caller key op ≡ Some r → (is_put_off r ≡ true) ⊎ (r ≡ refusal.HistoryFull)
+put_off_or_full state caller key op r is =
+    by_row (full_refusal state caller.call) _ _ _ _ r (without_room (state.lives && nat_lt caller.call last_number && nat_lt state.next last_number)) is
+
+pub lacks_room : (state : State) (caller : Caller) (key : Bytes) (op : Op) → first_refusal state caller key op ≡ Some refusal.HistoryFull → has_room state caller.call (places_needed (needs_free_key state key op)) ≡ false
+lacks_room state caller key op is = by_other _ (full_refusal state caller.call) _ _ _ is
+  where
+    by_other : (room : Bool) (why : Refusal) (busy flying joining : Bool)
+        → (if not room then Some why else (if busy then Some refusal.Busy else (if flying then Some refusal.TooManyInFlight else (if joining then Some refusal.TooManyJoiners else None)))) ≡ Some refusal.HistoryFull → room ≡ false
+    by_other false why busy flying joining is = refl
+    by_other true why true flying joining is = let bad : Some refusal.Busy ≡ Some refusal.HistoryFull = is in cc
+    by_other true why false true joining is = let bad : Some refusal.TooManyInFlight ≡ Some refusal.HistoryFull = is in cc
+    by_other true why false false true is = let bad : Some refusal.TooManyJoiners ≡ Some refusal.HistoryFull = is in cc
+    by_other true why false false false is = let bad : None ≡ Some refusal.HistoryFull = is in cc
+
+-- a call that is not refused is not the last one
+pub call_below : (state : State) (caller : Caller) (key : Bytes) (op : Op) → first_refusal state caller key op ≡ None → nat_lt caller.call last_number ≡ true
+call_below state caller key op none =
+    let needed = places_needed (needs_free_key state key op) in
+    let room = (not_refused state caller key op none).room in
+    (and_parts (nat_le (length state.history + promised state + needed) state.config.history) (nat_lt caller.call last_number)
+    (and_parts (nat_le (length state.history + promised state + needed) state.config.history && nat_lt caller.call last_number) (nat_lt state.next last_number) room).0).1
+
+-- where a full history may end, only a number's end is a full history
+pub ends_numbers : (state : State) (caller : Caller) (key : Bytes) (op : Op) → state.lives ≡ true → first_refusal state caller key op ≡ Some refusal.HistoryFull → (nat_lt caller.call last_number && nat_lt state.next last_number) ≡ false
+ends_numbers state caller key op lives is = by_end state.lives (nat_lt caller.call last_number) (nat_lt state.next last_number) _ _ _ _ lives is
+  where
+    by_end : (lives early next room busy flying joining : Bool) → lives ≡ true
+        → (if not room then Some (if lives && early && next then refusal.Busy else refusal.HistoryFull) else (if busy then Some refusal.Busy else (if flying then Some refusal.TooManyInFlight else (if joining then Some refusal.TooManyJoiners else None)))) ≡ Some refusal.HistoryFull
+        → (early && next) ≡ false
+    by_end false early next room busy flying joining alive is = cc
+    by_end true false next room busy flying joining alive is = refl
+    by_end true true false room busy flying joining alive is = refl
+    by_end true true true false busy flying joining alive is = let bad : Some refusal.Busy ≡ Some refusal.HistoryFull = is in cc
+    by_end true true true true true flying joining alive is = let bad : Some refusal.Busy ≡ Some refusal.HistoryFull = is in cc
+    by_end true true true true false true joining alive is = let bad : Some refusal.TooManyInFlight ≡ Some refusal.HistoryFull = is in cc
+    by_end true true true true false false true alive is = let bad : Some refusal.TooManyJoiners ≡ Some refusal.HistoryFull = is in cc
+    by_end true true true true false false false alive is = let bad : None ≡ Some refusal.HistoryFull = is in cc

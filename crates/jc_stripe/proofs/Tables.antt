@@ -30,6 +30,7 @@ use Rattle.jc_stripe.specs.State.{State, is_of as is_own_key, is_reserved, new_r
 use Rattle.jc_stripe.specs.Refusals.{first_asked, load_joined}
 use Rattle.jc_stripe.specs.OrderOfUse.{by_use}
 use Rattle.jc_stripe.specs.Phases.{MayBegin, with_joiner, Withdraws, after_withdrawal, PicksUp, without_joiner, is_other_join}
+use Rattle.jc_stripe.specs.Generations.{IsChain}
 use Rattle.jc_stripe.specs.Reached.{IsReached, IsOpened, AreNumbered, AllAsk, AllJoin, FindsLoad, may_end, may_share, are_beside, are_apart, all_apart, is_own}
 use Rattle.jc_types.specs.declared.limits.TheConstants.{STEP_PLACES, HIT_PLACES, RESERVATIONS_MAX, JOINERS_MAX}
 use Rattle.jc_stripe.proofs.Refusing.{joins_known}
@@ -53,6 +54,8 @@ reached_start state start =
     let waiting : count_by waits state.joiners ≡ 0 = ap (count_by waits) joiners in
     record {
       config_fits = start.config_fits;
+      chain = subst (λ gs. IsChain state.config gs state.opening) (sym start.ended) tt;
+      one_life = λ alone. start.ended;
       opened_once = start.once;
       opens = opens;
       legal = record {
@@ -113,6 +116,8 @@ record Tabled (state : State) (rs : List Reservation) (js : List Joiner) (next :
 reached_tabled : (state : State) (rs : List Reservation) (js : List Joiner) (next : ℕ) → IsReached state → Tabled state rs js next → IsReached (tabled state rs js next)
 reached_tabled state rs js next old new = record {
   config_fits = old.config_fits;
+  chain = old.chain;
+  one_life = old.one_life;
   opened_once = old.opened_once;
   opens = old.opens;
   legal = old.legal;

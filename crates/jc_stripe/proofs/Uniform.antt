@@ -50,7 +50,7 @@ session_differs session other s differs is = nat_eq_equiv.symm s other ∙ ap (�
 uniform_same : (session : ℕ) (old new : State) → IsReached old → new ≡ old → KeepsOthers session old new
 uniform_same session old new reached is = record {
   reached = subst IsReached (sym is) reached;
-  grows = same_on old new old is (record { config = refl; stripe = refl; origin = refl; opening = refl }) refl;
+  grows = same_on old new old is (record { config = refl; stripe = refl; origin = refl; lives = refl; ended = refl; opening = refl }) refl;
   next = let n = ap (λ (s : State). s.next) is in omega arith;
   others = λ other differs. ap (λ (s : State). own_steps other s) is;
 }

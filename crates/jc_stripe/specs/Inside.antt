@@ -16,7 +16,9 @@ state_of s =
       config = s.config;
       stripe = s.number;
       origin = s.origin;
-      opening = s.opening;
+      lives = s.lives;
+      ended = s.life.ended;
+      opening = s.life.opening;
       cache = from_entries s.entries.list;
       reservations = s.reservations.held;
       joiners = s.joiners;
@@ -27,7 +29,7 @@ state_of s =
 pub record IsStripe (s : Inside) : Type 0 where
   pub capacity : s.entries.capacity ≡ s.config.capacity
   pub limit : s.history.limit ≡ s.config.history
-  pub by_use : s.entries.list ≡ by_use s.opening s.history.events
+  pub by_use : s.entries.list ≡ by_use s.life.opening s.history.events
   pub promised : s.history.promised ≡ promised (state_of s)
   pub boxes : s.boxes + length s.reservations.held ≡ RESERVATIONS_MAX
   pub state : IsReached (state_of s)

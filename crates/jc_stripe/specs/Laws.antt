@@ -40,6 +40,8 @@ pub record IsSameStripe (old new : State) : Type 0 where
   pub config : new.config ≡ old.config
   pub stripe : new.stripe ≡ old.stripe
   pub origin : new.origin ≡ old.origin
+  pub lives : new.lives ≡ old.lives
+  pub ended : new.ended ≡ old.ended
   pub opening : new.opening ≡ old.opening
 
 -- and its history begins with the earlier one

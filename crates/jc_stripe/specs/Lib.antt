@@ -1,6 +1,8 @@
 pub mod Tickets
 pub mod State
+pub mod Life
 pub mod OrderOfUse
+pub mod Generations
 pub mod Refusals
 pub mod Finding
 pub mod Phases
@@ -10,6 +12,7 @@ pub mod Appending
 pub mod Inside
 pub mod Laws
 pub mod OnePhase
+pub mod Renewal
 pub mod OwnSteps
 pub mod Tests
 pub mod Keys

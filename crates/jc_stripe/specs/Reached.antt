@@ -38,6 +38,7 @@ use Rattle.jc_stripe.specs.declared.ticket.Reservation.{Reservation}
 use Rattle.jc_stripe.specs.State.{State, is_of, is_key, waits, promised, reservation_of}
 use Rattle.jc_stripe.specs.Refusals.{first_asked, load_at}
 use Rattle.jc_stripe.specs.OrderOfUse.{by_use}
+use Rattle.jc_stripe.specs.Generations.{IsChain}
 use Rattle.jc_stripe.specs.Phases.{is_other_call, is_other_join}
 
 -- 1. Reservations.
@@ -111,6 +112,8 @@ pub record IsUsed (state : State) : Type 0 where
 
 pub record IsReached (state : State) : Type 0 where
   pub config_fits : check state.config ≡ Ok tt
+  pub chain : IsChain state.config state.ended state.opening
+  pub one_life : state.lives ≡ false → state.ended ≡ []
   pub opened_once : IsTrue (has_distinct_keys state.opening)
   pub opens : IsOpening state.config state.stripe (from_entries state.opening)
   pub legal : IsHistory state.config (from_entries state.opening) state.history state.cache
@@ -133,6 +136,7 @@ pub record IsReached (state : State) : Type 0 where
 -- the first state, whatever it opens with
 pub record IsOpened (state : State) : Type 0 where
   pub config_fits : check state.config ≡ Ok tt
+  pub ended : state.ended ≡ []
   pub once : IsTrue (has_distinct_keys state.opening)
   pub own : IsTrue (list_all (λ entry. is_of state entry.0) state.opening)
   pub few : length state.opening ≤ state.config.capacity

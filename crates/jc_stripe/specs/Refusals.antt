@@ -15,7 +15,9 @@
 --     last_number        the number at which a session's call numbers and a stripe's reservation numbers end
 --     has_room           the history has these places free, beside the reserved ones, and neither number is at its end
 --     needs_reservation  the call reserves its key: it asks somebody, and does not join
---     first_refusal      the first refusal whose condition holds: history full, busy, too many in flight, too many joiners
+--     full_refusal       why a call is refused that lacks room: the history is full; or, where a full history may end and no number is at
+--                        its end, it is to try again
+--     first_refusal      the first refusal whose condition holds: no room, busy, too many in flight, too many joiners
 use Rattle.std.specs.Prelude.{ℕ, ◌+◌, length, Bool, true, false, not, ◌&&◌, ◌||◌, Option, None, Some, is_some, is_none, nat_lt, nat_le, if◌then◌else◌}
 use Rattle.jc_types.specs.declared.caller.Caller.{Caller}
 use Rattle.jc_types.specs.declared.config.Config.{Config}
@@ -135,12 +137,16 @@ has_room state call needed = nat_le (length state.history + promised state + nee
 
 -- 3. The refusals, in their order.
 
+-- of a call that lacks room. Where the stripe lives on and the numbers aren't at their end, a place will be free
+abbrev pub full_refusal : State → ℕ → Refusal
+full_refusal state call = if state.lives && nat_lt call last_number && nat_lt state.next last_number then refusal.Busy else refusal.HistoryFull
+
 abbrev pub needs_reservation : State → Bytes → Op → Bool
 needs_reservation state key op = reserves (first_asked state.config op (entry_at state.cache key)) && is_none (load_joined state key op)
 
 abbrev pub first_refusal : State → Caller → Bytes → Op → Option Refusal
 first_refusal state caller key op =
-    if not (has_room state caller.call (places_needed (needs_free_key state key op))) then Some refusal.HistoryFull
+    if not (has_room state caller.call (places_needed (needs_free_key state key op))) then Some (full_refusal state caller.call)
     else (if is_reserved state key && needs_free_key state key op then Some refusal.Busy
     else (if needs_reservation state key op && nat_le RESERVATIONS_MAX (length state.reservations) then Some refusal.TooManyInFlight
     else (if is_some (load_joined state key op) && nat_le JOINERS_MAX (length state.joiners) then Some refusal.TooManyJoiners else None)))

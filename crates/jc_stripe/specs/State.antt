@@ -1,4 +1,5 @@
 -- A stripe's state.
+--     Generation          a generation that has ended
 --     State               the stripe as a caller may know it
 --     is_of               whether a key is of this stripe
 --     waits               whether a joiner waits for its load
@@ -30,10 +31,17 @@ use Rattle.jc_stripe.specs.declared.ticket.First.{First}
 use Rattle.jc_stripe.specs.declared.ticket.Reservation.{Reservation}
 use Rattle.jc_stripe.specs.Tickets.{JoinClaim}
 
+-- a generation that has ended: the entries before its history, the most recently used first, and its history
+pub record Generation : Type 0 where
+  pub opening : List (Bytes × Bytes)
+  pub history : List Event
+
 pub record State : Type 0 where
   pub config : Config
   pub stripe : ℕ  -- the stripe's number among those of the cache
   pub origin : Origin  -- whether the outside answers are live or played
+  pub lives : Bool  -- whether a full history may end, and the next one begin
+  pub ended : List Generation  -- the generations that have ended, the oldest first
   pub opening : List (Bytes × Bytes)  -- the entries before its history, the most recently used first
   pub cache : Cache
   pub reservations : List Reservation  -- in the order of reserving

@@ -6,7 +6,8 @@
 mod appending;
 mod begun;
 mod call_rules;
-mod opening;
+mod life;
+mod log;
 pub mod phase_laws;
 mod reopening;
 mod stripe;

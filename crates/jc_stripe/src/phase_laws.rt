@@ -1,6 +1,7 @@
 //! The laws of the phases, over every stripe. Each function does nothing: what it says is its contract.
 ghost use Rattle.jc_stripe.specs.Laws.{StaysReached, OpenedIsReached, ReachedIsLegal, Grows, KeepsReserved};
 ghost use Rattle.jc_stripe.specs.OnePhase.{OnePhase};
+ghost use Rattle.jc_stripe.specs.Renewal.{LivesOn, Renewal};
 ghost use Rattle.jc_stripe.specs.OwnSteps.{OwnSteps, CallerNumbers, OwnNumbers, StepsBehind, WholeCall, JoinsOnlyLoads};
 
 /// A stripe in which nothing has happened yet is as every stripe is (`IsReached`), whatever entries it opens with: as many as it may
@@ -57,6 +58,18 @@ pub fn caller_numbers()
 /// further one; and if the call may begin at a key, it may after a step that it has made at another key.
 pub fn own_numbers()
     ensures { OwnNumbers }
+{}
+
+/// A renewal leaves the whole history, all own steps of each session, and what is cached as they were; and the stripe is as every
+/// stripe is.
+pub fn renewal()
+    ensures { Renewal }
+{}
+
+/// A stripe that lives on is as every stripe is; and there a call is refused as `HistoryFull` only if the number of the call, or that
+/// of the stripe's next reservation, is at its end.
+pub fn lives_on()
+    ensures { LivesOn }
 {}
 
 /// A step that may still come after a history is not in it: whoever finds it later finds it behind.

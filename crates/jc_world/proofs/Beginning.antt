@@ -111,6 +111,8 @@ empty_count config base (suc count) = ap suc (empty_count config (base + 1) coun
 pub reached_empty : (config : Config) (n : ℕ) → check config ≡ Ok tt → IsReached (empty_stripe config n)
 reached_empty config n fits = record {
   config_fits = fits;
+  chain = tt;
+  one_life = λ alone. refl;
   opened_once = refl;
   opens = empty_opens config n;
   legal = record { groups = []; spelled = refl; lawful = tt; left = refl; order = refl };

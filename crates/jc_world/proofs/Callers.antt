@@ -68,6 +68,8 @@ goes from mid to caller key op out callers done same history steps = record {
     config = ap (λ (s : State). s.config) steps.after ∙ same.config;
     stripe = ap (λ (s : State). s.stripe) steps.after ∙ same.stripe;
     origin = ap (λ (s : State). s.origin) steps.after ∙ same.origin;
+    lives = ap (λ (s : State). s.lives) steps.after ∙ same.lives;
+    ended = ap (λ (s : State). s.ended) steps.after ∙ same.ended;
     opening = ap (λ (s : State). s.opening) steps.after ∙ same.opening;
   };
   more = events_of (length mid.history) (new_group mid caller key op out callers steps.short);
@@ -181,7 +183,7 @@ order_done stays w u key op met from to done there begins may old =
     let new : WorldState = with_settled (with_phase w key from to) call key met in
     let at = old.shape.each (home w key) from there in
     let reached = stays.begins from to u.caller key op (Begun.Done done) at.reached (begins_with w u key op from old there may) begins in
-    let g = goes from from to u.caller key op nothing_said [] done (record { config = refl; stripe = refl; origin = refl; opening = refl }) refl begins.2 in
+    let g = goes from from to u.caller key op nothing_said [] done (record { config = refl; stripe = refl; origin = refl; lives = refl; ended = refl; opening = refl }) refl begins.2 in
     let one : IsPut w new call key u.caller key = record { v = u; here = may.here; session_is = refl; op = op; op_is = may.op_is; unserved = unserved w u.caller key may.alone old; over = inl (refl, refl) } in
     let kept : (rs : List Reservation) → AllOwned w rs → AllOwned new rs = λ rs. each_map (IsOwned w) (IsOwned new) rs (λ r h. record { part = h.part; call = call_kept w call key met r (not_own w call key r may.none h) h }) in
     order_stepped w key from to call met w.parts old there g reached
@@ -330,7 +332,7 @@ ending w call key met part from to done is part_call r_key there out steps owned
     let r = part.reservation in
     let u = some_of (open_call w r.caller.call) (IsCallOf r.caller.session r.key r.op) owned.call in
     let mid = after_commit from r done.place in
-    let g = goes from mid to r.caller r.key r.op (out_of part) (callers_of r.number from.joiners) done (record { config = refl; stripe = refl; origin = refl; opening = refl }) refl steps in
+    let g = goes from mid to r.caller r.key r.op (out_of part) (callers_of r.number from.joiners) done (record { config = refl; stripe = refl; origin = refl; lives = refl; ended = refl; opening = refl }) refl steps in
     let n = ended_world w key from to call met in
     let alone : is_joined w r.caller.call r.key ≡ false = (λ i. is_joined w (part_call i) (r_key i)) ∙ false_from_ne_true (is_joined w call key) (λ t. let e : Some part ≡ None = sym is ∙ joined_no_part w call key t old.joins in cc) in
     let one : IsPut w n call key r.caller r.key = record { v = u.0; here = u.1; session_is = u.2.0; op = r.op; op_is = u.2.1; unserved = unserved w r.caller r.key alone old; over = inl (part_call, r_key) } in

@@ -18,13 +18,13 @@ out_reserved key r (x ∷ xs) h =
     ] h
 
 -- only what needs no free key is not refused as busy
-pick : (room is_there needs : Bool) (other : Option Refusal) → cond (not room) (Some Refusal.HistoryFull) (cond (is_there && needs) (Some Refusal.Busy) other) ≡ None → is_there ≡ true → needs ≡ false
-pick true true false other h e = refl
-pick room is_there needs other h e = cc
+pick : (why : Refusal) (room is_there needs : Bool) (other : Option Refusal) → cond (not room) (Some why) (cond (is_there && needs) (Some Refusal.Busy) other) ≡ None → is_there ≡ true → needs ≡ false
+pick why true true false other h e = refl
+pick why room is_there needs other h e = cc
 
 -- a call that is not refused at a reserved key needs no free key
 needs_none : (s : State) (caller : Caller) (key : Bytes) (op : Op) → first_refusal s caller key op ≡ None → is_reserved s key ≡ true → needs_free_key s key op ≡ false
-needs_none s caller key op none there = pick (has_room s caller.call (places_needed (needs_free_key s key op))) (is_reserved s key) (needs_free_key s key op) _ none there
+needs_none s caller key op none there = pick _ (has_room s caller.call (places_needed (needs_free_key s key op))) (is_reserved s key) (needs_free_key s key op) _ none there
 
 -- what needs no free key and joins no load answers at once
 only_answers : (answers : Bool) (load : Option ℕ) → not (answers || is_some load) ≡ false → load ≡ None → answers ≡ true

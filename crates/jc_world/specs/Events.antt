@@ -56,7 +56,7 @@
 --     AllFit                      whatever the world may choose, each of these events fits when it comes
 use Rattle.std.specs.Prelude.{◌≡◌, ◌⊎◌, ℕ, List, [], ◌∷◌, ◌++◌, length, drop, Bool, true, false, Option, None, Some, map, option_map, slice_get, slice_set, if◌then◌else◌}
 use Rattle.std.specs.List.{filter_map, list_all}
-use Rattle.std.specs.FinMap.{get, insert, remove, empty}
+use Rattle.std.specs.FinMap.{get, insert, remove}
 use Rattle.jc_types.specs.declared.caller.Caller.{Caller}
 use Rattle.jc_types.specs.declared.refusal.Refusal.{Refusal}
 use Rattle.jc_types.specs.declared.refusal.Refusal.TheVariants.{TooManyKeys, WriterFailed}
@@ -101,7 +101,7 @@ use Rattle.jc_world.specs.declared.reports.WriterBatch.{WriterBatch}
 use Rattle.jc_world.specs.Calls.{CallState, SweepState, open_keys, puts_off, op_at, new_call, has_too_many_keys, opened, over_of, settle, over_settled, meet, drop_call, with_found, look}
 use Rattle.jc_world.specs.declared.event.Part.{Part}
 use Rattle.jc_world.specs.declared.event.PartProgress.{PartProgress}
-use Rattle.jc_world.specs.World.{WorldState, home, stripe_for, open_call, of_call, part_of, Parts, waits_for_report, has_changed, join_of, join_key, out_of, writer_change}
+use Rattle.jc_world.specs.World.{WorldState, start, home, stripe_for, open_call, of_call, part_of, Parts, waits_for_report, has_changed, join_of, join_key, out_of, writer_change}
 use Rattle.jc_world.specs.Premises.{opens_coherent, read_answer, changed_to, report_for, is_true_load, is_true_report, with_loader, with_writer, with_foreign_write, load_from}
 use Rattle.jc_world.specs.declared.process.Processed.{Processed as ProcessShown}
 use Rattle.jc_world.specs.Fits.{fits, is_in_batch, writer_batch}
@@ -378,15 +378,10 @@ stripes_reopened config w = opened_stripes config Played (all_entries w.stripes)
 -- the store stays, and the highest number of a call
 abbrev pub after_reopening : Config → WorldState → WorldState
 after_reopening config w =
-    record {
-      config = config;
+    record (start config) {
       stripes = stripes_reopened config w;
-      order = [];
       store = w.store;
       last = w.last;
-      calls = [];
-      parts = empty;
-      joins = empty;
       premises = record { writers = true; loaders = true; quiet = true; opening = opens_coherent w.store (stripes_reopened config w) };
       is_fresh = false;
     }

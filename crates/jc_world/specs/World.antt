@@ -48,6 +48,7 @@ use Rattle.jc_model.specs.Cache.{Bytes, Cache, key_cmp, entry_at, with_entry}
 use Rattle.jc_model.specs.Table.{is_load_given, is_write_given, is_process_given}
 use Rattle.jc_outside.specs.declared.done.Origin.TheVariants.{Played}
 use Rattle.jc_stripe.specs.Tickets.{JoinClaim, asks_loader, asks_processor}
+use Rattle.jc_stripe.specs.Reopening.{opened_stripe}
 use Rattle.jc_stripe.specs.State.{State}
 use Rattle.jc_world.specs.Calls.{CallState, has_number, is_of_session}
 use Rattle.jc_world.specs.declared.event.Part.{Part}
@@ -102,18 +103,7 @@ cached_entry w key = entry_in (stripe_for w key) key
 
 -- an empty stripe
 abbrev pub empty_stripe : Config → ℕ → State
-empty_stripe config number =
-    record {
-      config = config;
-      stripe = number;
-      origin = Played;
-      opening = [];
-      cache = empty;
-      reservations = [];
-      joiners = [];
-      history = [];
-      next = 0;
-    }
+empty_stripe config number = opened_stripe config Played number []
 
 -- as many, from a number on
 abbrev pub empty_stripes : Config → ℕ → ℕ → List State

@@ -1,9 +1,9 @@
 -- Which task a subcommand with its options asks for.
-use Rattle.std.proofs.Common.{◌≡◌, ◌≢◌, ◌<◌, ◌^◌, ◌∙◌, ℕ, List, [], ◌∷◌, Option, None, Some, Ok, Err, Result, option_map, codes, refl, sym, ap, ap₂, subst, unwrap_or}
+use Rattle.std.proofs.Common.{◌≡◌, ◌≢◌, ◌<◌, ◌^◌, ◌∙◌, ℕ, List, [], ◌∷◌, Option, None, Some, Ok, Err, Result, option_map, codes, refl, sym, ap, subst, unwrap_or}
 use Rattle.std.specs.Str.Parse.{IsNumeral, ParsesUnsigned, digits_value, without_leading_plus}
 use Rattle.clap.specs.Walk.{Row, Text, one_of}
 use Rattle.clap.specs.Matches.{ReadsOne}
-use Rattle.jcache.specs.CommandLine.{IsAsked, Spells}
+use Rattle.jcache.specs.CommandLine.{IsAsked, Spells, SpellsIf}
 use Rattle.jcache.specs.declared.commands.Task.{Task}
 use Rattle.jcache.specs.declared.commands.Task.TheVariants as task
 
@@ -23,20 +23,32 @@ spelled found name text options n is has numeral small spells =
     let read : Spells (Some text) n = subst (λ o. Spells o n) at spells in
     read numeral small
 
--- the task of such a subcommand, if it is `threads` and has both options
-pub asks : (found : Option (Text × List Row)) (workers rounds : Text)
+-- the number of an option that isn't there, or of one that spells it
+pub absent : (n : Option ℕ) → SpellsIf None n → n ≡ None
+absent n spells = spells
+
+pub present : (text : Text) → IsNumeral 10 (without_leading_plus text) → digits_value 10 (without_leading_plus text) < 2 ^ 32
+    → (n : Option ℕ) → SpellsIf (Some text) n → n ≡ Some (digits_value 10 (without_leading_plus text))
+present text numeral small n spells = spells numeral small
+
+-- the task of such a subcommand, if it is `threads` and has both options that must be given, and this third one or none
+pub asks : (found : Option (Text × List Row)) (workers rounds : Text) (history : Option Text) (events : Option ℕ)
     → option_map (λ named. named.0) found ≡ Some (codes "threads")
     → option_in (codes "workers") found ≡ Some (Some workers)
     → option_in (codes "rounds") found ≡ Some (Some rounds)
+    → option_in (codes "history") found ≡ Some history
     → IsNumeral 10 (without_leading_plus workers) → digits_value 10 (without_leading_plus workers) < 2 ^ 32
     → IsNumeral 10 (without_leading_plus rounds) → digits_value 10 (without_leading_plus rounds) < 2 ^ 32
+    → ((n : Option ℕ) → SpellsIf history n → n ≡ events)
     → (t : Task) → IsAsked found t
-    → t ≡ task.Threads (record { workers = digits_value 10 (without_leading_plus workers); rounds = digits_value 10 (without_leading_plus rounds) })
-asks found workers rounds named has_workers has_rounds w w' r r' task.Run not_named = absurd (not_named named)
-asks found workers rounds named has_workers has_rounds w w' r r' (task.Threads plan) (options, is, s, s') =
+    → t ≡ task.Threads (record { workers = digits_value 10 (without_leading_plus workers); rounds = digits_value 10 (without_leading_plus rounds); history = events })
+asks found workers rounds history events named has_workers has_rounds has_history w w' r r' reads task.Run not_named = absurd (not_named named)
+asks found workers rounds history events named has_workers has_rounds has_history w w' r r' reads (task.Threads plan) (options, is, s, s', s'') =
     let a = spelled found (codes "workers") workers options plan.workers is has_workers w w' s in
     let b = spelled found (codes "rounds") rounds options plan.rounds is has_rounds r r' s' in
-    ap₂ (λ (x y : ℕ). task.Threads (record { workers = x; rounds = y })) a b
+    let at : one_of (codes "history") options ≡ history = some_injective (sym (ap (option_in (codes "history")) is) ∙ has_history) in
+    let c : plan.history ≡ events = reads plan.history (subst (λ o. SpellsIf o plan.history) at s'') in
+    λ i. task.Threads (record { workers = a i; rounds = b i; history = c i })
 
 -- what a parser of numbers read of an option; gives: what it says of a text
 pub reads : {E : Type 0} (gives : Text → Result ℕ E → Type 0) (one : Option Text) (found : Option ℕ)
@@ -46,5 +58,16 @@ pub reads : {E : Type 0} (gives : Text → Result ℕ E → Type 0) (one : Optio
 reads gives None found unsigned none value = ap (λ o. unwrap_or o 0) (none refl)
 reads gives (Some text) (Some n) unsigned none value = λ numeral small. let u = unsigned text (Ok n) (value text refl) in u.1
 reads gives (Some text) None unsigned none value = λ numeral small.
+    let failed = value text refl in
+    absurd (unsigned text (Err failed.0) failed.1 (numeral, small))
+
+-- and of one that needn't be given
+pub reads_if : {E : Type 0} (gives : Text → Result ℕ E → Type 0) (one : Option Text) (found : Option ℕ)
+    → ((t : Text) (r : Result ℕ E) → gives t r → ParsesUnsigned 32 10 t r)
+    → (one ≡ None → found ≡ None) → ((t : Text) → one ≡ Some t → ReadsOne gives t found)
+    → SpellsIf one found
+reads_if gives None found unsigned none value = none refl
+reads_if gives (Some text) (Some n) unsigned none value = λ numeral small. let u = unsigned text (Ok n) (value text refl) in ap (λ (m : ℕ). Some m) u.1
+reads_if gives (Some text) None unsigned none value = λ numeral small.
     let failed = value text refl in
     absurd (unsigned text (Err failed.0) failed.1 (numeral, small))

@@ -1,17 +1,19 @@
 -- The command line: which words are right, what they ask for, and what is wrong with the others.
---     option_rule               an option with a number, which must be given
---     threads                   the command of the subcommand `threads`: two such options, with their ranges
+--     option_rule               an option with a number, which must be given or needn't
+--     threads                   the command of the subcommand `threads`: three such options, with their ranges
 --     program                   the command, as `clap` sees it: it has a version and two subcommands, `run` and `threads`, one of which
 --                               must be named
 --     faults_at                 the kinds of error that these words may have, the program's name first; none if they are right
 --     subcommand_at             the subcommand that these words name, with its options
---     Spells                    the number that an option's text spells in decimal digits
+--     Spells, SpellsIf          the number that an option's text spells in decimal digits: of one that must be given, and of one that
+--                               needn't
 --     IsAsked                   the task of a subcommand with its options
 --     RunIsRight                `run` alone is right, whatever the program is called, and asks for a script
 --     AsksFor                   these words are right, and ask for threads by this plan
---     ThreadsIsRight            `threads` with both options is right, in any order of them, and asks for so many threads and rounds
---     OptionMissingIsWrong      `threads` without one of its options is wrong
---     NumberIsWrong             `threads` with no thread, with 32, with no round, with 10,001 or with a word that is no number is wrong
+--     ThreadsIsRight            `threads` with both options that must be given is right, in any order of them, and asks for so many
+--                               threads and rounds; so it is with the third one
+--     OptionMissingIsWrong      `threads` without one of the two is wrong
+--     NumberIsWrong             `threads` with no thread, with 32, with no round, with 10,001, with a word that is no number, or with histories of 15 or 65,537 events is wrong
 --     NoWordIsWrong             no word at all is wrong: a subcommand is missing
 --     UnknownWordIsWrong        a word that isn't the program's, as `play`, is wrong
 --     WordTooManyIsWrong        a word after `run` is wrong
@@ -19,7 +21,7 @@
 --     HelpIsShown               `--help` and `-h` ask for help, before a subcommand and after it
 --     HelpWordIsShownOrWrong    `help` asks for help, or is wrong: `clap`'s contract leaves it open
 --     VersionIsShown            `--version` and `-V` ask for the version
-use Rattle.std.specs.Prelude.{◌≡◌, ◌≢◌, ◌<◌, ◌^◌, ℕ, List, [], ◌∷◌, true, codes, pos, Option, None, Some, option_map}
+use Rattle.std.specs.Prelude.{◌≡◌, ◌≢◌, ◌<◌, ◌^◌, ℕ, List, [], ◌∷◌, Bool, true, false, codes, pos, Option, None, Some, option_map}
 use Rattle.std.specs.Str.Parse.{IsNumeral, digits_value, without_leading_plus}
 use Rattle.clap.specs.Walk.{Row, Rule, Text, one_of}
 use Rattle.clap.specs.Words.{App, Kinds, fault_of, new_app, new_rule, subcommand_of, with_rule, with_subcommand}
@@ -29,17 +31,19 @@ use Rattle.clap.specs.declared.error.kind.ErrorKind.TheVariants as kind
 use Rattle.jcache.specs.declared.commands.Task.{Task}
 use Rattle.jcache.specs.declared.commands.Task.TheVariants as task
 use Rattle.jcache.specs.declared.plan.Plan.{Plan}
-use Rattle.jcache.specs.declared.plan.TheConstants.{WORKERS_MAX, ROUNDS_MAX}
+use Rattle.jcache.specs.declared.plan.TheConstants.{WORKERS_MAX, ROUNDS_MAX, EVENTS_MIN, EVENTS_MAX}
 
 -- 1. The command.
 
-abbrev pub option_rule : Text → ValueParser → Rule
-option_rule name parser = record (new_rule name) { long = Some name; value_names = 1; required = true; parser = Some parser }
+abbrev pub option_rule : Text → ValueParser → Bool → Rule
+option_rule name parser required = record (new_rule name) { long = Some name; value_names = 1; required = required; parser = Some parser }
 
 abbrev pub threads : App
 threads =
-    with_rule (with_rule (new_app (codes "threads")) (option_rule (codes "workers") (Signed (pos 1) (pos WORKERS_MAX))))
-    (option_rule (codes "rounds") (Signed (pos 1) (pos ROUNDS_MAX)))
+    with_rule
+    (with_rule (with_rule (new_app (codes "threads")) (option_rule (codes "workers") (Signed (pos 1) (pos WORKERS_MAX)) true))
+    (option_rule (codes "rounds") (Signed (pos 1) (pos ROUNDS_MAX)) true))
+    (option_rule (codes "history") (Signed (pos EVENTS_MIN) (pos EVENTS_MAX)) false)
 
 abbrev pub program : App
 program =
@@ -61,12 +65,18 @@ Spells None number = number ≡ 0
 Spells (Some text) number =
     IsNumeral 10 (without_leading_plus text) → digits_value 10 (without_leading_plus text) < 2 ^ 32 → number ≡ digits_value 10 (without_leading_plus text)
 
+abbrev pub SpellsIf : Option Text → Option ℕ → Type 0
+SpellsIf None number = number ≡ None
+SpellsIf (Some text) number =
+    IsNumeral 10 (without_leading_plus text) → digits_value 10 (without_leading_plus text) < 2 ^ 32 → number ≡ Some (digits_value 10 (without_leading_plus text))
+
 abbrev pub IsAsked : Option (Text × List Row) → Task → Type 0
 IsAsked found task.Run = option_map (λ named. named.0) found ≢ Some (codes "threads")
 IsAsked found (task.Threads plan) =
     (options : List Row) × (found ≡ Some (codes "threads", options))
     × Spells (one_of (codes "workers") options) plan.workers
     × Spells (one_of (codes "rounds") options) plan.rounds
+    × SpellsIf (one_of (codes "history") options) plan.history
 
 -- 3. Words that are written out.
 
@@ -78,8 +88,9 @@ AsksFor words plan = (faults_at words ≡ []) × ((t : Task) → IsAsked (subcom
 
 abbrev pub ThreadsIsRight : Type 0
 ThreadsIsRight = (name : List ℕ)
-    → AsksFor (name ∷ codes "threads" ∷ codes "--workers" ∷ codes "4" ∷ codes "--rounds" ∷ codes "100" ∷ []) (record { workers = 4; rounds = 100 })
-    × AsksFor (name ∷ codes "threads" ∷ codes "--rounds=10000" ∷ codes "--workers=31" ∷ []) (record { workers = 31; rounds = 10000 })
+    → AsksFor (name ∷ codes "threads" ∷ codes "--workers" ∷ codes "4" ∷ codes "--rounds" ∷ codes "100" ∷ []) (record { workers = 4; rounds = 100; history = None })
+    × AsksFor (name ∷ codes "threads" ∷ codes "--rounds=10000" ∷ codes "--workers=31" ∷ []) (record { workers = 31; rounds = 10000; history = None })
+    × AsksFor (name ∷ codes "threads" ∷ codes "--rounds=10000" ∷ codes "--workers=31" ∷ codes "--history=16" ∷ []) (record { workers = 31; rounds = 10000; history = Some 16 })
 
 abbrev pub OptionMissingIsWrong : Type 0
 OptionMissingIsWrong = (name : List ℕ)
@@ -93,6 +104,8 @@ NumberIsWrong = (name : List ℕ)
     × (faults_at (name ∷ codes "threads" ∷ codes "--workers=1" ∷ codes "--rounds=0" ∷ []) ≡ kind.ValueValidation ∷ [])
     × (faults_at (name ∷ codes "threads" ∷ codes "--workers=1" ∷ codes "--rounds=10001" ∷ []) ≡ kind.ValueValidation ∷ [])
     × (faults_at (name ∷ codes "threads" ∷ codes "--workers=all" ∷ codes "--rounds=1" ∷ []) ≡ kind.ValueValidation ∷ [])
+    × (faults_at (name ∷ codes "threads" ∷ codes "--workers=1" ∷ codes "--rounds=1" ∷ codes "--history=15" ∷ []) ≡ kind.ValueValidation ∷ [])
+    × (faults_at (name ∷ codes "threads" ∷ codes "--workers=1" ∷ codes "--rounds=1" ∷ codes "--history=65537" ∷ []) ≡ kind.ValueValidation ∷ [])
 
 abbrev pub NoWordIsWrong : Type 0
 NoWordIsWrong = (name : List ℕ) → faults_at (name ∷ []) ≡ kind.MissingSubcommand ∷ []

@@ -3,6 +3,7 @@
 --     status_of         the status of a report that was written: 0 if it is right, else 5
 --     ShowsReport       a report was written, and this status says whether it is right; or a write failed; or an allocation did, and nothing
 --                       was written
+--     is_too_much       a plan has more increments than one history has room for, and its cache doesn't live on
 --     ExitOfThreads     a report on these threads was shown; or they were too much work; or an allocation failed, and nothing was written
 --     ExitOfTask        a task was carried out, and this status says how that ended
 --     version_text      what `--version` shows
@@ -14,7 +15,7 @@
 --     Exit              the task of right words is carried out; wrong ones are reported, and nothing is read; or an allocation failed,
 --                       and nothing was read or written
 --     FailsByStreams    status 3 comes if a stream failed, and only then or if the script is too long; after a failed read nothing is on standard output
-use Rattle.std.specs.Prelude.{◌≡◌, ◌⊎◌, ◌<◌, ◌≤◌, ◌*◌, ◌++◌, ℕ, List, [], Bool, true, Option, IfSome, codes, length, if◌then◌else◌}
+use Rattle.std.specs.Prelude.{◌≡◌, ◌⊎◌, ◌<◌, ◌*◌, ◌&&◌, ◌++◌, ℕ, List, [], Bool, true, false, nat_lt, is_none, Option, IfSome, codes, length, if◌then◌else◌}
 use Rattle.std.specs.Io.KnownBytes.{Appends}
 use Rattle.clap.specs.Walk.{Row, Text}
 use Rattle.clap.specs.Words.{IsAmong, Kinds}
@@ -47,10 +48,13 @@ ShowsReport report status old new silent =
     ((status ≡ status_of report) × Appends old new (report_text report))
     ⊎ ((status ≡ 3) ⊎ ((status ≡ 4) × silent))
 
+abbrev pub is_too_much : Plan → Bool
+is_too_much plan = is_none plan.history && nat_lt INCREMENTS_MAX (plan.workers * plan.rounds)
+
 abbrev pub ExitOfThreads : Plan → (status : ℕ) (old new : Option (List ℕ)) (silent : Type 0) → Type 0
 ExitOfThreads plan status old new silent =
-    ((INCREMENTS_MAX < plan.workers * plan.rounds) × (status ≡ 2) × silent)
-    ⊎ ((plan.workers * plan.rounds ≤ INCREMENTS_MAX)
+    ((is_too_much plan ≡ true) × (status ≡ 2) × silent)
+    ⊎ ((is_too_much plan ≡ false)
     × (((report : Report) × IsReportOf plan report × ShowsReport report status old new silent)
     ⊎ ((status ≡ 4) × silent)))
 

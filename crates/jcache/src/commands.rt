@@ -4,12 +4,12 @@ ghost use Rattle.clap.specs.declared.builder.value_parser.ValueParser.TheVariant
 ghost use Rattle.clap.specs.Walk.{one_of};
 ghost use Rattle.clap.specs.declared.builder.command.Command.TheViews.{out-Command};
 ghost use Rattle.clap.specs.Words.{FailsBy, app_of, found_of, kind_of, rows_of, rule_of, subcommand_rows_of};
-ghost use Rattle.jcache.specs.CommandLine.{program, threads, option_rule, faults_at, subcommand_at, IsAsked, Spells};
+ghost use Rattle.jcache.specs.CommandLine.{program, threads, option_rule, faults_at, subcommand_at, IsAsked, Spells, SpellsIf};
 ghost use Rattle.jcache.specs.CommandLine.{RunIsRight, ThreadsIsRight, OptionMissingIsWrong, NumberIsWrong, NoWordIsWrong, UnknownWordIsWrong};
 ghost use Rattle.jcache.specs.CommandLine.{WordTooManyIsWrong, FlagIsWrong, HelpIsShown, HelpWordIsShownOrWrong};
 ghost use Rattle.jcache.specs.CommandLine.{VersionIsShown};
 
-use crate::plan::{Plan, ROUNDS_MAX, WORKERS_MAX};
+use crate::plan::{EVENTS_MAX, EVENTS_MIN, Plan, ROUNDS_MAX, WORKERS_MAX};
 use clap::builder::ValueParser;
 use clap::error::ErrorKind;
 use clap::{Arg, ArgMatches, Command, Error};
@@ -24,28 +24,29 @@ pub enum Task {
     Threads(Plan),
 }
 
-/// The numbers from 1 to this one.
-fn up_to<'a>(most: u32) -> ValueParser<'a>
-    ensures { result ≡ Signed (pos 1) (pos most) }
+/// The numbers from one to another.
+fn between<'a>(least: u32, most: u32) -> ValueParser<'a>
+    ensures { result ≡ Signed (pos least) (pos most) }
 {
-    ValueParser::Signed(1, i64::from(most))
+    ValueParser::Signed(i64::from(least), i64::from(most))
 }
 
-/// An option with a number, which must be given.
+/// An option with a number, which must be given or needn't.
 fn number_option<'a>(
     alloc: Global,
     name: &'a str,
     parser: ValueParser<'a>,
+    required: bool,
     help: &'a str,
 ) -> Arg<'a>
-    ensures rule { rule_of result ≡ option_rule name.now parser.entry }
+    ensures rule { rule_of result ≡ option_rule name.now parser.entry required }
     ensures local { result.global ≡ false }
 {
     Arg::new(alloc, name)
         .long(name)
         .value_name("NUMBER")
         .help(help)
-        .required(true)
+        .required(required)
         .value_parser(parser)
 }
 
@@ -57,14 +58,23 @@ fn threads_command<'a>(alloc: Global) -> Result<Command<'a>, Error>
     let workers = number_option(
         alloc,
         "workers",
-        up_to(WORKERS_MAX),
+        between(1, WORKERS_MAX),
+        true,
         "How many threads count: 1 to 31",
     );
     let rounds = number_option(
         alloc,
         "rounds",
-        up_to(ROUNDS_MAX),
-        "How often each of them counts: 1 to 10000; all threads together at most 60000 times",
+        between(1, ROUNDS_MAX),
+        true,
+        "How often each of them counts: 1 to 10000; without --history all together at most 60000 times",
+    );
+    let history = number_option(
+        alloc,
+        "history",
+        between(EVENTS_MIN, EVENTS_MAX),
+        false,
+        "How many events the history has room for, 16 to 65536, of a cache that lives on",
     );
     Ok(
         Command::new(alloc, "threads")
@@ -72,7 +82,8 @@ fn threads_command<'a>(alloc: Global) -> Result<Command<'a>, Error>
                 "Counts on threads that share a cache, and writes what they counted to standard output",
             )
             .arg(workers)?
-            .arg(rounds)?,
+            .arg(rounds)?
+            .arg(history)?,
     )
 }
 
@@ -113,6 +124,7 @@ fn task_in(matches: &ArgMatches) -> Task
         Some(options) => Task::Threads(Plan {
             workers: number_in(options, "workers"),
             rounds: number_in(options, "rounds"),
+            history: number_if(options, "history"),
         }),
         None => Task::Run,
     }
@@ -123,6 +135,13 @@ fn number_in(options: &ArgMatches, name: &str) -> u32
     ensures { Spells (one_of name.now (rows_of (found_of options.now))) result }
 {
     options.get_one::<u32>(name).unwrap_or(0)
+}
+
+/// The number of an option that needn't be given.
+fn number_if(options: &ArgMatches, name: &str) -> Option<u32>
+    ensures { SpellsIf (one_of name.now (rows_of (found_of options.now))) result }
+{
+    options.get_one::<u32>(name)
 }
 
 /// Which words are right, and what is wrong with some others.

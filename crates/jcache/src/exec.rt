@@ -6,7 +6,7 @@ ghost use Rattle.clap.specs.Words.{kind_of};
 ghost use Rattle.jcache.specs.Exit.{Exit, ExitOfFault, ExitOfPlay, ExitOfTask, ExitOfThreads, FailsByStreams, IsHelp, ShowsReport, status_of};
 
 use crate::commands::{Task, read_task};
-use crate::plan::{INCREMENTS_MAX, Plan};
+use crate::plan::Plan;
 use crate::report::Report;
 use crate::threads::{Crew, count_on_threads};
 use clap::Error;
@@ -174,7 +174,7 @@ fn count<Rt: Threads + Wait + Sync, W: Write, E: Write>(
     ensures counted { ExitOfThreads plan.now result (W.contents out.old.inner) (W.contents out.new.inner) (out.new ≡ out.old) }
     ensures streams { out.old.failed ≡ false → (result ≡ 3 ↔ out.new.failed ≡ true) }
 {
-    if plan.increments() > INCREMENTS_MAX {
+    if plan.is_too_much() {
         complain(err, "jcache: too much work\n");
         return USAGE;
     }

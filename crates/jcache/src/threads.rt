@@ -34,14 +34,25 @@ pub struct Worker {
     increment: Box<dyn EntryProcessor + Send + Drop>,
 }
 
-/// A cache of one stripe that reads and writes through, with room for each increment in its history.
-fn shape(plan: &Plan) -> Config {
+/// The shape of a cache of one stripe that reads and writes through, with room for so many events in its history.
+fn shape(history: usize) -> Config {
     Config {
         stripes: 1,
         capacity: CAPACITY,
-        history: plan.increments().saturating_add(SPARE_EVENTS) as usize,
+        history,
         read_through: true,
         write_through: true,
+    }
+}
+
+/// Who owns the cache of a plan: it lives on, or has room for each increment in its history.
+fn owner_for(alloc: Global, plan: &Plan) -> Result<CacheOwner, Refusal> {
+    match plan.history {
+        Some(events) => CacheOwner::living(alloc, &shape(events as usize)),
+        None => {
+            let events = plan.increments().saturating_add(SPARE_EVENTS);
+            CacheOwner::new(alloc, &shape(events as usize))
+        }
     }
 }
 
@@ -84,7 +95,7 @@ pub fn count_on_threads<R: Threads + Wait + Sync>(
     ensures { IfOk result (λ report. IsReportOf plan.now report) }
 {
     let Crew { store, outfits } = crew;
-    let Ok(mut owner) = CacheOwner::new(alloc, &shape(plan)) else {
+    let Ok(mut owner) = owner_for(alloc, plan) else {
         return Err(AllocError);
     };
     let team = hire(alloc, &mut owner, outfits, plan.workers)?;

@@ -4,18 +4,19 @@ ghost use Rattle.jc_cache.specs.Sessions.{MayCall};
 
 use super::closing::are_so;
 use super::outside::Outside;
-use super::random::{RELIABLE, UNRELIABLE};
+use super::random::{LIVING, RELIABLE, UNRELIABLE};
 use super::scene::{Scene, scene_of};
 use super::side_by_side::{JOINED, LOADED, MET, RESERVED, put_off};
 use super::stage::Stage;
 use super::whole::{
-    LEFT_IN_PART, LEFT_NORMALLY, LEFT_NOTHING, MANY, NEARLY_FULL, PROCESSED_IN_PART, TOUR,
+    LEFT_IN_PART, LEFT_NORMALLY, LEFT_NOTHING, MANY, MANY_LIVING, NEARLY_FULL, PROCESSED_IN_PART,
+    TOUR,
 };
 use super::*;
 use jc_cache::ClosedStripe;
 use std::thread::Threads;
 
-const SCENES: [&str; 13] = [
+const SCENES: [&str; 15] = [
     TOUR,
     LEFT_IN_PART,
     LEFT_NOTHING,
@@ -23,12 +24,14 @@ const SCENES: [&str; 13] = [
     NEARLY_FULL,
     PROCESSED_IN_PART,
     MANY,
+    MANY_LIVING,
     LOADED,
     JOINED,
     MET,
     RESERVED,
     RELIABLE,
     UNRELIABLE,
+    LIVING,
 ];
 
 const COUNT: usize = SCENES.len();
@@ -62,7 +65,7 @@ fn plays_each_scene(rt: HostRuntime) {
     for at in 0..COUNT {
         let scene = scene_at(&rt, at);
         let outside = Outside::of(&rt, alloc, scene.before);
-        let mut stage = Stage::new(&rt, alloc, &scene.shape);
+        let mut stage = Stage::new(&rt, alloc, &scene.shape, scene.lives);
         'entering: for place in 0..scene.sessions {
             let loader = boxed!(rt, Loader, outside.loader(rt, &scene, place));
             let writer = boxed!(rt, Writer, outside.writer(rt, alloc, &scene, place));

@@ -351,3 +351,13 @@ fault none
 end coherent
 beside random 0 | random 1 | random 2 | random 3
 ";
+
+/// Reliable ones on a cache that lives on, over the shortest histories.
+pub const LIVING: &str = "\
+open 4 3 16 lives
+before 00=1 07=2 12=3 39=4
+sessions 4
+fault none
+end coherent
+beside random 0 | random 1 | random 2 | random 3
+";

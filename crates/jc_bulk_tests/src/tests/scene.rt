@@ -1,6 +1,6 @@
 //! A scene, as a text: a cache, what is outside it, what its sessions do on it, and what there is at the end. Its first lines are
 //!
-//!     open 2 4 100                the cache: stripes, capacity and history
+//!     open 2 4 100                the cache: stripes, capacity and history; `lives` behind them, if it lives on
 //!     before a=1                  what the store has before
 //!     sessions 2 loaders          how many sessions there are; and the loaders, or the `writers`, of two wait for each other at each
 //!                                 call; or, `every 5`, each loader and each writer fails at each fifth call
@@ -13,6 +13,8 @@ use super::*;
 #[derive(Clone, Copy)]
 pub struct Scene<'a> {
     pub shape: Config,
+    /// Whether the cache lives on.
+    pub lives: bool,
     pub before: &'a str,
     pub sessions: usize,
     pub loaders_wait: bool,
@@ -61,7 +63,8 @@ pub fn scene_of<'a>(rt: &impl Abort, text: &'a str) -> Scene<'a> {
     let (end, lines) = head(rt, text, "end");
     let (count, manner) = first_word(sessions);
     Scene {
-        shape: shape_of(rt, shape),
+        shape: shape_of(rt, shape.trim_end_matches(" lives")),
+        lives: shape.ends_with(" lives"),
         before,
         sessions: count.parse().ok().expect(rt, sessions),
         loaders_wait: manner == "loaders",

@@ -186,12 +186,17 @@ fn play_lines<R: Abort + Wait + Threads + Sync>(
 }
 
 impl Stage {
-    /// A cache of this shape, without sessions.
-    pub fn new(rt: &impl Abort, alloc: Global, config: &Config) -> Stage
+    /// A cache of this shape, which lives on or doesn't, without sessions.
+    pub fn new(rt: &impl Abort, alloc: Global, config: &Config, lives: bool) -> Stage
         ensures { All (MayCall result.owner.cache) result.sessions.items }
     {
+        let owner = if lives {
+            CacheOwner::living(alloc, config)
+        } else {
+            CacheOwner::new(alloc, config)
+        };
         Stage {
-            owner: CacheOwner::new(alloc, config).ok().expect(rt, "a cache"),
+            owner: owner.ok().expect(rt, "a cache"),
             sessions: Vec::new(alloc),
         }
     }

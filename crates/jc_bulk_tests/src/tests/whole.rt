@@ -111,3 +111,15 @@ getmany 1024 = -
 own 1024
 counts 0 16 0 0 0 0
 ";
+
+/// The same on a cache that lives on, over a history that has room for five reservations: so many keys a round.
+pub const MANY_LIVING: &str = "\
+open 1 16 16 lives
+before
+sessions 1
+fault none
+end number 1
+getmany 1024 = -
+own 1024
+counts 0 205 0 0 0 0
+";

@@ -26,6 +26,8 @@ struct Three {
 /// - `call`: which call the first session makes phase by phase, on `a`: `get`, `put`, or `invoke` with the processor's calls;
 /// - `reply`: what it is answered;
 /// - `first`, `between`, `then`: what a third session does before the first phase, between the phases, and after the last one;
+/// - `parked`: what it does while the second session's answer waits to be picked up;
+/// - `lives`: that the cache lives on, over a history that has room for so many events;
 /// - `steps`: the steps of the stripe.
 ///
 /// A part that is missing says nothing.
@@ -70,6 +72,7 @@ fn load<R: Abort + Wait>(
     sees(rt, alloc, cache, first, 1);
     let step = cache.commit_load(rt, first, ticket, done);
     replies(rt, step.reply, part(story, "reply"));
+    desk.plays(rt, alloc, cache, third, part(story, "parked"));
     picks(rt, cache, second, join, step.place, part(story, "reply"));
     desk.plays(rt, alloc, cache, third, part(story, "then"));
 }
@@ -233,12 +236,30 @@ fn tell<R: Abort + Wait>(rt: &R, alloc: Global, desk: &Desk, stage: Stage, story
     let sessions = played(rt, alloc, desk, owner.cache(), sessions, story);
     let stripes = closed(rt, alloc, owner, sessions);
     let first = stripes.first().expect(rt, "a stripe");
+    if first.lives() {
+        is(rt, first.generations_ended(), 1);
+        return;
+    }
     are_steps(rt, alloc, first, part(story, "steps"));
 }
 
+/// A stage for a story, without sessions.
+fn stage_of(rt: &impl Abort, alloc: Global, story: &str) -> Stage
+    ensures { All (MayCall result.owner.cache) result.sessions.items }
+{
+    match part(story, "lives").parse().ok() {
+        Some(history) => {
+            let owner = CacheOwner::living(alloc, &config(history, true, true)).ok();
+            Stage::of(alloc, owner.expect(rt, "a cache"))
+        }
+        None => Stage::new(rt, alloc, &config(100, true, true)),
+    }
+}
+
 /// The first session's loader fails with 7, and its writer with 9, in the second three. A load that failed is also the answer of who
-/// has joined it; a write that failed leaves the entry.
-const STORIES: [&str; 6] = [
+/// has joined it; a write that failed leaves the entry. In the last one the history is full while an answer is there that nobody has
+/// picked up: it ends after that.
+const STORIES: [&str; 7] = [
     "\
 with plain plain
 call get
@@ -291,6 +312,16 @@ between stored a=1 b=2; contains a = false | 1 0 0
 then get a = 1 | 2 0 0
 steps 2 b 2, 2 a false, 0 a WriterFailed 9, 2 a 1
 ",
+    "\
+with plain plain
+lives 16
+call get
+reply 1
+between get b = 2 | 1 0 0
+parked tryget b = 2; tryget b = 2; tryget b = 2; tryget b = 2; tryget b = 2; tryget b = 2; tryget b = 2; \
+tryget b = 2; tryget b = 2; tryget b = 2; tryget b = 2; tryget b = 2; tryget b = 2; tryget b = Busy; tryget b = Busy
+then tryget b = Busy; tryget b = 2; get b = 2 | 2 0 0
+",
 ];
 
 /// How the loader and the writer of the session at this place behave.
@@ -306,7 +337,7 @@ fn makes_calls_by_hand(rt: HostRuntime) {
     let alloc = rt.alloc();
     for story in &STORIES {
         let desk = Desk::of(&rt, alloc, "a=1 b=2");
-        let mut stage = Stage::new(&rt, alloc, &config(100, true, true));
+        let mut stage = stage_of(&rt, alloc, story);
         'entering: for place in 0..3 {
             enter!(rt, stage, desk, manners(&rt, story, place));
         }

@@ -84,8 +84,27 @@ fn has_keys(rt: &impl Abort, alloc: Global, stripe: &ClosedStripe, keys: &[Key])
     assert!(rt; keys.is_sorted());
 }
 
-/// Ends a cache with all of its sessions. Its stripes have legal histories, of just the steps that the sessions have made: the cache
-/// says that they are legal, and so does the checker.
+/// Whether these stripes are of a cache that lived on: they tell the steps of their last generations alone.
+pub fn live_on(stripes: &[ClosedStripe]) -> bool {
+    stripes.iter().any(|stripe| stripe.lives())
+}
+
+/// The checker calls each history legal, and all of them have just these steps.
+fn are_whole(
+    rt: &impl Abort,
+    alloc: Global,
+    config: &Config,
+    stripes: &[ClosedStripe],
+    own: &[u64],
+) {
+    for stripe in stripes {
+        is_legal(rt, alloc, config, stripe);
+    }
+    are_counted(rt, alloc, stripes, own);
+}
+
+/// Ends a cache with all of its sessions. Its stripes have legal histories, as the cache says. If it doesn't live on, they are of
+/// just the steps that the sessions have made, and the checker says so, too.
 pub fn closed<R: Abort + Wait>(
     rt: &R,
     alloc: Global,
@@ -105,10 +124,9 @@ pub fn closed<R: Abort + Wait>(
         legal,
     } = closed.expect(rt, "a closed cache");
     assert!(rt; legal);
-    for stripe in &stripes {
-        is_legal(rt, alloc, &config, stripe);
+    if !live_on(&stripes) {
+        are_whole(rt, alloc, &config, &stripes, &own);
     }
-    are_counted(rt, alloc, &stripes, &own);
     has_keys(rt, alloc, stripes.first().expect(rt, "a stripe"), &keys);
     stripes
 }

@@ -1,5 +1,6 @@
 //! A stripe under a `Mutex`, whose threads make calls of phases of their own.
 ghost use Rattle.std.specs.Prelude.{◌≡◌, []};
+ghost use Rattle.jc_stripe.specs.Generations.{whole_history};
 
 use super::*;
 use jc_gate::{Gate, MutexGate};
@@ -13,7 +14,7 @@ const CALLS: u64 = 300;
 
 /// A stripe of this shape, with nothing in it.
 pub fn new_stripe(rt: &impl Abort, alloc: Global, config: &Config) -> Box<Stripe>
-    ensures { result.value.history ≡ [] }
+    ensures { whole_history result.value ≡ [] }
 {
     config.check().expect(rt, "a shape");
     let stripe = Stripe::new(alloc, config, 0, Origin::Live).expect(rt, "memory");

@@ -4,7 +4,7 @@ ghost use Rattle.jc_types.specs.declared.limits.TheConstants.{RESERVATIONS_MAX, 
 ghost use Rattle.jc_model.specs.declared.event.Op.{Op};
 ghost use Rattle.jc_model.specs.Cache.{Bytes, entry_at};
 ghost use Rattle.jc_stripe.specs.State.{is_reserved, reservation_of};
-ghost use Rattle.jc_stripe.specs.Refusals.{has_room, first_asked, first_refusal, load_at};
+ghost use Rattle.jc_stripe.specs.Refusals.{has_room, full_refusal, first_asked, first_refusal, load_at};
 ghost use Rattle.jc_stripe.specs.Finding.{found_at};
 
 use super::Stripe;
@@ -85,13 +85,24 @@ impl Stripe {
         self.joiners.is_full()
     }
 
+    /// Why a call is refused here that lacks room.
+    fn full_refusal(&self, call: u64) -> Refusal
+        ensures { result ≡ full_refusal self.now call }
+    {
+        if self.lives && call < LAST_NUMBER && !self.reservations.is_used_up() {
+            Refusal::Busy
+        } else {
+            Refusal::HistoryFull
+        }
+    }
+
     /// The first refusal that a call meets here, if any, by what it finds at its key.
     pub(super) fn refusal(&self, caller: Caller, found: &Found) -> Option<Refusal>
         ensures { (key : Bytes) (op : Op) → found.now ≡ found_at self.now key op → result ≡ first_refusal self.now caller key op }
     {
         let needed = places_needed(found.needs_free_key);
         if !self.has_room(caller.call, needed) {
-            return Some(Refusal::HistoryFull);
+            return Some(self.full_refusal(caller.call));
         }
         if found.is_busy {
             return Some(Refusal::Busy);

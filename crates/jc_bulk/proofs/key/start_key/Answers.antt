@@ -6,8 +6,8 @@ start-requires-clause-may g c = may_start c.args.cache.now c.args.session.now c.
 
 pub returns-clause-moves : goal.returns-clause-moves
 returns-clause-moves g c =
-    (start_told c.is_uniform.ensures c.is_legal.ensures c.own_steps.ensures c.args.cache.now c.args.session.now c.start.new.session c.requires.own c.args.key.now c.args.op.now c.start.result _ c.start.ensures.phase c.requires.none).0
+    (start_told c.is_uniform.ensures c.own_steps.ensures c.args.cache.now c.args.session.now c.start.new.session c.requires.own c.args.key.now c.args.op.now c.start.result _ c.start.ensures.phase c.requires.before c.requires.none).0
 
 pub returns-clause-begun : goal.returns-clause-begun
 returns-clause-begun g c =
-    (start_told c.is_uniform.ensures c.is_legal.ensures c.own_steps.ensures c.args.cache.now c.args.session.now c.start.new.session c.requires.own c.args.key.now c.args.op.now c.start.result _ c.start.ensures.phase c.requires.none).1
+    (start_told c.is_uniform.ensures c.own_steps.ensures c.args.cache.now c.args.session.now c.start.new.session c.requires.own c.args.key.now c.args.op.now c.start.result _ c.start.ensures.phase c.requires.before c.requires.none).1

@@ -1,11 +1,10 @@
 use Rattle.std.proofs.Common.{◌≡◌, ◌∷◌, [], List, length, map, refl, sym, ap, ◌∙◌, append_assoc, append-nil, length-append, arith}
 use Rattle.std.specs.Vec.Iter.{into_iter_items}
-use Rattle.jc_outside.specs.declared.done.Origin.TheVariants.{Live}
 use Rattle.jc_stripe.specs.State.{State}
-use Rattle.jc_stripe.proofs.CallerLemmas.{opened_len}
+use Rattle.jc_stripe.specs.Generations.{whole_history}
 use Rattle.jc_lock.specs.Views.{first_view}
 use Rattle.jc_cache.proofs.Rows.{locks_push}
-use Rattle.jc_cache.proofs.Noted.{noted_push, fronts_push, first_push, new_each, new_histories, new_history, new_within}
+use Rattle.jc_cache.proofs.Noted.{noted_push, fronts_push, first_push, new_each, new_history, new_within, opening_histories, opening_len}
 use Rattle.jc_cache.proofs.owner.locks.Goals as goal
 
 nothing_left : (states : List State) → length states ≡ 0 → states ≡ []
@@ -17,16 +16,16 @@ new-requires-in-loop-stripe c =
     let at = c.loop-stripe in
     let x = c.in-Some.stripe in
     let steps : into_iter_items at.stripe-iterator ≡ x ∷ into_iter_items c.next.new.self = c.in-Some.ensures.steps.0 in
-    let are = rw steps at at.invariant.all ∙ c.into_iter-stripe-iterator.ensures.into_iter_gives.0 ∙ c.requires.opened.1 in
-    ap (λ (s : State). s.history) c.in_ok-new.ensures.ok ∙ new_history c.args.config.now c.requires.opened.0 at.yielded (into_iter_items c.next.new.self) x are
+    let are = rw steps at at.invariant.all ∙ c.into_iter-stripe-iterator.ensures.into_iter_gives.0 ∙ c.requires.opened.2 in
+    ap whole_history c.in_ok-new.ensures.ok ∙ new_history c.requires.opened.0 c.args.config.now c.requires.opened.1 at.yielded (into_iter_items c.next.new.self) x are
 
 pub push_reserved-requires : goal.push_reserved-requires
 push_reserved-requires c =
     let at = c.loop-stripe in
     let x = c.in-Some.stripe in
     let steps : into_iter_items at.stripe-iterator ≡ x ∷ into_iter_items c.next.new.self = c.in-Some.ensures.steps.0 in
-    let are = rw steps at at.invariant.all ∙ c.into_iter-stripe-iterator.ensures.into_iter_gives.0 ∙ c.requires.opened.1 in
-    let near = new_within c.args.config.now c.requires.opened.0 at.yielded (into_iter_items c.next.new.self) x are in
+    let are = rw steps at at.invariant.all ∙ c.into_iter-stripe-iterator.ensures.into_iter_gives.0 ∙ c.requires.opened.2 in
+    let near = new_within c.requires.opened.0 c.args.config.now c.requires.opened.1 at.yielded (into_iter_items c.next.new.self) x are in
     let long = at.invariant.long in
     let room = at.invariant.room in
     omega arith
@@ -36,8 +35,8 @@ push_reserved-requires-in-loop-stripe c =
     let at = c.loop-stripe in
     let x = c.in-Some.stripe in
     let steps : into_iter_items at.stripe-iterator ≡ x ∷ into_iter_items c.next.new.self = c.in-Some.ensures.steps.0 in
-    let are = rw steps at at.invariant.all ∙ c.into_iter-stripe-iterator.ensures.into_iter_gives.0 ∙ c.requires.opened.1 in
-    let near = new_within c.args.config.now c.requires.opened.0 at.yielded (into_iter_items c.next.new.self) x are in
+    let are = rw steps at at.invariant.all ∙ c.into_iter-stripe-iterator.ensures.into_iter_gives.0 ∙ c.requires.opened.2 in
+    let near = new_within c.requires.opened.0 c.args.config.now c.requires.opened.1 at.yielded (into_iter_items c.next.new.self) x are in
     let long = at.invariant.seated in
     let room = at.invariant.rooms in
     omega arith
@@ -72,13 +71,13 @@ returns-clause-whole c =
     let given = c.into_iter-stripe-iterator.ensures.into_iter_gives.0 in
     let empty : into_iter_items at.stripe-iterator ≡ [] = nothing_left _ (sym i.count ∙ c.in-None.ensures.steps.0) in
     let all = sym (append-nil at.yielded) ∙ rw empty at i.all ∙ given in
-    let many = ap length (all ∙ c.requires.opened.1) ∙ opened_len c.args.config.now Live c.requires.opened.0 0 c.args.config.now.stripes in
+    let many = ap length (all ∙ c.requires.opened.2) ∙ opening_len c.requires.opened.0 c.args.config.now c.requires.opened.1 in
     record {
       fits = c.requires.fits;
       few = omega arith;
       count = sym at.locks.ok.0 ∙ i.long ∙ many;
       own = i.own;
-      each = new_each c.args.config.now c.requires.opened.0 c.args.stripes.items at.seats.items c.requires.opened.1 (i.noted ∙ all) i.first;
+      each = new_each c.requires.opened.0 c.args.config.now c.requires.opened.1 c.args.stripes.items at.seats.items c.requires.opened.2 (i.noted ∙ all) i.first;
     }
 
 pub returns-clause-fronts : goal.returns-clause-fronts
@@ -88,4 +87,4 @@ returns-clause-fronts c =
     let given = c.into_iter-stripe-iterator.ensures.into_iter_gives.0 in
     let empty : into_iter_items at.stripe-iterator ≡ [] = nothing_left _ (sym i.count ∙ c.in-None.ensures.steps.0) in
     let all = sym (append-nil at.yielded) ∙ rw empty at i.all ∙ given in
-    i.fronts ∙ ap (map (λ (s : State). s.history)) (all ∙ c.requires.opened.1) ∙ new_histories c.args.config.now Live c.requires.opened.0 0 c.args.config.now.stripes
+    i.fronts ∙ ap (map whole_history) (all ∙ c.requires.opened.2) ∙ opening_histories c.requires.opened.0 c.args.config.now c.requires.opened.1

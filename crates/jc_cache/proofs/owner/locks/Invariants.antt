@@ -1,6 +1,6 @@
 use Rattle.std.proofs.Common.{◌≡◌, ◌≤◌, ◌++◌, length, map, vec_len, vec_capacity}
 use Rattle.std.specs.Vec.Iter.{into_iter_items, into_iter_len}
-use Rattle.jc_stripe.specs.State.{State}
+use Rattle.jc_stripe.specs.Generations.{whole_history}
 use Rattle.jc_cache.specs.Caches.{noted_by, fronts_of}
 use Rattle.jc_cache.proofs.Rows.{locks_of}
 use Rattle.jc_cache.proofs.Noted.{AreFirst}
@@ -11,7 +11,7 @@ invariant-loop-stripe l = record {
   all : l.yielded ++ into_iter_items l.stripe-iterator ≡ into_iter_items l.initial.stripe-iterator;
   count : into_iter_len l.stripe-iterator ≡ length (into_iter_items l.stripe-iterator);
   noted : noted_by l.seats.items ≡ l.yielded;
-  fronts : fronts_of l.seats.items ≡ map (λ (s : State). s.history) l.yielded;
+  fronts : fronts_of l.seats.items ≡ map whole_history l.yielded;
   own : locks_of l.seats.items ≡ l.locks.items;
   first : AreFirst l.seats.items;
   long : vec_len l.locks ≡ length l.yielded;

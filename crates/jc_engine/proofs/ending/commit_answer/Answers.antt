@@ -1,7 +1,7 @@
 use Rattle.std.proofs.Common.{rules, ap, refl, inl}
 use Rattle.jc_session.proofs.CallerLemmas.{phase_of}
 use Rattle.jc_engine.specs.Stays.{commits-stays}
-use Rattle.jc_engine.proofs.Coming.{since_start, since_on}
+use Rattle.jc_engine.proofs.Coming.{quiet_same, since_start, since_on}
 use Rattle.jc_engine.proofs.Chains.{tries-start, tries-on}
 use Rattle.jc_engine.proofs.ending.commit_answer.Goals as goal
 
@@ -45,7 +45,7 @@ loop-preserved g c = (
       (tries-on g.G.Gate.takes g.G.Gate.gives g.G.Gate.finds g.G.Gate.is_free g.G.Gate.speaks_for _ _ _ _ _ _ _ _ _ _ _
       c.args.agent.now.caller.session (λ x y after. commits-stays c.args.ticket (g.A.Answer.answered c.args.answer) x y (rw c.requires.who after))
       c.loop.invariant.1 c.take-stripe.ensures.takes c.take-stripe.ensures.found.0 c.take-stripe.ensures.found.1 c.give-in-loop.ensures.gives c.give-in-loop.ensures.free c.take-stripe.ensures.speaks c.give-in-loop.ensures.speaks c.give-in-loop.ensures.next
-      c.requires.speaks refl),
+      c.requires.speaks (quiet_same _ _ refl)),
   rw (c.pause.ensures.same.0, c.pause.ensures.same.1)
       (λ a found. since_on g.G.Gate.finds c.args.agent.now.caller.session _ _ _ a (c.loop.invariant.2 _ c.take-stripe.ensures.found.0)
       (c.give-in-loop.ensures.next _ a (c.take-stripe.ensures.speaks _ (c.loop.invariant.1.speaks _ c.requires.speaks)) found)),

@@ -1,9 +1,11 @@
 use Rattle.std.proofs.Common.{◌≡◌, ◌∙◌, Option, None, sym, ap, subst}
+use Rattle.jc_types.specs.declared.caller.Caller.{Caller}
 use Rattle.jc_model.specs.Cache.{Bytes}
 use Rattle.jc_model.specs.declared.event.Op.TheVariants.{Get}
 use Rattle.jc_session.specs.Counting.{counts_after}
 use Rattle.jc_engine.specs.Chain.{LentPhase}
-use Rattle.jc_engine.specs.Needs.{Hits, counted_hit}
+use Rattle.jc_engine.specs.Needs.{BeginsIfClear, Hits, counted_hit}
+use Rattle.jc_engine.specs.Stays.{begins-stays}
 use Rattle.jc_engine.proofs.Later.{rested, since_rest, later_call, hit_told, not_found}
 use Rattle.jc_engine.proofs.getting.get.Goals as goal
 
@@ -11,6 +13,15 @@ pub returns-then-is_some-clause-call : goal.returns-then-is_some-clause-call
 returns-then-is_some-clause-call g c =
     hit_told _ _ _ _ g.G.Gate.takes g.G.Gate.gives g.G.Gate.finds c.args.agent.now c.hit.new.agent c.args.key.now c.hit.new.found c.args.gate.now c.args.token.now c.hit.new.gate c.hit.new.token
     (sym c.is_some.ensures ∙ c.if-is_some.true) c.hit.ensures.phase c.hit.ensures.agent c.requires.held
+
+pub get_in_phases-requires-clause-needs : goal.get_in_phases-requires-clause-needs
+get_in_phases-requires-clause-needs g c a finds =
+    let old = c.args.agent.now in
+    let none : c.hit.new.found ≡ None = not_found _ (sym c.is_some.ensures ∙ c.if-is_some.false) in
+    let x : LentPhase g.G.Gate.takes g.G.Gate.gives g.G.Gate.finds old.caller.session c.args.gate.now c.args.token.now (λ a b. Hits old.caller c.args.key.now None a b) c.hit.new.gate c.hit.new.token =
+    subst (λ (o : Option Bytes). LentPhase g.G.Gate.takes g.G.Gate.gives g.G.Gate.finds old.caller.session c.args.gate.now c.args.token.now (λ a b. Hits old.caller c.args.key.now o a b) c.hit.new.gate c.hit.new.token) none c.hit.ensures.phase in
+    let s = since_rest g.G.Gate.takes g.G.Gate.gives g.G.Gate.finds c.is_uniform.ensures old.caller.session c.args.gate.now c.args.token.now c.hit.new.gate c.hit.new.token x a finds in
+    subst (λ (w : Caller). BeginsIfClear w c.args.key.now a) (sym (ap (λ z. z.caller) c.hit.ensures.agent)) (begins-stays old.caller c.args.key.now s.first a s.after (c.requires.needs s.first s.finds_first))
 
 pub returns-clause-call : goal.returns-clause-call
 returns-clause-call g c =

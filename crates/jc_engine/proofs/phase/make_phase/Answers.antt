@@ -1,8 +1,8 @@
-use Rattle.std.proofs.Common.{rules, ◌∙◌, ap, refl, inl, subst}
+use Rattle.std.proofs.Common.{rules, ◌∙◌, ap, refl}
 use Rattle.jc_session.proofs.CallerLemmas.{phase_of}
 use Rattle.jc_stripe.specs.State.{State}
-use Rattle.jc_gate.specs.Lending.{ComesAfter}
-use Rattle.jc_engine.proofs.Coming.{since_start, since_on}
+use Rattle.jc_engine.specs.Chain.{IsQuiet}
+use Rattle.jc_engine.proofs.Coming.{left_by, quiet_by, since_start, since_on}
 use Rattle.jc_engine.proofs.Chains.{tries-start, tries-on}
 use Rattle.jc_engine.proofs.phase.make_phase.Goals as goal
 
@@ -36,16 +36,16 @@ returns-in-Ok-clause-phase g c = record {
   next = λ a f. c.give.ensures.next _ a (c.take-stripe.ensures.speaks _ (c.loop.invariant.2.speaks _ c.requires.speaks)) f;
 }
 
-pub give-requires-in-Err-clause-speaks : goal.give-requires-in-Err-clause-speaks
-give-requires-in-Err-clause-speaks g c =
+pub give_back-requires-clause-speaks : goal.give_back-requires-clause-speaks
+give_back-requires-clause-speaks g c =
     rw (ap (λ a. a.caller.session) (c.take-stripe.ensures.agent), ap (λ a. a.caller.session) (c.loop.invariant.0))
     (c.take-stripe.ensures.speaks _ (c.loop.invariant.2.speaks _ c.requires.speaks))
 
-pub give-requires-in-Err-clause-phase : goal.give-requires-in-Err-clause-phase
-give-requires-in-Err-clause-phase g c = (
+pub give_back-requires-clause-rest : goal.give_back-requires-clause-rest
+give_back-requires-clause-rest g c = (
   c.take-stripe.result.value,
   c.take-stripe.ensures.taken,
-  inl (c.in-Err.ensures.back.1 ∙ c.deref_mut.ensures.value, refl),
+  left_by c.take-stripe.result.value c.deref_mut-in-Err.result.now c.renew_if_full.new.self (c.deref_mut-in-Err.ensures.value ∙ c.in-Err.ensures.back.1 ∙ c.deref_mut.ensures.value) c.renew_if_full.ensures,
 )
 
 pub loop-init : goal.loop-init
@@ -57,16 +57,21 @@ loop-init g c = (
 )
 
 pub loop-preserved : goal.loop-preserved
-loop-preserved g c = (
-  search rules,
-  c.in-Err.ensures.back.0 ∙ c.loop.invariant.1,
-  rw (c.pause.ensures.same.0, c.pause.ensures.same.1)
-      (tries-on g.G.Gate.takes g.G.Gate.gives g.G.Gate.finds g.G.Gate.is_free g.G.Gate.speaks_for (g.P.Phase.needs c.args.phase) _ _ _ _ _ _ _ _ _ _
-      c.args.agent.now.caller.session (λ x y after. g.met.P.Phase.stays c.args.phase x y (rw c.requires.who after))
-      c.loop.invariant.2 c.take-stripe.ensures.takes c.take-stripe.ensures.found.0 c.take-stripe.ensures.found.1 c.give-in-Err.ensures.gives c.give-in-Err.ensures.free c.take-stripe.ensures.speaks c.give-in-Err.ensures.speaks c.give-in-Err.ensures.next
-      c.requires.speaks (c.in-Err.ensures.back.1 ∙ c.deref_mut.ensures.value)),
-  rw (c.pause.ensures.same.0, c.pause.ensures.same.1)
-      (λ a found. since_on g.G.Gate.finds c.args.agent.now.caller.session _ _ _ a (c.loop.invariant.3 _ c.take-stripe.ensures.found.0)
-      (subst (λ (s : State). ComesAfter c.args.agent.now.caller.session s a) (c.in-Err.ensures.back.1 ∙ c.deref_mut.ensures.value)
-      (c.give-in-Err.ensures.next _ a (c.take-stripe.ensures.speaks _ (c.loop.invariant.2.speaks _ c.requires.speaks)) found))),
-)
+loop-preserved g c =
+    let found : State = c.take-stripe.result.value in
+    let left : State = c.renew_if_full.new.self in
+    let quiet : IsQuiet found left =
+    quiet_by c.renewal.ensures found left c.take-stripe.ensures.found.1
+    (left_by found c.deref_mut-in-Err.result.now left (c.deref_mut-in-Err.ensures.value ∙ c.in-Err.ensures.back.1 ∙ c.deref_mut.ensures.value) c.renew_if_full.ensures) in (
+      search rules,
+      c.in-Err.ensures.back.0 ∙ c.loop.invariant.1,
+      rw (c.pause.ensures.same.0, c.pause.ensures.same.1)
+          (tries-on g.G.Gate.takes g.G.Gate.gives g.G.Gate.finds g.G.Gate.is_free g.G.Gate.speaks_for (g.P.Phase.needs c.args.phase) _ _ _ _ _ _ _ _ _ _
+          c.args.agent.now.caller.session (λ x y after. g.met.P.Phase.stays c.args.phase x y (rw c.requires.who after))
+          c.loop.invariant.2 c.take-stripe.ensures.takes c.take-stripe.ensures.found.0 c.take-stripe.ensures.found.1 c.give_back.ensures.gives c.give_back.ensures.free c.take-stripe.ensures.speaks c.give_back.ensures.speaks c.give_back.ensures.next
+          c.requires.speaks quiet),
+      rw (c.pause.ensures.same.0, c.pause.ensures.same.1)
+          (λ a later. since_on g.G.Gate.finds c.args.agent.now.caller.session _ _ left a
+          (since_on g.G.Gate.finds c.args.agent.now.caller.session _ _ found left (c.loop.invariant.3 _ c.take-stripe.ensures.found.0) (quiet.after c.args.agent.now.caller.session))
+          (c.give_back.ensures.next _ a (c.take-stripe.ensures.speaks _ (c.loop.invariant.2.speaks _ c.requires.speaks)) later)),
+    )

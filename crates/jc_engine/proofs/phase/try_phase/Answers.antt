@@ -1,6 +1,7 @@
-use Rattle.std.proofs.Common.{rules, ◌∙◌, ap, refl, inl}
+use Rattle.std.proofs.Common.{rules, ◌∙◌, ap}
+use Rattle.jc_stripe.specs.State.{State}
 use Rattle.jc_session.proofs.CallerLemmas.{phase_of}
-use Rattle.jc_engine.proofs.Coming.{since_start}
+use Rattle.jc_engine.proofs.Coming.{left_by, quiet_by, since_start}
 use Rattle.jc_engine.proofs.Chains.{rests-start, rests-on}
 use Rattle.jc_engine.proofs.phase.try_phase.Goals as goal
 
@@ -11,11 +12,11 @@ give-requires-clause-phase g c = (
   rw (c.counted.ensures, ap (λ a. a.caller.session) c.in-Some.ensures.some, ← c.requires.who, ← c.deref_mut.ensures.value) c.in-Ok.ensures.counted,
 )
 
-pub give-requires-in-Err-clause-phase : goal.give-requires-in-Err-clause-phase
-give-requires-in-Err-clause-phase g c = (
+pub give_back-requires-clause-rest : goal.give_back-requires-clause-rest
+give_back-requires-clause-rest g c = (
   c.in-Some.stripe.value,
   c.in-Some.ensures.taken,
-  inl (c.in-Err.ensures.back.1 ∙ c.deref_mut.ensures.value, refl),
+  left_by c.in-Some.stripe.value c.deref_mut-in-Err.result.now c.renew_if_full.new.self (c.deref_mut-in-Err.ensures.value ∙ c.in-Err.ensures.back.1 ∙ c.deref_mut.ensures.value) c.renew_if_full.ensures,
 )
 
 pub returns-in-Ok-clause-made : goal.returns-in-Ok-clause-made
@@ -33,11 +34,14 @@ returns-in-Ok-clause-made g c = record {
 }
 
 pub returns-in-Err-clause-back : goal.returns-in-Err-clause-back
-returns-in-Err-clause-back g c = (
-  c.in-Err.ensures.back.0,
-  search rules,
-  rests-on g.G.Gate.takes g.G.Gate.gives g.G.Gate.finds _ _ _ _ c.in-Some.stripe.value c.make.new.stripe _ _
-      (rests-start g.G.Gate.takes g.G.Gate.gives g.G.Gate.finds c.args.gate.now c.args.token.now)
-      record { gate = c.try_take.new.gate; token = c.try_take.new.token; took = c.in-Some.ensures.takes; reached = c.in-Some.ensures.found.1; gave = c.give-in-Err.ensures.gives }
-      (c.in-Err.ensures.back.1 ∙ c.deref_mut.ensures.value),
-)
+returns-in-Err-clause-back g c =
+    let found : State = c.in-Some.stripe.value in
+    let left : State = c.renew_if_full.new.self in (
+      c.in-Err.ensures.back.0,
+      search rules,
+      rests-on g.G.Gate.takes g.G.Gate.gives g.G.Gate.finds _ _ _ _ found left _ _
+          (rests-start g.G.Gate.takes g.G.Gate.gives g.G.Gate.finds c.args.gate.now c.args.token.now)
+          record { gate = c.try_take.new.gate; token = c.try_take.new.token; took = c.in-Some.ensures.takes; reached = c.in-Some.ensures.found.1; gave = c.give_back.ensures.gives }
+          (quiet_by c.renewal.ensures found left c.in-Some.ensures.found.1
+          (left_by found c.deref_mut-in-Err.result.now left (c.deref_mut-in-Err.ensures.value ∙ c.in-Err.ensures.back.1 ∙ c.deref_mut.ensures.value) c.renew_if_full.ensures)),
+    )

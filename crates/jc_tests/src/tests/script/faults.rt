@@ -25,7 +25,7 @@ begin 1 s1 loadall
 begin 1 s1 loadall a
 begin x y loadall keep
 begin x y loadall both !
-reopen 1 2 100
+reopen 1 2
 readfail x
 readfail x 1 2
 apply 1 a

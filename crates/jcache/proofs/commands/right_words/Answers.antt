@@ -1,8 +1,8 @@
-use Rattle.std.proofs.Common.{rules, ◌≡◌, ℕ, List, [], ◌∷◌, Option, Some, codes, refl, arith, option_map}
+use Rattle.std.proofs.Common.{rules, ◌≡◌, ℕ, List, [], ◌∷◌, Option, None, Some, codes, refl, arith, option_map}
 use Rattle.clap.specs.Walk.{Text}
 use Rattle.clap.proofs.OnLiterals.{clap_on_literals}
 use Rattle.jcache.specs.CommandLine.{faults_at, subcommand_at}
-use Rattle.jcache.proofs.Asking.{asks, option_in}
+use Rattle.jcache.proofs.Asking.{absent, asks, option_in, present}
 use Rattle.jcache.proofs.commands.right_words.Goals as goal
 
 abbrev apart : Text → List Text
@@ -43,16 +43,52 @@ joined_rounds : (name : Text) → option_in (codes "rounds") (subcommand_at (joi
 unfolding clap_on_literals
 joined_rounds name = refl
 
+apart_history : (name : Text) → option_in (codes "history") (subcommand_at (apart name)) ≡ Some None
+unfolding clap_on_literals
+apart_history name = refl
+
+joined_history : (name : Text) → option_in (codes "history") (subcommand_at (joined name)) ≡ Some None
+unfolding clap_on_literals
+joined_history name = refl
+
+abbrev living : Text → List Text
+living name = name ∷ codes "threads" ∷ codes "--rounds=10000" ∷ codes "--workers=31" ∷ codes "--history=16" ∷ []
+
+living_right : (name : Text) → faults_at (living name) ≡ []
+unfolding clap_on_literals
+living_right name = refl
+
+living_name : (name : Text) → option_map (λ named. named.0) (subcommand_at (living name)) ≡ Some (codes "threads")
+unfolding clap_on_literals
+living_name name = refl
+
+living_workers : (name : Text) → option_in (codes "workers") (subcommand_at (living name)) ≡ Some (Some (codes "31"))
+unfolding clap_on_literals
+living_workers name = refl
+
+living_rounds : (name : Text) → option_in (codes "rounds") (subcommand_at (living name)) ≡ Some (Some (codes "10000"))
+unfolding clap_on_literals
+living_rounds name = refl
+
+living_history : (name : Text) → option_in (codes "history") (subcommand_at (living name)) ≡ Some (Some (codes "16"))
+unfolding clap_on_literals
+living_history name = refl
+
 pub returns-clause-threads : goal.returns-clause-threads
 returns-clause-threads c name = (
   (
     apart_right name,
-    asks (subcommand_at (apart name)) (codes "4") (codes "100") (apart_name name) (apart_workers name) (apart_rounds name)
-        (search rules) (omega arith) (search rules) (omega arith),
+    asks (subcommand_at (apart name)) (codes "4") (codes "100") None None (apart_name name) (apart_workers name) (apart_rounds name) (apart_history name)
+        (search rules) (omega arith) (search rules) (omega arith) absent,
   ),
   (
     joined_right name,
-    asks (subcommand_at (joined name)) (codes "31") (codes "10000") (joined_name name) (joined_workers name) (joined_rounds name)
-        (search rules) (omega arith) (search rules) (omega arith),
+    asks (subcommand_at (joined name)) (codes "31") (codes "10000") None None (joined_name name) (joined_workers name) (joined_rounds name) (joined_history name)
+        (search rules) (omega arith) (search rules) (omega arith) absent,
+  ),
+  (
+    living_right name,
+    asks (subcommand_at (living name)) (codes "31") (codes "10000") (Some (codes "16")) (Some 16) (living_name name) (living_workers name) (living_rounds name) (living_history name)
+        (search rules) (omega arith) (search rules) (omega arith) (present (codes "16") (search rules) (omega arith)),
   ),
 )

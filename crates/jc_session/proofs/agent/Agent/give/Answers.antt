@@ -8,5 +8,5 @@ give-requires g c = (
   c.requires.phase.0,
   inl c.requires.speaks,
   c.requires.phase.1,
-  phase_of c.args.counted c.args.self.now.caller.session c.requires.phase.0 c.args.stripe.value c.requires.phase.2,
+  inl (phase_of c.args.counted c.args.self.now.caller.session c.requires.phase.0 c.args.stripe.value c.requires.phase.2),
 )

@@ -1,8 +1,7 @@
 use Rattle.jc_types.specs.declared.limits.TheConstants.{STEP_PLACES, HIT_PLACES, RESERVATIONS_MAX}
 use Rattle.jc_types.specs.Limits.{check}
-use Rattle.std.proofs.Common.{◌≡◌, ◌≤◌, ◌==◌, List, [], true, Ok, refl, ap, ◌∙◌, sym, length, count_by, ◌*◌, ◌+◌, arith, subst}
+use Rattle.std.proofs.Common.{◌≡◌, ◌≤◌, ◌==◌, [], true, false, Ok, refl, ap, ◌∙◌, sym, length, count_by, ◌*◌, ◌+◌, arith, subst}
 use Rattle.std.specs.List.{list_all}
-use Rattle.jc_model.specs.Cache.{Bytes}
 use Rattle.jc_model.specs.Listed.{has_distinct_keys}
 use Rattle.jc_types.specs.Stripes.{stripe_of}
 use Rattle.jc_history.specs.Past.{Past}
@@ -10,18 +9,20 @@ use Rattle.jc_reserve.specs.Table.{Table}
 use Rattle.jc_stripe.specs.declared.stripe.Stripe.TheInside.{Inside}
 use Rattle.jc_stripe.specs.declared.ticket.Reservation.{Reservation}
 use Rattle.jc_stripe.specs.Inside.{state_of}
+use Rattle.jc_stripe.specs.Life.{Life}
 use Rattle.jc_stripe.specs.OrderOfUse.{by_use}
 use Rattle.jc_stripe.specs.Reached.{IsReached}
 use Rattle.jc_stripe.specs.State.{waits}
 use Rattle.jc_stripe.proofs.Tables.{reached_start}
-use Rattle.jc_stripe.proofs.stripe.Stripe.open_with.Goals as goal
+use Rattle.jc_stripe.proofs.stripe.Stripe.make.Goals as goal
 
 opened : (s : Inside) → check s.config ≡ Ok tt → has_distinct_keys s.entries.list ≡ true → length s.entries.list ≤ s.config.capacity → list_all (λ entry. stripe_of entry.0 s.config.stripes == s.number) s.entries.list ≡ true
-    → s.reservations.held ≡ [] → s.joiners ≡ [] → s.history.events ≡ [] → s.opening ≡ s.entries.list → IsReached (state_of s)
-opened s fits once few own reservations joiners history opening =
-    let P : List (Bytes × Bytes) → Type 0 = λ o. IsReached (record (state_of s) { opening = o }) in
-    subst P (sym opening) (reached_start (record (state_of s) { opening = s.entries.list }) (record {
+    → s.reservations.held ≡ [] → s.joiners ≡ [] → s.history.events ≡ [] → s.life ≡ record { opening = s.entries.list; ended = [] } → IsReached (state_of s)
+opened s fits once few own reservations joiners history life =
+    let P : Life → Type 0 = λ l. IsReached (record (state_of s) { ended = l.ended; opening = l.opening }) in
+    subst P (sym life) (reached_start (record (state_of s) { ended = []; opening = s.entries.list }) (record {
       config_fits = fits;
+      ended = refl;
       once = once;
       own = own;
       few = few;
@@ -36,21 +37,21 @@ invariant_of-result c =
     let table = c.new_from-reservations.ensures in
     let joiners = c.new-joiners.ensures in
     let history = c.in_ok-history.ensures in
-    let opening = c.in_ok-opening.ensures in
+    let life = c.new-life.ensures in
     let valid = c.capacity.ensures.valid in
     let bounded = valid.bounded in
     record {
       capacity = c.requires.capacity;
       limit = ap (λ (h : Past). h.limit) history;
-      by_use = sym (λ k. by_use (opening k) ((history k).events));
+      by_use = sym (λ k. by_use ((life k).opening) ((history k).events));
       promised = ap (λ (h : Past). h.promised) history ∙ sym (λ i. STEP_PLACES * length (table i).held + HIT_PLACES * count_by waits (joiners i));
       boxes = ap (λ n. n + length c.new_from-reservations.result.held) c.in_ok-boxes.ensures ∙ ap (λ (t : Table Reservation). RESERVATIONS_MAX + length t.held) table;
-      state = opened (record { config = c.args.config.now; number = c.args.number; origin = c.args.origin; entries = c.args.entries; reservations = c.new_from-reservations.result; boxes = c.in_ok-boxes.boxes; joiners = c.new-joiners.result; history = c.in_ok-history.history; opening = c.in_ok-opening.opening }) c.requires.fits valid.distinct (let e = c.requires.capacity in omega arith) c.requires.own (ap (λ (t : Table Reservation). t.held) table) joiners (ap (λ (h : Past). h.events) history) opening;
+      state = opened (record { config = c.args.config.now; number = c.args.number; origin = c.args.origin; entries = c.args.entries; reservations = c.new_from-reservations.result; boxes = c.in_ok-boxes.boxes; joiners = c.new-joiners.result; history = c.in_ok-history.history; lives = false; life = c.new-life.result }) c.requires.fits valid.distinct (let e = c.requires.capacity in omega arith) c.requires.own (ap (λ (t : Table Reservation). t.held) table) joiners (ap (λ (h : Past). h.events) history) life;
     }
 
 pub returns-clause-reached : goal.returns-clause-reached
 returns-clause-reached c =
     let valid = c.capacity.ensures.valid in
     let bounded = valid.bounded in
-    opened (record { config = c.args.config.now; number = c.args.number; origin = c.args.origin; entries = c.args.entries; reservations = c.new_from-reservations.result; boxes = c.in_ok-boxes.boxes; joiners = c.new-joiners.result; history = c.in_ok-history.history; opening = c.in_ok-opening.opening }) c.requires.fits valid.distinct (let e = c.requires.capacity in omega arith) c.requires.own (ap (λ (t : Table Reservation). t.held) c.new_from-reservations.ensures) c.new-joiners.ensures
-    (ap (λ (h : Past). h.events) c.in_ok-history.ensures) c.in_ok-opening.ensures
+    opened (record { config = c.args.config.now; number = c.args.number; origin = c.args.origin; entries = c.args.entries; reservations = c.new_from-reservations.result; boxes = c.in_ok-boxes.boxes; joiners = c.new-joiners.result; history = c.in_ok-history.history; lives = false; life = c.new-life.result }) c.requires.fits valid.distinct (let e = c.requires.capacity in omega arith) c.requires.own (ap (λ (t : Table Reservation). t.held) c.new_from-reservations.ensures) c.new-joiners.ensures
+    (ap (λ (h : Past). h.events) c.in_ok-history.ensures) c.new-life.ensures

@@ -1,0 +1,112 @@
+//! A cache that lives on: many more calls than its histories have places for, by four sessions, each on a thread of its own.
+ghost use Rattle.std.specs.Prelude.{All};
+ghost use Rattle.jc_cache.specs.Sessions.{MayCall};
+
+use super::*;
+use jc_cache::{Closed, Reopened};
+
+/// The least room that a history may have.
+const HISTORY: usize = 16;
+
+/// Each call is one step, in whatever generation.
+const ONCE: &str = "\
+random
+own 300
+s2 own 300
+s3 own 300
+s4 own 300
+";
+
+/// The same after it was opened again.
+const TWICE: &str = "\
+random
+random
+own 600
+s2 own 600
+s3 own 600
+s4 own 600
+";
+
+/// The loader of the first session waits while the second one makes more calls than a history has room for.
+const WAITS: &str = "\
+beside get a = 1 / await; put b 2 = ok; \
+get b = 2; get b = 2; get b = 2; get b = 2; get b = 2; get b = 2; get b = 2; get b = 2; get b = 2; get b = 2; \
+get b = 2; get b = 2; get b = 2; get b = 2; get b = 2; get b = 2; get b = 2; get b = 2; get b = 2; get b = 2; raise
+get a = 1 | 1 1 0
+own 2
+s2 own 21
+";
+
+/// Four sessions.
+macro_rules! four_of {
+    ($rt:expr, $stage:expr, $desk:expr) => {{
+        enter!($rt, $stage, $desk, Manners::PLAIN);
+        enter!($rt, $stage, $desk, Manners::PLAIN);
+        enter!($rt, $stage, $desk, Manners::PLAIN);
+        enter!($rt, $stage, $desk, Manners::PLAIN);
+    }};
+}
+
+/// Ends a cache with all of its sessions. Each history is short, and each entry is the store's.
+fn closed<R: Abort + Wait>(rt: &R, alloc: Global, desk: &Desk, stage: Stage) -> Closed
+    requires { All (MayCall stage.owner.cache) stage.sessions.items }
+{
+    let (owner, sessions) = stage.into_parts();
+    let closed = owner.close(alloc, sessions).ok();
+    let closed = closed.expect(rt, "a closed cache");
+    for stripe in &closed.stripes {
+        assert!(rt; stripe.lives() && stripe.events_len() <= HISTORY);
+        desk.has_entries_of(rt, alloc, stripe);
+    }
+    closed
+}
+
+#[test]
+fn no_history_is_ever_full(rt: HostRuntime) {
+    let alloc = rt.alloc();
+    let shape = Config {
+        stripes: 2,
+        capacity: 3,
+        history: HISTORY,
+        read_through: true,
+        write_through: true,
+    };
+    let desk = Desk::of(&rt, alloc, "");
+    let owner = CacheOwner::living(alloc, &shape)
+        .ok()
+        .expect(&rt, "a cache");
+    let mut stage = Stage::of(alloc, owner);
+    four_of!(rt, stage, desk);
+    stage.plays(&rt, alloc, &desk, ONCE);
+    let end = closed(&rt, alloc, &desk, stage);
+    let reopened = CacheOwner::reopen(alloc, end, &shape).ok();
+    let Reopened { owner, .. } = reopened.expect(&rt, "a cache");
+    let mut stage = Stage::of(alloc, owner);
+    four_of!(rt, stage, desk);
+    stage.plays(&rt, alloc, &desk, TWICE);
+    let _end = closed(&rt, alloc, &desk, stage);
+}
+
+#[test]
+fn a_load_outlives_its_generation(rt: HostRuntime) {
+    let alloc = rt.alloc();
+    let desk = Desk::of(&rt, alloc, "a=1");
+    let owner = CacheOwner::living(alloc, &config(HISTORY, true, true))
+        .ok()
+        .expect(&rt, "a cache");
+    let mut stage = Stage::of(alloc, owner);
+    enter!(
+        rt,
+        stage,
+        desk,
+        Manners {
+            loader: Manner::Waits,
+            writer: Manner::Plain,
+        }
+    );
+    enter!(rt, stage, desk, Manners::PLAIN);
+    stage.plays(&rt, alloc, &desk, WAITS);
+    let end = closed(&rt, alloc, &desk, stage);
+    let first = end.stripes.first().expect(&rt, "a stripe");
+    is(&rt, first.generations_ended(), 1);
+}

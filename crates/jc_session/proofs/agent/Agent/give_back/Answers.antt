@@ -1,0 +1,11 @@
+use Rattle.std.proofs.Common.{⊎_elim, inl, inr}
+use Rattle.jc_session.proofs.agent.Agent.give_back.Goals as goal
+
+pub give-requires : goal.give-requires
+give-requires g c = (
+  c.args.self.now.caller.session,
+  c.requires.rest.0,
+  inl c.requires.speaks,
+  c.requires.rest.1,
+  ⊎_elim (λ same. inl (inl same)) (λ renews. inr renews) c.requires.rest.2,
+)

@@ -1,0 +1,16 @@
+-- What contracts see of a stripe's life.
+--     Life        what its present generation opened with, the most recently used first, and the generations that have ended, the oldest
+--                 first
+--     noted_in    the entries that a note of them has
+use Rattle.std.specs.Prelude.{List, [], ◌∷◌}
+use Rattle.jc_model.specs.Cache.{Bytes}
+use Rattle.jc_entries.specs.ByUse.{ByUse}
+use Rattle.jc_stripe.specs.State.{Generation}
+
+pub record Life : Type 0 where
+  pub opening : List (Bytes × Bytes)
+  pub ended : List Generation
+
+abbrev pub noted_in : List (ByUse × Unit {0}) → List (Bytes × Bytes)
+noted_in [] = []
+noted_in (note ∷ notes) = note.0.list
