@@ -31,7 +31,7 @@ pub fn call_owned<R: Wait>(
     requires op { is_invoke op.now ≡ false }
     requires needs { (a : State) → owner.old ≡ Some a → BeginsIfClear agent.old.caller key.now a }
     requires idle { (a : State) → owner.old ≡ Some a → IsIdle a }
-    requires alone { (a : State) → owner.old ≡ Some a → a.lives ≡ false }
+    requires one_life { (a : State) → owner.old ≡ Some a → a.lives ≡ false }
     requires none { (agent.old.counts.reservations ≡ 0) × (agent.old.counts.joins ≡ 0) }
     requires writer { (a : State) → owner.old ≡ Some a → a.config.write_through ≡ true → IsSome agent.old.hands.outside.writer }
     ensures call { IsOwnedCall loads load_state writes write_state

@@ -153,7 +153,7 @@ either false b h e = h
 is_loader : (first : First) → first ≡ Nobody → first ≡ Loader → (A : Type 0) → A
 is_loader first n l A = let e : Nobody ≡ Loader = sym n ∙ l in cc
 
-split : (b : Bool) (A : Type 0) → (b ≡ true → A) → (b ≡ false → A) → A
+pub split : (b : Bool) (A : Type 0) → (b ≡ true → A) → (b ≡ false → A) → A
 split true A f g = f refl
 split false A f g = g refl
 

@@ -31,7 +31,7 @@ use Rattle.jc_stripe.specs.Renewal.{is_full, has_parked, is_renewable, Renews, R
 use Rattle.jc_stripe.specs.Reached.{IsReached, AllJoin, JoinFits, may_end, may_share}
 use Rattle.jc_stripe.specs.OnePhase.{is_answered, is_parked, is_own_step}
 use Rattle.jc_stripe.proofs.Reaching.{reached_legal}
-use Rattle.jc_stripe.proofs.Refusing.{clash, ends_numbers}
+use Rattle.jc_stripe.proofs.Refusing.{clash, split, ends_numbers}
 use Rattle.jc_stripe.specs.Refusals.{last_number}
 use Rattle.std.proofs.lemmas.Bool.Decides.{nat_tests}
 use Rattle.jc_stripe.proofs.ParkedSteps.{filter-append, own-parked}
@@ -237,12 +237,8 @@ sound-living i sound = record {
 
 -- 6. Whether it was ended.
 
-by_test : (b : Bool) (A : Type 0) → (b ≡ true → A) → (b ≡ false → A) → A
-by_test true A f g = f refl
-by_test false A f g = g refl
-
 pub stays_or_renews : (old new : State) → RenewsIfFull old new → StaysOrRenews old new
-stays_or_renews old new h = by_test (is_renewable old) (StaysOrRenews old new) (λ e. inr (h.0 e)) (λ e. inl (h.1 e))
+stays_or_renews old new h = split (is_renewable old) (StaysOrRenews old new) (λ e. inr (h.0 e)) (λ e. inl (h.1 e))
 
 pub stays_alone : (old new : State) → old.lives ≡ false → StaysOrRenews old new → new ≡ old
 stays_alone old new alone h = ⊎_elim (λ same. same) (λ renews. absurd (clash old.lives (may_parts old renews.may_end).0 alone)) h

@@ -1,24 +1,19 @@
 //! A stripe and its phases.
-ghost use Rattle.std.specs.Prelude.{◌≡◌, ◌≤◌, ◌<◌, ◌+◌, ◌++◌, ◌↔◌, ◌⊎◌, [], true, false, IsTrue, IfOk, IsOk, OnOk, OnErr, IfSome, IfNone, Ok, None};
-ghost use Rattle.std.specs.Prelude.{Some, is_some, length, min, nat_le, slice_get, slice_range, vec_len, vec_capacity};
+ghost use Rattle.std.specs.Prelude.{◌≡◌, ◌≤◌, ◌<◌, ◌+◌, ◌++◌, ◌↔◌, ◌⊎◌, true, false, IsTrue, OnOk, OnErr, IfSome, IfNone, None};
+ghost use Rattle.std.specs.Prelude.{Some, is_some, length, slice_get, slice_range};
 ghost use Rattle.std.specs.FinMap as map;
-ghost use Rattle.std.specs.Prelude.{◌==◌};
-ghost use Rattle.std.specs.List.{list_all};
-ghost use Rattle.jc_types.specs.Stripes.{stripe_of};
-ghost use Rattle.jc_types.specs.Limits.{check};
 ghost use Rattle.jc_model.specs.declared.event.Op.{Op};
 ghost use Rattle.jc_model.specs.declared.event.Op.TheVariants.{Get};
 ghost use Rattle.jc_stripe.specs.declared.begun.Begun.TheVariants.{Done};
-ghost use Rattle.jc_model.specs.Cache.{Bytes, entry_at};
+ghost use Rattle.jc_model.specs.Cache.{entry_at};
 ghost use Rattle.jc_model.specs.Listed.{has_distinct_keys};
 ghost use Rattle.jc_model.specs.Table.{is_write_given};
 ghost use Rattle.jc_model.specs.Group.{load_only, write_only};
 ghost use Rattle.jc_model.specs.Legal.{Legal};
-ghost use Rattle.jc_stripe.specs.Tickets.{JoinClaim, asks_loader, asks_writer, asks_processor, claim_of};
-ghost use Rattle.jc_types.specs.declared.limits.TheConstants.{RESERVATIONS_MAX, JOINERS_MAX, HIT_PLACES, LAST_NUMBER};
+ghost use Rattle.jc_stripe.specs.Tickets.{asks_loader, asks_writer, asks_processor, claim_of};
+ghost use Rattle.jc_types.specs.declared.limits.TheConstants.{HIT_PLACES};
 ghost use Rattle.jc_stripe.specs.State.{IsOut, IsJoined, IsIdle};
 ghost use Rattle.jc_stripe.specs.OrderOfUse.{by_use};
-ghost use Rattle.jc_stripe.specs.Renewal.{Renews, RenewsIfFull, is_renewable, live_on};
 ghost use Rattle.jc_stripe.specs.Refusals.{has_room};
 ghost use Rattle.jc_stripe.specs.Appending.{AnswersFirst, HasToldStep, after_pick_up};
 ghost use Rattle.jc_stripe.specs.Phases.{MayBegin, Begins, hit_done, Commits, Withdraws, PicksUp, told_to};
@@ -28,7 +23,9 @@ ghost use Rattle.jc_stripe.specs.OnePhase.{IsPhaseOf};
 mod beginning;
 mod conditions;
 mod finding;
+mod living;
 mod looking;
+mod making;
 
 use crate::appending::{append_group, make_step};
 use crate::begun::{Begun, Picked, StepDone};
@@ -44,7 +41,7 @@ use jc_mutentry::ProcDone;
 use jc_outside::{LoadDone, Origin, WriteDone};
 use jc_reserve::Reservations;
 use jc_types::{Caller, Config, HIT_PLACES, Key, STEP_PLACES, Value};
-use std::alloc::{AllocError, Global};
+use std::alloc::AllocError;
 use std::marker::Model;
 
 /// What the writer answered, if it was asked. The report is spent.
@@ -93,146 +90,6 @@ impl Model for Stripe {
 
 impl Stripe {
     ghost use Rattle.jc_stripe.specs.Reached.{IsReached};
-
-    /// An empty stripe, the one with this number of `config.stripes`. Its history and its tables have all the room that they may
-    /// need; an `Err` says that an allocation for it failed.
-    ///
-    /// Stripes are numbered from 0. A number at or above `config.stripes` gives a stripe that has no keys.
-    ///
-    /// Conditions: `config.check()` is `Ok`.
-    pub fn new(
-        alloc: Global,
-        config: &Config,
-        number: usize,
-        origin: Origin,
-    ) -> Result<Self, AllocError>
-        requires { check config.now ≡ Ok tt }
-        ensures { IfOk result (λ s. s ≡ record {
-          config = config.now;
-          stripe = number;
-          origin = origin;
-          lives = false;
-          ended = [];
-          opening = [];
-          cache = map.empty;
-          reservations = [];
-          joiners = [];
-          history = [];
-          next = 0;
-        }) }
-    {
-        Stripe::new_from(alloc, config, number, origin, 0)
-    }
-
-    /// An empty stripe as by `new`, whose first reservation has the number `next`. No reservation has the last one, `u64::MAX`: at
-    /// it every first phase is refused (`HistoryFull`).
-    ///
-    /// Conditions: `config.check()` is `Ok`.
-    pub fn new_from(
-        alloc: Global,
-        config: &Config,
-        number: usize,
-        origin: Origin,
-        next: u64,
-    ) -> Result<Self, AllocError>
-        requires { check config.now ≡ Ok tt }
-        ensures made { IfOk result (λ s. s ≡ record {
-          config = config.now;
-          stripe = number;
-          origin = origin;
-          lives = false;
-          ended = [];
-          opening = [];
-          cache = map.empty;
-          reservations = [];
-          joiners = [];
-          history = [];
-          next = next;
-        }) }
-        ensures reached { IfOk result (λ s. IsReached s) }
-    {
-        let entries = Entries::new(alloc, config.capacity)?;
-        Stripe::make(alloc, config, number, origin, entries, next)
-    }
-
-    /// A stripe with nothing in its history, which opens with these entries, in their order of use. It keeps them. An `Err` says that an allocation failed.
-    ///
-    /// Conditions: `config.check()` is `Ok`; the entries have the room that it gives to a stripe, and are of this stripe's keys.
-    pub fn open_with(
-        alloc: Global,
-        config: &Config,
-        number: usize,
-        origin: Origin,
-        entries: Entries,
-    ) -> Result<Self, AllocError>
-        requires fits { check config.now ≡ Ok tt }
-        requires capacity { entries.capacity ≡ config.now.capacity }
-        requires own { list_all (λ entry. stripe_of entry.0 config.now.stripes == number) entries.list ≡ true }
-        ensures made { IfOk result (λ s. s ≡ record {
-          config = config.now;
-          stripe = number;
-          origin = origin;
-          lives = false;
-          ended = [];
-          opening = entries.list;
-          cache = map.from_entries entries.list;
-          reservations = [];
-          joiners = [];
-          history = [];
-          next = 0;
-        }) }
-        ensures reached { IfOk result (λ s. IsReached s) }
-    {
-        Stripe::make(alloc, config, number, origin, entries, 0)
-    }
-
-    /// A stripe as by `open_with`, whose first reservation has the number `next`.
-    fn make(
-        alloc: Global,
-        config: &Config,
-        number: usize,
-        origin: Origin,
-        entries: Entries,
-        next: u64,
-    ) -> Result<Self, AllocError>
-        requires fits { check config.now ≡ Ok tt }
-        requires capacity { entries.capacity ≡ config.now.capacity }
-        requires own { list_all (λ entry. stripe_of entry.0 config.now.stripes == number) entries.list ≡ true }
-        ensures made { IfOk result (λ s. s ≡ record {
-          config = config.now;
-          stripe = number;
-          origin = origin;
-          lives = false;
-          ended = [];
-          opening = entries.list;
-          cache = map.from_entries entries.list;
-          reservations = [];
-          joiners = [];
-          history = [];
-          next = next;
-        }) }
-        ensures reached { IfOk result (λ s. IsReached s) }
-    {
-        // For its contract: each key is there once, and there are not too many.
-        let _ = entries.capacity();
-        let reservations = Reservations::new_from(next);
-        let boxes = TicketBoxes::new(alloc)?;
-        let joiners = Joiners::new();
-        let history = History::new(alloc, config.history)?;
-        let life = Life::new(&entries);
-        Ok(Stripe {
-            config: *config,
-            number,
-            origin,
-            entries,
-            reservations,
-            boxes,
-            joiners,
-            history,
-            lives: false,
-            life,
-        })
-    }
 
     /// The first phase of a call, on one key.
     ///
@@ -397,52 +254,6 @@ impl Stripe {
         ensures { IsTrue result ↔ IsIdle self.now }
     {
         self.reservations.is_empty() && self.joiners.is_empty()
-    }
-
-    /// Whether a full history of this stripe may end, and the next one begin.
-    pub fn lives(&self) -> bool
-        ensures { result ≡ self.now.lives }
-    {
-        self.lives
-    }
-
-    /// How many generations have ended. A count that has reached `u64::MAX` stays there.
-    pub fn generations_ended(&self) -> u64
-        ensures { result ≡ min (length self.now.ended) LAST_NUMBER }
-    {
-        self.life.count()
-    }
-
-    /// From now on a full history of this stripe may end, and the next one begin ([`renew`](Stripe::renew)). Nothing else changes.
-    pub fn live_on(&mut self)
-        ensures { self.new ≡ live_on self.old }
-    {
-        self.lives = true;
-    }
-
-    /// Ends the present generation, and begins a new one, which opens with what is cached, in its order of use. The history is empty
-    /// then, and all its places are free that are not promised.
-    ///
-    /// What is cached, the order of use, reservations, joiners, promised places and the next reservation's number stay. It takes no
-    /// memory.
-    ///
-    /// Condition: the generation may end ([`is_renewable`](Stripe::is_renewable)).
-    pub fn renew(&mut self)
-        requires { is_renewable self.old ≡ true }
-        ensures { Renews self.old self.new }
-    {
-        let life = self.life.next(&self.history, &self.entries);
-        self.history.clear();
-        self.life = life;
-    }
-
-    /// Ends the present generation as [`renew`](Stripe::renew) does, if it may end. Else nothing changes.
-    pub fn renew_if_full(&mut self)
-        ensures { RenewsIfFull self.old self.new }
-    {
-        if self.is_renewable() {
-            self.renew();
-        }
     }
 
     /// Appends what is cached, each key once, the most recently used first.

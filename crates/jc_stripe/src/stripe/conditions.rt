@@ -1,22 +1,20 @@
 //! Tests of a stripe, by which a driver that had let it go sees whether a condition of a phase still holds. They change
 //! nothing.
 ghost use Rattle.std.specs.Prelude.{◌≡◌, ◌↔◌, IsTrue, find, option_map};
-ghost use Rattle.std.specs.List.{list_all, list_any};
+ghost use Rattle.std.specs.List.{list_all};
 ghost use Rattle.jc_inflight.specs.Joining.{belongs_to};
 ghost use Rattle.jc_stripe.specs.State.{is_of, IsOut, IsJoined};
 ghost use Rattle.jc_stripe.specs.Phases.{MayBegin, is_other_call, is_other_join};
-ghost use Rattle.jc_stripe.specs.OnePhase.{is_answered};
-ghost use Rattle.jc_stripe.specs.Renewal.{is_renewable};
 ghost use Rattle.jc_stripe.specs.OwnSteps.{may_come_all};
-ghost use Rattle.jc_stripe.specs.Tests.{is_clear, may_begin, asks_outside};
+ghost use Rattle.jc_stripe.specs.Tests.{is_clear, asks_outside};
 
 use super::Stripe;
 use crate::call_rules::{first_asked, reserves};
 use crate::ticket::{First, Join, Reservation};
 use jc_history::History;
-use jc_inflight::{JoinState, Joiner};
+use jc_inflight::Joiner;
 use jc_model::Op;
-use jc_types::{Caller, Key, STEP_PLACES, stripe_of};
+use jc_types::{Caller, Key, stripe_of};
 
 /// Whether a reservation is another session's, or the same call's of another key.
 fn is_other_call(held: &Reservation, caller: Caller, key: &Key) -> bool
@@ -103,25 +101,7 @@ fn may_come_all(history: &History, caller: &Caller, key: &Key) -> bool
     true
 }
 
-/// Whether an answer is parked for one of these joiners.
-fn has_parked(joiners: &[Joiner]) -> bool
-    ensures { result ≡ list_any (λ j. is_answered j.state) joiners.now }
-{
-    joiners
-        .iter()
-        .any(|j| matches!(j.state, JoinState::Answered { .. }))
-}
-
 impl Stripe {
-    /// Whether the present generation may end: the stripe lives on, its history is full and not empty, and no answer of a load is
-    /// parked. The condition of [`renew`](Stripe::renew).
-    pub fn is_renewable(&self) -> bool
-        ensures { result ≡ is_renewable self.now }
-    {
-        let is_full = !self.history.has_room(STEP_PLACES);
-        self.lives && is_full && self.history.len() > 0 && !has_parked(self.joiners.list())
-    }
-
     /// Whether a call may begin here: the condition of [`begin`](Stripe::begin). It reads the whole history; a driver
     /// that knows its session's own steps has enough with [`is_clear`](Stripe::is_clear).
     pub fn admits(&self, caller: Caller, key: &Key) -> bool

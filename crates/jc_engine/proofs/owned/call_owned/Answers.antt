@@ -12,5 +12,5 @@ returns g c =
     let there = there_is c.args.owner.now c.requires.there in
     record {
       call = owned_call _ _ _ _ c.whole_call.ensures c.joins_only_loads.ensures c.args.agent.now c.call.new.agent c.args.key.now c.args.op.now c.args.owner.now _ c.call.result c.call.new.gate _
-          there.0 there.1 (c.requires.idle there.0 there.1, c.requires.alone there.0 there.1) c.call.ensures.call;
+          there.0 there.1 (c.requires.idle there.0 there.1, c.requires.one_life there.0 there.1) c.call.ensures.call;
     }

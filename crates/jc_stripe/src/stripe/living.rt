@@ -1,0 +1,76 @@
+//! A stripe that lives on: when its generation ends, and the next one begins.
+ghost use Rattle.std.specs.Prelude.{◌≡◌, length, min};
+ghost use Rattle.std.specs.List.{list_any};
+ghost use Rattle.jc_types.specs.declared.limits.TheConstants.{LAST_NUMBER};
+ghost use Rattle.jc_stripe.specs.OnePhase.{is_answered};
+ghost use Rattle.jc_stripe.specs.Renewal.{Renews, RenewsIfFull, is_renewable, live_on};
+
+use super::Stripe;
+use jc_inflight::{JoinState, Joiner};
+use jc_types::STEP_PLACES;
+
+impl Stripe {
+    /// Whether a full history of this stripe may end, and the next one begin.
+    pub fn lives(&self) -> bool
+        ensures { result ≡ self.now.lives }
+    {
+        self.lives
+    }
+
+    /// How many generations have ended. A count that has reached `u64::MAX` stays there.
+    pub fn generations_ended(&self) -> u64
+        ensures { result ≡ min (length self.now.ended) LAST_NUMBER }
+    {
+        self.life.count()
+    }
+
+    /// From now on a full history of this stripe may end, and the next one begin ([`renew`](Stripe::renew)). Nothing else changes.
+    pub fn live_on(&mut self)
+        ensures { self.new ≡ live_on self.old }
+    {
+        self.lives = true;
+    }
+
+    /// Whether the present generation may end: the stripe lives on, its history is full and not empty, and no answer of a load is
+    /// parked. The condition of [`renew`](Stripe::renew).
+    pub fn is_renewable(&self) -> bool
+        ensures { result ≡ is_renewable self.now }
+    {
+        let is_full = !self.history.has_room(STEP_PLACES);
+        self.lives && is_full && self.history.len() > 0 && !has_parked(self.joiners.list())
+    }
+
+    /// Ends the present generation, and begins a new one, which opens with what is cached, in its order of use. The history is empty
+    /// then, and all its places are free that are not promised.
+    ///
+    /// What is cached, the order of use, reservations, joiners, promised places and the next reservation's number stay. It takes no
+    /// memory.
+    ///
+    /// Condition: the generation may end ([`is_renewable`](Stripe::is_renewable)).
+    pub fn renew(&mut self)
+        requires { is_renewable self.old ≡ true }
+        ensures { Renews self.old self.new }
+    {
+        let life = self.life.next(&self.history, &self.entries);
+        self.history.clear();
+        self.life = life;
+    }
+
+    /// Ends the present generation as [`renew`](Stripe::renew) does, if it may end. Else nothing changes.
+    pub fn renew_if_full(&mut self)
+        ensures { RenewsIfFull self.old self.new }
+    {
+        if self.is_renewable() {
+            self.renew();
+        }
+    }
+}
+
+/// Whether an answer is parked for one of these joiners.
+fn has_parked(joiners: &[Joiner]) -> bool
+    ensures { result ≡ list_any (λ j. is_answered j.state) joiners.now }
+{
+    joiners
+        .iter()
+        .any(|j| matches!(j.state, JoinState::Answered { .. }))
+}

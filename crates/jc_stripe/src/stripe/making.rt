@@ -1,0 +1,114 @@
+//! How a stripe is made.
+ghost use Rattle.std.specs.Prelude.{◌≡◌, [], true, IfOk, Ok};
+ghost use Rattle.std.specs.Prelude.{◌==◌};
+ghost use Rattle.std.specs.List.{list_all};
+ghost use Rattle.jc_types.specs.Limits.{check};
+ghost use Rattle.jc_types.specs.Stripes.{stripe_of};
+ghost use Rattle.jc_stripe.specs.Reached.{IsReached};
+ghost use Rattle.jc_stripe.specs.Reopening.{opened_stripe};
+
+use super::Stripe;
+use crate::life::Life;
+use crate::ticket_boxes::TicketBoxes;
+use jc_entries::Entries;
+use jc_history::History;
+use jc_inflight::Joiners;
+use jc_outside::Origin;
+use jc_reserve::Reservations;
+use jc_types::Config;
+use std::alloc::{AllocError, Global};
+
+impl Stripe {
+    /// An empty stripe, the one with this number of `config.stripes`. Its history and its tables have all the room that they may
+    /// need; an `Err` says that an allocation for it failed.
+    ///
+    /// Stripes are numbered from 0. A number at or above `config.stripes` gives a stripe that has no keys.
+    ///
+    /// Conditions: `config.check()` is `Ok`.
+    pub fn new(
+        alloc: Global,
+        config: &Config,
+        number: usize,
+        origin: Origin,
+    ) -> Result<Self, AllocError>
+        requires { check config.now ≡ Ok tt }
+        ensures { IfOk result (λ s. s ≡ opened_stripe config.now origin number []) }
+    {
+        Stripe::new_from(alloc, config, number, origin, 0)
+    }
+
+    /// An empty stripe as by `new`, whose first reservation has the number `next`. No reservation has the last one, `u64::MAX`: at
+    /// it every first phase is refused (`HistoryFull`).
+    ///
+    /// Conditions: `config.check()` is `Ok`.
+    pub fn new_from(
+        alloc: Global,
+        config: &Config,
+        number: usize,
+        origin: Origin,
+        next: u64,
+    ) -> Result<Self, AllocError>
+        requires { check config.now ≡ Ok tt }
+        ensures made { IfOk result (λ s. s ≡ record (opened_stripe config.now origin number []) { next = next }) }
+        ensures reached { IfOk result (λ s. IsReached s) }
+    {
+        let entries = Entries::new(alloc, config.capacity)?;
+        Stripe::make(alloc, config, number, origin, entries, next)
+    }
+
+    /// A stripe with nothing in its history, which opens with these entries, in their order of use. It keeps them. An `Err` says
+    /// that an allocation failed.
+    ///
+    /// Conditions: `config.check()` is `Ok`; the entries have the room that it gives to a stripe, and are of this stripe's keys.
+    pub fn open_with(
+        alloc: Global,
+        config: &Config,
+        number: usize,
+        origin: Origin,
+        entries: Entries,
+    ) -> Result<Self, AllocError>
+        requires fits { check config.now ≡ Ok tt }
+        requires capacity { entries.capacity ≡ config.now.capacity }
+        requires own { list_all (λ entry. stripe_of entry.0 config.now.stripes == number) entries.list ≡ true }
+        ensures made { IfOk result (λ s. s ≡ opened_stripe config.now origin number entries.list) }
+        ensures reached { IfOk result (λ s. IsReached s) }
+    {
+        Stripe::make(alloc, config, number, origin, entries, 0)
+    }
+
+    /// A stripe as by `open_with`, whose first reservation has the number `next`.
+    fn make(
+        alloc: Global,
+        config: &Config,
+        number: usize,
+        origin: Origin,
+        entries: Entries,
+        next: u64,
+    ) -> Result<Self, AllocError>
+        requires fits { check config.now ≡ Ok tt }
+        requires capacity { entries.capacity ≡ config.now.capacity }
+        requires own { list_all (λ entry. stripe_of entry.0 config.now.stripes == number) entries.list ≡ true }
+        ensures made { IfOk result (λ s. s ≡ record (opened_stripe config.now origin number entries.list) { next = next }) }
+        ensures reached { IfOk result (λ s. IsReached s) }
+    {
+        // For its contract: each key is there once, and there are not too many.
+        let _ = entries.capacity();
+        let reservations = Reservations::new_from(next);
+        let boxes = TicketBoxes::new(alloc)?;
+        let joiners = Joiners::new();
+        let history = History::new(alloc, config.history)?;
+        let life = Life::new(&entries);
+        Ok(Stripe {
+            config: *config,
+            number,
+            origin,
+            entries,
+            reservations,
+            boxes,
+            joiners,
+            history,
+            lives: false,
+            life,
+        })
+    }
+}
