@@ -1,5 +1,5 @@
 //! A stripe that lives on: when its generation ends, and the next one begins.
-ghost use Rattle.std.specs.Prelude.{◌≡◌, length, min};
+ghost use Rattle.std.specs.Prelude.{◌≡◌, true, length, min};
 ghost use Rattle.std.specs.List.{list_any};
 ghost use Rattle.jc_types.specs.declared.limits.TheConstants.{LAST_NUMBER};
 ghost use Rattle.jc_stripe.specs.OnePhase.{is_answered};
