@@ -7,6 +7,8 @@ ghost use Rattle.jc_types.specs.declared.limits.TheConstants.{LAST_NUMBER};
 ghost use Rattle.jc_types.specs.declared.refusal.Refusal.TheVariants.{OutOfMemory};
 ghost use Rattle.jc_model.specs.Legal.{Legal};
 ghost use Rattle.jc_model.specs.Listed.{has_distinct_keys};
+ghost use Rattle.jc_model.specs.Statistics.{statistics_of};
+ghost use Rattle.jc_stripe.specs.Generations.{whole_history};
 ghost use Rattle.jc_stripe.specs.OrderOfUse.{by_use};
 ghost use Rattle.jc_stripe.specs.Reached.{IsReached};
 ghost use Rattle.jc_stripe.specs.Reopening.{shares_key};
@@ -20,7 +22,7 @@ use crate::cache::Cache;
 use crate::owner::CacheOwner;
 use crate::session::Session;
 use jc_lock::{HistLock, Seat};
-use jc_model::Event;
+use jc_model::{Event, Statistics};
 use jc_outside::Outside;
 use jc_stripe::Stripe;
 use jc_stripe::phase_laws::is_legal;
@@ -72,6 +74,13 @@ impl ClosedStripe {
         ensures { result ≡ min (length self.now.ended) LAST_NUMBER }
     {
         self.stripe.generations_ended()
+    }
+
+    /// What the events of all its generations count, the last one included (JSR 107, "Statistics"). It reads no event.
+    pub fn statistics(&self) -> Statistics
+        ensures { result ≡ statistics_of (whole_history self.now) }
+    {
+        self.stripe.statistics()
     }
 
     /// Appends this history, oldest event first. An `Err` says that an allocation failed, and then nothing is appended.

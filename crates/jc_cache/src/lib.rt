@@ -20,7 +20,7 @@ mod trying;
 pub use cache::Cache;
 pub use calls::value_of;
 pub use closing::{CloseFault, Closed, ClosedStripe};
-pub use jc_model::{Event, Op, Reply};
+pub use jc_model::{Event, Op, Reply, Statistics};
 pub use jc_mutentry::{EntryProcessor, MutableEntry};
 pub use jc_outside::{Answers, CacheLoader, CacheWriter, Outside};
 pub use jc_session::SessionFault;

@@ -1,6 +1,7 @@
 -- What comes after lendings in which nothing was done.
 --     lent-append      two rows of lendings
 --     rests-both       two rows in which nothing was done
+--     lent_later       a phase after a row in which nothing was done
 --     rested           a phase that left the stripe as it was is such a row
 --     since_rest       what the next take finds comes after what a take could have found before it
 --     later            a phase after such a row
@@ -68,6 +69,22 @@ module _ {G T : Type 0} (takes gives : G → T → State → G → T → Type 0)
       → (a : State) → finds h u a → Since finds session g t a
   since_rest law session g t h u x =
       since_phase takes gives finds session law g t g t (λ a b. b ≡ a) h u (since_start finds session g t) x (ap (λ (s : State). own_steps session s) x.made)
+
+  -- a phase after quiet lendings: what a take finds after these comes after what a take could have found before
+  pub lent_later : (session : ℕ) (g : G) (t : T) (h : G) (u : T) (phase : State → State → Type 0) (k : G) (v : T) → Rests takes gives finds g t h u → ((a : State) → finds h u a → Since finds session g t a)
+      → LentPhase takes gives finds session h u phase k v → LentPhase takes gives finds session g t phase k v
+  lent_later session g t h u phase k v rests since x = record {
+    gate = x.gate;
+    token = x.token;
+    rests = rests-both g t h u x.gate x.token rests x.rests;
+    before = x.before;
+    after = x.after;
+    since = since_both finds session g t h u x.before since x.since;
+    lent = x.lent;
+    made = x.made;
+    one = x.one;
+    next = x.next;
+  }
 
   module _ (caller : Caller) (key : Bytes) (op : Op) (g : G) (t : T) (h : G) (u : T) (rests : Rests takes gives finds g t h u) (since : (a : State) → finds h u a → Since finds caller.session g t a) where
     -- `from` is where the phase began: what a take finds there comes after what a take could have found before

@@ -2,7 +2,7 @@
 ghost use Rattle.std.specs.Prelude.{◌≡◌, ℕ, IfOk, IfErr};
 ghost use Rattle.jc_stripe.specs.State.{State};
 ghost use Rattle.jc_session.specs.Counting.{counts_after};
-ghost use Rattle.jc_engine.specs.Chain.{LentPhase, Rests};
+ghost use Rattle.jc_engine.specs.Chain.{LentPhase, Rests, Since};
 
 use jc_gate::Gate;
 use jc_session::{Agent, Counted};
@@ -98,7 +98,53 @@ pub fn make_phase<G: Gate, P: Phase, R: Wait>(
 }
 
 /// Makes a phase, if the stripe is there and the phase can be made now. An `Err` gives it back: nothing was done, but that the
-/// stripe's generation may have ended.
+/// stripe's generation may have ended. It also says whether the generation was one that may end, so that another try may do.
+///
+/// It never waits. Conditions: those of [`make_phase`].
+fn try_once<G: Gate, P: Phase>(
+    gate: &mut G,
+    token: &mut G::Token,
+    agent: &mut Agent,
+    phase: P,
+) -> Result<P::Answer, (P, bool)>
+    requires held { agent.old.hands.held ≡ 0 }
+    requires free { G.is_free gate.old token.old }
+    requires speaks { G.speaks_for token.old agent.old.caller.session }
+    requires who { P.who phase ≡ agent.old.caller.session }
+    requires needs { (a : State) → G.finds gate.old token.old a → P.needs phase a }
+    ensures free { G.is_free gate.new token.new }
+    ensures speaks { (n : ℕ) → G.speaks_for token.old n → G.speaks_for token.new n }
+    ensures agent { IfOk result (λ answer. agent.new ≡ record agent.old { counts = counts_after agent.old.counts (P.counts answer) }) }
+    ensures made { IfOk result (λ answer. LentPhase G.takes G.gives G.finds agent.old.caller.session gate.old token.old
+        (λ a b. P.makes phase a answer b) gate.new token.new) }
+    ensures back { IfErr result (λ back. (back.0 ≡ phase) × (agent.new ≡ agent.old)
+        × Rests G.takes G.gives G.finds gate.old token.old gate.new token.new) }
+    ensures since { IfErr result (λ back. (a : State) → G.finds gate.new token.new a
+        → Since G.finds agent.old.caller.session gate.old token.old a) }
+{
+    renewal();
+    match agent.try_take(gate, token) {
+        Some(stripe) => {
+            let mut stripe = stripe;
+            match phase.make(&mut stripe) {
+                Ok(answer) => {
+                    agent.give(gate, token, stripe, P::counted(&answer));
+                    Ok(answer)
+                }
+                Err(back) => {
+                    let ends = stripe.is_renewable();
+                    stripe.renew_if_full();
+                    agent.give_back(gate, token, stripe);
+                    Err((back, ends))
+                }
+            }
+        }
+        None => Err((phase, false)),
+    }
+}
+
+/// Makes a phase, if the stripe is there and the phase can be made now, or after the generation that stood in its way has ended. An
+/// `Err` gives it back: nothing was done, but that the stripe's generation may have ended.
 ///
 /// It never waits. Conditions: those of [`make_phase`].
 pub fn try_phase<G: Gate, P: Phase>(
@@ -120,22 +166,15 @@ pub fn try_phase<G: Gate, P: Phase>(
     ensures back { IfErr result (λ back. (back ≡ phase) × (agent.new ≡ agent.old)
         × Rests G.takes G.gives G.finds gate.old token.old gate.new token.new) }
 {
-    renewal();
-    match agent.try_take(gate, token) {
-        Some(stripe) => {
-            let mut stripe = stripe;
-            match phase.make(&mut stripe) {
-                Ok(answer) => {
-                    agent.give(gate, token, stripe, P::counted(&answer));
-                    Ok(answer)
-                }
-                Err(back) => {
-                    stripe.renew_if_full();
-                    agent.give_back(gate, token, stripe);
-                    Err(back)
-                }
-            }
-        }
-        None => Err(phase),
+    let (back, ends) = match try_once(gate, token, agent, phase) {
+        Ok(answer) => return Ok(answer),
+        Err(back) => back,
+    };
+    if !ends {
+        return Err(back);
+    }
+    match try_once(gate, token, agent, back) {
+        Ok(answer) => Ok(answer),
+        Err((back, _)) => Err(back),
     }
 }

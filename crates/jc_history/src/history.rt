@@ -5,6 +5,7 @@
 //! when it has the answer: such a push is never refused. The places that it doesn't use it gives back.
 ghost use Rattle.std.specs.Prelude.{◌≡◌, ◌+◌, ◌<◌, ◌≤◌, ◌^◌, ◌↔◌, [], length, vec_len, vec_capacity, ◌∷◌, ◌++◌, Some, IsTrue};
 ghost use Rattle.std.specs.Prelude.{IfOk, OnOk, OnErr, All, if◌then◌else◌, slice_get, slice_range};
+ghost use Rattle.jc_model.specs.Statistics.{statistics_of};
 ghost use Rattle.jc_history.specs.Past.{places_used, IsWithinLimit, promise, unpromise, push, hit_event, reply_in};
 ghost use Rattle.jc_history.specs.Values.{IsStorable};
 ghost use Rattle.jc_history.specs.Stored.{events_at, IsComplete};
@@ -14,7 +15,8 @@ use crate::decoding::{decode_event, decode_reply_of_step};
 use crate::encoding::{encode_event, encode_hit, encode_step};
 use crate::lent::LentStep;
 use crate::room::EVENT_ROOM;
-use jc_model::{Event, Reply};
+use jc_model::statistics::statistics_laws;
+use jc_model::{Event, Reply, Statistics};
 use jc_types::{Caller, HISTORY_MAX, Key, Value};
 use std::alloc::{AllocError, Global};
 use std::marker::Model;
@@ -36,6 +38,8 @@ pub struct History {
     starts: Vec<u32>,
     limit: usize,
     promised: usize,
+    // What the events count.
+    statistics: Statistics,
 }
 
 impl Model for History {
@@ -68,6 +72,7 @@ impl History {
             starts,
             limit,
             promised: 0,
+            statistics: Statistics::new(),
         })
     }
 
@@ -109,8 +114,10 @@ impl History {
         ensures after { self.new ≡ push event.now self.old }
         ensures within { IsWithinLimit self.new }
     {
+        statistics_laws();
         append_event(&mut self.bytes, &mut self.starts, event);
         self.promised -= 1;
+        self.statistics = self.statistics.with_event(event);
     }
 
     /// Appends a step, in a place that was promised: what [`push`](History::push) appends of the same event, which so needn't be
@@ -121,8 +128,10 @@ impl History {
         ensures after { self.new ≡ push step.now self.old }
         ensures within { IsWithinLimit self.new }
     {
+        statistics_laws();
         append_step(&mut self.bytes, &mut self.starts, step);
         self.promised -= 1;
+        self.statistics = step.counted_in(&self.statistics);
     }
 
     /// Appends the step of a `get` that found its entry and asked nobody, in a place that is free: what a promise of one place and
@@ -132,7 +141,9 @@ impl History {
         ensures after { self.new ≡ push (hit_event caller.now key.now value.now) (promise 1 self.old) }
         ensures within { IsWithinLimit self.new }
     {
+        statistics_laws();
         append_hit(&mut self.bytes, &mut self.starts, caller, key, value);
+        self.statistics = self.statistics.with_hit();
     }
 
     /// Forgets all events. The promised places stay promised, and the room stays.
@@ -142,6 +153,14 @@ impl History {
     {
         self.bytes.clear();
         self.starts.clear();
+        self.statistics = Statistics::new();
+    }
+
+    /// What the events count. It reads none of them.
+    pub fn statistics(&self) -> Statistics
+        ensures { result ≡ statistics_of self.now.events }
+    {
+        self.statistics
     }
 
     /// How many events there are, at most [`HISTORY_MAX`]. Promised places don't count.

@@ -1,5 +1,8 @@
 //! A step whose parts are lent.
-use jc_model::{Op, Out, Reply};
+ghost use Rattle.std.specs.Prelude.{◌≡◌};
+ghost use Rattle.jc_model.specs.Statistics.{with_event};
+
+use jc_model::{Op, Out, Reply, Statistics};
 use jc_types::{Caller, Key};
 use std::marker::Model;
 
@@ -29,4 +32,13 @@ impl<'a> Model for LentStep<'a> {
     ghost Value = { Event };
 
     ghost view = { λ s. Step s.caller.now s.op.now s.key.now s.out.now s.shared_with.now s.reply.now };
+}
+
+impl<'a> LentStep<'a> {
+    /// These counts with this step.
+    pub(crate) fn counted_in(&self, statistics: &Statistics) -> Statistics
+        ensures { result ≡ with_event statistics.now self.now }
+    {
+        statistics.with_step(self.op, self.out, self.reply)
+    }
 }

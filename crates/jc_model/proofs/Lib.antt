@@ -8,3 +8,4 @@ mod Rows
 pub mod Openings
 pub mod Whole
 pub mod TableLaws
+pub mod Counted

@@ -9,3 +9,4 @@ pub mod Legal
 pub mod Listed
 pub mod Apart
 pub mod Reader
+pub mod Statistics

@@ -5,6 +5,7 @@
 //! - [`table`] says what each operation asks for, leaves and replies, as methods of [`event::Op`].
 //! - [`batches`] says what a bulk write means for each of its keys.
 //! - [`processor`] has an entry processor's calls on its entry.
+//! - [`statistics`] has what is counted of a history.
 //! - [`contents`] has a cache's contents as a map.
 //! - [`legal`] is the slow checker of one stripe's history. It rests on `callers` (the callers' order),
 //!   `stripes` (the keys of one stripe), `listed` (an opening as a plain list) and `reader` (reading
@@ -20,6 +21,7 @@ mod listed;
 pub mod processor;
 mod reader;
 mod same;
+pub mod statistics;
 mod stripes;
 pub mod table;
 pub mod table_laws;
@@ -31,4 +33,5 @@ pub use event::{
     Cause, Change, Effect, Event, LoadAnswer, Op, Out, ProcessAnswer, Reply, WriteAnswer,
 };
 pub use processor::{EntryAnswer, EntryCall};
+pub use statistics::Statistics;
 pub use table::LoaderAsk;

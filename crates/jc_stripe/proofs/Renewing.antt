@@ -37,7 +37,7 @@ use Rattle.std.proofs.lemmas.Bool.Decides.{nat_tests}
 use Rattle.jc_stripe.proofs.ParkedSteps.{filter-append, own-parked}
 use Rattle.jc_model.proofs.CallerLemmas.{len-distinct}
 
-past-snoc : (gs : List Generation) (g : Generation) → past_events (gs ++ g ∷ []) ≡ past_events gs ++ g.history
+pub past-snoc : (gs : List Generation) (g : Generation) → past_events (gs ++ g ∷ []) ≡ past_events gs ++ g.history
 past-snoc [] g = append-nil g.history
 past-snoc (h ∷ gs) g = ap (λ (es : List Event). h.history ++ es) (past-snoc gs g) ∙ sym (append_assoc h.history (past_events gs) g.history)
 

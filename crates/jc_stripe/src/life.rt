@@ -1,10 +1,14 @@
 //! The generations of a stripe. Contracts read what they were; when the program runs, it is known how many have ended.
 ghost use Rattle.std.specs.Prelude.{◌≡◌, [], ◌∷◌, ◌++◌, length, min};
 ghost use Rattle.jc_types.specs.declared.limits.TheConstants.{LAST_NUMBER};
+ghost use Rattle.jc_model.specs.Statistics.{statistics_of};
+ghost use Rattle.jc_stripe.specs.Generations.{past_events};
 
 use crate::log::Log;
 use jc_entries::Entries;
 use jc_history::History;
+use jc_model::Statistics;
+use jc_model::statistics::statistics_laws;
 use std::marker::Model;
 
 /// What the present generation opened with, and the generations that have ended, each with its opening and its history.
@@ -13,21 +17,23 @@ pub(crate) struct Life {
     opening: Log<Entries, ()>,
     ended: Log<Log<Entries, ()>, History>,
     count: u64,
+    // Of the generations that have ended.
+    statistics: Statistics,
 }
 
 impl Model for Life {
-    ghost use Rattle.std.specs.Prelude.{◌≡◌, map, length, min};
+    ghost use Rattle.std.specs.Prelude.{◌≡◌, length, min};
     ghost use Rattle.jc_types.specs.declared.limits.TheConstants.{LAST_NUMBER};
-    ghost use Rattle.jc_stripe.specs.Life.{Life, noted_in};
+    ghost use Rattle.jc_model.specs.Statistics.{statistics_of};
+    ghost use Rattle.jc_stripe.specs.Generations.{past_events};
+    ghost use Rattle.jc_stripe.specs.Life.{Life, noted_in, ended_in};
 
     ghost Value = { Life };
 
-    ghost view = { λ l. record {
-      opening = noted_in l.opening.items;
-      ended = map (λ g. record { opening = noted_in g.0.items; history = g.1.events }) l.ended.items;
-    } };
+    ghost view = { λ l. record { opening = noted_in l.opening.items; ended = ended_in l.ended.items } };
 
-    ghost invariant = { λ l. l.count ≡ min (length l.ended.items) LAST_NUMBER };
+    ghost invariant = { λ l. (l.count ≡ min (length l.ended.items) LAST_NUMBER)
+        × (l.statistics ≡ statistics_of (past_events (ended_in l.ended.items))) };
 }
 
 impl Life {
@@ -39,6 +45,7 @@ impl Life {
             opening: Log::new().and(entries, &()),
             ended: Log::new(),
             count: 0,
+            statistics: Statistics::new(),
         }
     }
 
@@ -49,10 +56,12 @@ impl Life {
           ended = self.now.ended ++ record { opening = self.now.opening; history = history.now.events } ∷ [];
         } }
     {
+        statistics_laws();
         Life {
             opening: Log::new().and(entries, &()),
             ended: self.ended.and(&self.opening, history),
             count: self.count.saturating_add(1),
+            statistics: self.statistics.together(&history.statistics()),
         }
     }
 
@@ -61,5 +70,12 @@ impl Life {
         ensures { result ≡ min (length self.now.ended) LAST_NUMBER }
     {
         self.count
+    }
+
+    /// What the events of the generations that have ended count.
+    pub(crate) fn statistics(&self) -> Statistics
+        ensures { result ≡ statistics_of (past_events self.now.ended) }
+    {
+        self.statistics
     }
 }

@@ -2,11 +2,15 @@
 ghost use Rattle.std.specs.Prelude.{◌≡◌, true, length, min};
 ghost use Rattle.std.specs.List.{list_any};
 ghost use Rattle.jc_types.specs.declared.limits.TheConstants.{LAST_NUMBER};
+ghost use Rattle.jc_model.specs.Statistics.{statistics_of};
+ghost use Rattle.jc_stripe.specs.Generations.{whole_history};
 ghost use Rattle.jc_stripe.specs.OnePhase.{is_answered};
 ghost use Rattle.jc_stripe.specs.Renewal.{Renews, RenewsIfFull, is_renewable, live_on};
 
 use super::Stripe;
 use jc_inflight::{JoinState, Joiner};
+use jc_model::Statistics;
+use jc_model::statistics::statistics_laws;
 use jc_types::STEP_PLACES;
 
 impl Stripe {
@@ -54,6 +58,16 @@ impl Stripe {
         let life = self.life.next(&self.history, &self.entries);
         self.history.clear();
         self.life = life;
+    }
+
+    /// What the events of all generations count, the present one included (JSR 107, "Statistics"). It reads no event.
+    pub fn statistics(&self) -> Statistics
+        ensures { result ≡ statistics_of (whole_history self.now) }
+    {
+        statistics_laws();
+        self.life
+            .statistics()
+            .together(&self.history.statistics())
     }
 
     /// Ends the present generation as [`renew`](Stripe::renew) does, if it may end. Else nothing changes.

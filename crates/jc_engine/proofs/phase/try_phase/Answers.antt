@@ -1,47 +1,32 @@
-use Rattle.std.proofs.Common.{rules, ◌∙◌, ap}
+use Rattle.std.proofs.Common.{◌∙◌, ap, sym, subst, rules}
 use Rattle.jc_stripe.specs.State.{State}
-use Rattle.jc_session.proofs.CallerLemmas.{phase_of}
-use Rattle.jc_engine.proofs.Coming.{left_by, quiet_by, since_start}
-use Rattle.jc_engine.proofs.Chains.{rests-start, rests-on}
+use Rattle.jc_engine.specs.Chain.{LentPhase}
+use Rattle.jc_engine.proofs.Later.{lent_later, rests-both}
 use Rattle.jc_engine.proofs.phase.try_phase.Goals as goal
 
-pub give-requires-clause-phase : goal.give-requires-clause-phase
-give-requires-clause-phase g c = (
-  c.in-Some.stripe.value,
-  c.in-Some.ensures.taken,
-  rw (c.counted.ensures, ap (λ a. a.caller.session) c.in-Some.ensures.some, ← c.requires.who, ← c.deref_mut.ensures.value) c.in-Ok.ensures.counted,
-)
+pub try_once-requires-2-clause-needs : goal.try_once-requires-2-clause-needs
+try_once-requires-2-clause-needs g c = λ a later.
+    let since = c.in-Err.ensures.since a later in
+    rw (c.in-Err.ensures.back.0) (g.met.P.Phase.stays c.args.phase since.first a (rw c.requires.who since.after) (c.requires.needs since.first since.finds_first))
 
-pub give_back-requires-clause-rest : goal.give_back-requires-clause-rest
-give_back-requires-clause-rest g c = (
-  c.in-Some.stripe.value,
-  c.in-Some.ensures.taken,
-  left_by c.in-Some.stripe.value c.deref_mut-in-Err.result.now c.renew_if_full.new.self (c.deref_mut-in-Err.ensures.value ∙ c.in-Err.ensures.back.1 ∙ c.deref_mut.ensures.value) c.renew_if_full.ensures,
-)
+pub returns-in-Ok-try_once-clause-made : goal.returns-in-Ok-try_once-clause-made
+returns-in-Ok-try_once-clause-made g c =
+    let takes = g.G.Gate.takes in
+    let gives = g.G.Gate.gives in
+    let finds = g.G.Gate.finds in
+    let answer = c.in-Ok-try_once.answer in
+    let gate = c.try_once.new.gate in
+    let token = c.try_once.new.token in
+    let last = c.try_once-2.new in
+    lent_later takes gives finds c.args.agent.now.caller.session c.args.gate.now c.args.token.now gate token (λ a b. g.P.Phase.makes c.args.phase a answer b) last.gate last.token c.in-Err.ensures.back.2 c.in-Err.ensures.since
+    (subst (λ p. LentPhase takes gives finds c.args.agent.now.caller.session gate token (λ a b. g.P.Phase.makes p a answer b) last.gate last.token) c.in-Err.ensures.back.0
+    (subst (λ s. LentPhase takes gives finds s gate token (λ a b. g.P.Phase.makes c.in-Err.back.0 a answer b) last.gate last.token) (ap (λ x. x.caller.session) c.in-Err.ensures.back.1)
+    c.in-Ok-try_once.ensures.made))
 
-pub returns-in-Ok-clause-made : goal.returns-in-Ok-clause-made
-returns-in-Ok-clause-made g c = record {
-  gate = c.args.gate.now;
-  token = c.args.token.now;
-  rests = rests-start g.G.Gate.takes g.G.Gate.gives g.G.Gate.finds c.args.gate.now c.args.token.now;
-  before = c.in-Some.stripe.value;
-  after = c.make.new.stripe;
-  since = since_start g.G.Gate.finds _ c.args.gate.now c.args.token.now _ c.in-Some.ensures.found.0;
-  lent = record { gate = c.try_take.new.gate; token = c.try_take.new.token; took = c.in-Some.ensures.takes; reached = c.in-Some.ensures.found.1; gave = c.give.ensures.gives };
-  made = rw (← c.deref_mut.ensures.value) c.in-Ok.ensures.made;
-  one = rw (← c.requires.who, ← c.deref_mut.ensures.value) (phase_of _ _ _ _ c.in-Ok.ensures.counted);
-  next = λ a f. c.give.ensures.next _ a (c.in-Some.ensures.speaks _ c.requires.speaks) f;
-}
-
-pub returns-in-Err-clause-back : goal.returns-in-Err-clause-back
-returns-in-Err-clause-back g c =
-    let found : State = c.in-Some.stripe.value in
-    let left : State = c.renew_if_full.new.self in (
-      c.in-Err.ensures.back.0,
-      search rules,
-      rests-on g.G.Gate.takes g.G.Gate.gives g.G.Gate.finds _ _ _ _ found left _ _
-          (rests-start g.G.Gate.takes g.G.Gate.gives g.G.Gate.finds c.args.gate.now c.args.token.now)
-          record { gate = c.try_take.new.gate; token = c.try_take.new.token; took = c.in-Some.ensures.takes; reached = c.in-Some.ensures.found.1; gave = c.give_back.ensures.gives }
-          (quiet_by c.renewal.ensures found left c.in-Some.ensures.found.1
-          (left_by found c.deref_mut-in-Err.result.now left (c.deref_mut-in-Err.ensures.value ∙ c.in-Err.ensures.back.1 ∙ c.deref_mut.ensures.value) c.renew_if_full.ensures)),
+pub returns-in-Err-try_once-clause-back : goal.returns-in-Err-try_once-clause-back
+returns-in-Err-try_once-clause-back g c =
+    let again = c.in-Err-try_once.ensures.back in (
+      c.in-Err-try_once.back-is ∙ again.0 ∙ c.in-Err.ensures.back.0,
+      again.1 ∙ c.in-Err.ensures.back.1,
+      rests-both g.G.Gate.takes g.G.Gate.gives g.G.Gate.finds c.args.gate.now c.args.token.now c.try_once.new.gate c.try_once.new.token _ _ c.in-Err.ensures.back.2 again.2,
     )
