@@ -12,3 +12,4 @@ pub mod Reopenings
 pub mod SessionPhases
 pub mod Meetings
 pub mod Skipped
+pub mod Readings

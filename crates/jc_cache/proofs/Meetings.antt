@@ -34,12 +34,12 @@ use Rattle.jc_cache.proofs.Seats.{set_locks, set_total, seat_stays}
 
 -- 1. Rows in which one seat is replaced.
 
-got_set : (xs : List Seated) (i : ℕ) (x y : Seated) → slice_get xs i ≡ Some x → slice_get (set xs i y) i ≡ Some y
+pub got_set : (xs : List Seated) (i : ℕ) (x y : Seated) → slice_get xs i ≡ Some x → slice_get (set xs i y) i ≡ Some y
 got_set [] i x y at = cc
 got_set (a ∷ xs) zero x y at = refl
 got_set (a ∷ xs) (suc i) x y at = got_set xs i x y at
 
-got_other : (xs : List Seated) (i j : ℕ) (y : Seated) → (j ≡ i → ⊥) → slice_get (set xs i y) j ≡ slice_get xs j
+pub got_other : (xs : List Seated) (i j : ℕ) (y : Seated) → (j ≡ i → ⊥) → slice_get (set xs i y) j ≡ slice_get xs j
 got_other [] i j y ne = refl
 got_other (a ∷ xs) zero zero y ne = absurd (ne refl)
 got_other (a ∷ xs) zero (suc j) y ne = refl
@@ -139,7 +139,7 @@ hearer_seen xs ys xs' ys' locks of_x of_y row_x row_y tells i b' at =
     (b.0, b.1, (tells i a.0 b.0 a'.0 b' a.1 b.1 a'.1 at).hearer_on)
 
 module _ {I J : Type 0} {D : I → Type 0} {E : J → Type 0} where
-  may_stay : (cache : CacheState) (old new : Session I J D E) → MayCall cache old → new.agent ≡ old.agent → KeepRow old.seats.items new.seats.items
+  pub may_stay : (cache : CacheState) (old new : Session I J D E) → MayCall cache old → new.agent ≡ old.agent → KeepRow old.seats.items new.seats.items
       → ((i : ℕ) (seat : Seated) → slice_get new.seats.items i ≡ Some seat → (was : Seated) × (slice_get old.seats.items i ≡ Some was) × HasSeen was.1 seat.1) → MayCall cache new
   may_stay cache old new may agent row seen = record {
     own = record {

@@ -8,3 +8,4 @@ pub mod Closing
 pub mod ClosingInside
 pub mod Reopening
 pub mod CacheInside
+pub mod Counting

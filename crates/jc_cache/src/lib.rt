@@ -9,6 +9,7 @@
 mod cache;
 mod calls;
 mod closing;
+mod counting;
 mod meeting;
 mod owner;
 mod phase_calls;

@@ -1,0 +1,90 @@
+-- What a session reads of what a cache counts.
+--     ReadBelow, read_next, read_all    the first stripes were read, one more, and all
+--     take_set                          the first seats of a row, with the next one replaced
+--     events_snoc                       the events of stripes with one more
+--     counted_next, counted_all         what the first stripes count, with one more, and what all count
+--     read_may                          a session that has read may call as before
+use Rattle.std.proofs.Common.{◌≡◌, ◌+◌, ◌<◌, ◌≤◌, ℕ, zero, suc, Some, List, [], ◌∷◌, ◌++◌, length, map, set, take, slice_get, refl, sym, ap, subst, subst₂, ◌∙◌, le_refl, add-one, arith, append_assoc, append-nil}
+use Rattle.std.proofs.lemmas.Option.{same_Some, slice_get_within}
+use Rattle.std.proofs.lemmas.List.{map-append}
+use mathlib.Core.Logic.{dite}
+use native.Mathlib.Decide.{ℕ_discrete}
+use Rattle.atomic_table.specs.Seated.{TableId}
+use Rattle.jc_model.specs.declared.event.Event.{Event}
+use Rattle.jc_model.specs.declared.statistics.Statistics.{Statistics}
+use Rattle.jc_model.specs.Statistics.{statistics_of, together, StatisticsLaws}
+use Rattle.jc_stripe.specs.State.{State}
+use Rattle.jc_stripe.specs.Generations.{whole_history}
+use Rattle.jc_cache.specs.Caches.{CacheState, noted_by}
+use Rattle.jc_cache.specs.Counting.{HasRead, HasReadEach, Reads, all_events}
+use Rattle.jc_cache.specs.Meeting.{KeepRow}
+use Rattle.jc_cache.specs.Sessions.{MayCall}
+use Rattle.jc_cache.specs.declared.session.Session.{Session}
+use Rattle.jc_cache.proofs.Rows.{Seated, locks_of, length_locks, seat_there}
+use Rattle.jc_cache.proofs.Meetings.{HasRest, got_set, got_other, may_stay}
+
+-- 1. Which stripes were read.
+
+abbrev pub ReadBelow : ℕ → List Seated → List Seated → Type 0
+ReadBelow n xs ys = (i : ℕ) (a b : Seated) → i < n → slice_get xs i ≡ Some a → slice_get ys i ≡ Some b → HasRead a.1 b.1
+
+pub read_next : (xs ys : List Seated) (n : ℕ) (a b : Seated) → slice_get ys n ≡ Some a → HasRest n xs ys → HasRead a.1 b.1 → ReadBelow n xs ys → ReadBelow (n + 1) xs (set ys n b)
+read_next xs ys n a b at rest read below i x y near at_x at_y =
+    dite (ℕ_discrete i n)
+    (λ e.
+    let is_x : a ≡ x = same_Some a x (sym at ∙ rest n (le_refl n) ∙ ap (slice_get xs) (sym e) ∙ at_x) in
+    let is_y : b ≡ y = same_Some b y (sym (got_set ys n a b at) ∙ ap (slice_get (set ys n b)) (sym e) ∙ at_y) in
+    subst₂ (λ (p q : Seated). HasRead p.1 q.1) is_x is_y read)
+    (λ ne. below i x y (omega arith) at_x (sym (got_other ys n i b ne) ∙ at_y))
+
+pub read_all : (xs ys : List Seated) (n : ℕ) (locks : List TableId) → length xs ≡ length locks → length locks ≤ n → ReadBelow n xs ys → HasReadEach xs ys
+read_all xs ys n locks long le below i a b at_a = let near = slice_get_within xs i a at_a in below i a b (omega arith) at_a
+
+-- 2. What they count.
+
+take_set : (ys : List Seated) (n : ℕ) (y z : Seated) → slice_get ys n ≡ Some y → take (suc n) (set ys n z) ≡ take n ys ++ z ∷ []
+take_set [] n y z at = cc
+take_set (x ∷ ys) zero y z at = refl
+take_set (x ∷ ys) (suc n) y z at = ap (λ (l : List Seated). x ∷ l) (take_set ys n y z at)
+
+take_whole : (ys : List Seated) (n : ℕ) → length ys ≤ n → take n ys ≡ ys
+take_whole [] zero le = refl
+take_whole [] (suc n) le = refl
+take_whole (y ∷ ys) zero le = absurd (omega arith)
+take_whole (y ∷ ys) (suc n) le = ap (λ (l : List Seated). y ∷ l) (take_whole ys n (omega arith))
+
+events_snoc : (states : List State) (state : State) → all_events (states ++ state ∷ []) ≡ all_events states ++ whole_history state
+events_snoc [] state = append-nil (whole_history state)
+events_snoc (first ∷ states) state = ap (λ (es : List Event). whole_history first ++ es) (events_snoc states state) ∙ sym (append_assoc (whole_history first) (all_events states) (whole_history state))
+
+abbrev events_at : List Seated → List Event
+events_at seats = all_events (noted_by seats)
+
+events_next : (ys : List Seated) (n : ℕ) (y z : Seated) → slice_get ys n ≡ Some y → events_at (take (n + 1) (set ys n z)) ≡ events_at (take n ys) ++ whole_history z.1.noted
+events_next ys n y z at =
+    ap (λ (m : ℕ). events_at (take m (set ys n z))) (add-one n)
+    ∙ ap events_at (take_set ys n y z at)
+    ∙ ap all_events (map-append (λ (seat : Seated). seat.1.noted) (take n ys) (z ∷ []))
+    ∙ events_snoc (noted_by (take n ys)) z.1.noted
+
+pub counted_next : StatisticsLaws → (ys : List Seated) (n : ℕ) (y z : Seated) (total one more : Statistics) → slice_get ys n ≡ Some y
+    → total ≡ statistics_of (all_events (noted_by (take n ys))) → one ≡ statistics_of (whole_history z.1.noted) → more ≡ together total one
+    → more ≡ statistics_of (all_events (noted_by (take (n + 1) (set ys n z))))
+counted_next laws ys n y z total one more at was is both =
+    both
+    ∙ (λ k. together (was k) (is k))
+    ∙ sym (laws.append (events_at (take n ys)) (whole_history z.1.noted))
+    ∙ ap statistics_of (sym (events_next ys n y z at))
+
+pub counted_all : (ys : List Seated) (n : ℕ) (total : Statistics) → length ys ≤ n → total ≡ statistics_of (all_events (noted_by (take n ys))) → total ≡ statistics_of (all_events (noted_by ys))
+counted_all ys n total le is = is ∙ ap (λ (l : List Seated). statistics_of (all_events (noted_by l))) (take_whole ys n le)
+
+-- 3. The session.
+
+pub read_may : {I J : Type 0} {D : I → Type 0} {E : J → Type 0} → (cache : CacheState) (old new : Session I J D E) → MayCall cache old → new.agent ≡ old.agent
+    → KeepRow old.seats.items new.seats.items → HasReadEach old.seats.items new.seats.items → MayCall cache new
+read_may cache old new may agent row reads =
+    may_stay cache old new may agent row (λ i b at.
+    let near : i < length cache.locks = subst (λ (n : ℕ). i < n) (length_locks new.seats.items cache.locks (row.locks ∙ may.own.locks)) (slice_get_within new.seats.items i b at) in
+    let a = seat_there old.seats.items i (subst (λ (n : ℕ). i < n) (sym (length_locks old.seats.items cache.locks may.own.locks)) near) in
+    (a.0, a.1, (reads i a.0 b a.1 at).on))

@@ -1,0 +1,63 @@
+//! What a cache counts.
+ghost use Rattle.std.specs.Prelude.{◌≡◌};
+ghost use Rattle.jc_model.specs.Statistics.{statistics_of};
+ghost use Rattle.jc_stripe.specs.Generations.{whole_history};
+ghost use Rattle.jc_cache.specs.Caches.{noted_by};
+ghost use Rattle.jc_cache.specs.Counting.{HasRead, HasReadEach, Reads, all_events};
+ghost use Rattle.jc_cache.specs.Meeting.{IsSessionSeat, AreSessionSeats, KeepRow};
+ghost use Rattle.jc_cache.specs.Sessions.{MayCall};
+
+use crate::cache::Cache;
+use crate::session::Session;
+use jc_lock::{HistLock, Seat};
+use jc_model::Statistics;
+use jc_model::statistics::statistics_laws;
+use std::sync::Wait;
+
+impl Cache {
+    /// What the steps of all sessions count so far, in all generations (JSR 107, "Statistics"; `CacheStatisticsMXBean`).
+    ///
+    /// It reads one stripe after another, each as it is then, and reads no event. The session has seen of each stripe what was
+    /// counted there.
+    ///
+    /// It may wait for a stripe while a phase is made there. It appends nothing to a history and takes no memory: the session's own
+    /// steps, its counts and its numbers stay.
+    ///
+    /// Condition: the session may call the cache.
+    pub fn statistics<R: Wait>(&self, rt: &R, session: &mut Session) -> Statistics
+        requires { MayCall self.now session.old }
+        ensures may { MayCall self.now session.new }
+        ensures reads { Reads session.old session.new }
+        ensures counted { result ≡ statistics_of (all_events (noted_by session.new.seats.items)) }
+    {
+        read_each(rt, &self.locks, &mut session.seats)
+    }
+}
+
+/// Reads at each of these locks what its stripe counts, and counts it all together.
+fn read_each<R: Wait>(rt: &R, locks: &[HistLock], seats: &mut Vec<Seat>) -> Statistics
+    requires { AreSessionSeats locks.now seats.old.items }
+    ensures keeps { KeepRow seats.old.items seats.new.items }
+    ensures reads { HasReadEach seats.old.items seats.new.items }
+    ensures counted { result ≡ statistics_of (all_events (noted_by seats.new.items)) }
+{
+    statistics_laws();
+    let mut total = Statistics::new();
+    for i in 0..locks.len() {
+        total = total.together(&read_at(rt, &locks[i], &mut seats[i]));
+    }
+    total
+}
+
+/// Takes the stripe, reads what it counts, and gives it back.
+fn read_at<R: Wait>(rt: &R, lock: &HistLock, seat: &mut Seat) -> Statistics
+    requires { IsSessionSeat lock.now seat.old }
+    ensures lock { seat.new.0 ≡ seat.old.0 }
+    ensures reads { HasRead seat.old.1 seat.new.1 }
+    ensures counted { result ≡ statistics_of (whole_history seat.new.1.noted) }
+{
+    let stripe = lock.take(rt, seat);
+    let statistics = stripe.statistics();
+    lock.give(seat, stripe);
+    statistics
+}
