@@ -17,6 +17,7 @@ mod reopenings;
 mod reservations;
 mod script;
 mod shared;
+mod statistics;
 mod stripes;
 mod table;
 mod values;

@@ -5,10 +5,13 @@
 //!
 //! - `set KEY VALUE`, an entry of the opening;
 //! - `CALL SESSION OP KEY [, ANSWER], is REPLY [shared PLACE]`, a step, as `1 s1 get a, read 1, is 1`. Nobody was asked
-//!   if there is no answer. The loader's is `read VALUE`, `read -` or `readfail CODE`, the writer's `apply` or `applyfail CODE`;
+//!   if there is no answer. The loader's is `read VALUE`, `read -` or `readfail CODE`, the writer's `apply` or `applyfail CODE`,
+//!   and the processor's, by its net effect, `sets VALUE`, `removes` or `keeps`;
 //! - `evict KEY full` or `evict KEY memory`.
 use super::{callers, evictions, is, openings, shape, shared};
-use jc_model::{Cause, Event, LoadAnswer, Op, Out, Reply, WriteAnswer, legal};
+use jc_model::{
+    Cause, Effect, Event, LoadAnswer, Op, Out, ProcessAnswer, Reply, WriteAnswer, legal,
+};
 use jc_types::{Caller, Config, Key, Refusal, Value};
 use std::alloc::Global;
 use std::process::Abort;
@@ -51,13 +54,29 @@ pub(super) fn value_or_none(rt: &impl Abort, word: &str) -> Option<Value> {
 
 // 2. Steps.
 
-/// An operation, with its value if it takes one.
+/// A replacement of one value by another.
+fn replace_if(rt: &impl Abort, words: &str) -> Op {
+    let (old, new) = first_word(words);
+    Op::ReplaceIf {
+        old: value(rt, old),
+        new: value(rt, new),
+    }
+}
+
+/// An operation, with its value if it takes one, or with both.
 pub(super) fn op(rt: &impl Abort, name: &str, word: &str) -> Op {
     match name {
         "get" => Op::Get,
         "contains" => Op::ContainsKey,
         "put" => Op::Put(value(rt, word)),
+        "getput" => Op::GetAndPut(value(rt, word)),
+        "putif" => Op::PutIfAbsent(value(rt, word)),
         "remove" => Op::Remove,
+        "removeif" => Op::RemoveIf(value(rt, word)),
+        "getremove" => Op::GetAndRemove,
+        "replace" => Op::Replace(value(rt, word)),
+        "replaceif" => replace_if(rt, word),
+        "getreplace" => Op::GetAndReplace(value(rt, word)),
         "clear" => Op::Clear,
         "loadall" => Op::LoadAll { replace: true },
         "invoke" => Op::Invoke,
@@ -73,7 +92,18 @@ fn found(rt: &impl Abort, word: &str) -> LoadAnswer {
     }
 }
 
-/// The outside answer, of the loader or of the writer.
+/// A processor ended, and answered nothing.
+fn process_only(effect: Effect) -> Out {
+    Out {
+        process: ProcessAnswer::Ended {
+            effect,
+            outcome: None,
+        },
+        ..Out::nothing_said()
+    }
+}
+
+/// The outside answer, of the loader, the writer or the processor.
 pub(super) fn answer(rt: &impl Abort, text: &str) -> Out {
     let (word, rest) = first_word(text);
     match word {
@@ -81,6 +111,9 @@ pub(super) fn answer(rt: &impl Abort, text: &str) -> Out {
         "readfail" => Out::load_only(LoadAnswer::Failed(number(rt, rest))),
         "apply" => Out::write_only(WriteAnswer::Done),
         "applyfail" => Out::write_only(WriteAnswer::Failed(number(rt, rest))),
+        "sets" => process_only(Effect::Set(value(rt, rest))),
+        "removes" => process_only(Effect::Remove),
+        "keeps" => process_only(Effect::Keep),
         _ => panic!(rt; "no answer"),
     }
 }
@@ -127,7 +160,8 @@ fn eviction(rt: &impl Abort, text: &str) -> Event {
     }
 }
 
-fn event(rt: &impl Abort, line: &str) -> Event {
+/// The event that a line is.
+pub(super) fn event(rt: &impl Abort, line: &str) -> Event {
     if let Some(text) = line.strip_prefix("evict ") {
         return eviction(rt, text);
     }

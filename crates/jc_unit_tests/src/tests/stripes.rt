@@ -9,6 +9,7 @@
 //! - `commit CALL read VALUE`, `commit CALL apply` and the like, a last phase with what the loader or the writer answers: `REPLY at PLACE`;
 //! - `drop CALL`, a withdrawal: `dropped`;
 //! - `take CALL`, a joiner asks for its answer: `REPLY at PLACE shared PLACE`, `waits`, or `again`;
+//! - `counts HITS MISSES PUTS REMOVALS EVICTIONS`, what the steps count: `yes` or `no`;
 //! - `idle`, `clear CALL SESSION KEY`, `admits CALL SESSION KEY`, `outside OP KEY [VALUE]`, tests of the stripe: `yes` or `no`.
 //!
 //! `each N: LINE` is N lines, with the numbers from 1 in place of each `#`. A case is a comment with its rule, a line
@@ -21,7 +22,7 @@ use super::reopenings::is_once;
 use super::script::{answer, caller, first_word, key, number, op};
 use super::{is, pairs};
 use desk::Desk;
-use jc_model::legal;
+use jc_model::{Statistics, legal};
 use jc_stripe::{Origin, Stripe, reopen};
 use jc_types::{Config, Key, Value};
 use std::alloc::Global;
@@ -48,6 +49,21 @@ fn first_reservation(rt: &impl Abort, line: &str) -> u64 {
     }
 }
 
+/// Hits, misses, puts, removals and evictions, in this order.
+fn statistics(rt: &impl Abort, text: &str) -> Statistics {
+    let (hits, rest) = first_word(text);
+    let (misses, rest) = first_word(rest);
+    let (puts, rest) = first_word(rest);
+    let (removals, evictions) = first_word(rest);
+    Statistics {
+        hits: u64::from(number(rt, hits)),
+        misses: u64::from(number(rt, misses)),
+        puts: u64::from(number(rt, puts)),
+        removals: u64::from(number(rt, removals)),
+        evictions: u64::from(number(rt, evictions)),
+    }
+}
+
 /// A test of the stripe.
 fn look(rt: &impl Abort, stripe: &Stripe, word: &str, text: &str) -> bool {
     if word == "idle" {
@@ -56,6 +72,7 @@ fn look(rt: &impl Abort, stripe: &Stripe, word: &str, text: &str) -> bool {
     let (first, rest) = first_word(text);
     let (name, rest) = first_word(rest);
     match word {
+        "counts" => stripe.statistics() == statistics(rt, text),
         "outside" => stripe.asks_outside(&key(rt, name), &op(rt, first, rest)),
         "clear" => stripe.is_clear(caller(rt, first, name), &key(rt, rest)),
         "admits" => stripe.admits(caller(rt, first, name), &key(rt, rest)),
@@ -172,6 +189,25 @@ begin 3 s2 invoke a = refused Busy
 drop 3 = dropped
 idle = yes
 begin 4 s1 contains a = true at 1
+==
+# What is counted: no step that is refused or given back, and an eviction beside the step for which it is made.
+open 100 write
+begin 1 s1 get a = - at 0
+begin 2 s1 put a 1 = asks write 1
+commit 2 apply = ok at 1
+begin 3 s1 get a = 1 at 2
+begin 4 s1 put b 2 = asks write 2
+counts 1 1 1 0 0 = yes
+drop 4 = dropped
+begin 4 s1 put b 2 = asks write 2
+begin 5 s2 put b 3 = refused Busy
+commit 4 apply = ok at 3
+begin 5 s1 put c 3 = asks write 3
+commit 5 apply = ok at 5
+begin 6 s1 remove c = asks delete
+commit 6 apply = true at 6
+counts 1 1 3 1 1 = yes
+counts 1 1 3 1 0 = no
 ==
 # A processor may have a missing entry loaded.
 open 100 read write
