@@ -320,7 +320,7 @@ reply 1
 between get b = 2 | 1 0 0
 parked tryget b = 2; tryget b = 2; tryget b = 2; tryget b = 2; tryget b = 2; tryget b = 2; tryget b = 2; \
 tryget b = 2; tryget b = 2; tryget b = 2; tryget b = 2; tryget b = 2; tryget b = 2; tryget b = Busy; tryget b = Busy
-then tryget b = Busy; tryget b = 2; get b = 2 | 2 0 0
+then tryget b = 2; tryget b = 2; get b = 2 | 2 0 0
 ",
 ];
 

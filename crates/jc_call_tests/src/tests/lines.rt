@@ -5,6 +5,7 @@
 //!     get a = 1
 //!     stored a=1
 //!     own 2
+//!     counts 1 1 0 0 0     what the cache counts by then: hits, misses, puts, removals, evictions
 //!
 //! `skip N` has the next call begin by the number N.
 //!
@@ -14,6 +15,7 @@ ghost use Rattle.jc_cache.specs.Sessions.{MayCall};
 
 use super::answers::first_word;
 use super::*;
+use jc_cache::Statistics;
 
 /// A call, its answer, and the counts by then, if a line says any.
 fn parts<'a>(rt: &impl Abort, line: &'a str) -> (&'a str, &'a str, Option<&'a str>) {
@@ -23,6 +25,28 @@ fn parts<'a>(rt: &impl Abort, line: &'a str) -> (&'a str, &'a str, Option<&'a st
     };
     let (call, answer) = call.split_once(" = ").expect(rt, "a call and its answer");
     (call, answer, counts)
+}
+
+/// A number, and what follows it.
+fn number<'a>(rt: &impl Abort, text: &'a str) -> (u64, &'a str) {
+    let (word, rest) = first_word(text);
+    (word.parse().ok().expect(rt, text), rest)
+}
+
+/// Hits, misses, puts, removals and evictions, in this order.
+pub fn statistics(rt: &impl Abort, text: &str) -> Statistics {
+    let (hits, rest) = number(rt, text);
+    let (misses, rest) = number(rt, rest);
+    let (puts, rest) = number(rt, rest);
+    let (removals, rest) = number(rt, rest);
+    let (evictions, _) = number(rt, rest);
+    Statistics {
+        hits,
+        misses,
+        puts,
+        removals,
+        evictions,
+    }
 }
 
 impl Desk {
@@ -62,6 +86,7 @@ impl Desk {
         match word {
             "" => {}
             "stored" => self.holds(rt, alloc, rest),
+            "counts" => is(rt, cache.statistics(rt, session), statistics(rt, rest)),
             "own" => is(rt, Some(session.own()), rest.parse().ok()),
             "skip" => session.skip_to(rest.parse().ok().expect(rt, rest)),
             "await" => self.signals.wait_for_ask(rt),

@@ -2,6 +2,7 @@
 ghost use Rattle.std.specs.Prelude.{All};
 ghost use Rattle.jc_cache.specs.Sessions.{MayCall};
 
+use super::lines::statistics;
 use super::*;
 use jc_cache::{Closed, Reopened};
 
@@ -36,6 +37,38 @@ get a = 1 | 1 1 0
 own 2
 s2 own 21
 ";
+
+/// Fourteen steps fill a history of 16 places, which then has fewer than three left. A try ends it, and is made on the next. What the
+/// steps of both generations and of both sessions count is known to each session.
+const COUNTED: &str = "\
+get a = 1 | 1 0 0
+get a = 1
+get a = 1
+get a = 1
+get a = 1
+get a = 1
+get a = 1
+get a = 1
+get a = 1
+get a = 1
+get a = 1
+get a = 1
+put b 2 = ok
+counts 11 1 1 0 0
+s2 get a = 1
+s2 counts 12 1 1 0 0
+tryget b = 2
+trycontains b = true
+s2 getremove b = 2
+remove c = false
+counts 14 1 1 1 0
+s2 counts 14 1 1 1 0
+own 16
+s2 own 2
+";
+
+/// What they count in the end, in the words of a line.
+const IN_ALL: &str = "14 1 1 1 0";
 
 /// Four sessions.
 macro_rules! four_of {
@@ -85,6 +118,23 @@ fn no_history_is_ever_full(rt: HostRuntime) {
     four_of!(rt, stage, desk);
     stage.plays(&rt, alloc, &desk, TWICE);
     let _end = closed(&rt, alloc, &desk, stage);
+}
+
+#[test]
+fn counts_the_steps_of_all_generations(rt: HostRuntime) {
+    let alloc = rt.alloc();
+    let desk = Desk::of(&rt, alloc, "a=1");
+    let owner = CacheOwner::living(alloc, &config(HISTORY, true, true))
+        .ok()
+        .expect(&rt, "a cache");
+    let mut stage = Stage::of(alloc, owner);
+    enter!(rt, stage, desk, Manners::PLAIN);
+    enter!(rt, stage, desk, Manners::PLAIN);
+    stage.plays(&rt, alloc, &desk, COUNTED);
+    let end = closed(&rt, alloc, &desk, stage);
+    let first = end.stripes.first().expect(&rt, "a stripe");
+    is(&rt, first.generations_ended(), 1);
+    is(&rt, first.statistics(), statistics(&rt, IN_ALL));
 }
 
 #[test]

@@ -65,9 +65,7 @@ impl Stripe {
         ensures { result ≡ statistics_of (whole_history self.now) }
     {
         statistics_laws();
-        self.life
-            .statistics()
-            .together(&self.history.statistics())
+        self.life.statistics().together(&self.history.statistics())
     }
 
     /// Ends the present generation as [`renew`](Stripe::renew) does, if it may end. Else nothing changes.

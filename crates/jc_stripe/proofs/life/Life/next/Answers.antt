@@ -25,8 +25,8 @@ invariant_of-result c =
     let more = c.saturating_add.ensures in (
       omega (arith, longer, count, more),
       c.together.ensures
-      ∙ (λ i. together (c.self.invariant.1 i) (c.statistics.ensures i))
-      ∙ sym (c.statistics_laws.ensures.append (past_events (ended_in notes)) c.args.history.now.events)
-      ∙ ap statistics_of (sym (past-noted notes note))
-      ∙ ap (λ (ns : List (Log ByUse (Unit {0}) × Past)). statistics_of (past_events (ended_in ns))) (sym c.and-2.ensures),
+          ∙ (λ i. together (c.self.invariant.1 i) (c.statistics.ensures i))
+          ∙ sym (c.statistics_laws.ensures.append (past_events (ended_in notes)) c.args.history.now.events)
+          ∙ ap statistics_of (sym (past-noted notes note))
+          ∙ ap (λ (ns : List (Log ByUse (Unit {0}) × Past)). statistics_of (past_events (ended_in ns))) (sym c.and-2.ensures),
     )
