@@ -13,3 +13,4 @@ pub mod SessionPhases
 pub mod Meetings
 pub mod Skipped
 pub mod Readings
+pub mod EndedGenerations

@@ -9,3 +9,4 @@ pub mod ClosingInside
 pub mod Reopening
 pub mod CacheInside
 pub mod Counting
+pub mod Generations

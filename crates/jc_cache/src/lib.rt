@@ -10,6 +10,7 @@ mod cache;
 mod calls;
 mod closing;
 mod counting;
+mod generations;
 mod meeting;
 mod owner;
 mod phase_calls;

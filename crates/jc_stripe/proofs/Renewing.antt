@@ -27,7 +27,7 @@ use Rattle.jc_stripe.specs.Inside.{state_of, IsStripe}
 use Rattle.jc_stripe.specs.declared.stripe.Stripe.TheInside.{Inside}
 use Rattle.jc_stripe.specs.OrderOfUse.{by_use}
 use Rattle.jc_stripe.specs.Generations.{IsEnded, opening_after, IsChain, past_events, whole_history, first_opening, present_generation, after_renewal}
-use Rattle.jc_stripe.specs.Renewal.{is_full, has_parked, is_renewable, Renews, RenewsIfFull, StaysOrRenews, all_own_steps, Renewal, live_on, LivesOn}
+use Rattle.jc_stripe.specs.Renewal.{has_parked, can_renew, is_renewable, Renews, RenewsIfFull, StaysOrRenews, all_own_steps, Renewal, live_on, LivesOn}
 use Rattle.jc_stripe.specs.Reached.{IsReached, AllJoin, JoinFits, may_end, may_share}
 use Rattle.jc_stripe.specs.OnePhase.{is_answered, is_parked, is_own_step}
 use Rattle.jc_stripe.proofs.Reaching.{reached_legal}
@@ -58,12 +58,11 @@ none_answered (j ∷ js) h =
     and_from (not (is_answered j.state)) (list_all (λ x. not (is_answered x.state)) js) (not_from_false (is_answered j.state) parts.0) (none_answered js (not_from_false (list_any (λ x. is_answered x.state) js) parts.1))
 
 -- whether it lives on, and that nothing is parked
-may_parts : (state : State) → is_renewable state ≡ true → (state.lives ≡ true) × (list_all (λ j. not (is_answered j.state)) state.joiners ≡ true)
+may_parts : (state : State) → can_renew state ≡ true → (state.lives ≡ true) × (list_all (λ j. not (is_answered j.state)) state.joiners ≡ true)
 may_parts state may =
     let some = nat_lt 0 (length state.history) in
-    let all = and_parts (state.lives && is_full state && some) (not (has_parked state)) may in
-    let full = and_parts (state.lives && is_full state) some all.0 in
-    ((and_parts state.lives (is_full state) full.0).0, none_answered state.joiners all.1)
+    let all = and_parts (state.lives && some) (not (has_parked state)) may in
+    ((and_parts state.lives some all.0).0, none_answered state.joiners all.1)
 
 none_parked : (js : List Joiner) (c : Caller) (k : Bytes) → list_all (λ j. not (is_answered j.state)) js ≡ true → is_parked js c k ≡ false
 none_parked [] c k h = refl
@@ -99,7 +98,7 @@ reached_renewed old new reached renews =
     let cached : len old.cache ≡ len (from_entries {R = key_cmp} entries) = ap len reached.used.cache in
     let few = reached.few_entries in
     let few_entries : length entries ≤ old.config.capacity = omega arith in
-    let may = may_parts old renews.may_end in
+    let may = may_parts old renews.can in
     subst IsReached (sym renews.after) (record {
       config_fits = reached.config_fits;
       chain = chain-snoc old.config old.ended (present_generation old) entries reached.chain (record { legal = reached_legal old reached; left_is = refl });
@@ -124,7 +123,7 @@ reached_renewed old new reached renews =
       between = reached.between;
     })
 
-own_renewed : (old : State) (session : ℕ) → is_renewable old ≡ true → all_own_steps session (after_renewal old) ≡ all_own_steps session old
+own_renewed : (old : State) (session : ℕ) → can_renew old ≡ true → all_own_steps session (after_renewal old) ≡ all_own_steps session old
 own_renewed old session may =
     let unparked = (may_parts old may).1 in
     let p = is_own_step session [] in
@@ -149,7 +148,7 @@ renewed old new reached renews =
       next = ap (λ (s : State). s.next) is;
       empty = ap (λ (s : State). s.history) is;
       whole = ap whole_history is ∙ append-nil (past_events (old.ended ++ present_generation old ∷ [])) ∙ past-snoc old.ended (present_generation old);
-      own = λ session. ap (all_own_steps session) is ∙ own_renewed old session renews.may_end;
+      own = λ session. ap (all_own_steps session) is ∙ own_renewed old session renews.can;
     }
 
 -- the stripe that is made of it
@@ -167,14 +166,14 @@ state-renewed i life history sound l h =
     (λ k. state_of (renewed_at i (l k) (h k)))
     ∙ (λ k. record (state_of i) { ended = i.life.ended ++ record { opening = i.life.opening; history = i.history.events } ∷ []; opening = sound.by_use k; history = [] })
 
-pub sound-renewed : (i : Inside) (life : Life) (history : Past) → IsStripe i → is_renewable (state_of i) ≡ true → life ≡ next_life i → history ≡ cleared i.history → IsStripe (renewed_at i life history)
+pub sound-renewed : (i : Inside) (life : Life) (history : Past) → IsStripe i → can_renew (state_of i) ≡ true → life ≡ next_life i → history ≡ cleared i.history → IsStripe (renewed_at i life history)
 sound-renewed i life history sound unparked l h = record {
   capacity = sound.capacity;
   limit = ap (λ (p : Past). p.limit) h ∙ sound.limit;
   by_use = sym (λ k. by_use ((l k).opening) ((h k).events));
   promised = ap (λ (p : Past). p.promised) h ∙ sound.promised;
   boxes = sound.boxes;
-  state = subst IsReached (sym (state-renewed i life history sound l h)) (reached_renewed (state_of i) (after_renewal (state_of i)) sound.state (record { may_end = unparked; after = refl }));
+  state = subst IsReached (sym (state-renewed i life history sound l h)) (reached_renewed (state_of i) (after_renewal (state_of i)) sound.state (record { can = unparked; after = refl }));
 }
 
 -- 5. A stripe that lives on.
@@ -241,4 +240,4 @@ pub stays_or_renews : (old new : State) → RenewsIfFull old new → StaysOrRene
 stays_or_renews old new h = split (is_renewable old) (StaysOrRenews old new) (λ e. inr (h.0 e)) (λ e. inl (h.1 e))
 
 pub stays_alone : (old new : State) → old.lives ≡ false → StaysOrRenews old new → new ≡ old
-stays_alone old new alone h = ⊎_elim (λ same. same) (λ renews. absurd (clash old.lives (may_parts old renews.may_end).0 alone)) h
+stays_alone old new alone h = ⊎_elim (λ same. same) (λ renews. absurd (clash old.lives (may_parts old renews.can).0 alone)) h

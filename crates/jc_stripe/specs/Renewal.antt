@@ -1,9 +1,11 @@
 -- A renewal of a stripe: its generation ends, and a new one begins.
 --     is_full         the history may lack the places of a call
 --     has_parked      an answer of a load is parked
---     is_renewable    a generation may end here: the stripe lives on, its history is full and has an event, and no answer is parked
+--     can_renew       a generation may end here: the stripe lives on, its history has an event, and no answer is parked
+--     is_renewable    one may end here that is full
 --     Renews          a generation that may end does, and a new one begins
---     RenewsIfFull    so it is if the generation may end; else the stripe stays as it was
+--     RenewsIfFull    so it is if the generation is full and may end; else the stripe stays as it was
+--     EndsGeneration  what a stripe's generation was, if it was ended: how many had ended before, and its events; none, if it may not end
 --     StaysOrRenews   the stripe stays as it was, or its generation, which may end, has ended
 --     all_own_steps   a session's own steps in all generations
 --     IsRenewed       what a renewal leaves: it is the same stripe; the whole history, all own steps, what is cached, and the next
@@ -11,9 +13,9 @@
 --     Renewal         the law: so it is
 --     live_on         the stripe lives on
 --     LivesOn         the laws: what lives on is as every stripe is; and its history is full only where a number is at its end
-use Rattle.std.specs.Prelude.{◌≡◌, ◌⊎◌, ◌≤◌, ◌+◌, ℕ, List, [], ◌++◌, filter, length, Bool, true, false, not, ◌&&◌, nat_le, nat_lt, Some}
+use Rattle.std.specs.Prelude.{◌≡◌, ◌⊎◌, ◌≤◌, ◌+◌, ℕ, List, [], ◌++◌, filter, length, Bool, true, false, not, ◌&&◌, min, nat_le, nat_lt, Option, None, Some}
 use Rattle.std.specs.List.{list_any}
-use Rattle.jc_types.specs.declared.limits.TheConstants.{STEP_PLACES}
+use Rattle.jc_types.specs.declared.limits.TheConstants.{STEP_PLACES, LAST_NUMBER}
 use Rattle.jc_types.specs.declared.caller.Caller.{Caller}
 use Rattle.jc_types.specs.declared.refusal.Refusal.TheVariants.{HistoryFull}
 use Rattle.jc_model.specs.Cache.{Bytes}
@@ -33,17 +35,24 @@ is_full state = not (nat_le (length state.history + promised state + STEP_PLACES
 abbrev pub has_parked : State → Bool
 has_parked state = list_any (λ j. is_answered j.state) state.joiners
 
+abbrev pub can_renew : State → Bool
+can_renew state = state.lives && nat_lt 0 (length state.history) && not (has_parked state)
+
 abbrev pub is_renewable : State → Bool
-is_renewable state = state.lives && is_full state && nat_lt 0 (length state.history) && not (has_parked state)
+is_renewable state = is_full state && can_renew state
 
 -- 2. A renewal.
 
 pub record Renews (old new : State) : Type 0 where
-  pub may_end : is_renewable old ≡ true
+  pub can : can_renew old ≡ true
   pub after : new ≡ after_renewal old
 
 abbrev pub RenewsIfFull : State → State → Type 0
 RenewsIfFull old new = (is_renewable old ≡ true → Renews old new) × (is_renewable old ≡ false → new ≡ old)
+
+abbrev pub EndsGeneration : State → Option ℕ → List Event → State → Type 0
+EndsGeneration old None events new = (can_renew old ≡ false) × (events ≡ []) × (new ≡ old)
+EndsGeneration old (Some number) events new = Renews old new × (number ≡ min (length old.ended) LAST_NUMBER) × (events ≡ old.history)
 
 abbrev pub StaysOrRenews : State → State → Type 0
 StaysOrRenews old new = (new ≡ old) ⊎ Renews old new

@@ -5,6 +5,7 @@
 //!     get a = 1
 //!     stored a=1
 //!     own 2
+//!     ends 2 0             the first stripe's generation is ended: its events, and how many ended before, or a dash if none may end
 //!     counts 1 1 0 0 0     what the cache counts by then: hits, misses, puts, removals, evictions
 //!
 //! `skip N` has the next call begin by the number N.
@@ -49,6 +50,19 @@ pub fn statistics(rt: &impl Abort, text: &str) -> Statistics {
     }
 }
 
+/// Ends the generation of the first stripe, which has so many events, and so many before it; or none may end.
+fn ends<R: Abort + Wait>(rt: &R, alloc: Global, cache: &Cache, session: &mut Session, text: &str)
+    requires { MayCall cache.now session.old }
+    ensures { MayCall cache.now session.new }
+{
+    let (events, before) = number(rt, text);
+    assert!(rt; 0 < cache.config().stripes);
+    let mut found = Vec::new(alloc);
+    let ended = cache.end_generation(rt, session, 0, &mut found);
+    is(rt, ended.ok(), Some(before.parse().ok()));
+    is(rt, found.len() as u64, events);
+}
+
 impl Desk {
     /// Makes the call that a line says. It is to answer what the line says, and the counts are to be these afterwards.
     fn call<R: Abort + Wait>(
@@ -87,6 +101,7 @@ impl Desk {
             "" => {}
             "stored" => self.holds(rt, alloc, rest),
             "counts" => is(rt, cache.statistics(rt, session), statistics(rt, rest)),
+            "ends" => ends(rt, alloc, cache, session, rest),
             "own" => is(rt, Some(session.own()), rest.parse().ok()),
             "skip" => session.skip_to(rest.parse().ok().expect(rt, rest)),
             "await" => self.signals.wait_for_ask(rt),

@@ -67,6 +67,19 @@ own 16
 s2 own 2
 ";
 
+/// A session ends generations that aren't full, and is given their events. There is none to end where nothing has happened.
+const ENDED: &str = "\
+ends 0 -
+put a 1 = ok
+get a = 1
+ends 2 0
+get a = 1
+s2 ends 1 1
+ends 0 -
+counts 2 0 1 0 0
+own 3
+";
+
 /// What they count in the end, in the words of a line.
 const IN_ALL: &str = "14 1 1 1 0";
 
@@ -135,6 +148,23 @@ fn counts_the_steps_of_all_generations(rt: HostRuntime) {
     let first = end.stripes.first().expect(&rt, "a stripe");
     is(&rt, first.generations_ended(), 1);
     is(&rt, first.statistics(), statistics(&rt, IN_ALL));
+}
+
+#[test]
+fn a_session_ends_generations(rt: HostRuntime) {
+    let alloc = rt.alloc();
+    let desk = Desk::of(&rt, alloc, "");
+    let owner = CacheOwner::living(alloc, &config(HISTORY, true, true))
+        .ok()
+        .expect(&rt, "a cache");
+    let mut stage = Stage::of(alloc, owner);
+    enter!(rt, stage, desk, Manners::PLAIN);
+    enter!(rt, stage, desk, Manners::PLAIN);
+    stage.plays(&rt, alloc, &desk, ENDED);
+    let end = closed(&rt, alloc, &desk, stage);
+    let first = end.stripes.first().expect(&rt, "a stripe");
+    is(&rt, first.generations_ended(), 2);
+    is(&rt, first.events_len(), 0);
 }
 
 #[test]

@@ -1,17 +1,19 @@
 //! A stripe that lives on: when its generation ends, and the next one begins.
-ghost use Rattle.std.specs.Prelude.{◌≡◌, true, length, min};
+ghost use Rattle.std.specs.Prelude.{◌≡◌, ◌++◌, List, true, length, min, IfOk, IfErr};
 ghost use Rattle.std.specs.List.{list_any};
 ghost use Rattle.jc_types.specs.declared.limits.TheConstants.{LAST_NUMBER};
 ghost use Rattle.jc_model.specs.Statistics.{statistics_of};
+ghost use Rattle.jc_model.specs.declared.event.Event.{Event};
 ghost use Rattle.jc_stripe.specs.Generations.{whole_history};
 ghost use Rattle.jc_stripe.specs.OnePhase.{is_answered};
-ghost use Rattle.jc_stripe.specs.Renewal.{Renews, RenewsIfFull, is_renewable, live_on};
+ghost use Rattle.jc_stripe.specs.Renewal.{EndsGeneration, Renews, RenewsIfFull, can_renew, is_renewable, live_on};
 
 use super::Stripe;
 use jc_inflight::{JoinState, Joiner};
-use jc_model::Statistics;
+use jc_model::{Event, Statistics};
 use jc_model::statistics::statistics_laws;
 use jc_types::STEP_PLACES;
+use std::alloc::AllocError;
 
 impl Stripe {
     /// Whether a full history of this stripe may end, and the next one begin.
@@ -35,13 +37,19 @@ impl Stripe {
         self.lives = true;
     }
 
-    /// Whether the present generation may end: the stripe lives on, its history is full and not empty, and no answer of a load is
-    /// parked. The condition of [`renew`](Stripe::renew).
+    /// Whether the present generation may end: the stripe lives on, its history isn't empty, and no answer of a load is parked. The
+    /// condition of [`renew`](Stripe::renew).
+    pub fn can_renew(&self) -> bool
+        ensures { result ≡ can_renew self.now }
+    {
+        self.lives && self.history.len() > 0 && !has_parked(self.joiners.list())
+    }
+
+    /// Whether the present generation is full and may end.
     pub fn is_renewable(&self) -> bool
         ensures { result ≡ is_renewable self.now }
     {
-        let is_full = !self.history.has_room(STEP_PLACES);
-        self.lives && is_full && self.history.len() > 0 && !has_parked(self.joiners.list())
+        !self.history.has_room(STEP_PLACES) && self.can_renew()
     }
 
     /// Ends the present generation, and begins a new one, which opens with what is cached, in its order of use. The history is empty
@@ -50,14 +58,32 @@ impl Stripe {
     /// What is cached, the order of use, reservations, joiners, promised places and the next reservation's number stay. It takes no
     /// memory.
     ///
-    /// Condition: the generation may end ([`is_renewable`](Stripe::is_renewable)).
+    /// Condition: the generation may end ([`can_renew`](Stripe::can_renew)).
     pub fn renew(&mut self)
-        requires { is_renewable self.old ≡ true }
+        requires { can_renew self.old ≡ true }
         ensures { Renews self.old self.new }
     {
         let life = self.life.next(&self.history, &self.entries);
         self.history.clear();
         self.life = life;
+    }
+
+    /// Ends the present generation, if it may end ([`can_renew`](Stripe::can_renew)), and appends its events, the oldest first. It says how
+    /// many generations had ended before. None says that it may not end, and changes nothing.
+    ///
+    /// An `Err` says that an allocation failed, and changes nothing.
+    pub fn end_generation(&mut self, out: &mut Vec<Event>) -> Result<Option<u64>, AllocError>
+        ensures ended { IfOk result (λ ended. (events : List Event) × (out.new.items ≡ out.old.items ++ events)
+            × EndsGeneration self.old ended events self.new) }
+        ensures err { IfErr result (λ e. (out.new.items ≡ out.old.items) × (self.new ≡ self.old)) }
+    {
+        if !self.can_renew() {
+            return Ok(None);
+        }
+        let generation = self.generations_ended();
+        self.append_events(0, self.events_len(), out)?;
+        self.renew();
+        Ok(Some(generation))
     }
 
     /// What the events of all generations count, the present one included (JSR 107, "Statistics"). It reads no event.
@@ -68,7 +94,7 @@ impl Stripe {
         self.life.statistics().together(&self.history.statistics())
     }
 
-    /// Ends the present generation as [`renew`](Stripe::renew) does, if it may end. Else nothing changes.
+    /// Ends the present generation as [`renew`](Stripe::renew) does, if it is full and may end. Else nothing changes.
     pub fn renew_if_full(&mut self)
         ensures { RenewsIfFull self.old self.new }
     {

@@ -1,0 +1,66 @@
+//! Generations that a session ends, to keep what was done.
+ghost use Rattle.std.specs.Prelude.{◌≡◌, ◌<◌};
+ghost use Rattle.jc_stripe.specs.State.{State};
+ghost use Rattle.jc_lock.specs.Views.{Finds, after_give};
+ghost use Rattle.jc_cache.specs.Fronts.{HasSeen};
+ghost use Rattle.jc_cache.specs.Generations.{IsEndOf, EndsAt};
+ghost use Rattle.jc_cache.specs.Meeting.{IsSessionSeat};
+ghost use Rattle.jc_cache.specs.Sessions.{MayCall};
+
+use crate::cache::Cache;
+use crate::session::Session;
+use jc_lock::{HistLock, Seat};
+use jc_model::Event;
+use jc_stripe::phase_laws::renewal;
+use std::alloc::AllocError;
+use std::sync::Wait;
+
+impl Cache {
+    /// Ends the present generation of a stripe of a cache that lives on, and appends its events, the oldest first. It says how many
+    /// generations of the stripe had ended before. None says that there is nothing to end: nothing has happened in it, the answer of
+    /// a load is there that nobody has picked up, or the cache doesn't live on; then nothing changes.
+    ///
+    /// It is for who keeps a record of all that was done: a generation is whole and legal, and leaves what the next one opens with. A
+    /// generation that was full before ended without it, and its events are gone: then a number is missing between two that it says.
+    /// So a record is whole if each stripe is asked for more often than its history is filled.
+    ///
+    /// It may wait for the stripe while a phase is made there, and holds it while the events are copied. An `Err` says that an
+    /// allocation failed, and changes nothing. The session's own steps, its counts and its numbers stay.
+    ///
+    /// Conditions: the session may call the cache; there is a stripe of this number.
+    pub fn end_generation<R: Wait>(
+        &self,
+        rt: &R,
+        session: &mut Session,
+        stripe: usize,
+        out: &mut Vec<Event>,
+    ) -> Result<Option<u64>, AllocError>
+        requires may { MayCall self.now session.old }
+        requires stripe { stripe < self.now.config.stripes }
+        ensures may { MayCall self.now session.new }
+        ensures ended { EndsAt stripe session.old
+            (λ found left. IsEndOf result out.old.items out.new.items found left) session.new }
+    {
+        end_at(rt, &self.locks[stripe], &mut session.seats[stripe], out)
+    }
+}
+
+/// Takes the stripe, ends its generation if that may end, and gives it back.
+fn end_at<R: Wait>(
+    rt: &R,
+    lock: &HistLock,
+    seat: &mut Seat,
+    out: &mut Vec<Event>,
+) -> Result<Option<u64>, AllocError>
+    requires { IsSessionSeat lock.now seat.old }
+    ensures lock { seat.new.0 ≡ seat.old.0 }
+    ensures ended { (found : State) × (left : State) × Finds seat.old.1 found
+        × IsEndOf result out.old.items out.new.items found left
+        × (seat.new.1 ≡ after_give seat.old.1 left) × HasSeen seat.old.1 seat.new.1 }
+{
+    renewal();
+    let mut stripe = lock.take(rt, seat);
+    let ended = stripe.end_generation(out);
+    lock.give(seat, stripe);
+    ended
+}
