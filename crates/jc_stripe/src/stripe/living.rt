@@ -10,8 +10,8 @@ ghost use Rattle.jc_stripe.specs.Renewal.{EndsGeneration, Renews, RenewsIfFull, 
 
 use super::Stripe;
 use jc_inflight::{JoinState, Joiner};
-use jc_model::{Event, Statistics};
 use jc_model::statistics::statistics_laws;
+use jc_model::{Event, Statistics};
 use jc_types::STEP_PLACES;
 use std::alloc::AllocError;
 

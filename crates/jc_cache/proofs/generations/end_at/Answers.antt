@@ -12,7 +12,7 @@ give-requires-clause-phase g c =
     let found : State = c.take-stripe.result.value in
     let left : State = c.end_generation-ended.new.self in
     let end = subst (λ (s : State). IsEndOf c.end_generation-ended.result c.args.out.now.items c.end_generation-ended.new.out.items s left) c.deref_mut.ensures.value
-        (end_of c.end_generation-ended.result _ _ c.deref_mut.result.now left c.end_generation-ended.ensures.ended c.end_generation-ended.ensures.err) in
+    (end_of c.end_generation-ended.result _ _ c.deref_mut.result.now left c.end_generation-ended.ensures.ended c.end_generation-ended.ensures.err) in
     ended_turn c.args.seat.now.1 c.take-stripe.new.seat.1 found left c.requires.session c.take-stripe.ensures.taken (turn_of c.end_generation-ended.result _ _ found left end)
 
 pub returns-clause-ended : goal.returns-clause-ended
@@ -21,7 +21,7 @@ returns-clause-ended g c =
     let found : State = c.take-stripe.result.value in
     let left : State = c.end_generation-ended.new.self in
     let end = subst (λ (s : State). IsEndOf c.end_generation-ended.result c.args.out.now.items c.end_generation-ended.new.out.items s left) c.deref_mut.ensures.value
-        (end_of c.end_generation-ended.result _ _ c.deref_mut.result.now left c.end_generation-ended.ensures.ended c.end_generation-ended.ensures.err) in
+    (end_of c.end_generation-ended.result _ _ c.deref_mut.result.now left c.end_generation-ended.ensures.ended c.end_generation-ended.ensures.err) in
     let is : c.give.new.seat.1 ≡ after_give v left = c.give.ensures.seat ∙ ap (λ (z : View). after_give z left) c.take-stripe.ensures.taken in (
       found,
       left,
