@@ -6,7 +6,6 @@ ghost use Rattle.jc_stripe.specs.Reached.{IsReached};
 ghost use Rattle.jc_stripe.specs.OnePhase.{IsPhaseOf};
 ghost use Rattle.jc_stripe.specs.Renewal.{Renews};
 
-use crossbeam_utils::Backoff;
 use jc_stripe::Stripe;
 use std::sync::Wait;
 
@@ -78,23 +77,4 @@ pub trait Gate {
         ensures gives { gives self.old token.old stripe.value self.new token.new }
         ensures next { (n : ℕ) (a : State) → speaks_for token.old n → finds self.new token.new a
             → ComesAfter n stripe.value a };
-
-    /// Pauses once between two takes. It may return though nothing has changed: after it, no more is known than the token has seen.
-    ///
-    /// Condition: the token has not taken the stripe.
-    fn wait_for_change<R: Wait>(&mut self, rt: &R, token: &mut Self::Token)
-        requires { is_free self.old token.old }
-        ensures same { (self.new ≡ self.old) × (token.new ≡ token.old) };
-}
-
-/// The steps of a pause: as many as a `Backoff` has until it would rather block. The first are short spins, the last give the
-/// processor to another thread.
-const PAUSE_STEPS: u32 = 11;
-
-/// One pause between two tries.
-pub(crate) fn pause() {
-    let backoff = Backoff::new();
-    for _ in 0..PAUSE_STEPS {
-        backoff.snooze();
-    }
 }

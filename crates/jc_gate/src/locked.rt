@@ -1,5 +1,5 @@
 //! A lock as a gate.
-use crate::gate::{Gate, pause};
+use crate::gate::Gate;
 use jc_lock::{HistLock, Seat};
 use jc_stripe::Stripe;
 use std::sync::Wait;
@@ -40,9 +40,5 @@ impl Gate for &HistLock {
     fn give(&mut self, token: &mut Seat, stripe: Box<Stripe>) {
         let lock: &HistLock = self;
         lock.give(token, stripe);
-    }
-
-    fn wait_for_change<R: Wait>(&mut self, _rt: &R, _token: &mut Seat) {
-        pause();
     }
 }

@@ -1,11 +1,12 @@
 //! A `Mutex` as a gate.
-ghost use Rattle.std.specs.Prelude.{◌≡◌, false, IfSome};
+ghost use Rattle.std.specs.Prelude.{◌≡◌, None, IfSome};
 ghost use Rattle.jc_stripe.specs.Reached.{IsReached};
 
-use crate::gate::{Gate, pause};
+use crate::gate::Gate;
 use crossbeam_utils::Backoff;
 use jc_stripe::Stripe;
 use std::marker::Model;
+use std::snapshot::Snapshot;
 use std::sync::{Mutex, MutexGuard, Wait};
 
 /// A `Mutex` round a stripe, which threads share by `&MutexGate`. It is for tests and comparisons with `HistLock`: it
@@ -18,18 +19,30 @@ pub struct MutexGate {
 /// What one user of a [`MutexGate`] needs for every call: the guard of the `Mutex`, as long as the user holds the stripe. If it is
 /// dropped meanwhile, later takes find no stripe: `try_take` returns None, and `take` waits forever.
 ///
-/// Contracts see whether it holds a stripe.
+/// Contracts see in which state the stripe was when the user took it, or none if he holds no stripe.
 #[derive(Drop)]
 pub struct MutexSeat<'a> {
-    guard: Option<MutexGuard<'a, Option<Box<Stripe>>>>,
+    held: Option<Held<'a>>,
+}
+
+/// A stripe that was taken from a [`MutexGate`].
+#[derive(Drop)]
+struct Held<'a> {
+    guard: MutexGuard<'a, Option<Box<Stripe>>>,
+    taken: Snapshot<Stripe>,
 }
 
 impl<'a> Model for MutexSeat<'a> {
-    ghost use Rattle.std.specs.Prelude.{Bool, is_some};
+    ghost use Rattle.std.specs.Prelude.{Option, option_map};
+    ghost use Rattle.std.specs.Coded.{codes};
+    ghost use Rattle.jc_model.specs.Cache.{cache_code};
+    ghost use Rattle.jc_stripe.specs.State.{State};
 
-    ghost Value = { Bool };
+    ghost Value = { Option State };
 
-    ghost view = { λ s. is_some s.guard };
+    ghost coded = { Prim.hlevel (codes, cache_code) };
+
+    ghost view = { λ s. option_map (λ h. h.taken.value) s.held };
 }
 
 impl MutexGate {
@@ -42,9 +55,9 @@ impl MutexGate {
 
     /// A seat for one more user. It holds no stripe.
     pub fn seat(&self) -> MutexSeat<'_>
-        ensures { result ≡ false }
+        ensures { result ≡ None }
     {
-        MutexSeat { guard: None }
+        MutexSeat { held: None }
     }
 
     /// Ends the gate, and returns its stripe; None if a seat was dropped while it held the stripe.
@@ -61,7 +74,7 @@ impl MutexGate {
 /// A `Mutex` that threads share lends its stripe to the holders of its seats. No seat speaks for a session, since nothing is known of
 /// what others did between a give and the next take.
 impl<'a> Gate for &'a MutexGate {
-    ghost use Rattle.std.specs.Prelude.{◌≡◌, true, false};
+    ghost use Rattle.std.specs.Prelude.{◌≡◌, Some, None};
     ghost use Rattle.jc_stripe.specs.Reached.{IsReached};
 
     type Token = MutexSeat<'a>;
@@ -70,15 +83,15 @@ impl<'a> Gate for &'a MutexGate {
 
     ghost is_anonymous = { λ t. Unit {0} };
 
-    ghost is_free = { λ g t. t ≡ false };
+    ghost is_free = { λ g t. t ≡ None };
 
-    ghost has = { λ g t a. t ≡ true };
+    ghost has = { λ g t a. t ≡ Some a };
 
     ghost finds = { λ g t a. IsReached a };
 
-    ghost takes = { λ g t a h u. u ≡ true };
+    ghost takes = { λ g t a h u. u ≡ Some a };
 
-    ghost gives = { λ g t b h u. u ≡ false };
+    ghost gives = { λ g t b h u. u ≡ None };
 
     ghost may_fail = { λ g t. Unit {0} };
 
@@ -88,7 +101,8 @@ impl<'a> Gate for &'a MutexGate {
         let stripe = guard.take()?;
         // For its contract: every stripe is reached.
         let _ = stripe.events_len();
-        token.guard = Some(guard);
+        let taken = Snapshot::of(&*stripe);
+        token.held = Some(Held { guard, taken });
         Some(stripe)
     }
 
@@ -100,7 +114,8 @@ impl<'a> Gate for &'a MutexGate {
             if let Some(stripe) = guard.take() {
                 // For its contract: every stripe is reached.
                 let _ = stripe.events_len();
-                token.guard = Some(guard);
+                let taken = Snapshot::of(&*stripe);
+                token.held = Some(Held { guard, taken });
                 return stripe;
             }
             backoff.snooze();
@@ -109,19 +124,16 @@ impl<'a> Gate for &'a MutexGate {
     }
 
     fn give(&mut self, token: &mut MutexSeat<'a>, stripe: Box<Stripe>) {
-        match token.guard.take() {
-            Some(guard) => put_back(guard, stripe),
+        match token.held.take() {
+            Some(held) => put_back(held, stripe),
             None => unreachable!(),
         }
-    }
-
-    fn wait_for_change<R: Wait>(&mut self, _rt: &R, _token: &mut MutexSeat<'a>) {
-        pause();
     }
 }
 
 /// Puts the stripe back under the lock, and releases it.
-fn put_back(guard: MutexGuard<'_, Option<Box<Stripe>>>, stripe: Box<Stripe>) {
+fn put_back(held: Held<'_>, stripe: Box<Stripe>) {
+    let Held { guard, taken: _ } = held;
     let mut guard = guard;
     *guard = Some(stripe);
 }

@@ -1,39 +1,40 @@
 //! The plain owner of a stripe.
 ghost use Rattle.std.specs.Prelude.{◌≡◌, ◌≢◌, Some, None};
 
-use crate::gate::{Gate, pause};
+use crate::gate::Gate;
 use jc_stripe::Stripe;
 use std::marker::Model;
+use std::snapshot::Snapshot;
 use std::sync::Wait;
 
 /// Owns a stripe, and lends it to whoever the owner itself is lent to. So a take never fails, and a token is nothing.
 ///
-/// Contracts see the stripe's state, or none while it is out.
+/// Contracts see the stripe's state, or none while it is out, and in which state it was when it was taken last.
 #[derive(Drop)]
 pub struct Owner {
     stripe: Option<Box<Stripe>>,
+    taken: Snapshot<Stripe>,
 }
 
 impl Model for Owner {
-    ghost use Rattle.std.specs.Prelude.{Option};
     ghost use Rattle.std.specs.Coded.{codes};
     ghost use Rattle.jc_model.specs.Cache.{cache_code};
-    ghost use Rattle.jc_stripe.specs.State.{State};
-    ghost use Rattle.jc_gate.specs.Lent.{state_in};
+    ghost use Rattle.jc_gate.specs.Owned.{OwnerState, state_in};
 
-    ghost Value = { Option State };
+    ghost Value = { OwnerState };
 
     ghost coded = { Prim.hlevel (codes, cache_code) };
 
-    ghost view = { λ o. state_in (λ b. b.value) o.stripe };
+    ghost view = { λ o. record { here = state_in (λ b. b.value) o.stripe; taken = o.taken.value } };
 }
 
 impl Owner {
     /// The owner of a stripe.
     pub fn new(stripe: Box<Stripe>) -> Owner
-        ensures { result ≡ Some stripe.value }
+        ensures { result.here ≡ Some stripe.value }
     {
         Owner {
+            taken: Snapshot::of(&*stripe),
             stripe: Some(stripe),
         }
     }
@@ -42,8 +43,8 @@ impl Owner {
     ///
     /// Condition: it is there.
     pub fn stripe(&self) -> &Stripe
-        requires { self.now ≢ None }
-        ensures { self.now ≡ Some result.now }
+        requires { self.now.here ≢ None }
+        ensures { self.now.here ≡ Some result.now }
     {
         match &self.stripe {
             Some(stripe) => stripe,
@@ -61,15 +62,15 @@ impl Gate for Owner {
 
     ghost is_anonymous = { λ t. ⊥ };
 
-    ghost is_free = { λ g t. g ≢ None };
+    ghost is_free = { λ g t. g.here ≢ None };
 
-    ghost has = { λ g t a. g ≡ None };
+    ghost has = { λ g t a. g ≡ record { here = None; taken = a } };
 
-    ghost finds = { λ g t a. g ≡ Some a };
+    ghost finds = { λ g t a. g.here ≡ Some a };
 
-    ghost takes = { λ g t a h u. (g ≡ Some a) × (h ≡ None) };
+    ghost takes = { λ g t a h u. (g.here ≡ Some a) × (h ≡ record { here = None; taken = a }) };
 
-    ghost gives = { λ g t b h u. h ≡ Some b };
+    ghost gives = { λ g t b h u. h.here ≡ Some b };
 
     ghost may_fail = { λ g t. ⊥ };
 
@@ -78,6 +79,7 @@ impl Gate for Owner {
             Some(stripe) => {
                 // For its contract: every stripe is reached.
                 let _ = stripe.events_len();
+                self.taken = Snapshot::of(&*stripe);
                 Some(stripe)
             }
             None => unreachable!(),
@@ -89,6 +91,7 @@ impl Gate for Owner {
             Some(stripe) => {
                 // For its contract: every stripe is reached.
                 let _ = stripe.events_len();
+                self.taken = Snapshot::of(&*stripe);
                 stripe
             }
             None => unreachable!(),
@@ -97,9 +100,5 @@ impl Gate for Owner {
 
     fn give(&mut self, _token: &mut (), stripe: Box<Stripe>) {
         self.stripe = Some(stripe);
-    }
-
-    fn wait_for_change<R: Wait>(&mut self, _rt: &R, _token: &mut ()) {
-        pause();
     }
 }

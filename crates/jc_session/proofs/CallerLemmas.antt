@@ -10,4 +10,5 @@ pub phase_of : (counted : Counted) (session : ℕ) (old new : State) → IsCount
 phase_of counted session old new (inl same) = inl same.0
 phase_of counted session old new (inr (inl first)) = inr (inl first.0)
 phase_of counted session old new (inr (inr (inl last))) = inr (inr (inl last.0))
-phase_of counted session old new (inr (inr (inr pick))) = inr (inr (inr (inr pick.0)))
+phase_of counted session old new (inr (inr (inr (inl pick)))) = inr (inr (inr (inr pick.0)))
+phase_of counted session old new (inr (inr (inr (inr back)))) = inr (inr (inr (inl back.0)))

@@ -15,6 +15,7 @@ ghost use Rattle.jc_session.specs.Counting.{one_more, call_before, counts_after,
 mod calls_all;
 
 use crate::counts::{Counted, Counts, one_more};
+use crossbeam_utils::Backoff;
 use jc_gate::Gate;
 use jc_mutentry::{EntryProcessor, ProcDone, run_processor};
 use jc_outside::{
@@ -23,6 +24,10 @@ use jc_outside::{
 use jc_stripe::{Ask, Stripe};
 use jc_types::{Caller, Value};
 use std::sync::Wait;
+
+/// The steps of a pause: as many as a `Backoff` has until it would rather block. The first are short spins, the last give the
+/// processor to another thread.
+const PAUSE_STEPS: u32 = 11;
 
 /// Who calls a cache: the numbers of its calls, what it has begun and not ended, and its hands. A session is an agent beside a seat
 /// on every stripe.
@@ -209,26 +214,26 @@ impl Agent {
 
     /// Pauses once between two takes. It may return though nothing has changed.
     ///
-    /// Conditions: the agent has no reservation out and holds no stripe, and the token has not taken the gate's.
-    pub fn wait_for_change<G: Gate, R: Wait>(&mut self, rt: &R, gate: &mut G, token: &mut G::Token)
-        requires reservations { self.old.counts.reservations ≡ 0 }
-        requires held { self.old.hands.held ≡ 0 }
-        requires free { G.is_free gate.old token.old }
-        ensures agent { self.new ≡ self.old }
-        ensures same { (gate.new ≡ gate.old) × (token.new ≡ token.old) }
+    /// Conditions: the agent has no reservation out, so that nobody waits for it meanwhile, and holds no stripe; the token has not
+    /// taken the gate's.
+    pub fn wait_for_change<G: Gate, R: Wait>(&self, _rt: &R, _gate: &G, _token: &G::Token)
+        requires reservations { self.now.counts.reservations ≡ 0 }
+        requires held { self.now.hands.held ≡ 0 }
+        requires free { G.is_free _gate.now _token.now }
     {
-        gate.wait_for_change(rt, token);
+        let backoff = Backoff::new();
+        for _ in 0..PAUSE_STEPS {
+            backoff.snooze();
+        }
     }
 
     /// Pauses once between two takes, unless the agent has a reservation out: then it returns at once, so that nobody waits for the
     /// reservation meanwhile.
     ///
     /// Conditions: the agent holds no stripe, and the token has not taken the gate's.
-    pub fn pause<G: Gate, R: Wait>(&mut self, rt: &R, gate: &mut G, token: &mut G::Token)
-        requires held { self.old.hands.held ≡ 0 }
-        requires free { G.is_free gate.old token.old }
-        ensures agent { self.new ≡ self.old }
-        ensures same { (gate.new ≡ gate.old) × (token.new ≡ token.old) }
+    pub fn pause<G: Gate, R: Wait>(&self, rt: &R, gate: &G, token: &G::Token)
+        requires held { self.now.hands.held ≡ 0 }
+        requires free { G.is_free gate.now token.now }
     {
         if self.counts.reservations == 0 {
             self.wait_for_change(rt, gate, token);

@@ -1,0 +1,13 @@
+-- Where the stripe of a plain owner is.
+--     state_in      the state of the stripe in a box, if there is one
+--     OwnerState    the state of its stripe, or none while it is out, and in which state it was when it was taken last
+use Rattle.std.specs.Prelude.{Option, None, Some}
+use Rattle.jc_stripe.specs.State.{State}
+
+abbrev pub state_in : {B : Type 0} → (B → State) → Option B → Option State
+state_in value None = None
+state_in value (Some box) = Some (value box)
+
+pub record OwnerState : Type 0 where
+  pub here : Option State
+  pub taken : State
