@@ -5,12 +5,16 @@
 --                   asked of it
 --     tries-start   before the first try
 --     tries-on      one try more
+--     tries-left    one more that left the stripe without a phase
+--     tries-since   and what is found after it
 --     lent-map      a phase that says less
 use Rattle.std.proofs.Common.{◌≡◌, ℕ, List, [], ◌∷◌, ◌++◌, refl, sym, subst}
 use Rattle.jc_stripe.specs.State.{State}
 use Rattle.jc_stripe.specs.Reached.{IsReached}
 use Rattle.jc_gate.specs.Lending.{ComesAfter, Lends, Lent}
-use Rattle.jc_engine.specs.Chain.{IsQuiet, AllQuiet, Rests, LentPhase}
+use Rattle.jc_engine.specs.Chain.{IsQuiet, AllQuiet, Rests, Since, LentPhase}
+use Rattle.jc_engine.specs.Doors.{IsLeft}
+use Rattle.jc_engine.proofs.Coming.{since_on}
 
 module _ {G T : Type 0} (takes gives : G → T → State → G → T → Type 0) (finds : G → T → State → Type 0) where
   pub rests-start : (g : G) (t : T) → Rests takes gives finds g t g t
@@ -49,6 +53,19 @@ module _ {G T : Type 0} (takes gives : G → T → State → G → T → Type 0)
     finds_it = λ x f. stays b x (next session x (one session (tries.speaks session speaks)) f) (stays a b (is.after session) (tries.finds_it a found));
     rests = rests-on g t h u a b k v tries.rests record { gate = m; token = w; took = took; reached = reached; gave = gave } is;
   }
+
+  pub tries-left : (is_free : G → T → Type 0) (speaks_for : T → ℕ → Type 0) (P : State → Type 0) (g : G) (t : T) (h : G) (u : T) (a : State) (m : G) (w : T) (k : G) (v : T) (session : ℕ)
+      → ((x y : State) → ComesAfter session x y → P x → P y)
+      → Tries is_free speaks_for P g t h u → takes h u a m w → finds h u a → IsReached a → ((n : ℕ) → speaks_for u n → speaks_for w n) → speaks_for t session
+      → IsLeft gives finds is_free speaks_for m w a k v → Tries is_free speaks_for P g t k v
+  tries-left is_free speaks_for P g t h u a m w k v session stays tries took found reached one speaks x =
+      tries-on is_free speaks_for P g t h u a x.left m w k v session stays tries took found reached x.gave x.free one x.speaks (λ n b s f. x.next n b s f) speaks x.quiet
+
+  pub tries-since : (is_free : G → T → Type 0) (speaks_for : T → ℕ → Type 0) (P : State → Type 0) (g : G) (t : T) (h : G) (u : T) (a : State) (m : G) (w : T) (k : G) (v : T) (session : ℕ)
+      → Tries is_free speaks_for P g t h u → ((n : ℕ) → speaks_for u n → speaks_for w n) → speaks_for t session
+      → Since finds session g t a → IsLeft gives finds is_free speaks_for m w a k v → (b : State) → finds k v b → Since finds session g t b
+  tries-since is_free speaks_for P g t h u a m w k v session tries one speaks since x b later =
+      since_on finds session g t x.left b (since_on finds session g t a x.left since (x.quiet.after session)) (x.next session b (one session (tries.speaks session speaks)) later)
 
   pub lent-map : (session : ℕ) (g : G) (t : T) (P Q : State → State → Type 0) (h : G) (u : T) → ((a b : State) → P a b → Q a b) → LentPhase takes gives finds session g t P h u → LentPhase takes gives finds session g t Q h u
   lent-map session g t P Q h u leads lent = record {

@@ -1,6 +1,7 @@
 -- A whole call, from what its phases made.
 --     refused_call    one that is refused by its first phase
 --     ends_by         a commit, under other names of its reservation and of its session
+--     asked_ends      a call that was asked and committed, from where it had somebody to ask
 --     reserved_call   one that reserves its key, asks, and commits
 use Rattle.std.proofs.Common.{◌≡◌, ◌∙◌, ℕ, List, Ok, Err, option_map, refl, sym, ap, subst}
 use Rattle.jc_types.specs.declared.caller.Caller.{Caller}
@@ -18,9 +19,10 @@ use Rattle.jc_stripe.specs.declared.ticket.Reservation.{Reservation}
 use Rattle.jc_session.specs.Boxed.{boxed}
 use Rattle.jc_session.specs.Counting.{counts_ended}
 use Rattle.jc_session.specs.declared.agent.Agent.{Agent}
-use Rattle.jc_engine.specs.Asking.{AsksLoader, AsksWriter, KeepsTypes, change_wanted}
+use Rattle.jc_engine.specs.Answered.{CallAnswer, out_of}
+use Rattle.jc_engine.specs.Asking.{AsksLoader, AsksWriter, IsAsked, KeepsTypes, change_wanted}
 use Rattle.jc_engine.specs.Chain.{LentPhase}
-use Rattle.jc_engine.specs.Calls.{Enters, IsCall, counts_entered}
+use Rattle.jc_engine.specs.Calls.{AsksAndEnds, Enters, IsCall, counts_entered}
 use Rattle.jc_engine.specs.declared.entering.Entered.TheVariants as entered
 use Rattle.jc_engine.proofs.AgentAfter.{after_first, after_both}
 use Rattle.jc_engine.proofs.Asked.{of_caller}
@@ -53,6 +55,25 @@ module _ {I J G T : Type 0} {D : I → Type 0} {E : J → Type 0}
     types = (ap (λ s. option_map (λ b. b.vtable) s.hands.outside.loader) first, ap (λ s. option_map (λ b. b.vtable) s.hands.outside.writer) first);
     held = ap (λ s. s.hands.held) first ∙ held;
     agent = after_first old new _ first;
+  }
+
+  abbrev pub asked_ends : (old asked new : Agent I J D E) (ticket given : TicketClaim) (answer : CallAnswer) (done : StepDone) (g : G) (t : T) (h : G) (u : T)
+      → ticket.reservation.caller.session ≡ old.caller.session → IsAsked loads load_state writes write_state old ticket answer asked given
+      → new ≡ record asked { counts = counts_ended asked.counts } → LentPhase takes gives finds asked.caller.session g t (λ a b. Commits a given.reservation (out_of answer) done b) h u
+      → AsksAndEnds loads load_state writes write_state takes gives finds ticket.reservation old g t done.reply new h u
+  asked_ends old asked new ticket given answer done g t h u who d last x = record {
+    asked = asked;
+    out = out_of answer;
+    done = done;
+    replies = refl;
+    loader = d.loader;
+    writer = d.writer;
+    process = d.process;
+    types = d.types;
+    held = d.held;
+    rest = d.rest;
+    last = last;
+    phase = ends_by takes gives finds asked.caller.session ticket given.reservation (out_of answer) done g t h u (ap (λ (s : Agent I J D E). s.caller.session) d.rest ∙ sym who) d.reservation x;
   }
 
   abbrev pub reserved_call : (n : ℕ) (old mid asked new : Agent I J D E) (key : Bytes) (op : Op) (g : G) (t : T) (ticket : TicketClaim) (h : G) (u : T) (r : Reservation) (out : Out) (done : StepDone) (k : G) (v : T)

@@ -1,5 +1,6 @@
 -- What comes after lendings in which nothing was done.
 --     lent-append      two rows of lendings
+--     all-append       which are quiet
 --     rests-both       two rows in which nothing was done
 --     lent_later       a phase after a row in which nothing was done
 --     rested           a phase that left the stripe as it was is such a row
@@ -46,12 +47,12 @@ use Rattle.jc_engine.proofs.Rounds.{at_once}
 use Rattle.jc_engine.proofs.Coming.{quiet_same, since_both, since_phase, since_start}
 
 module _ {G T : Type 0} (takes gives : G → T → State → G → T → Type 0) (finds : G → T → State → Type 0) where
-  lent-append : (g : G) (t : T) (ps : List (State × State)) (h : G) (u : T) (qs : List (State × State)) (k : G) (v : T)
+  pub lent-append : (g : G) (t : T) (ps : List (State × State)) (h : G) (u : T) (qs : List (State × State)) (k : G) (v : T)
       → Lent takes gives g t ps h u → Lent takes gives h u qs k v → Lent takes gives g t (ps ++ qs) k v
   lent-append g t [] h u qs k v same two = subst (λ (z : G × T). Lent takes gives z.0 z.1 qs k v) (λ i. (same.0 i, same.1 i)) two
   lent-append g t (p ∷ ps) h u qs k v row two = (row.0, row.1, row.2, lent-append row.0 row.1 ps h u qs k v row.3 two)
 
-  all-append : (ps qs : List (State × State)) → AllQuiet ps → AllQuiet qs → AllQuiet (ps ++ qs)
+  pub all-append : (ps qs : List (State × State)) → AllQuiet ps → AllQuiet qs → AllQuiet (ps ++ qs)
   all-append [] qs one two = two
   all-append (p ∷ ps) qs one two = (one.0, all-append ps qs one.1 two)
 

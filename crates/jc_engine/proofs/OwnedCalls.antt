@@ -27,6 +27,7 @@ use Rattle.jc_stripe.specs.OwnSteps.{WholeCall, JoinsOnlyLoads}
 use Rattle.jc_stripe.proofs.CallerLemmas.{stays_alone}
 use Rattle.jc_session.specs.declared.agent.Agent.{Agent}
 use Rattle.jc_gate.specs.Lending.{Lent}
+use Rattle.jc_gate.specs.Owned.{OwnerState}
 use Rattle.jc_engine.specs.Chain.{AllQuiet, LentPhase}
 use Rattle.jc_engine.specs.Needs.{Starts}
 use Rattle.jc_engine.specs.Calls.{Retries, EntersAs, Enters, EndsAs, IsCall}
@@ -37,25 +38,25 @@ use Rattle.jc_engine.proofs.Asked.{asked_by, asks_first}
 
 -- 1. One phase.
 
-abbrev pub owner_takes : {T : Type 0} → Option State → T → State → Option State → T → Type 0
-owner_takes g t a h u = (g ≡ Some a) × (h ≡ None)
+abbrev pub owner_takes : {T : Type 0} → OwnerState → T → State → OwnerState → T → Type 0
+owner_takes g t a h u = (g.here ≡ Some a) × (h ≡ record { here = None; taken = a })
 
-abbrev pub owner_gives : {T : Type 0} → Option State → T → State → Option State → T → Type 0
-owner_gives g t b h u = h ≡ Some b
+abbrev pub owner_gives : {T : Type 0} → OwnerState → T → State → OwnerState → T → Type 0
+owner_gives g t b h u = h.here ≡ Some b
 
-abbrev pub owner_finds : {T : Type 0} → Option State → T → State → Type 0
-owner_finds g t a = g ≡ Some a
+abbrev pub owner_finds : {T : Type 0} → OwnerState → T → State → Type 0
+owner_finds g t a = g.here ≡ Some a
 
 module _ {T : Type 0} where
-  idle_stays : (g : Option State) (t : T) (ps : List (State × State)) (h : Option State) (u : T) (a : State) → g ≡ Some a → a.lives ≡ false → Lent owner_takes owner_gives g t ps h u → AllQuiet ps → h ≡ Some a
-  idle_stays g t [] h u a is alone row all = row.0 ∙ is
+  idle_stays : (g : OwnerState) (t : T) (ps : List (State × State)) (h : OwnerState) (u : T) (a : State) → g.here ≡ Some a → a.lives ≡ false → Lent owner_takes owner_gives g t ps h u → AllQuiet ps → h.here ≡ Some a
+  idle_stays g t [] h u a is alone row all = ap (λ (o : OwnerState). o.here) row.0 ∙ is
   idle_stays g t (p ∷ ps) h u a is alone row all =
       let found : p.0 ≡ a = same_Some p.0 a (sym row.2.took.0 ∙ is) in
       let left : p.1 ≡ p.0 = stays_alone p.0 p.1 (ap (λ (s : State). s.lives) found ∙ alone) all.0.stays in
       idle_stays row.0 row.1 ps h u a (row.2.gave ∙ ap (λ (z : State). Some z) (left ∙ found)) alone row.3 all.1
 
-  pub owner_at : (who : ℕ) (g : Option State) (t : T) (phase : State → State → Type 0) (h : Option State) (u : T) (a : State) → g ≡ Some a → a.lives ≡ false
-      → (x : LentPhase owner_takes owner_gives owner_finds who g t phase h u) → (x.before ≡ a) × (h ≡ Some x.after)
+  pub owner_at : (who : ℕ) (g : OwnerState) (t : T) (phase : State → State → Type 0) (h : OwnerState) (u : T) (a : State) → g.here ≡ Some a → a.lives ≡ false
+      → (x : LentPhase owner_takes owner_gives owner_finds who g t phase h u) → (x.before ≡ a) × (h.here ≡ Some x.after)
   owner_at who g t phase h u a is alone x = (same_Some x.before a (sym x.lent.took.0 ∙ idle_stays g t x.rests.idle x.gate x.token a is alone x.rests.lent x.rests.quiet), x.lent.gave)
 
 -- 2. Nobody joins a load on an idle stripe.
@@ -72,15 +73,15 @@ none_joined : (a : State) (key : Bytes) (op : Op) → IsIdle a → load_joined a
 none_joined a key op idle = (λ i. load_joined (record a { reservations = idle.reservations i }) key op) ∙ either_way _ None
 
 module _ {T : Type 0} (law : JoinsOnlyLoads) (caller : Caller) (key : Bytes) (op : Op) where
-  none_joins : (join : JoinClaim) (g : Option State) (t : T) (h : Option State) (u : T) (a : State) → g ≡ Some a → IsAlone a
+  none_joins : (join : JoinClaim) (g : OwnerState) (t : T) (h : OwnerState) (u : T) (a : State) → g.here ≡ Some a → IsAlone a
       → LentPhase owner_takes owner_gives owner_finds caller.session g t (Starts caller key op (begun.Joined join)) h u → ⊥
   none_joins join g t h u a is idle x =
       let at = owner_at caller.session g t (Starts caller key op (begun.Joined join)) h u a is idle.1 x in
       law x.before x.after caller key op join (none_joined x.before key op (subst IsIdle (sym at.0) idle.0)) x.made.first.begins
 
-  pub no_retries : (n : ℕ) (g : Option State) (t : T) (h : Option State) (u : T) (a : State) → g ≡ Some a → IsAlone a
-      → Retries owner_takes owner_gives owner_finds caller key op n g t h u → h ≡ Some a
-  no_retries zero g t h u a is idle rounds = rounds.0 ∙ is
+  pub no_retries : (n : ℕ) (g : OwnerState) (t : T) (h : OwnerState) (u : T) (a : State) → g.here ≡ Some a → IsAlone a
+      → Retries owner_takes owner_gives owner_finds caller key op n g t h u → h.here ≡ Some a
+  no_retries zero g t h u a is idle rounds = ap (λ (o : OwnerState). o.here) rounds.0 ∙ is
   no_retries (suc n) g t h u a is idle rounds =
       absurd (none_joins rounds.3.join rounds.0 rounds.1 rounds.3.gate rounds.3.token a (no_retries n g t rounds.0 rounds.1 a is idle rounds.2) idle rounds.3.joined)
 
@@ -114,7 +115,7 @@ refusal_or refusal (entered.Asks ticket) = refusal
 
 module _ {T : Type 0} (caller : Caller) (key : Bytes) (op : Op) where
   -- a call that is done, or refused, at once
-  done_by : (b : Begun) (reply : Reply) (m : Option State) (w : T) (k : Option State) (v : T) (a c : State) → ((join : JoinClaim) → b ≡ begun.Joined join → ⊥) → Starts caller key op b a c
+  done_by : (b : Begun) (reply : Reply) (m : OwnerState) (w : T) (k : OwnerState) (v : T) (a c : State) → ((join : JoinClaim) → b ≡ begun.Joined join → ⊥) → Starts caller key op b a c
       → EntersAs owner_takes owner_gives owner_finds caller key op b (entered.Done reply) m w k v → EndsCall a caller key op nothing_said (Ok reply) c × (k ≡ m)
   unfolding reply_or
   done_by (begun.Done done) reply m w k v a c alone made ends =
@@ -123,7 +124,7 @@ module _ {T : Type 0} (caller : Caller) (key : Bytes) (op : Op) where
   done_by (begun.Asks ticket) reply m w k v a c alone made ends = let e = ends.0 in cc
   done_by (begun.Joined join) reply m w k v a c alone made ends = absurd (alone join refl)
 
-  refused_by : (b : Begun) (refusal : Refusal) (m : Option State) (w : T) (k : Option State) (v : T) (a c : State) → Starts caller key op b a c
+  refused_by : (b : Begun) (refusal : Refusal) (m : OwnerState) (w : T) (k : OwnerState) (v : T) (a c : State) → Starts caller key op b a c
       → EntersAs owner_takes owner_gives owner_finds caller key op b (entered.Refused refusal) m w k v → EndsCall a caller key op nothing_said (Err refusal) c × (k ≡ m)
   unfolding refusal_or
   refused_by (begun.Done done) refusal m w k v a c made ends = let e = ends.0 in cc
@@ -132,9 +133,9 @@ module _ {T : Type 0} (caller : Caller) (key : Bytes) (op : Op) where
   refused_by (begun.Asks ticket) refusal m w k v a c made ends = let e = ends.0 in cc
   refused_by (begun.Joined join) refusal m w k v a c made ends = let e = ends.3 in cc
 
-  pub ends_owned : WholeCall → JoinsOnlyLoads → (met : Entered) (out : Out) (ended : Result Reply Refusal) (g : Option State) (t : T) (k : Option State) (v : T) (h : Option State) (u : T) (a : State) → g ≡ Some a → IsAlone a
+  pub ends_owned : WholeCall → JoinsOnlyLoads → (met : Entered) (out : Out) (ended : Result Reply Refusal) (g : OwnerState) (t : T) (k : OwnerState) (v : T) (h : OwnerState) (u : T) (a : State) → g.here ≡ Some a → IsAlone a
       → (x : Enters owner_takes owner_gives owner_finds caller key op g t met k v) → EndsAs owner_takes owner_gives owner_finds caller key op met out ended k v h u
-      → (x.first.before ≡ a) × (c : State) × (h ≡ Some c) × EndsCall x.first.before caller key op out ended c
+      → (x.first.before ≡ a) × (c : State) × (h.here ≡ Some c) × EndsCall x.first.before caller key op out ended c
   ends_owned whole joins (entered.Done reply) out ended g t k v h u a is idle x ends =
       let there = no_retries joins caller key op x.rounds g t x.gate x.token a is idle x.retried in
       let at = owner_at caller.session x.gate x.token (Starts caller key op x.begun) x.gate' x.token' a there idle.1 x.first in
@@ -143,7 +144,7 @@ module _ {T : Type 0} (caller : Caller) (key : Bytes) (op : Op) where
       let done = done_by x.begun reply x.gate' x.token' k v x.first.before x.first.after alone x.first.made x.ends in (
         at.0,
         x.first.after,
-        ends.2 ∙ done.1 ∙ at.1,
+        ap (λ (o : OwnerState). o.here) (ends.2 ∙ done.1) ∙ at.1,
         subst (λ (z : Out × Result Reply Refusal). EndsCall x.first.before caller key op z.0 z.1 x.first.after) (λ i. (sym ends.1 i, sym ends.0 i)) done.0,
       )
   ends_owned whole joins (entered.Refused refusal) out ended g t k v h u a is idle x ends =
@@ -152,7 +153,7 @@ module _ {T : Type 0} (caller : Caller) (key : Bytes) (op : Op) where
       let done = refused_by x.begun refusal x.gate' x.token' k v x.first.before x.first.after x.first.made x.ends in (
         at.0,
         x.first.after,
-        ends.2 ∙ done.1 ∙ at.1,
+        ap (λ (o : OwnerState). o.here) (ends.2 ∙ done.1) ∙ at.1,
         subst (λ (z : Out × Result Reply Refusal). EndsCall x.first.before caller key op z.0 z.1 x.first.after) (λ i. (sym ends.1 i, sym ends.0 i)) done.0,
       )
   ends_owned whole joins (entered.Asks ticket) out ended g t k v h u a is idle x ends =
@@ -160,7 +161,7 @@ module _ {T : Type 0} (caller : Caller) (key : Bytes) (op : Op) where
       let at = owner_at caller.session x.gate x.token (Starts caller key op x.begun) x.gate' x.token' a there idle.1 x.first in
       let first = asks_first owner_takes owner_gives owner_finds caller key op ticket g t k v x in
       let same = asked_by owner_takes owner_gives owner_finds caller key op x.begun ticket x.gate' x.token' k v x.ends in
-      let last = owner_at ticket.reservation.caller.session k v (λ a b. Commits a ticket.reservation out ends.0 b) h u x.first.after (same.1 ∙ at.1) (ap (λ (s : State). s.lives) first.first.begins.5 ∙ ap (λ (s : State). s.lives) at.0 ∙ idle.1) ends.2 in
+      let last = owner_at ticket.reservation.caller.session k v (λ a b. Commits a ticket.reservation out ends.0 b) h u x.first.after (ap (λ (o : OwnerState). o.here) same.1 ∙ at.1) (ap (λ (s : State). s.lives) first.first.begins.5 ∙ ap (λ (s : State). s.lives) at.0 ∙ idle.1) ends.2 in
       let commits = subst (λ (z : State). Commits z ticket.reservation out ends.0 ends.2.after) last.0 ends.2.made in (
         at.0,
         ends.2.after,
@@ -174,9 +175,9 @@ module _ {T : Type 0} (caller : Caller) (key : Bytes) (op : Op) where
 module _ {I J T : Type 0} {D : I → Type 0} {E : J → Type 0}
     (loads : LoadRelation ((i : I) × D i)) (load_state : (i : I) × D i → List ℕ)
     (writes : WriteRelation ((j : J) × E j)) (write_state : (j : J) × E j → List ℕ) where
-  pub owned_call : WholeCall → JoinsOnlyLoads → (old new : Agent I J D E) (key : Bytes) (op : Op) (g : Option State) (t : T) (ended : Result Reply Refusal) (h : Option State) (u : T) (a : State) → g ≡ Some a → IsAlone a
+  pub owned_call : WholeCall → JoinsOnlyLoads → (old new : Agent I J D E) (key : Bytes) (op : Op) (g : OwnerState) (t : T) (ended : Result Reply Refusal) (h : OwnerState) (u : T) (a : State) → g.here ≡ Some a → IsAlone a
       → IsCall loads load_state writes write_state owner_takes owner_gives owner_finds old key op g t ended new h u
-      → IsOwnedCall loads load_state writes write_state old key op g ended new h
+      → IsOwnedCall loads load_state writes write_state old key op g.here ended new h.here
   owned_call whole joins old new key op g t ended h u a is idle x =
       let ends = ends_owned old.caller key op whole joins x.met x.asked ended g t x.gate x.token h u a is idle x.enters x.ends in
       record {

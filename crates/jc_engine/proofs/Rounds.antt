@@ -62,24 +62,20 @@ module _ {G T : Type 0} (takes gives : G → T → State → G → T → Type 0)
     ends = ends;
   }
 
-module _ {G T : Type 0} (takes gives : G → T → State → G → T → Type 0) (finds : G → T → State → Type 0) (is_free : G → T → Type 0) (speaks_for : T → ℕ → Type 0)
-    (caller : Caller) (key : Bytes) (op : Op) where
+module _ {G T : Type 0} (takes gives : G → T → State → G → T → Type 0) (finds : G → T → State → Type 0) (caller : Caller) (key : Bytes) (op : Op) where
   pub record Rounds (g : G) (t : T) (h : G) (u : T) : Type 0 where
-    pub free : is_free h u
-    pub speaks : (n : ℕ) → speaks_for t n → speaks_for u n
     pub rounds : ℕ
     pub retried : Retries takes gives finds caller key op rounds g t h u
     pub since : (a : State) → finds h u a → Since finds caller.session g t a
 
-  pub rounds_start : (g : G) (t : T) → is_free g t → Rounds g t g t
-  rounds_start g t free = record { free = free; speaks = λ n s. s; rounds = zero; retried = (refl, refl); since = since_start finds caller.session g t }
+  pub rounds_start : (g : G) (t : T) → Rounds g t g t
+  rounds_start g t = record { rounds = zero; retried = (refl, refl); since = since_start finds caller.session g t }
 
   pub rounds_on : OnePhase → OwnSteps → (g : G) (t : T) (h : G) (u : T) (join : JoinClaim) (m : G) (w : T) (k : G) (v : T) → Rounds g t h u
       → LentPhase takes gives finds caller.session h u (Starts caller key op (begun.Joined join)) m w
       → (n : ℕ) → n ≡ caller.session → LentPhase takes gives finds n m w (λ a b. PicksUp a join picked.Again b) k v
-      → is_free k v → ((n : ℕ) → speaks_for u n → speaks_for w n) → ((n : ℕ) → speaks_for w n → speaks_for v n)
       → Rounds g t k v
-  rounds_on law own g t h u join m w k v so x n session again free one two =
+  rounds_on law own g t h u join m w k v so x n session again =
       let y : LentPhase takes gives finds caller.session m w (λ a b. PicksUp a join picked.Again b) k v =
       subst (λ (z : ℕ). LentPhase takes gives finds z m w (λ a b. PicksUp a join picked.Again b) k v) session again in
       let joined : (a : State) → finds m w a → Since finds caller.session g t a =
@@ -87,8 +83,6 @@ module _ {G T : Type 0} (takes gives : G → T → State → G → T → Type 0)
       let kept : own_steps caller.session y.after ≡ own_steps caller.session y.before =
       subst (λ (z : ℕ). own_steps z y.after ≡ own_steps z y.before) (mine takes gives finds caller key op join h u m w x) (own.again y.before y.after join y.lent.reached y.made) in
       record {
-        free = free;
-        speaks = λ n s. two n (one n (so.speaks n s));
         rounds = suc so.rounds;
         retried = (
           h,

@@ -3,10 +3,15 @@
 --     AsksLoader       what a step's answer says of the loader: it was called once, with this key, and answered this; or it is untouched
 --     AsksWriter       the same of the writer, for the change that was asked for
 --     KeepsTypes       the agent's loader and writer are of the types that they had before
+--     IsAsked          a ticket's loader or writer, whichever its reservation asks first, was asked once, and answered this; all else of the
+--                      agent stays
+--     IsProcessed      a ticket's processor was run once, on the entry that the ticket's first phase found, and the writer was asked for its
+--                      net effect, if it is to be; all else of the agent stays
 --     own_after        how many steps the agent has made after a call
 --     RunsProcessor    what a step's answer says of the processor: it was run once, on the entry that the step found, which it may load with
 --                      read-through on if it is missing, and this is what came of it; or it is untouched
-use Rattle.std.specs.Prelude.{◌≡◌, ◌&&◌, ℕ, List, Option, None, Result, Ok, Err, is_none, MatchBool, if◌then◌else◌}
+use Rattle.std.specs.declared.dyn_box.DynBox.{DynBox}
+use Rattle.std.specs.Prelude.{◌≡◌, ◌&&◌, ℕ, List, Bool, true, Option, None, Result, Ok, Err, is_none, MatchBool, if◌then◌else◌}
 use Rattle.jc_types.specs.declared.refusal.Refusal.{Refusal}
 use Rattle.jc_model.specs.declared.event.Op.{Op}
 use Rattle.jc_model.specs.declared.event.Out.{Out}
@@ -14,14 +19,23 @@ use Rattle.jc_model.specs.declared.event.Reply.{Reply}
 use Rattle.jc_model.specs.declared.event.Change.{Change}
 use Rattle.jc_model.specs.declared.event.LoadAnswer.{LoadAnswer}
 use Rattle.jc_model.specs.declared.event.ProcessAnswer.{ProcessAnswer}
+use Rattle.jc_model.specs.declared.event.ProcessAnswer.TheVariants.{NotAsked}
 use Rattle.jc_model.specs.declared.event.WriteAnswer.{WriteAnswer}
 use Rattle.jc_model.specs.Cache.{Bytes, entry_at}
-use Rattle.jc_model.specs.Table.{write_ask, is_load_given, is_write_given, is_process_given}
+use Rattle.jc_types.specs.declared.config.Config.{Config}
+use Rattle.jc_model.specs.Table.{write_ask, process_ask, is_load_given, is_write_given, is_process_given}
 use Rattle.jc_outside.specs.Calling.{KeepsType, LoadRelation, LoadsOnce, WriteRelation, WritesOnce}
+use Rattle.jc_outside.specs.Done.{WriteResult}
+use Rattle.jc_mutentry.specs.Done.{ProcessResult}
 use Rattle.jc_mutentry.specs.Running.{ProcessRelation, RunsOnce}
+use Rattle.jc_stripe.specs.Effects.{report_answer}
 use Rattle.jc_stripe.specs.State.{State}
+use Rattle.jc_stripe.specs.Tickets.{Claim, TicketClaim, asks_writer, change_asked, entry_seen, is_loadable}
+use Rattle.jc_session.specs.Boxed.{boxed}
 use Rattle.jc_session.specs.Counting.{one_more}
 use Rattle.jc_session.specs.declared.agent.Agent.{Agent}
+use Rattle.jc_engine.specs.Answered.{CallAnswer, Processed, IsAnswered, out_of}
+use Rattle.jc_engine.specs.Needs.{IsReported}
 
 abbrev pub change_wanted : State → Bytes → Op → ProcessAnswer → Option Change
 change_wanted state key op answer = if state.config.write_through then write_ask op (entry_at state.cache key) answer else None
@@ -35,6 +49,41 @@ AsksWriter writes state old key change answer new = MatchBool (is_write_given an
 -- so what their traits say of a second call is said of the same types
 abbrev pub KeepsTypes : {I J : Type 0} {D : I → Type 0} {E : J → Type 0} → Agent I J D E → Agent I J D E → Type 0
 KeepsTypes old new = KeepsType old.hands.outside.loader new.hands.outside.loader × KeepsType old.hands.outside.writer new.hands.outside.writer
+
+pub record IsAsked
+    {I J : Type 0} {D : I → Type 0} {E : J → Type 0}
+    (loads : LoadRelation ((i : I) × D i)) (load_state : (i : I) × D i → List ℕ)
+    (writes : WriteRelation ((j : J) × E j)) (write_state : (j : J) × E j → List ℕ)
+    (old : Agent I J D E) (ticket : TicketClaim) (answer : CallAnswer) (new : Agent I J D E) (ticket' : TicketClaim) : Type 0 where
+  pub reservation : ticket'.reservation ≡ ticket.reservation
+  pub answered : IsAnswered ticket' answer
+  pub loader : AsksLoader (boxed loads) (boxed load_state) old.hands.outside.loader ticket.reservation.key (out_of answer).load new.hands.outside.loader
+  pub writer : (wanted : Option Change) → (asks_writer ticket.reservation.first ≡ true → wanted ≡ change_asked ticket.reservation.first)
+      → AsksWriter (boxed writes) (boxed write_state) old.hands.outside.writer ticket.reservation.key wanted (out_of answer).write new.hands.outside.writer
+  pub process : (out_of answer).process ≡ NotAsked
+  pub types : KeepsTypes old new
+  pub held : new.hands.held ≡ 0
+  pub rest : new ≡ record old { hands = new.hands }
+
+pub record IsProcessed
+    {I J P Z : Type 0} {D : I → Type 0} {E : J → Type 0} {F : P → Type 0}
+    (loads : LoadRelation ((i : I) × D i)) (load_state : (i : I) × D i → List ℕ)
+    (writes : WriteRelation ((j : J) × E j)) (write_state : (j : J) × E j → List ℕ)
+    (processes : ProcessRelation (DynBox P Z F)) (process_state : DynBox P Z F → List ℕ)
+    (write_through : Bool) (old : Agent I J D E) (ticket : TicketClaim) (args : List Bytes) (processor : DynBox P Z F)
+    (done : ProcessResult Claim) (report : Option (WriteResult Claim)) (new : Agent I J D E) (ticket' : TicketClaim) (processor' : DynBox P Z F) : Type 0 where
+  pub reservation : ticket'.reservation ≡ ticket.reservation
+  pub answered : IsAnswered ticket' (Processed done report)
+  pub reported : (config : Config) → config.write_through ≡ write_through → IsReported config ticket.reservation (Processed done report)
+  pub loader : AsksLoader (boxed loads) (boxed load_state) old.hands.outside.loader ticket.reservation.key done.load new.hands.outside.loader
+  pub writer : AsksWriter (boxed writes) (boxed write_state) old.hands.outside.writer ticket.reservation.key
+      (if write_through then process_ask done.process else None) (report_answer report) new.hands.outside.writer
+  pub types : KeepsTypes old new
+  pub run : RunsOnce processes process_state processor ticket.reservation.key args (is_loadable ticket.reservation.first) (entry_seen ticket.reservation.first) done.load done.process processor'
+  pub type : processor'.vtable ≡ processor.vtable
+  pub given : is_process_given done.process ≡ true
+  pub held : new.hands.held ≡ 0
+  pub rest : new ≡ record old { hands = new.hands }
 
 abbrev pub own_after : ℕ → Result Reply Refusal → ℕ
 own_after own (Ok reply) = one_more own

@@ -1,4 +1,8 @@
 -- Whole calls of an agent on one key, over any gate.
+--     MayCallAt       an agent may make its current call at a key: it has nothing out; each state in which a take may find the stripe is
+--                     live, and the session's own steps there let the call come; with write-through on there, the agent has a writer
+--     MayEnd          an agent may have a ticket's call answered and committed: the ticket has asked nobody and is of its session; each
+--                     state in which a take may find the stripe is live; if the writer is asked first, the agent has one
 --     Rejoins         a round in which the call joined a load and was told to retry
 --     Retries         so many such rounds, one after another
 --     EntersAs        how a first phase goes on until the call is done, refused, or has somebody to ask: a call that has joined a load picks
@@ -10,10 +14,11 @@
 --     AsksAndEnds     a call from where it has somebody to ask: the loader or the writer is asked, and then the step is committed
 --     IsCall          a whole call
 --     IsInvocation    a whole call that runs a processor, which stays of its type
---     IsTried         a call that waits for nobody and asks nobody: it is done at once or refused in the one state that it found, or it
---                     is refused as busy and nothing was done
+--     IsBusy          a call that waits for nobody wasn't made: the stripe wasn't there, or each that was found was one on which it can't be
+--                     made without waiting or asking
+--     IsTried         such a call: it is done at once or refused in the one state that it found, or it is refused as busy
 use Rattle.std.specs.declared.dyn_box.DynBox.{DynBox}
-use Rattle.std.specs.Prelude.{◌≡◌, ◌⊎◌, ℕ, zero, suc, List, true, Option, Result, Ok, Err}
+use Rattle.std.specs.Prelude.{◌≡◌, ◌⊎◌, ℕ, zero, suc, List, [], true, false, Option, Result, Ok, Err, IsSome}
 use Rattle.jc_types.specs.declared.caller.Caller.{Caller}
 use Rattle.jc_types.specs.declared.refusal.Refusal.{Refusal}
 use Rattle.jc_types.specs.declared.refusal.Refusal.TheVariants.{Busy}
@@ -26,6 +31,7 @@ use Rattle.jc_model.specs.declared.event.Change.{Change}
 use Rattle.jc_model.specs.declared.event.ProcessAnswer.TheVariants.{NotAsked}
 use Rattle.jc_model.specs.declared.event.Reply.{Reply}
 use Rattle.jc_outside.specs.Calling.{LoadRelation, WriteRelation}
+use Rattle.jc_outside.specs.declared.done.Origin.TheVariants.{Live}
 use Rattle.jc_mutentry.specs.Running.{ProcessRelation}
 use Rattle.jc_stripe.specs.State.{State}
 use Rattle.jc_stripe.specs.Phases.{Commits, PicksUp}
@@ -33,7 +39,7 @@ use Rattle.jc_stripe.specs.declared.begun.StepDone.{StepDone}
 use Rattle.jc_stripe.specs.declared.begun.Begun.{Begun}
 use Rattle.jc_stripe.specs.declared.begun.Begun.TheVariants as begun
 use Rattle.jc_stripe.specs.declared.begun.Picked.TheVariants as picked
-use Rattle.jc_stripe.specs.Tickets.{JoinClaim, asks_writer, change_asked}
+use Rattle.jc_stripe.specs.Tickets.{JoinClaim, TicketClaim, asks_writer, change_asked}
 use Rattle.jc_stripe.specs.declared.ticket.Reservation.{Reservation}
 use Rattle.jc_session.specs.Boxed.{boxed}
 use Rattle.jc_session.specs.Counting.{one_more, counts_ended}
@@ -42,8 +48,24 @@ use Rattle.jc_session.specs.declared.agent.Agent.{Agent}
 use Rattle.jc_engine.specs.declared.entering.Entered.{Entered}
 use Rattle.jc_engine.specs.declared.entering.Entered.TheVariants as entered
 use Rattle.jc_engine.specs.Chain.{Rests, Since, LentPhase}
-use Rattle.jc_engine.specs.Needs.{Starts, StartsAt}
+use Rattle.jc_engine.specs.Doors.{AllFound}
+use Rattle.jc_engine.specs.Needs.{BeginsIfClear, Starts, StartsBy, can_start}
+use Rattle.jc_engine.specs.declared.first.How.TheVariants.{Alone}
 use Rattle.jc_engine.specs.Asking.{AsksLoader, AsksWriter, KeepsTypes, RunsProcessor, change_wanted, own_after}
+
+-- 0. Who may call.
+
+pub record MayCallAt {I J G T : Type 0} {D : I → Type 0} {E : J → Type 0} (finds : G → T → State → Type 0) (key : Bytes) (g : G) (t : T) (agent : Agent I J D E) : Type 0 where
+  pub reservations : agent.counts.reservations ≡ 0
+  pub joins : agent.counts.joins ≡ 0
+  pub begins : (a : State) → finds g t a → BeginsIfClear agent.caller key a
+  pub writes : (a : State) → finds g t a → a.config.write_through ≡ true → IsSome agent.hands.outside.writer
+
+pub record MayEnd {I J G T : Type 0} {D : I → Type 0} {E : J → Type 0} (finds : G → T → State → Type 0) (ticket : TicketClaim) (g : G) (t : T) (agent : Agent I J D E) : Type 0 where
+  pub unasked : ticket.asked ≡ false
+  pub who : ticket.reservation.caller.session ≡ agent.caller.session
+  pub live : (a : State) → finds g t a → a.origin ≡ Live
+  pub writes : asks_writer ticket.reservation.first ≡ true → IsSome agent.hands.outside.writer
 
 module _ {G T : Type 0} (takes gives : G → T → State → G → T → Type 0) (finds : G → T → State → Type 0) (caller : Caller) (key : Bytes) (op : Op) where
   -- 1. Up to where the call is done, refused, or has somebody to ask.
@@ -147,9 +169,14 @@ pub record IsInvocation
 
 -- 4. A call that waits for nobody.
 
-module _ {G T : Type 0} (takes gives : G → T → State → G → T → Type 0) (finds : G → T → State → Type 0) (caller : Caller) (key : Bytes) (op : Op) where
+module _ {G T : Type 0} (takes gives : G → T → State → G → T → Type 0) (finds : G → T → State → Type 0) (may_fail : G → T → Type 0) (caller : Caller) (key : Bytes) (op : Op) where
+  pub record IsBusy (g : G) (t : T) (h : G) (u : T) : Type 0 where
+    pub rests : Rests takes gives finds g t h u
+    pub each : AllFound (λ a. can_start Alone a caller key op ≡ false) rests.idle
+    pub none : rests.idle ≡ [] → may_fail g t
+
   abbrev pub IsTried : G → T → Result Reply Refusal → G → T → Type 0
-  IsTried g t (Ok reply) h u = (done : StepDone) × (done.reply ≡ reply) × LentPhase takes gives finds caller.session g t (StartsAt caller key op (begun.Done done)) h u
+  IsTried g t (Ok reply) h u = (done : StepDone) × (done.reply ≡ reply) × LentPhase takes gives finds caller.session g t (StartsBy Alone caller key op (begun.Done done)) h u
   IsTried g t (Err refusal) h u =
-      LentPhase takes gives finds caller.session g t (StartsAt caller key op (begun.Refused refusal)) h u
-      ⊎ ((refusal ≡ Busy) × Rests takes gives finds g t h u)
+      LentPhase takes gives finds caller.session g t (StartsBy Alone caller key op (begun.Refused refusal)) h u
+      ⊎ ((refusal ≡ Busy) × IsBusy g t h u)

@@ -2,18 +2,27 @@
 --     BeginsIfClear   a call may begin on a live stripe in this state if the stripe is clear for it: a step of it may come after the
 --                     session's own steps
 --     StartsAt        a call's first phase on a live stripe that is clear for it
---     is_waited_out   a first phase is to be tried again: it met a refusal that others' calls can end
---     Starts          the same of a call that waits such refusals out
+--     is_alone        a first phase is made only if it asks nobody
+--     can_start       a first phase can be made: the stripe is clear for it, needn't end its generation first, and nobody is asked that
+--                     mustn't be
+--     is_waited_out   a first phase met a refusal that others' calls can end
+--     puts_off        a first phase is to be tried again: it met such a refusal, and waits it out
+--     StartsBy        a call's first phase, by how it goes about what stands in its way
+--     Starts          one that waits
+--     IsPutOff        a stripe in this state refuses a call, which waits that out
 --     Hits            a first phase of a get on a live stripe that found its entry, which gives its value, or nothing was done
 --     counted_hit     what that changes of its session's counts
---     TriesAt         a call's first phase that asks nobody
 --     IsReported      after a processor, the writer's report is there exactly if it is due
 --     CommitsHere     a call that was answered is to be committed on a live stripe in this state, if its reservation is out there
+--     is_early        a pick-up that waits has come too early
+--     PicksUpBy       a pick-up, which may wait
+--     IsTooEarly      one that waits would come too early to a stripe in this state
 --     PicksUpLate     a pick-up that isn't too early
-use Rattle.std.specs.Prelude.{◌≡◌, Bool, true, false, Option, None, Some, length}
+use Rattle.std.specs.Prelude.{◌≡◌, Bool, true, false, not, ◌&&◌, Option, None, Some, length}
 use Rattle.jc_types.specs.declared.caller.Caller.{Caller}
 use Rattle.jc_types.specs.declared.config.Config.{Config}
 use Rattle.jc_types.specs.Refusals.{is_put_off}
+use Rattle.jc_types.specs.declared.refusal.Refusal.{Refusal}
 use Rattle.jc_model.specs.Cache.{Bytes}
 use Rattle.jc_model.specs.declared.event.Op.{Op}
 use Rattle.jc_model.specs.declared.event.Op.TheVariants.{Get}
@@ -24,17 +33,18 @@ use Rattle.jc_stripe.specs.declared.begun.Begun.TheVariants as begun
 use Rattle.jc_stripe.specs.Effects.{HasReport, change_due}
 use Rattle.jc_stripe.specs.State.{State}
 use Rattle.jc_stripe.specs.Tickets.{TicketClaim, JoinClaim}
-use Rattle.jc_stripe.specs.Renewal.{all_own_steps}
+use Rattle.jc_stripe.specs.Renewal.{all_own_steps, is_renewable}
 use Rattle.jc_stripe.specs.OwnSteps.{may_come_all}
 use Rattle.jc_stripe.specs.declared.begun.Picked.{Picked}
 use Rattle.jc_stripe.specs.declared.begun.Picked.TheVariants as picked
-use Rattle.jc_stripe.specs.Tests.{asks_outside}
+use Rattle.jc_stripe.specs.Refusals.{first_refusal}
+use Rattle.jc_stripe.specs.Tests.{asks_outside, is_clear}
 use Rattle.jc_stripe.specs.Phases.{MayBegin, Begins, PicksUp, hit_done}
 use Rattle.jc_session.specs.declared.counts.Counted.{Counted}
 use Rattle.jc_session.specs.declared.counts.Counted.TheVariants.{Nothing, Step}
-use Rattle.jc_engine.specs.declared.answered.Answered.{Answered}
-use Rattle.jc_engine.specs.declared.answered.Answered.TheVariants.{Loaded, Written, Processed}
-use Rattle.jc_engine.specs.Answered.{IsAnswered}
+use Rattle.jc_engine.specs.declared.first.How.{How}
+use Rattle.jc_engine.specs.declared.first.How.TheVariants.{Waits, Now, Alone}
+use Rattle.jc_engine.specs.Answered.{CallAnswer, Loaded, Written, Processed, IsAnswered}
 
 -- 1. First phases.
 
@@ -47,15 +57,37 @@ pub record StartsAt (caller : Caller) (key : Bytes) (op : Op) (begun : Begun) (b
   pub may : MayBegin before caller key
   pub begins : Begins before caller key op begun after
 
+abbrev pub is_alone : How → Bool
+is_alone Waits = false
+is_alone Now = false
+is_alone Alone = true
+
+abbrev pub can_start : How → State → Caller → Bytes → Op → Bool
+can_start how state caller key op = is_clear state caller key && not (is_renewable state) && not (is_alone how && asks_outside state key op)
+
 abbrev pub is_waited_out : Begun → Bool
 is_waited_out (begun.Refused refusal) = is_put_off refusal
 is_waited_out (begun.Done done) = false
 is_waited_out (begun.Asks ticket) = false
 is_waited_out (begun.Joined join) = false
 
-pub record Starts (caller : Caller) (key : Bytes) (op : Op) (begun : Begun) (before after : State) : Type 0 where
+abbrev pub puts_off : How → Begun → Bool
+puts_off Waits begun = is_waited_out begun
+puts_off Now begun = false
+puts_off Alone begun = false
+
+pub record StartsBy (how : How) (caller : Caller) (key : Bytes) (op : Op) (begun : Begun) (before after : State) : Type 0 where
   pub first : StartsAt caller key op begun before after
-  pub last : is_waited_out begun ≡ false
+  pub last : puts_off how begun ≡ false
+  pub alone : is_alone how ≡ true → asks_outside before key op ≡ false
+
+abbrev pub Starts : Caller → Bytes → Op → Begun → State → State → Type 0
+Starts = StartsBy Waits
+
+pub record IsPutOff (how : How) (caller : Caller) (key : Bytes) (op : Op) (state : State) : Type 0 where
+  pub refusal : Refusal
+  pub refused : first_refusal state caller key op ≡ Some refusal
+  pub put_off : puts_off how (begun.Refused refusal) ≡ true
 
 abbrev pub Hits : Caller → Bytes → Option Bytes → State → State → Type 0
 Hits caller key None before after = after ≡ before
@@ -65,23 +97,32 @@ abbrev pub counted_hit : Option Bytes → Counted
 counted_hit None = Nothing
 counted_hit (Some value) = Step
 
-pub record TriesAt (caller : Caller) (key : Bytes) (op : Op) (begun : Begun) (before after : State) : Type 0 where
-  pub first : StartsAt caller key op begun before after
-  pub alone : asks_outside before key op ≡ false
-
 -- 2. Commits.
 
-abbrev pub IsReported : Config → Reservation → Answered → Type 0
+abbrev pub IsReported : Config → Reservation → CallAnswer → Type 0
 IsReported config r (Loaded done) = Unit {0}
 IsReported config r (Written done) = Unit {0}
 IsReported config r (Processed done report) = HasReport Live r (change_due config done) report
 
-pub record CommitsHere (ticket : TicketClaim) (answered : Answered) (state : State) : Type 0 where
+pub record CommitsHere (ticket : TicketClaim) (answered : CallAnswer) (state : State) : Type 0 where
   pub live : state.origin ≡ Live
   pub is_answered : IsAnswered ticket answered
   pub reported : IsReported state.config ticket.reservation answered
 
 -- 3. Pick-ups.
+
+abbrev pub is_early : Bool → Picked → Bool
+is_early waits (picked.Answer reply place shared_with) = false
+is_early waits picked.Again = false
+is_early waits (picked.NotYet back) = waits
+
+pub record PicksUpBy (waits : Bool) (old : State) (join : JoinClaim) (picked : Picked) (new : State) : Type 0 where
+  pub picks : PicksUp old join picked new
+  pub last : is_early waits picked ≡ false
+
+pub record IsTooEarly (waits : Bool) (join : JoinClaim) (state : State) : Type 0 where
+  pub waits_is : waits ≡ true
+  pub not_yet : PicksUp state join (picked.NotYet join) state
 
 abbrev pub PicksUpLate : State → JoinClaim → Picked → State → Type 0
 PicksUpLate old join (picked.Answer reply place shared_with) new = PicksUp old join (picked.Answer reply place shared_with) new

@@ -8,13 +8,13 @@ use Rattle.jc_stripe.specs.State.{State}
 use Rattle.jc_stripe.specs.Tickets.{TicketClaim}
 use Rattle.jc_stripe.specs.OwnSteps.{may_come_all}
 use Rattle.jc_gate.specs.Lending.{ComesAfter}
-use Rattle.jc_engine.specs.declared.answered.Answered.{Answered}
+use Rattle.jc_engine.specs.Answered.{CallAnswer}
 use Rattle.jc_engine.specs.Needs.{BeginsIfClear, CommitsHere, IsReported}
 
 pub begins-stays : (caller : Caller) (key : Bytes) (a b : State) → ComesAfter caller.session a b → BeginsIfClear caller key a → BeginsIfClear caller key b
 begins-stays caller key a b after p = record { live = after.same.origin ∙ p.live; may = ap (λ (es : List Event). may_come_all es caller key) after.own ∙ p.may }
 
-pub commits-stays : (ticket : TicketClaim) (answered : Answered) (a b : State) → ComesAfter ticket.reservation.caller.session a b → CommitsHere ticket answered a → CommitsHere ticket answered b
+pub commits-stays : (ticket : TicketClaim) (answered : CallAnswer) (a b : State) → ComesAfter ticket.reservation.caller.session a b → CommitsHere ticket answered a → CommitsHere ticket answered b
 commits-stays ticket answered a b after p = record {
   live = after.same.origin ∙ p.live;
   is_answered = p.is_answered;

@@ -1,25 +1,23 @@
 //! A whole call on one key.
-ghost use Rattle.std.specs.Prelude.{◌≡◌, ◌||◌, ℕ, true, false, Option, IsSome};
+ghost use Rattle.std.specs.Prelude.{◌≡◌, ◌||◌, true, false, IsSome};
 ghost use Rattle.jc_model.specs.Table.{is_invoke};
-ghost use Rattle.jc_model.specs.declared.event.Change.{Change};
-ghost use Rattle.jc_model.specs.declared.event.ProcessAnswer.TheVariants.{NotAsked};
-ghost use Rattle.jc_stripe.specs.State.{State};
-ghost use Rattle.jc_stripe.specs.Tickets.{asks_loader, asks_writer, change_asked};
-ghost use Rattle.jc_session.specs.Boxed.{boxed};
-ghost use Rattle.jc_outside.specs.declared.done.Origin.TheVariants.{Live};
-ghost use Rattle.jc_engine.specs.Answered.{IsAnswered, out_of};
-ghost use Rattle.jc_engine.specs.declared.answered.Answered.TheVariants.{Loaded, Written};
-ghost use Rattle.jc_engine.specs.Asking.{AsksLoader, AsksWriter, KeepsTypes};
-ghost use Rattle.jc_engine.specs.Needs.{BeginsIfClear};
-ghost use Rattle.jc_engine.specs.Calls.{IsCall, AsksAndEnds};
+ghost use Rattle.jc_stripe.specs.Phases.{Commits};
+ghost use Rattle.jc_stripe.specs.Tickets.{asks_loader, asks_writer};
+ghost use Rattle.jc_session.specs.Counting.{counts_ended};
+ghost use Rattle.jc_engine.specs.Answered.{Loaded, Written, out_of};
+ghost use Rattle.jc_engine.specs.Asking.{IsAsked};
+ghost use Rattle.jc_engine.specs.Calls.{IsCall, AsksAndEnds, MayCallAt, MayEnd};
+ghost use Rattle.jc_engine.specs.Chain.{LentPhase};
+ghost use Rattle.jc_engine.specs.Doors.{FitsGate, IsReady};
+ghost use Rattle.jc_engine.specs.Needs.{CommitsHere};
 
-use crate::ending::commit_answer;
+use crate::door::lend;
+use crate::ending::{Answer, Commit};
 use crate::entering::{Entered, enter};
-use crate::phase::make_phase;
 use jc_gate::Gate;
 use jc_model::{Op, Reply};
 use jc_session::Agent;
-use jc_stripe::{Ask, First, LoadDone, Ticket, WriteDone};
+use jc_stripe::{Ask, First, LoadDone, StepDone, Ticket, WriteDone};
 use jc_types::{Key, Refusal};
 use std::sync::Wait;
 
@@ -34,7 +32,7 @@ use std::sync::Wait;
 /// speaks for the session; the stripe that a take finds is live, the session's own steps there let the call come, and if it has
 /// write-through on, the agent has a writer. The operation runs no processor.
 ///
-/// Out of line: a [`get`] that is a hit shouldn't clear the room of a step and of what the loader answers.
+/// Out of line: a [`get`](crate::get) that is a hit shouldn't clear the room of a step and of what the loader answers.
 #[inline(never)]
 pub fn call<G: Gate, R: Wait>(
     rt: &R,
@@ -44,15 +42,10 @@ pub fn call<G: Gate, R: Wait>(
     key: &Key,
     op: &Op,
 ) -> Result<Reply, Refusal>
-    requires held { agent.old.hands.held ≡ 0 }
-    requires free { G.is_free gate.old token.old }
-    requires speaks { G.speaks_for token.old agent.old.caller.session }
+    requires ready { IsReady G.is_free G.speaks_for gate.old token.old agent.old }
+    requires may { MayCallAt G.finds key.now gate.old token.old agent.old }
     requires op { is_invoke op.now ≡ false }
-    requires needs { (a : State) → G.finds gate.old token.old a → BeginsIfClear agent.old.caller key.now a }
-    requires none { (agent.old.counts.reservations ≡ 0) × (agent.old.counts.joins ≡ 0) }
-    requires writer { (a : State) → G.finds gate.old token.old a → a.config.write_through ≡ true → IsSome agent.old.hands.outside.writer }
-    ensures free { G.is_free gate.new token.new }
-    ensures speaks { (n : ℕ) → G.speaks_for token.old n → G.speaks_for token.new n }
+    ensures ready { IsReady G.is_free G.speaks_for gate.new token.new agent.new }
     ensures call { IsCall loads load_state writes write_state G.takes G.gives G.finds
         agent.old key.now op.now gate.old token.old result agent.new gate.new token.new }
 {
@@ -71,122 +64,81 @@ fn ask_and_end<G: Gate, R: Wait>(
     agent: &mut Agent,
     ticket: Ticket,
 ) -> Reply
-    requires held { agent.old.hands.held ≡ 0 }
-    requires free { G.is_free gate.old token.old }
-    requires speaks { G.speaks_for token.old agent.old.caller.session }
-    requires unasked { ticket.asked ≡ false }
-    requires who { ticket.reservation.caller.session ≡ agent.old.caller.session }
-    requires live { (a : State) → G.finds gate.old token.old a → a.origin ≡ Live }
+    requires ready { IsReady G.is_free G.speaks_for gate.old token.old agent.old }
+    requires may { MayEnd G.finds ticket gate.old token.old agent.old }
     requires first { asks_loader ticket.reservation.first || asks_writer ticket.reservation.first ≡ true }
-    requires writer { asks_writer ticket.reservation.first ≡ true → IsSome agent.old.hands.outside.writer }
-    ensures free { G.is_free gate.new token.new }
-    ensures speaks { (n : ℕ) → G.speaks_for token.old n → G.speaks_for token.new n }
+    ensures ready { IsReady G.is_free G.speaks_for gate.new token.new agent.new }
     ensures ends { AsksAndEnds loads load_state writes write_state G.takes G.gives G.finds
         ticket.reservation agent.old gate.old token.old result agent.new gate.new token.new }
 {
+    let mut ticket = ticket;
     match ticket.reservation().first {
-        First::Loader => load_and_end(rt, gate, token, agent, ticket),
-        First::Writer(_) => write_and_end(rt, gate, token, agent, ticket),
+        First::Loader => {
+            let done = ask_loader(rt, gate, token, agent, &mut ticket);
+            end(rt, gate, token, agent, ticket, done).reply
+        }
+        First::Writer(_) => {
+            let done = ask_writer(rt, gate, token, agent, &mut ticket);
+            end(rt, gate, token, agent, ticket, done).reply
+        }
         First::Nobody | First::Processor { .. } => unreachable!(),
     }
 }
 
-/// The call, if its loader is asked.
-#[inline(never)]
-fn load_and_end<G: Gate, R: Wait>(
+/// Asks the loader: the call may then be committed. No stripe is held meanwhile.
+fn ask_loader<G: Gate, R: Wait>(
     rt: &R,
-    gate: &mut G,
-    token: &mut G::Token,
+    _gate: &G,
+    _token: &G::Token,
     agent: &mut Agent,
-    ticket: Ticket,
-) -> Reply
-    requires held { agent.old.hands.held ≡ 0 }
-    requires free { G.is_free gate.old token.old }
-    requires speaks { G.speaks_for token.old agent.old.caller.session }
-    requires unasked { ticket.asked ≡ false }
-    requires who { ticket.reservation.caller.session ≡ agent.old.caller.session }
-    requires live { (a : State) → G.finds gate.old token.old a → a.origin ≡ Live }
-    requires first { asks_loader ticket.reservation.first ≡ true }
-    ensures free { G.is_free gate.new token.new }
-    ensures speaks { (n : ℕ) → G.speaks_for token.old n → G.speaks_for token.new n }
-    ensures ends { AsksAndEnds loads load_state writes write_state G.takes G.gives G.finds
-        ticket.reservation agent.old gate.old token.old result agent.new gate.new token.new }
-{
-    let mut ticket = ticket;
-    let done = ask_loader(rt, agent, &mut ticket);
-    commit_answer(rt, gate, token, agent, ticket, done).reply
-}
-
-/// The call, if its writer is asked.
-#[inline(never)]
-fn write_and_end<G: Gate, R: Wait>(
-    rt: &R,
-    gate: &mut G,
-    token: &mut G::Token,
-    agent: &mut Agent,
-    ticket: Ticket,
-) -> Reply
-    requires held { agent.old.hands.held ≡ 0 }
-    requires free { G.is_free gate.old token.old }
-    requires speaks { G.speaks_for token.old agent.old.caller.session }
-    requires unasked { ticket.asked ≡ false }
-    requires who { ticket.reservation.caller.session ≡ agent.old.caller.session }
-    requires live { (a : State) → G.finds gate.old token.old a → a.origin ≡ Live }
-    requires first { asks_writer ticket.reservation.first ≡ true }
-    requires writer { IsSome agent.old.hands.outside.writer }
-    ensures free { G.is_free gate.new token.new }
-    ensures speaks { (n : ℕ) → G.speaks_for token.old n → G.speaks_for token.new n }
-    ensures ends { AsksAndEnds loads load_state writes write_state G.takes G.gives G.finds
-        ticket.reservation agent.old gate.old token.old result agent.new gate.new token.new }
-{
-    let mut ticket = ticket;
-    let done = ask_writer(rt, agent, &mut ticket);
-    commit_answer(rt, gate, token, agent, ticket, done).reply
-}
-
-/// Asks the loader: the call may then be committed.
-fn ask_loader<R: Wait>(rt: &R, agent: &mut Agent, ticket: &mut Ticket) -> LoadDone<Ask>
-    requires held { agent.old.hands.held ≡ 0 }
+    ticket: &mut Ticket,
+) -> LoadDone<Ask>
+    requires ready { IsReady G.is_free G.speaks_for _gate.now _token.now agent.old }
     requires unasked { ticket.old.asked ≡ false }
     requires first { asks_loader ticket.old.reservation.first ≡ true }
-    ensures ticket { ticket.new.reservation ≡ ticket.old.reservation }
-    ensures answered { IsAnswered ticket.new (Loaded result) }
-    ensures loader { AsksLoader (boxed loads) (boxed load_state)
-        agent.old.hands.outside.loader ticket.old.reservation.key
-        (out_of (Loaded result)).load agent.new.hands.outside.loader }
-    ensures writer { (wanted : Option Change)
-        → (asks_writer ticket.old.reservation.first ≡ true → wanted ≡ change_asked ticket.old.reservation.first)
-        → AsksWriter (boxed writes) (boxed write_state)
-        agent.old.hands.outside.writer ticket.old.reservation.key wanted
-        (out_of (Loaded result)).write agent.new.hands.outside.writer }
-    ensures types { KeepsTypes agent.old agent.new }
-    ensures process { (out_of (Loaded result)).process ≡ NotAsked }
-    ensures held { agent.new.hands.held ≡ 0 }
-    ensures rest { agent.new ≡ record agent.old { hands = agent.new.hands } }
+    ensures { IsAsked loads load_state writes write_state
+        agent.old ticket.old (Loaded result) agent.new ticket.new }
 {
     agent.ask_loader(rt, ticket.ask())
 }
 
-/// Asks the writer: the call may then be committed.
-fn ask_writer<R: Wait>(rt: &R, agent: &mut Agent, ticket: &mut Ticket) -> WriteDone<Ask>
-    requires held { agent.old.hands.held ≡ 0 }
+/// Asks the writer: the call may then be committed. No stripe is held meanwhile.
+fn ask_writer<G: Gate, R: Wait>(
+    rt: &R,
+    _gate: &G,
+    _token: &G::Token,
+    agent: &mut Agent,
+    ticket: &mut Ticket,
+) -> WriteDone<Ask>
+    requires ready { IsReady G.is_free G.speaks_for _gate.now _token.now agent.old }
     requires unasked { ticket.old.asked ≡ false }
     requires first { asks_writer ticket.old.reservation.first ≡ true }
     requires writer { IsSome agent.old.hands.outside.writer }
-    ensures ticket { ticket.new.reservation ≡ ticket.old.reservation }
-    ensures answered { IsAnswered ticket.new (Written result) }
-    ensures loader { AsksLoader (boxed loads) (boxed load_state)
-        agent.old.hands.outside.loader ticket.old.reservation.key
-        (out_of (Written result)).load agent.new.hands.outside.loader }
-    ensures writer { (wanted : Option Change)
-        → (asks_writer ticket.old.reservation.first ≡ true → wanted ≡ change_asked ticket.old.reservation.first)
-        → AsksWriter (boxed writes) (boxed write_state)
-        agent.old.hands.outside.writer ticket.old.reservation.key wanted
-        (out_of (Written result)).write agent.new.hands.outside.writer }
-    ensures types { KeepsTypes agent.old agent.new }
-    ensures process { (out_of (Written result)).process ≡ NotAsked }
-    ensures held { agent.new.hands.held ≡ 0 }
-    ensures rest { agent.new ≡ record agent.old { hands = agent.new.hands } }
+    ensures { IsAsked loads load_state writes write_state
+        agent.old ticket.old (Written result) agent.new ticket.new }
 {
     agent.ask_writer(rt, ticket.ask())
+}
+
+/// The last phase of a call that was answered.
+///
+/// Out of line: so the room of a step is cleared once.
+#[inline(never)]
+pub(crate) fn end<G: Gate, A: Answer, R: Wait>(
+    rt: &R,
+    gate: &mut G,
+    token: &mut G::Token,
+    agent: &mut Agent,
+    ticket: Ticket,
+    answer: A,
+) -> StepDone
+    requires ready { IsReady G.is_free G.speaks_for gate.old token.old agent.old }
+    requires fits { FitsGate G.finds (CommitsHere ticket (A.answered answer)) ticket.reservation.caller.session
+        gate.old token.old agent.old.caller.session }
+    ensures ready { IsReady G.is_free G.speaks_for gate.new token.new agent.new }
+    ensures agent { agent.new ≡ record agent.old { counts = counts_ended agent.old.counts } }
+    ensures phase { LentPhase G.takes G.gives G.finds agent.old.caller.session gate.old token.old
+        (λ a b. Commits a ticket.reservation (out_of (A.answered answer)) result b) gate.new token.new }
+{
+    lend(rt, gate, token, agent, Commit { ticket, answer })
 }

@@ -1,35 +1,20 @@
-//! The last phase of a call that the loader or the writer has answered.
-//!
-//! It is made as [`make_phase`](crate::make_phase) makes every phase, but its ticket and its answer stay where they are until they are
-//! committed: a phase is handed on and back at each try.
-ghost use Rattle.std.specs.Prelude.{◌≡◌, ℕ};
-ghost use Rattle.jc_stripe.specs.State.{State, IsOut};
-ghost use Rattle.jc_stripe.specs.Phases.{Commits};
-ghost use Rattle.jc_session.specs.Counting.{counts_after};
-ghost use Rattle.jc_session.specs.declared.counts.Counted.TheVariants.{Committed};
-ghost use Rattle.jc_engine.specs.Answered.{out_of};
-ghost use Rattle.jc_engine.specs.Chain.{LentPhase};
-ghost use Rattle.jc_engine.specs.Needs.{CommitsHere};
+//! The last phase of a call that has somebody to ask: it is committed with what was answered, or given back unasked.
+use crate::door::Phase;
+use jc_session::Counted;
+use jc_stripe::{Ask, LoadDone, ProcDone, StepDone, Stripe, Ticket, WriteDone};
 
-use crate::phases::is_out;
-use jc_gate::Gate;
-use jc_session::{Agent, Counted};
-use jc_stripe::{Ask, LoadDone, StepDone, Stripe, Ticket, WriteDone};
-use std::sync::Wait;
-
-/// What the loader or the writer has answered for a call.
-pub(crate) trait Answer {
+/// What was answered for a call that has reserved its key: by the loader, the writer, or the processor.
+pub trait Answer {
     ghost use Rattle.std.specs.Prelude.{◌≡◌};
     ghost use Rattle.jc_stripe.specs.State.{IsOut};
     ghost use Rattle.jc_stripe.specs.Phases.{Commits};
     ghost use Rattle.jc_session.specs.Counting.{IsCounted};
     ghost use Rattle.jc_session.specs.declared.counts.Counted.TheVariants.{Committed};
-    ghost use Rattle.jc_engine.specs.Answered.{out_of};
+    ghost use Rattle.jc_engine.specs.Answered.{CallAnswer, out_of};
     ghost use Rattle.jc_engine.specs.Needs.{CommitsHere};
-    ghost use Rattle.jc_engine.specs.declared.answered.Answered.{Answered};
 
     /// The same, among all that may be answered.
-    ghost answered: { Self → Answered };
+    ghost answered: { Self → CallAnswer };
 
     /// Commits the ticket's call.
     fn commit(self, stripe: &mut Stripe, ticket: Ticket) -> StepDone
@@ -40,7 +25,7 @@ pub(crate) trait Answer {
 }
 
 impl Answer for LoadDone<Ask> {
-    ghost use Rattle.jc_engine.specs.declared.answered.Answered.TheVariants.{Loaded};
+    ghost use Rattle.jc_engine.specs.Answered.{Loaded};
 
     ghost answered = { λ d. Loaded d };
 
@@ -50,7 +35,7 @@ impl Answer for LoadDone<Ask> {
 }
 
 impl Answer for WriteDone<Ask> {
-    ghost use Rattle.jc_engine.specs.declared.answered.Answered.TheVariants.{Written};
+    ghost use Rattle.jc_engine.specs.Answered.{Written};
 
     ghost answered = { λ d. Written d };
 
@@ -59,39 +44,111 @@ impl Answer for WriteDone<Ask> {
     }
 }
 
-/// Makes the last phase of a call, as soon as its reservation is out on the stripe that a take finds.
-///
-/// It waits while somebody else holds the stripe. Nothing says that it returns.
-///
-/// Conditions: those of [`make_phase`](crate::make_phase), for a call that was answered.
-pub(crate) fn commit_answer<G: Gate, A: Answer, R: Wait>(
-    rt: &R,
-    gate: &mut G,
-    token: &mut G::Token,
-    agent: &mut Agent,
-    ticket: Ticket,
-    answer: A,
-) -> StepDone
-    requires held { agent.old.hands.held ≡ 0 }
-    requires free { G.is_free gate.old token.old }
-    requires speaks { G.speaks_for token.old agent.old.caller.session }
-    requires who { ticket.reservation.caller.session ≡ agent.old.caller.session }
-    requires needs { (a : State) → G.finds gate.old token.old a → CommitsHere ticket (A.answered answer) a }
-    ensures agent { agent.new ≡ record agent.old { counts = counts_after agent.old.counts Committed } }
-    ensures free { G.is_free gate.new token.new }
-    ensures speaks { (n : ℕ) → G.speaks_for token.old n → G.speaks_for token.new n }
-    ensures phase { LentPhase G.takes G.gives G.finds agent.old.caller.session gate.old token.old
-        (λ a b. Commits a ticket.reservation (out_of (A.answered answer)) result b) gate.new token.new }
-{
-    for _ in rt.forever() {
-        let mut stripe = agent.take(rt, gate, token);
-        if is_out(&stripe, &ticket) {
-            let step = answer.commit(&mut stripe, ticket);
-            agent.give(gate, token, stripe, Counted::Committed);
-            return step;
-        }
-        agent.give(gate, token, stripe, Counted::Nothing);
-        agent.pause(rt, gate, token);
+/// What the processor did, and what the writer reported of that, if it was asked. It can't be dropped or copied.
+pub struct Processed {
+    /// What the processor did.
+    pub done: ProcDone<Ask>,
+    /// What the writer reported.
+    pub report: Option<WriteDone<Ask>>,
+}
+
+impl Answer for Processed {
+    ghost use Rattle.jc_engine.specs.Answered.{Processed as ProcessedBy};
+
+    ghost answered = { λ p. ProcessedBy p.done p.report };
+
+    fn commit(self, stripe: &mut Stripe, ticket: Ticket) -> StepDone {
+        let Processed { done, report } = self;
+        stripe.commit_process(ticket, done, report)
     }
-    unreachable!()
+}
+
+/// The last phase of a call that was answered outside. It can be made where the ticket's reservation is out.
+pub struct Commit<A> {
+    /// The ticket of its reservation.
+    pub ticket: Ticket,
+    /// What was answered.
+    pub answer: A,
+}
+
+impl<A: Answer> Phase for Commit<A> {
+    ghost use Rattle.jc_stripe.specs.State.{IsOut};
+    ghost use Rattle.jc_stripe.specs.Phases.{Commits};
+    ghost use Rattle.jc_session.specs.declared.counts.Counted.TheVariants.{Committed};
+    ghost use Rattle.jc_engine.specs.Answered.{out_of};
+    ghost use Rattle.jc_engine.specs.Needs.{CommitsHere};
+    ghost use Rattle.jc_engine.specs.Stays.{commits-stays};
+
+    type Answer = StepDone;
+
+    ghost who = { λ p. p.ticket.reservation.caller.session };
+
+    ghost needs = { λ p a. CommitsHere p.ticket (A.answered p.answer) a };
+
+    ghost due = { λ p a. IsOut a p.ticket.reservation };
+
+    ghost puts_off = { λ p a. ⊥ };
+
+    ghost makes = { λ p a step b. Commits a p.ticket.reservation (out_of (A.answered p.answer)) step b };
+
+    ghost counts = { λ step. Committed };
+
+    ghost stays = { λ p a b after needs. commits-stays p.ticket (A.answered p.answer) a b after needs };
+
+    fn is_due(&self, stripe: &Stripe) -> bool {
+        stripe.holds(self.ticket.reservation())
+    }
+
+    fn make(self, stripe: &mut Stripe) -> Result<StepDone, Self> {
+        let Commit { ticket, answer } = self;
+        Ok(answer.commit(stripe, ticket))
+    }
+
+    fn counted(_step: &StepDone) -> Counted {
+        Counted::Committed
+    }
+}
+
+/// The end of a call that has reserved its key and asked nobody: its reservation is given back, and the calls that have joined its
+/// load begin again. It can be made where the ticket's reservation is out.
+pub struct Withdraw {
+    /// The ticket of its reservation.
+    pub ticket: Ticket,
+}
+
+impl Phase for Withdraw {
+    ghost use Rattle.std.specs.Prelude.{◌≡◌, false};
+    ghost use Rattle.jc_stripe.specs.State.{IsOut};
+    ghost use Rattle.jc_stripe.specs.Phases.{Withdraws};
+    ghost use Rattle.jc_session.specs.declared.counts.Counted.TheVariants.{Withdrawn};
+
+    type Answer = ();
+
+    ghost who = { λ p. p.ticket.reservation.caller.session };
+
+    ghost needs = { λ p a. p.ticket.asked ≡ false };
+
+    ghost due = { λ p a. IsOut a p.ticket.reservation };
+
+    ghost puts_off = { λ p a. ⊥ };
+
+    ghost makes = { λ p a none b. Withdraws a p.ticket.reservation b };
+
+    ghost counts = { λ none. Withdrawn };
+
+    ghost stays = { λ p a b after needs. needs };
+
+    fn is_due(&self, stripe: &Stripe) -> bool {
+        stripe.holds(self.ticket.reservation())
+    }
+
+    fn make(self, stripe: &mut Stripe) -> Result<(), Self> {
+        let Withdraw { ticket } = self;
+        stripe.withdraw(ticket);
+        Ok(())
+    }
+
+    fn counted(_none: &()) -> Counted {
+        Counted::Withdrawn
+    }
 }

@@ -1,16 +1,16 @@
 //! A call up to where it is done, refused, or has somebody to ask.
 ghost use Rattle.std.specs.Prelude.{◌≡◌, ℕ, IfSome, IfNone, None};
-ghost use Rattle.jc_stripe.specs.State.{State};
 ghost use Rattle.jc_stripe.specs.Phases.{PicksUp};
 ghost use Rattle.jc_stripe.specs.declared.begun.Picked.TheVariants.{Answer, Again};
 ghost use Rattle.jc_session.specs.Counting.{counts_after};
 ghost use Rattle.jc_session.specs.declared.counts.Counted.TheVariants.{Answered, Retried};
 ghost use Rattle.jc_engine.specs.Chain.{LentPhase};
-ghost use Rattle.jc_engine.specs.Needs.{BeginsIfClear};
-ghost use Rattle.jc_engine.specs.Calls.{Enters, counts_entered};
+ghost use Rattle.jc_engine.specs.Doors.{IsReady};
+ghost use Rattle.jc_engine.specs.Calls.{Enters, MayCallAt, counts_entered};
 
-use crate::phase::make_phase;
-use crate::phases::{PickUp, Start};
+use crate::door::lend;
+use crate::first::{First, How};
+use crate::joining::PickUp;
 use jc_gate::Gate;
 use jc_model::{Op, Reply};
 use jc_session::Agent;
@@ -44,21 +44,23 @@ pub(crate) fn enter<G: Gate, R: Wait>(
     key: &Key,
     op: &Op,
 ) -> Entered
-    requires held { agent.old.hands.held ≡ 0 }
-    requires free { G.is_free gate.old token.old }
-    requires speaks { G.speaks_for token.old agent.old.caller.session }
-    requires needs { (a : State) → G.finds gate.old token.old a → BeginsIfClear agent.old.caller key.now a }
-    requires none { (agent.old.counts.reservations ≡ 0) × (agent.old.counts.joins ≡ 0) }
+    requires ready { IsReady G.is_free G.speaks_for gate.old token.old agent.old }
+    requires may { MayCallAt G.finds key.now gate.old token.old agent.old }
+    ensures ready { IsReady G.is_free G.speaks_for gate.new token.new agent.new }
     ensures agent { agent.new ≡ record agent.old { counts = counts_entered agent.old.counts result } }
-    ensures free { G.is_free gate.new token.new }
-    ensures speaks { (n : ℕ) → G.speaks_for token.old n → G.speaks_for token.new n }
     ensures enters { Enters G.takes G.gives G.finds agent.old.caller key.now op.now gate.old token.old result gate.new token.new }
 {
     is_uniform();
     own_steps();
     let caller = agent.caller();
     for _ in rt.forever() {
-        match make_phase(rt, gate, token, agent, Start { caller, key, op }) {
+        let first = First {
+            caller,
+            key,
+            op,
+            how: How::Waits,
+        };
+        match lend(rt, gate, token, agent, first) {
             Begun::Done(step) => return Entered::Done(step.reply),
             Begun::Refused(refusal) => return Entered::Refused(refusal),
             Begun::Asks(ticket) => return Entered::Asks(ticket),
@@ -80,12 +82,9 @@ fn pick_up<G: Gate, R: Wait>(
     agent: &mut Agent,
     join: Join,
 ) -> Option<Reply>
-    requires held { agent.old.hands.held ≡ 0 }
-    requires free { G.is_free gate.old token.old }
-    requires speaks { G.speaks_for token.old agent.old.caller.session }
+    requires ready { IsReady G.is_free G.speaks_for gate.old token.old agent.old }
     requires who { join.caller.session ≡ agent.old.caller.session }
-    ensures free { G.is_free gate.new token.new }
-    ensures speaks { (n : ℕ) → G.speaks_for token.old n → G.speaks_for token.new n }
+    ensures ready { IsReady G.is_free G.speaks_for gate.new token.new agent.new }
     ensures counts { IfSome result (λ reply. agent.new ≡ record agent.old { counts = counts_after agent.old.counts Answered }) }
     ensures answer { IfSome result (λ reply. (place : ℕ) × (shared_with : ℕ)
         × LentPhase G.takes G.gives G.finds agent.old.caller.session gate.old token.old
@@ -94,7 +93,7 @@ fn pick_up<G: Gate, R: Wait>(
     ensures again { IfNone result (LentPhase G.takes G.gives G.finds agent.old.caller.session gate.old token.old
         (λ a b. PicksUp a join Again b) gate.new token.new) }
 {
-    match make_phase(rt, gate, token, agent, PickUp { join }) {
+    match lend(rt, gate, token, agent, PickUp { join, waits: true }) {
         Picked::Answer {
             reply,
             place: _,

@@ -1,14 +1,14 @@
 //! A whole `get` on one key: a hit needs one look at the stripe.
-ghost use Rattle.std.specs.Prelude.{◌≡◌, ℕ, true, Result, IsSome};
+ghost use Rattle.std.specs.Prelude.{◌≡◌, Result};
 ghost use Rattle.jc_model.specs.declared.event.Op.TheVariants.{Get};
 ghost use Rattle.jc_model.specs.declared.event.Reply.{Reply};
 ghost use Rattle.jc_types.specs.declared.refusal.Refusal.{Refusal};
-ghost use Rattle.jc_stripe.specs.State.{State};
 ghost use Rattle.jc_session.specs.Counting.{counts_after, IsCounted};
 ghost use Rattle.jc_engine.specs.Chain.{LentPhase};
 ghost use Rattle.jc_engine.specs.Needs.{BeginsIfClear, Hits, counted_hit};
 ghost use Rattle.jc_engine.specs.Values.{value_in, value_told};
-ghost use Rattle.jc_engine.specs.Calls.{IsCall};
+ghost use Rattle.jc_engine.specs.Calls.{IsCall, MayCallAt};
+ghost use Rattle.jc_engine.specs.Doors.{IsReady};
 
 use crate::calling::call;
 use jc_gate::Gate;
@@ -31,14 +31,9 @@ pub fn get<G: Gate, R: Wait>(
     key: &Key,
     value: &mut Option<Value>,
 ) -> Result<(), Refusal>
-    requires held { agent.old.hands.held ≡ 0 }
-    requires free { G.is_free gate.old token.old }
-    requires speaks { G.speaks_for token.old agent.old.caller.session }
-    requires needs { (a : State) → G.finds gate.old token.old a → BeginsIfClear agent.old.caller key.now a }
-    requires none { (agent.old.counts.reservations ≡ 0) × (agent.old.counts.joins ≡ 0) }
-    requires writer { (a : State) → G.finds gate.old token.old a → a.config.write_through ≡ true → IsSome agent.old.hands.outside.writer }
-    ensures free { G.is_free gate.new token.new }
-    ensures speaks { (n : ℕ) → G.speaks_for token.old n → G.speaks_for token.new n }
+    requires ready { IsReady G.is_free G.speaks_for gate.old token.old agent.old }
+    requires may { MayCallAt G.finds key.now gate.old token.old agent.old }
+    ensures ready { IsReady G.is_free G.speaks_for gate.new token.new agent.new }
     ensures call { (ended : Result Reply Refusal) × IsCall loads load_state writes write_state G.takes G.gives G.finds
         agent.old key.now Get gate.old token.old ended agent.new gate.new token.new
         × (value_in ended ≡ value_told result value.new) }
@@ -61,14 +56,9 @@ fn get_in_phases<G: Gate, R: Wait>(
     key: &Key,
     value: &mut Option<Value>,
 ) -> Result<(), Refusal>
-    requires held { agent.old.hands.held ≡ 0 }
-    requires free { G.is_free gate.old token.old }
-    requires speaks { G.speaks_for token.old agent.old.caller.session }
-    requires needs { (a : State) → G.finds gate.old token.old a → BeginsIfClear agent.old.caller key.now a }
-    requires none { (agent.old.counts.reservations ≡ 0) × (agent.old.counts.joins ≡ 0) }
-    requires writer { (a : State) → G.finds gate.old token.old a → a.config.write_through ≡ true → IsSome agent.old.hands.outside.writer }
-    ensures free { G.is_free gate.new token.new }
-    ensures speaks { (n : ℕ) → G.speaks_for token.old n → G.speaks_for token.new n }
+    requires ready { IsReady G.is_free G.speaks_for gate.old token.old agent.old }
+    requires may { MayCallAt G.finds key.now gate.old token.old agent.old }
+    ensures ready { IsReady G.is_free G.speaks_for gate.new token.new agent.new }
     ensures call { (ended : Result Reply Refusal) × IsCall loads load_state writes write_state G.takes G.gives G.finds
         agent.old key.now Get gate.old token.old ended agent.new gate.new token.new
         × (value_in ended ≡ value_told result value.new) }
@@ -106,14 +96,11 @@ fn hit<G: Gate, R: Wait>(
     key: &Key,
     found: &mut Option<Value>,
 )
-    requires held { agent.old.hands.held ≡ 0 }
-    requires free { G.is_free gate.old token.old }
-    requires speaks { G.speaks_for token.old agent.old.caller.session }
-    requires needs { (a : State) → G.finds gate.old token.old a → BeginsIfClear agent.old.caller key.now a }
+    requires ready { IsReady G.is_free G.speaks_for gate.old token.old agent.old }
+    requires may { MayCallAt G.finds key.now gate.old token.old agent.old }
     ensures agent { agent.new
         ≡ record agent.old { counts = counts_after agent.old.counts (counted_hit found.new) } }
-    ensures free { G.is_free gate.new token.new }
-    ensures speaks { (n : ℕ) → G.speaks_for token.old n → G.speaks_for token.new n }
+    ensures ready { IsReady G.is_free G.speaks_for gate.new token.new agent.new }
     ensures phase { LentPhase G.takes G.gives G.finds agent.old.caller.session gate.old token.old
         (λ a b. Hits agent.old.caller key.now found.new a b) gate.new token.new }
 {

@@ -1,22 +1,20 @@
 //! A whole call that runs a processor.
-ghost use Rattle.std.specs.Prelude.{◌≡◌, ℕ, true, false, None, IsSome, is_some, if◌then◌else◌};
-ghost use Rattle.jc_types.specs.declared.config.Config.{Config};
-ghost use Rattle.jc_model.specs.Table.{is_process_given, process_ask};
+ghost use Rattle.std.specs.Prelude.{◌≡◌, true, false, None, IsSome, is_some, if◌then◌else◌};
+ghost use Rattle.jc_model.specs.Table.{process_ask};
 ghost use Rattle.jc_outside.specs.declared.done.Origin.TheVariants.{Live};
 ghost use Rattle.jc_mutentry.specs.Done.{effect_change};
-ghost use Rattle.jc_mutentry.specs.Running.{RunsOnce};
 ghost use Rattle.jc_stripe.specs.Effects.{HasReport, report_answer};
 ghost use Rattle.jc_stripe.specs.State.{State};
-ghost use Rattle.jc_stripe.specs.Tickets.{asks_processor, claim_of, entry_seen, is_loadable};
+ghost use Rattle.jc_stripe.specs.Tickets.{asks_processor, claim_of};
 ghost use Rattle.jc_session.specs.Boxed.{boxed};
-ghost use Rattle.jc_engine.specs.Answered.{IsAnswered, out_of};
-ghost use Rattle.jc_engine.specs.Asking.{AsksLoader, AsksWriter, KeepsTypes};
-ghost use Rattle.jc_engine.specs.Needs.{BeginsIfClear, IsReported};
-ghost use Rattle.jc_engine.specs.Calls.{IsInvocation};
+ghost use Rattle.jc_engine.specs.Asking.{AsksWriter, IsProcessed, KeepsTypes};
+ghost use Rattle.jc_engine.specs.Calls.{IsInvocation, MayCallAt};
+ghost use Rattle.jc_engine.specs.Doors.{IsReady};
 
-use crate::answered::Answered;
-use crate::phase::make_phase;
-use crate::phases::{Commit, Start};
+use crate::calling::end;
+use crate::door::lend;
+use crate::ending::Processed;
+use crate::first::{First, How};
 use jc_gate::Gate;
 use jc_model::{Op, Reply};
 use jc_mutentry::EntryProcessor;
@@ -41,27 +39,36 @@ pub fn invoke<G: Gate, R: Wait>(
     processor: &mut Box<dyn EntryProcessor + Send + Drop>,
     args: &[Value],
 ) -> Result<Reply, Refusal>
-    requires held { agent.old.hands.held ≡ 0 }
-    requires free { G.is_free gate.old token.old }
-    requires speaks { G.speaks_for token.old agent.old.caller.session }
-    requires needs { (a : State) → G.finds gate.old token.old a → BeginsIfClear agent.old.caller key.now a }
-    requires none { (agent.old.counts.reservations ≡ 0) × (agent.old.counts.joins ≡ 0) }
+    requires ready { IsReady G.is_free G.speaks_for gate.old token.old agent.old }
+    requires may { MayCallAt G.finds key.now gate.old token.old agent.old }
     requires through { (a : State) → G.finds gate.old token.old a → a.config.write_through ≡ write_through }
-    requires writer { write_through ≡ true → IsSome agent.old.hands.outside.writer }
-    ensures free { G.is_free gate.new token.new }
-    ensures speaks { (n : ℕ) → G.speaks_for token.old n → G.speaks_for token.new n }
+    ensures ready { IsReady G.is_free G.speaks_for gate.new token.new agent.new }
     ensures call { IsInvocation loads load_state writes write_state processes process_state
         G.takes G.gives G.finds
         agent.old key.now args.now processor.old gate.old token.old
         result agent.new processor.new gate.new token.new }
 {
-    let caller = agent.caller();
-    let op = &Op::Invoke;
-    match make_phase(rt, gate, token, agent, Start { caller, key, op }) {
+    let first = First {
+        caller: agent.caller(),
+        key,
+        op: &Op::Invoke,
+        how: How::Waits,
+    };
+    match lend(rt, gate, token, agent, first) {
         Begun::Refused(refusal) => Err(refusal),
         Begun::Asks(ticket) => {
-            let commit = run(rt, agent, write_through, ticket, processor, args);
-            let step = make_phase(rt, gate, token, agent, commit);
+            let mut ticket = ticket;
+            let processed = run(
+                rt,
+                gate,
+                token,
+                agent,
+                write_through,
+                &mut ticket,
+                processor,
+                args,
+            );
+            let step = end(rt, gate, token, agent, ticket, processed);
             Ok(step.reply)
         }
         Begun::Done(_step) => unreachable!(),
@@ -69,61 +76,43 @@ pub fn invoke<G: Gate, R: Wait>(
     }
 }
 
-/// Runs the processor, and has its net effect written if it is to be: the call may then be committed.
-fn run<R: Wait>(
+/// Runs the processor, and has its net effect written if it is to be: the call may then be committed. No stripe is held meanwhile.
+fn run<G: Gate, R: Wait>(
     rt: &R,
+    gate: &G,
+    token: &G::Token,
     agent: &mut Agent,
     write_through: bool,
-    ticket: Ticket,
+    ticket: &mut Ticket,
     processor: &mut Box<dyn EntryProcessor + Send + Drop>,
     args: &[Value],
-) -> Commit
-    requires held { agent.old.hands.held ≡ 0 }
-    requires unasked { (ticket.asked ≡ false) × (ticket.writer_asked ≡ false) }
-    requires first { asks_processor ticket.reservation.first ≡ true }
+) -> Processed
+    requires ready { IsReady G.is_free G.speaks_for gate.now token.now agent.old }
+    requires unasked { (ticket.old.asked ≡ false) × (ticket.old.writer_asked ≡ false) }
+    requires first { asks_processor ticket.old.reservation.first ≡ true }
     requires writer { write_through ≡ true → IsSome agent.old.hands.outside.writer }
-    ensures ticket { result.ticket.reservation ≡ ticket.reservation }
-    ensures answered { IsAnswered result.ticket result.answered }
-    ensures reported { (config : Config) → config.write_through ≡ write_through
-        → IsReported config ticket.reservation result.answered }
-    ensures loader { AsksLoader (boxed loads) (boxed load_state)
-        agent.old.hands.outside.loader ticket.reservation.key
-        (out_of result.answered).load agent.new.hands.outside.loader }
-    ensures writer { AsksWriter (boxed writes) (boxed write_state)
-        agent.old.hands.outside.writer ticket.reservation.key
-        (if write_through then process_ask (out_of result.answered).process else None)
-        (out_of result.answered).write agent.new.hands.outside.writer }
-    ensures types { KeepsTypes agent.old agent.new }
-    ensures run { RunsOnce processes process_state
-        processor.old ticket.reservation.key args.now
-        (is_loadable ticket.reservation.first) (entry_seen ticket.reservation.first)
-        (out_of result.answered).load (out_of result.answered).process processor.new }
-    ensures processor_type { processor.new.vtable ≡ processor.old.vtable }
-    ensures given { is_process_given (out_of result.answered).process ≡ true }
-    ensures held { agent.new.hands.held ≡ 0 }
-    ensures rest { agent.new ≡ record agent.old { hands = agent.new.hands } }
+    ensures { IsProcessed loads load_state writes write_state processes process_state
+        write_through agent.old ticket.old args.now processor.old result.done result.report agent.new ticket.new processor.new }
 {
-    let mut ticket = ticket;
     let done = agent.run_processor(rt, ticket.ask(), processor, args);
-    let report = write_effect(rt, agent, write_through, &mut ticket, &done);
-    Commit {
-        ticket,
-        answered: Answered::Processed(done, report),
-    }
+    let report = write_effect(rt, gate, token, agent, write_through, ticket, &done);
+    Processed { done, report }
 }
 
-/// Calls the writer for a processor's net effect: once, with write-through on, if there is a change to ask for.
-fn write_effect<R: Wait>(
+/// Calls the writer for a processor's net effect: once, with write-through on, if there is a change to ask for. No stripe is held
+/// meanwhile.
+fn write_effect<G: Gate, R: Wait>(
     rt: &R,
+    _gate: &G,
+    _token: &G::Token,
     agent: &mut Agent,
     write_through: bool,
     ticket: &mut Ticket,
     done: &ProcDone<Ask>,
 ) -> Option<WriteDone<Ask>>
-    requires held { agent.old.hands.held ≡ 0 }
+    requires ready { IsReady G.is_free G.speaks_for _gate.now _token.now agent.old }
     requires writer { write_through ≡ true → IsSome agent.old.hands.outside.writer }
-    requires asked { ticket.old.asked ≡ true }
-    requires once { ticket.old.writer_asked ≡ false }
+    requires asked { (ticket.old.asked ≡ true) × (ticket.old.writer_asked ≡ false) }
     requires claim { done.now.ask ≡ claim_of ticket.old.reservation }
     ensures report { HasReport Live ticket.old.reservation
         (if write_through then effect_change done.now.load done.now.process else None) result }

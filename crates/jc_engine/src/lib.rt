@@ -5,23 +5,24 @@
 //! gate's to say. So the same code serves a plainly owned stripe and one that threads share.
 #![tactic(auto)]
 
-mod answered;
 mod calling;
+mod door;
 mod ending;
 mod entering;
+mod first;
 mod getting;
 mod invoking;
+mod joining;
 mod owned;
-mod phase;
-mod phases;
 mod trying;
 
-pub use answered::Answered;
 pub use calling::call;
+pub use door::{Phase, lend, try_lend};
+pub use ending::{Answer, Commit, Processed, Withdraw};
 pub use entering::Entered;
+pub use first::{First, How};
 pub use getting::get;
 pub use invoking::invoke;
+pub use joining::PickUp;
 pub use owned::call_owned;
-pub use phase::{Phase, make_phase, try_phase};
-pub use phases::{Commit, PickUp, PickUpNow, Start, StartNow, TryStart};
 pub use trying::try_call;

@@ -2,7 +2,7 @@
 ghost use Rattle.std.specs.Prelude.{◌≡◌, true, false, Some, IsSome};
 ghost use Rattle.jc_model.specs.Table.{is_invoke};
 ghost use Rattle.jc_stripe.specs.State.{State, IsIdle};
-ghost use Rattle.jc_engine.specs.Needs.{BeginsIfClear};
+ghost use Rattle.jc_engine.specs.Calls.{MayCallAt};
 ghost use Rattle.jc_engine.specs.Owned.{IsOwnedCall};
 
 use crate::calling::call;
@@ -26,16 +26,12 @@ pub fn call_owned<R: Wait>(
     key: &Key,
     op: &Op,
 ) -> Result<Reply, Refusal>
-    requires held { agent.old.hands.held ≡ 0 }
-    requires there { IsSome owner.old }
+    requires ready { (agent.old.hands.held ≡ 0) × IsSome owner.old.here }
+    requires may { MayCallAt (λ o u. λ a. o.here ≡ Some a) key.now owner.old (tt {0}) agent.old }
+    requires idle { (a : State) → owner.old.here ≡ Some a → IsIdle a × (a.lives ≡ false) }
     requires op { is_invoke op.now ≡ false }
-    requires needs { (a : State) → owner.old ≡ Some a → BeginsIfClear agent.old.caller key.now a }
-    requires idle { (a : State) → owner.old ≡ Some a → IsIdle a }
-    requires one_life { (a : State) → owner.old ≡ Some a → a.lives ≡ false }
-    requires none { (agent.old.counts.reservations ≡ 0) × (agent.old.counts.joins ≡ 0) }
-    requires writer { (a : State) → owner.old ≡ Some a → a.config.write_through ≡ true → IsSome agent.old.hands.outside.writer }
     ensures call { IsOwnedCall loads load_state writes write_state
-        agent.old key.now op.now owner.old result agent.new owner.new }
+        agent.old key.now op.now owner.old.here result agent.new owner.new.here }
 {
     joins_only_loads();
     whole_call();

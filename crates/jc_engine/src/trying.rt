@@ -1,12 +1,13 @@
 //! A call that waits for nobody.
-ghost use Rattle.std.specs.Prelude.{◌≡◌, ℕ};
+ghost use Rattle.std.specs.Prelude.{◌≡◌};
 ghost use Rattle.jc_stripe.specs.State.{State};
 ghost use Rattle.jc_engine.specs.Asking.{own_after};
 ghost use Rattle.jc_engine.specs.Needs.{BeginsIfClear};
 ghost use Rattle.jc_engine.specs.Calls.{IsTried};
+ghost use Rattle.jc_engine.specs.Doors.{IsReady};
 
-use crate::phase::try_phase;
-use crate::phases::TryStart;
+use crate::door::try_lend;
+use crate::first::{First, How};
 use jc_gate::Gate;
 use jc_model::{Op, Reply};
 use jc_session::Agent;
@@ -27,24 +28,26 @@ pub fn try_call<G: Gate>(
     key: &Key,
     op: &Op,
 ) -> Result<Reply, Refusal>
-    requires held { agent.old.hands.held ≡ 0 }
-    requires free { G.is_free gate.old token.old }
-    requires speaks { G.speaks_for token.old agent.old.caller.session }
-    requires needs { (a : State) → G.finds gate.old token.old a → BeginsIfClear agent.old.caller key.now a }
+    requires ready { IsReady G.is_free G.speaks_for gate.old token.old agent.old }
+    requires begins { (a : State) → G.finds gate.old token.old a → BeginsIfClear agent.old.caller key.now a }
+    ensures ready { IsReady G.is_free G.speaks_for gate.new token.new agent.new }
     ensures agent { agent.new ≡ record agent.old { counts = record agent.old.counts { own = own_after agent.old.counts.own result } } }
-    ensures free { G.is_free gate.new token.new }
-    ensures speaks { (n : ℕ) → G.speaks_for token.old n → G.speaks_for token.new n }
-    ensures tried { IsTried G.takes G.gives G.finds agent.old.caller key.now op.now
+    ensures tried { IsTried G.takes G.gives G.finds G.may_fail agent.old.caller key.now op.now
         gate.old token.old result gate.new token.new }
 {
-    let caller = agent.caller();
-    match try_phase(gate, token, agent, TryStart { caller, key, op }) {
+    let first = First {
+        caller: agent.caller(),
+        key,
+        op,
+        how: How::Alone,
+    };
+    match try_lend(gate, token, agent, first) {
         Ok(begun) => match begun {
             Begun::Done(step) => Ok(step.reply),
             Begun::Refused(refusal) => Err(refusal),
             Begun::Asks(_ticket) => unreachable!(),
             Begun::Joined(_join) => unreachable!(),
         },
-        Err(_start) => Err(Refusal::Busy),
+        Err(_first) => Err(Refusal::Busy),
     }
 }

@@ -1,4 +1,5 @@
 use Rattle.std.proofs.Common.{◌∙◌, refl, sym, ap}
+use Rattle.jc_stripe.specs.Tickets.{TicketClaim}
 use Rattle.jc_engine.proofs.AgentAfter.{writer_stays}
 use Rattle.jc_engine.proofs.Asked.{asks_first, kept_config, is_live, of_caller}
 use Rattle.jc_engine.proofs.FromPhases.{reserved_call}
@@ -11,23 +12,18 @@ ask_and_end-requires-clause-first g c =
     let s = asks_first g.G.Gate.takes g.G.Gate.gives g.G.Gate.finds c.args.agent.now.caller c.args.key.now c.args.op.now c.in-Asks.ticket c.args.gate.now c.args.token.now c.enter.new.gate c.enter.new.token c.in-Asks.ensures.enters in
     asks_one _ _ _ _ _ c.in-Asks.ticket c.requires.op s.first.begins
 
-pub ask_and_end-requires-clause-writer : goal.ask_and_end-requires-clause-writer
-ask_and_end-requires-clause-writer g c asks =
+pub ask_and_end-requires-clause-may : goal.ask_and_end-requires-clause-may
+ask_and_end-requires-clause-may g c =
     let x = c.in-Asks.ensures.enters in
     let s = asks_first g.G.Gate.takes g.G.Gate.gives g.G.Gate.finds c.args.agent.now.caller c.args.key.now c.args.op.now c.in-Asks.ticket c.args.gate.now c.args.token.now c.enter.new.gate c.enter.new.token x in
     let config = kept_config g.G.Gate.takes g.G.Gate.gives g.G.Gate.finds c.args.agent.now.caller c.args.key.now c.args.op.now c.in-Asks.ticket c.args.gate.now c.args.token.now c.enter.new.gate c.enter.new.token x in
-    writer_stays c.args.agent.now c.enter.new.agent _ c.in-Asks.ensures.agent
-    (c.requires.writer x.since.first x.since.finds_first (sym (ap (λ c. c.write_through) config) ∙ writes_through x.first.before.config _ _ _ s.first.begins.2 asks))
-
-pub ask_and_end-requires-clause-who : goal.ask_and_end-requires-clause-who
-ask_and_end-requires-clause-who g c =
-    let x = c.in-Asks.ensures.enters in
-    ap (λ w. w.session) (of_caller g.G.Gate.takes g.G.Gate.gives g.G.Gate.finds c.args.agent.now.caller c.args.key.now c.args.op.now c.in-Asks.ticket c.args.gate.now c.args.token.now c.enter.new.gate c.enter.new.token x).0
-    ∙ sym (ap (λ a. a.caller.session) c.in-Asks.ensures.agent)
-
-pub ask_and_end-requires-clause-live : goal.ask_and_end-requires-clause-live
-ask_and_end-requires-clause-live g c a found =
-    is_live g.G.Gate.takes g.G.Gate.gives g.G.Gate.finds c.args.agent.now.caller c.args.key.now c.args.op.now c.in-Asks.ticket c.args.gate.now c.args.token.now c.enter.new.gate c.enter.new.token c.in-Asks.ensures.enters a found
+    record {
+      unasked = ap (λ (t : TicketClaim). t.asked) s.first.begins.4;
+      who = ap (λ w. w.session) (of_caller g.G.Gate.takes g.G.Gate.gives g.G.Gate.finds c.args.agent.now.caller c.args.key.now c.args.op.now c.in-Asks.ticket c.args.gate.now c.args.token.now c.enter.new.gate c.enter.new.token x).0 ∙ sym (ap (λ a. a.caller.session) c.in-Asks.ensures.agent);
+      live = λ a found. is_live g.G.Gate.takes g.G.Gate.gives g.G.Gate.finds c.args.agent.now.caller c.args.key.now c.args.op.now c.in-Asks.ticket c.args.gate.now c.args.token.now c.enter.new.gate c.enter.new.token x a found;
+      writes = λ asks. writer_stays c.args.agent.now c.enter.new.agent _ c.in-Asks.ensures.agent
+          (c.requires.may.writes x.since.first x.since.finds_first (sym (ap (λ c. c.write_through) config) ∙ writes_through x.first.before.config _ _ _ s.first.begins.2 asks));
+    }
 
 pub returns-in-Asks-clause-call : goal.returns-in-Asks-clause-call
 returns-in-Asks-clause-call g c =
@@ -38,5 +34,5 @@ returns-in-Asks-clause-call g c =
     rw (← d.replies) (reserved_call _ _ _ _ g.G.Gate.takes g.G.Gate.gives g.G.Gate.finds c.in-Asks.ticket.reservation.caller.session c.args.agent.now c.enter.new.agent d.asked c.ask_and_end.new.agent c.args.key.now c.args.op.now c.args.gate.now c.args.token.now c.in-Asks.ticket c.enter.new.gate c.enter.new.token
     c.in-Asks.ticket.reservation d.out d.done c.ask_and_end.new.gate c.ask_and_end.new.token
     x d.phase (ap (λ w. w.session) who.0) refl
-    c.requires.none.0 c.in-Asks.ensures.agent d.rest d.held d.last
+    c.requires.may.reservations c.in-Asks.ensures.agent d.rest d.held d.last
     d.loader (d.writer _ (λ asks. wanted_is_asked x.first.before.config c.args.op.now _ _ _ d.process s.first.begins.2 asks)) d.types)

@@ -24,5 +24,5 @@ returns-clause-phase g c =
       lent = record { gate = c.take-stripe.new.gate; token = c.take-stripe.new.token; took = c.take-stripe.ensures.takes; reached = c.take-stripe.ensures.found.1; gave = c.give.ensures.gives };
       made = rw (← who, ← c.deref_mut.ensures.value) c.hit_on.ensures.made;
       one = rw (← who, ← c.deref_mut.ensures.value) (phase_of _ _ _ _ c.hit_on.ensures.counted);
-      next = λ a f. c.give.ensures.next _ a (c.take-stripe.ensures.speaks _ c.requires.speaks) f;
+      next = λ a f. c.give.ensures.next _ a (c.take-stripe.ensures.speaks _ c.requires.ready.speaks) f;
     }

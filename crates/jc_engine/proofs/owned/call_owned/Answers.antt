@@ -9,8 +9,8 @@ there_is (Some a) there = (a, refl)
 
 pub returns : goal.returns
 returns g c =
-    let there = there_is c.args.owner.now c.requires.there in
+    let there = there_is c.args.owner.now.here c.requires.ready.1 in
     record {
       call = owned_call _ _ _ _ c.whole_call.ensures c.joins_only_loads.ensures c.args.agent.now c.call.new.agent c.args.key.now c.args.op.now c.args.owner.now _ c.call.result c.call.new.gate _
-          there.0 there.1 (c.requires.idle there.0 there.1, c.requires.one_life there.0 there.1) c.call.ensures.call;
+          there.0 there.1 (c.requires.idle there.0 there.1) c.call.ensures.call;
     }

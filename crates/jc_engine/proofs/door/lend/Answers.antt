@@ -1,0 +1,101 @@
+use Rattle.std.proofs.Common.{rules, ◌∙◌, ap, refl, subst}
+use Rattle.jc_session.proofs.CallerLemmas.{phase_of}
+use Rattle.jc_stripe.specs.State.{State}
+use Rattle.jc_engine.specs.Doors.{IsLeft}
+use Rattle.jc_engine.proofs.Coming.{since_start}
+use Rattle.jc_engine.proofs.Chains.{tries-start, tries-left, tries-since}
+use Rattle.jc_engine.proofs.door.lend.Goals as goal
+
+pub take-stripe-requires-clause-held : goal.take-stripe-requires-clause-held
+take-stripe-requires-clause-held g c = ap (λ a. a.hands.held) c.loop.invariant.0 ∙ c.requires.ready.held
+
+pub take-stripe-requires-clause-free : goal.take-stripe-requires-clause-free
+take-stripe-requires-clause-free g c = c.loop.invariant.2.free
+
+pub leave-requires-clause-speaks : goal.leave-requires-clause-speaks
+leave-requires-clause-speaks g c =
+    rw (ap (λ a. a.caller.session) c.take-stripe.ensures.agent, ap (λ a. a.caller.session) c.loop.invariant.0)
+    (c.take-stripe.ensures.speaks _ (c.loop.invariant.2.speaks _ c.requires.ready.speaks))
+
+pub leave-requires-in-Err-clause-speaks : goal.leave-requires-in-Err-clause-speaks
+leave-requires-in-Err-clause-speaks g c =
+    rw (ap (λ a. a.caller.session) c.take-stripe.ensures.agent, ap (λ a. a.caller.session) c.loop.invariant.0)
+    (c.take-stripe.ensures.speaks _ (c.loop.invariant.2.speaks _ c.requires.ready.speaks))
+
+pub make-requires-clause-needs : goal.make-requires-clause-needs
+make-requires-clause-needs g c = rw (c.loop.invariant.1, c.deref_mut.ensures.value) (c.loop.invariant.2.finds_it _ c.take-stripe.ensures.found.0)
+
+pub give-requires-clause-speaks : goal.give-requires-clause-speaks
+give-requires-clause-speaks g c =
+    rw (ap (λ a. a.caller.session) c.take-stripe.ensures.agent, ap (λ a. a.caller.session) c.loop.invariant.0)
+    (c.take-stripe.ensures.speaks _ (c.loop.invariant.2.speaks _ c.requires.ready.speaks))
+
+pub give-requires-clause-phase : goal.give-requires-clause-phase
+give-requires-clause-phase g c = (
+  c.take-stripe.result.value,
+  c.take-stripe.ensures.taken,
+  rw (c.counted.ensures, ap (λ a. a.caller.session) c.take-stripe.ensures.agent, ap (λ a. a.caller.session) c.loop.invariant.0, ← c.requires.fits.who_is, ← c.loop.invariant.1, ← c.deref_mut.ensures.value)
+      c.in-Ok.ensures.made.1,
+)
+
+pub returns-in-Ok-clause-agent : goal.returns-in-Ok-clause-agent
+returns-in-Ok-clause-agent g c = search rules
+
+pub returns-in-Ok-clause-ready : goal.returns-in-Ok-clause-ready
+returns-in-Ok-clause-ready g c = record {
+  held = ap (λ a. a.hands.held) c.give.ensures.agent;
+  free = c.give.ensures.free;
+  speaks = rw (ap (λ a. a.caller.session) c.give.ensures.agent, ap (λ a. a.caller.session) c.take-stripe.ensures.agent, ap (λ a. a.caller.session) c.loop.invariant.0)
+      (c.give.ensures.speaks _ (c.take-stripe.ensures.speaks _ (c.loop.invariant.2.speaks _ c.requires.ready.speaks)));
+}
+
+pub returns-in-Ok-clause-phase : goal.returns-in-Ok-clause-phase
+returns-in-Ok-clause-phase g c = (
+      record {
+        gate = c.loop.gate;
+        token = c.loop.token;
+        rests = c.loop.invariant.2.rests;
+        before = c.take-stripe.result.value;
+        after = c.make.new.stripe;
+        since = c.loop.invariant.3 _ c.take-stripe.ensures.found.0;
+        lent = record { gate = c.take-stripe.new.gate; token = c.take-stripe.new.token; took = c.take-stripe.ensures.takes; reached = c.take-stripe.ensures.found.1; gave = c.give.ensures.gives };
+        made = rw (← c.deref_mut.ensures.value, ← c.loop.invariant.1) c.in-Ok.ensures.made.0;
+        one = rw (← c.requires.fits.who_is, ← c.loop.invariant.1, ← c.deref_mut.ensures.value) (phase_of _ _ _ _ c.in-Ok.ensures.made.1);
+        next = λ a f. c.give.ensures.next _ a (c.take-stripe.ensures.speaks _ (c.loop.invariant.2.speaks _ c.requires.ready.speaks)) f;
+      },
+      rw (← c.requires.fits.who_is, ← c.loop.invariant.1, ← c.deref_mut.ensures.value) c.in-Ok.ensures.made.1,
+    )
+
+pub loop-init : goal.loop-init
+loop-init g c = (
+  refl,
+  refl,
+  tries-start g.G.Gate.takes g.G.Gate.gives g.G.Gate.finds g.G.Gate.is_free g.G.Gate.speaks_for _ _ _ c.requires.ready.free c.requires.fits.needs_it,
+  since_start g.G.Gate.finds _ c.args.gate.now c.args.token.now,
+)
+
+pub loop-preserved-then-not-is_due : goal.loop-preserved-then-not-is_due
+loop-preserved-then-not-is_due g c = (
+      search rules,
+      c.loop.invariant.1,
+      tries-left g.G.Gate.takes g.G.Gate.gives g.G.Gate.finds g.G.Gate.is_free g.G.Gate.speaks_for (g.P.Phase.needs c.args.phase) _ _ _ _ c.take-stripe.result.value _ _ _ _ c.args.agent.now.caller.session
+          (λ x y after. g.met.P.Phase.stays c.args.phase x y (rw c.requires.fits.who_is after))
+          c.loop.invariant.2 c.take-stripe.ensures.takes c.take-stripe.ensures.found.0 c.take-stripe.ensures.found.1 c.take-stripe.ensures.speaks c.requires.ready.speaks c.leave.ensures.left,
+      tries-since g.G.Gate.takes g.G.Gate.gives g.G.Gate.finds g.G.Gate.is_free g.G.Gate.speaks_for (g.P.Phase.needs c.args.phase) _ _ _ _ c.take-stripe.result.value _ _ _ _ c.args.agent.now.caller.session
+          c.loop.invariant.2 c.take-stripe.ensures.speaks c.requires.ready.speaks (c.loop.invariant.3 _ c.take-stripe.ensures.found.0) c.leave.ensures.left,
+    )
+
+pub loop-preserved : goal.loop-preserved
+loop-preserved g c =
+    let found : State = c.take-stripe.result.value in
+    let left : IsLeft g.G.Gate.gives g.G.Gate.finds g.G.Gate.is_free g.G.Gate.speaks_for c.take-stripe.new.gate c.take-stripe.new.token found c.leave-in-Err.new.gate c.leave-in-Err.new.token =
+    subst (λ (s : State). IsLeft g.G.Gate.gives g.G.Gate.finds g.G.Gate.is_free g.G.Gate.speaks_for c.take-stripe.new.gate c.take-stripe.new.token s c.leave-in-Err.new.gate c.leave-in-Err.new.token)
+    (c.in-Err.ensures.back.1 ∙ c.deref_mut.ensures.value) c.leave-in-Err.ensures.left in (
+      search rules,
+      c.in-Err.ensures.back.0 ∙ c.loop.invariant.1,
+      tries-left g.G.Gate.takes g.G.Gate.gives g.G.Gate.finds g.G.Gate.is_free g.G.Gate.speaks_for (g.P.Phase.needs c.args.phase) _ _ _ _ found c.take-stripe.new.gate c.take-stripe.new.token c.leave-in-Err.new.gate c.leave-in-Err.new.token c.args.agent.now.caller.session
+          (λ x y after. g.met.P.Phase.stays c.args.phase x y (rw c.requires.fits.who_is after))
+          c.loop.invariant.2 c.take-stripe.ensures.takes c.take-stripe.ensures.found.0 c.take-stripe.ensures.found.1 c.take-stripe.ensures.speaks c.requires.ready.speaks left,
+      tries-since g.G.Gate.takes g.G.Gate.gives g.G.Gate.finds g.G.Gate.is_free g.G.Gate.speaks_for (g.P.Phase.needs c.args.phase) _ _ _ _ found c.take-stripe.new.gate c.take-stripe.new.token c.leave-in-Err.new.gate c.leave-in-Err.new.token c.args.agent.now.caller.session
+          c.loop.invariant.2 c.take-stripe.ensures.speaks c.requires.ready.speaks (c.loop.invariant.3 _ c.take-stripe.ensures.found.0) left,
+    )

@@ -1,0 +1,199 @@
+//! The door to a stripe: any phase, over any gate. It takes the stripe, makes the phase, gives the stripe back and counts.
+ghost use Rattle.std.specs.Prelude.{◌≡◌, IfOk, IfErr};
+ghost use Rattle.jc_stripe.specs.Reached.{IsReached};
+ghost use Rattle.jc_session.specs.Counting.{IsCounted, counts_after};
+ghost use Rattle.jc_engine.specs.Chain.{LentPhase};
+ghost use Rattle.jc_engine.specs.Doors.{FitsGate, IsLeft, IsNotMade, IsReady};
+
+use jc_gate::Gate;
+use jc_session::{Agent, Counted};
+use jc_stripe::Stripe;
+use jc_stripe::phase_laws::renewal;
+use std::sync::Wait;
+
+/// A phase that a session is to make on a stripe.
+pub trait Phase {
+    ghost use Rattle.std.specs.Prelude.{◌≡◌, ◌↔◌, ℕ, IsTrue, IfOk, IfErr};
+    ghost use Rattle.jc_gate.specs.Lending.{ComesAfter};
+    ghost use Rattle.jc_stripe.specs.State.{State};
+    ghost use Rattle.jc_session.specs.Counting.{IsCounted};
+    ghost use Rattle.jc_session.specs.declared.counts.Counted.{Counted as CountedBy};
+
+    /// What it gives.
+    type Answer;
+
+    /// The number of the session whose phase it is.
+    ghost who: { Self → ℕ };
+
+    /// What it needs of each stripe that it may find.
+    ghost needs: { Self → State → Type 0 };
+
+    /// It can be made on a stripe in this state.
+    ghost due: { Self → State → Type 0 };
+
+    /// It isn't made on a stripe in this state, though it can be: what would be answered is waited out.
+    ghost puts_off: { Self → State → Type 0 };
+
+    /// What it gives of the one state, and leaves.
+    ghost makes: { Self → State → Self.Answer → State → Type 0 };
+
+    /// What it changes of its session's counts.
+    ghost counts: { Self.Answer → CountedBy };
+
+    /// Whether it can be made on this stripe.
+    fn is_due(&self, stripe: &Stripe) -> bool
+        ensures { IsTrue result ↔ due self.now stripe.now };
+
+    /// The phase. An `Err` gives it back: it is put off, and the stripe stays as it was.
+    fn make(self, stripe: &mut Stripe) -> Result<Self::Answer, Self>
+        requires needs { needs self stripe.old }
+        requires due { due self stripe.old }
+        ensures made { IfOk result (λ answer. makes self stripe.old answer stripe.new
+            × IsCounted (counts answer) (who self) stripe.old stripe.new) }
+        ensures back { IfErr result (λ back. (back ≡ self) × (stripe.new ≡ stripe.old) × puts_off self stripe.old) };
+
+    /// What it changes of its session's counts.
+    fn counted(answer: &Self::Answer) -> Counted
+        ensures { result ≡ counts answer.now };
+
+    /// Other sessions' phases leave what it needs.
+    ghost stays: { (p : Self) (a b : State) → ComesAfter (who p) a b → needs p a → needs p b };
+}
+
+/// Lends a stripe to a phase, as soon as the phase can be made there.
+///
+/// It waits while somebody else holds the stripe. If the phase can't be made on the stripe that it finds, or is put off, it gives the
+/// stripe back, with its generation ended if that may end, and tries again, after a pause if the agent has no reservation out. Nothing
+/// says that it returns.
+///
+/// Conditions: the agent holds no stripe; the token has not taken the gate's and speaks for the session, whose phase it is; each
+/// stripe that a take may find has what the phase needs.
+///
+/// In line: what a phase gives is as large as a step, and shouldn't be copied once more.
+#[inline(always)]
+pub fn lend<G: Gate, P: Phase, R: Wait>(
+    rt: &R,
+    gate: &mut G,
+    token: &mut G::Token,
+    agent: &mut Agent,
+    phase: P,
+) -> P::Answer
+    requires ready { IsReady G.is_free G.speaks_for gate.old token.old agent.old }
+    requires fits { FitsGate G.finds (P.needs phase) (P.who phase) gate.old token.old agent.old.caller.session }
+    ensures ready { IsReady G.is_free G.speaks_for gate.new token.new agent.new }
+    ensures agent { agent.new ≡ record agent.old { counts = counts_after agent.old.counts (P.counts result) } }
+    ensures phase { (lent : LentPhase G.takes G.gives G.finds agent.old.caller.session gate.old token.old
+        (λ a b. P.makes phase a result b) gate.new token.new)
+        × IsCounted (P.counts result) agent.old.caller.session lent.before lent.after }
+{
+    let mut next = phase;
+    for _ in rt.forever() {
+        let mut stripe = agent.take(rt, gate, token);
+        if !next.is_due(&stripe) {
+            leave(gate, token, agent, stripe);
+            agent.pause(rt, gate, token);
+            continue;
+        }
+        match next.make(&mut stripe) {
+            Ok(answer) => {
+                agent.give(gate, token, stripe, P::counted(&answer));
+                return answer;
+            }
+            Err(back) => {
+                leave(gate, token, agent, stripe);
+                agent.pause(rt, gate, token);
+                next = back;
+            }
+        }
+    }
+    unreachable!()
+}
+
+/// Gives a stripe back on which no phase was made, with its generation ended if that may end.
+///
+/// Conditions: the agent holds the stripe, as the token has taken it; the token speaks for the session.
+fn leave<G: Gate>(gate: &mut G, token: &mut G::Token, agent: &mut Agent, stripe: Box<Stripe>)
+    requires held { agent.old.hands.held ≡ 1 }
+    requires speaks { G.speaks_for token.old agent.old.caller.session }
+    requires taken { G.has gate.old token.old stripe.value × IsReached stripe.value }
+    ensures agent { agent.new ≡ record agent.old { hands = record agent.old.hands { held = 0 } } }
+    ensures left { IsLeft G.gives G.finds G.is_free G.speaks_for gate.old token.old stripe.value gate.new token.new }
+{
+    renewal();
+    let mut stripe = stripe;
+    stripe.renew_if_full();
+    agent.give_back(gate, token, stripe);
+}
+
+/// Makes a phase, if the stripe is there and the phase can be made now. An `Err` gives it back: nothing was done, but that the
+/// stripe's generation may have ended. It also says whether the generation was one that may end, so that another try may do.
+///
+/// It never waits. Conditions: those of [`lend`].
+fn lend_once<G: Gate, P: Phase>(
+    gate: &mut G,
+    token: &mut G::Token,
+    agent: &mut Agent,
+    phase: P,
+) -> Result<P::Answer, (P, bool)>
+    requires ready { IsReady G.is_free G.speaks_for gate.old token.old agent.old }
+    requires fits { FitsGate G.finds (P.needs phase) (P.who phase) gate.old token.old agent.old.caller.session }
+    ensures ready { IsReady G.is_free G.speaks_for gate.new token.new agent.new }
+    ensures agent { IfOk result (λ answer. agent.new ≡ record agent.old { counts = counts_after agent.old.counts (P.counts answer) }) }
+    ensures made { IfOk result (λ answer. LentPhase G.takes G.gives G.finds agent.old.caller.session gate.old token.old
+        (λ a b. P.makes phase a answer b) gate.new token.new) }
+    ensures back { IfErr result (λ back. (back.0 ≡ phase) × (agent.new ≡ agent.old)
+        × IsNotMade G.takes G.gives G.finds G.may_fail (P.due phase) (P.puts_off phase) agent.old.caller.session gate.old token.old gate.new token.new) }
+{
+    let mut stripe = match agent.try_take(gate, token) {
+        Some(stripe) => stripe,
+        None => return Err((phase, false)),
+    };
+    let ends = stripe.is_renewable();
+    if !phase.is_due(&stripe) {
+        leave(gate, token, agent, stripe);
+        return Err((phase, ends));
+    }
+    match phase.make(&mut stripe) {
+        Ok(answer) => {
+            agent.give(gate, token, stripe, P::counted(&answer));
+            Ok(answer)
+        }
+        Err(back) => {
+            leave(gate, token, agent, stripe);
+            Err((back, ends))
+        }
+    }
+}
+
+/// Makes a phase, if the stripe is there and the phase can be made now, or after the generation that stood in its way has ended. An
+/// `Err` gives it back: nothing was done, but that the stripe's generation may have ended. Then the stripe wasn't there, or each that
+/// was found was one on which the phase can't be made, or on which it is put off.
+///
+/// It never waits. Conditions: those of [`lend`].
+pub fn try_lend<G: Gate, P: Phase>(
+    gate: &mut G,
+    token: &mut G::Token,
+    agent: &mut Agent,
+    phase: P,
+) -> Result<P::Answer, P>
+    requires ready { IsReady G.is_free G.speaks_for gate.old token.old agent.old }
+    requires fits { FitsGate G.finds (P.needs phase) (P.who phase) gate.old token.old agent.old.caller.session }
+    ensures ready { IsReady G.is_free G.speaks_for gate.new token.new agent.new }
+    ensures agent { IfOk result (λ answer. agent.new ≡ record agent.old { counts = counts_after agent.old.counts (P.counts answer) }) }
+    ensures made { IfOk result (λ answer. LentPhase G.takes G.gives G.finds agent.old.caller.session gate.old token.old
+        (λ a b. P.makes phase a answer b) gate.new token.new) }
+    ensures back { IfErr result (λ back. (back ≡ phase) × (agent.new ≡ agent.old)
+        × IsNotMade G.takes G.gives G.finds G.may_fail (P.due phase) (P.puts_off phase) agent.old.caller.session gate.old token.old gate.new token.new) }
+{
+    let (back, ends) = match lend_once(gate, token, agent, phase) {
+        Ok(answer) => return Ok(answer),
+        Err(back) => back,
+    };
+    if !ends {
+        return Err(back);
+    }
+    match lend_once(gate, token, agent, back) {
+        Ok(answer) => Ok(answer),
+        Err((back, _)) => Err(back),
+    }
+}

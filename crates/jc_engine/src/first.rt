@@ -1,0 +1,125 @@
+//! The first phase of a call.
+ghost use Rattle.std.specs.Prelude.{◌≡◌};
+ghost use Rattle.jc_engine.specs.Needs.{can_start, is_alone, puts_off};
+
+use crate::door::Phase;
+use jc_model::Op;
+use jc_session::Counted;
+use jc_stripe::phase_laws::caller_numbers;
+use jc_stripe::{Begun, Stripe};
+use jc_types::{Caller, Key};
+
+/// How a first phase goes about what stands in its way.
+#[derive(Clone, Copy, Debug, PartialEq, Eq)]
+pub enum How {
+    /// It waits out `Busy`, `TooManyInFlight` and `TooManyJoiners`.
+    Waits,
+    /// Each refusal is its answer.
+    Now,
+    /// Each refusal is its answer, and it is made only if it asks nobody: neither the loader, the writer or a processor, nor another
+    /// call's load.
+    Alone,
+}
+
+impl How {
+    /// Whether it asks nobody.
+    fn is_alone(self) -> bool
+        ensures { result ≡ is_alone self }
+    {
+        match self {
+            How::Waits | How::Now => false,
+            How::Alone => true,
+        }
+    }
+
+    /// Whether a first phase that was begun so is put off.
+    fn puts_off(self, begun: &Begun) -> bool
+        ensures { result ≡ puts_off self begun.now }
+    {
+        match self {
+            How::Waits => is_waited_out(begun),
+            How::Now | How::Alone => false,
+        }
+    }
+}
+
+/// Whether a first phase has met a refusal that others' calls can end.
+fn is_waited_out(begun: &Begun) -> bool
+    ensures { result ≡ puts_off How.Waits begun.now }
+{
+    match begun {
+        Begun::Refused(refusal) => refusal.is_put_off(),
+        Begun::Done(_) | Begun::Asks(_) | Begun::Joined(_) => false,
+    }
+}
+
+/// The first phase of a call. It can be made if the stripe is clear for it and need not end its generation first.
+#[derive(Drop)]
+pub struct First<'a> {
+    /// The call.
+    pub caller: Caller,
+    /// Its key.
+    pub key: &'a Key,
+    /// What is called.
+    pub op: &'a Op,
+    /// What it does about what stands in its way.
+    pub how: How,
+}
+
+impl<'a> First<'a> {
+    /// Whether it can be made on this stripe.
+    fn can_start(&self, stripe: &Stripe) -> bool
+        ensures { result ≡ can_start self.now.how stripe.now self.now.caller self.now.key.now self.now.op.now }
+    {
+        stripe.is_clear(self.caller, self.key)
+            && !stripe.is_renewable()
+            && !(self.how.is_alone() && stripe.asks_outside(self.key, self.op))
+    }
+}
+
+impl<'a> Phase for First<'a> {
+    ghost use Rattle.std.specs.Prelude.{IsTrue};
+    ghost use Rattle.jc_session.specs.Counting.{counted_begun};
+    ghost use Rattle.jc_engine.specs.Needs.{BeginsIfClear, IsPutOff, StartsBy, can_start};
+    ghost use Rattle.jc_engine.specs.Stays.{begins-stays};
+
+    type Answer = Begun;
+
+    ghost who = { λ p. p.caller.session };
+
+    ghost needs = { λ p a. BeginsIfClear p.caller p.key.now a };
+
+    ghost due = { λ p a. IsTrue (can_start p.how a p.caller p.key.now p.op.now) };
+
+    ghost puts_off = { λ p a. IsPutOff p.how p.caller p.key.now p.op.now a };
+
+    ghost makes = { λ p a begun b. StartsBy p.how p.caller p.key.now p.op.now begun a b };
+
+    ghost counts = { λ begun. counted_begun begun };
+
+    ghost stays = { λ p a b after needs. begins-stays p.caller p.key.now a b after needs };
+
+    fn is_due(&self, stripe: &Stripe) -> bool {
+        self.can_start(stripe)
+    }
+
+    fn make(self, stripe: &mut Stripe) -> Result<Begun, Self> {
+        caller_numbers();
+        let begun = stripe.begin(self.caller, self.key, self.op);
+        if !self.how.puts_off(&begun) {
+            return Ok(begun);
+        }
+        match begun {
+            Begun::Refused(_refusal) => Err(self),
+            Begun::Done(_step) => unreachable!(),
+            Begun::Asks(_ticket) => unreachable!(),
+            Begun::Joined(_join) => unreachable!(),
+        }
+    }
+
+    fn counted(begun: &Begun) -> Counted
+        ensures { result ≡ counted_begun begun.now }
+    {
+        Counted::of_begun(begun)
+    }
+}
