@@ -5,12 +5,14 @@
 --     CallLeft         a whole call's seat: it is of the same lock, what it has seen, and that
 --     retries_seen     rounds in which a call joined a load and was told to retry: the seat has seen them
 --     call_left        a whole call
+--     last_busy, was_busy
+--                      a call that waits for nobody and wasn't made: the stripe that it found last
 --     tried_left       a call that waits for nobody
 --     next_place       the place of a step that is appended is the next one
 --     committed_left   a call that had somebody to ask: it is between, and its step was made, in the state in which it was committed
 --     shown_same       a processor's call: the entry is the same in the state in which it was committed as in the one that was found first
 --     invoked_left     a whole call that runs a processor: its step was made in a state with the entry that was found first
-use Rattle.std.proofs.Common.{◌≡◌, ◌==◌, ◌&&◌, ◌≤◌, ◌+◌, ◌++◌, ◌∷◌, map, ⊎_elim, inl, inr, ℕ, zero, suc, Bool, true, false, not, if◌then◌else◌, nat_lt, nat_le, Option, None, Some, is_some, is_none, Result, Ok, Err, List, length, slice_get, append_assoc, refl, sym, ap, subst, ◌∙◌, arith}
+use Rattle.std.proofs.Common.{◌≡◌, ◌⊎◌, ◌==◌, ◌&&◌, ◌≤◌, ◌+◌, ◌++◌, ◌∷◌, map, ⊎_elim, inl, inr, ℕ, zero, suc, Bool, true, false, not, if◌then◌else◌, nat_lt, nat_le, Option, None, Some, is_some, is_none, Result, Ok, Err, List, [], length, slice_get, append_assoc, refl, sym, ap, subst, ◌∙◌, arith}
 use Rattle.std.proofs.lemmas.Bool.{and_parts}
 use Rattle.std.proofs.lemmas.List.{length-append}
 use mathlib.Core.List.{IsPrefix}
@@ -53,11 +55,16 @@ use Rattle.jc_lock.specs.declared.view.View.{View}
 use Rattle.jc_lock.proofs.CallerLemmas.{prefix-trans, same_on}
 use Rattle.jc_engine.specs.declared.entering.Entered.{Entered}
 use Rattle.jc_engine.specs.declared.entering.Entered.TheVariants as entered
-use Rattle.jc_engine.specs.Chain.{LentPhase}
-use Rattle.jc_engine.specs.Needs.{Starts, StartsAt}
+use Rattle.jc_stripe.specs.Renewal.{StaysOrRenews}
+use Rattle.jc_stripe.specs.Tests.{asks_outside}
+use Rattle.jc_gate.specs.Lending.{Lent}
+use Rattle.jc_engine.specs.Chain.{AllQuiet, LentPhase}
+use Rattle.jc_engine.specs.Doors.{AllFound}
+use Rattle.jc_engine.specs.declared.first.How.TheVariants.{Alone}
+use Rattle.jc_engine.specs.Needs.{Starts, StartsBy, can_start}
 use Rattle.jc_engine.specs.Calls.{Rejoins, Retries, EntersAs, Enters, EndsAs, IsTried}
-use Rattle.jc_cache.specs.Fronts.{HasSeen, HasMade, MakesStep, SeatAfter, SeatTried, IsBetween, IsNext, IsMadeIn}
-use Rattle.jc_cache.proofs.Lendings.{lock_takes, lock_gives, lock_finds, Lending, HasGrown, seen_itself, seen_on, made_on, grown_on, grown_behind, kept, added, gained, front_grows, longer_on, rests_seen, phase_lent}
+use Rattle.jc_cache.specs.Fronts.{HasAllSeen, HasSeen, HasMade, WasBusy, MakesStep, SeatAfter, SeatTried, IsBetween, IsNext, IsMadeIn}
+use Rattle.jc_cache.proofs.Lendings.{lock_takes, lock_gives, lock_finds, Lending, HasGrown, seen_itself, seen_on, made_on, grown_on, grown_behind, kept, added, gained, front_grows, longer_on, rests_seen, phase_lent, all_seen, lend_seat}
 
 -- 1. First phases.
 
@@ -92,7 +99,7 @@ pub record CallLeft {L : Type 0} (t : L × View) (caller : Caller) (key : Bytes)
 -- the same up to where it is done, refused, or has somebody to ask
 abbrev EnteredAt : View → Caller → Bytes → Op → Entered → View → Type 0
 EnteredAt v caller key op (entered.Done reply) w = MakesStep v caller key op nothing_said reply w × (nat_lt caller.call last_number ≡ true)
-EnteredAt v caller key op (entered.Refused r) w = HasSeen v w × (r ≡ refusal.HistoryFull) × (first_refusal w.noted caller key op ≡ Some r)
+EnteredAt v caller key op (entered.Refused r) w = HasSeen v w × (r ≡ refusal.HistoryFull) × (first_refusal w.noted caller key op ≡ Some r) × HasAllSeen w
 EnteredAt v caller key op (entered.Asks ticket) w =
     HasSeen v w × (nat_lt caller.call last_number ≡ true) × (ticket.reservation.caller ≡ caller) × (ticket.reservation.key ≡ key) × (ticket.reservation.op ≡ op)
 
@@ -114,7 +121,7 @@ found_between session v a b w x = record { reached = x.reached; same = x.same; f
 entered_on : (u v : View) (caller : Caller) (key : Bytes) (op : Op) (met : Entered) (w : View) → HasSeen u v → EnteredAt v caller key op met w → EnteredAt u caller key op met w
 entered_on u v caller key op (entered.Done reply) w p x =
     (record { out = x.0.out; shared_with = x.0.shared_with; place = x.0.place; asked_for = x.0.asked_for; made = made_on u v w (Step caller op key x.0.out x.0.shared_with reply) x.0.place p x.0.made }, x.1)
-entered_on u v caller key op (entered.Refused refusal) w p x = (seen_on u v w p x.0, x.1, x.2)
+entered_on u v caller key op (entered.Refused refusal) w p x = (seen_on u v w p x.0, x.1, x.2, x.3)
 entered_on u v caller key op (entered.Asks ticket) w p x = (seen_on u v w p x.0, x.1, x.2, x.3, x.4)
 
 entered_front : (v : View) (caller : Caller) (key : Bytes) (op : Op) (met : Entered) (w : View) → EnteredAt v caller key op met w → IsPrefix v.front w.front
@@ -205,7 +212,7 @@ module _ {G L : Type 0} where
         l.0,
         found_between caller.session t.1 x.before x.after v.1 l.1,
         subst (λ (m : Entered). EnteredAt t.1 caller key op m v.1) (sym ends.0)
-            (seen, refused_full x.before caller key op refusal begins.0 x.made.last, ap (λ (s : State). first_refusal s caller key op) (l.1.noted ∙ begins.1) ∙ begins.0),
+            (seen, refused_full x.before caller key op refusal begins.0 x.made.last, ap (λ (s : State). first_refusal s caller key op) (l.1.noted ∙ begins.1) ∙ begins.0, all_seen caller.session t.1 x.before x.after v.1 l.1),
       )
   enters_left law own behind caller key op (begun.Asks ticket) met g t k v h u mine free may x ends =
       let begins = x.made.first.begins in
@@ -233,7 +240,7 @@ module _ {G L : Type 0} where
   ends_left law own caller key op (entered.Refused refusal) asked ended decided t k v h u mine lock between at ends =
       let Q : Result Reply Refusal → Out → L × View → Type 0 = λ e o z. CallLeft t caller key op o e decided z in
       subst (λ (z : L × View). Q ended asked z) (sym ends.3) (subst (λ (e : Result Reply Refusal). Q e asked v) (sym ends.0) (subst (λ (o : Out). Q (Err refusal) o v) (sym ends.1)
-      (record { lock = lock; between = between; seat = (at.0, refl, at.1, at.2); below = tt })))
+      (record { lock = lock; between = between; seat = (at.0, refl, at.1, at.2, at.3); below = tt })))
   ends_left law own caller key op (entered.Asks ticket) asked ended decided t k v h u mine lock between at ends =
       let r : Reservation = ticket.reservation in
       let done : StepDone = ends.0 in
@@ -265,24 +272,44 @@ module _ {G L : Type 0} where
 -- 5. A call that waits for nobody.
 
 module _ {G L : Type 0} where
-  pub tried_left : OnePhase → OwnSteps → (caller : Caller) (key : Bytes) (op : Op) (ended : Result Reply Refusal) (g : G) (t : L × View) (h : G) (u : L × View)
-      → t.1.session ≡ Some caller.session → t.1.holds ≡ false → IsTried lock_takes lock_gives lock_finds caller key op g t ended h u
+  -- the stripes that were found one after another, and the last of them
+  last_busy : (caller : Caller) (key : Bytes) (op : Op) (g : G) (t : L × View) (ps : List (State × State)) (h : G) (u : L × View) → Lent lock_takes lock_gives g t ps h u → AllQuiet ps
+      → AllFound (λ a. can_start Alone a caller key op ≡ false) ps → (u ≡ t) ⊎ ((found : State) × (can_start Alone found caller key op ≡ false) × StaysOrRenews found u.1.noted)
+  last_busy caller key op g t [] h u row quiet each = inl row.1
+  last_busy caller key op g t (p ∷ ps) h u row quiet each =
+      let noted : row.1.1.noted ≡ p.1 = ap (λ (z : L × View). z.1.noted) (lend_seat g t p.0 p.1 row.0 row.1 row.2) in
+      ⊎_elim
+      (λ same. inr (p.0, each.0, subst (StaysOrRenews p.0) (sym (ap (λ (z : L × View). z.1.noted) same ∙ noted)) quiet.0.stays))
+      (λ later. inr later)
+      (last_busy caller key op row.0 row.1 ps h u row.3 quiet.1 each.1)
+
+  was_busy : (caller : Caller) (key : Bytes) (op : Op) (g : G) (t : L × View) (ps : List (State × State)) (h : G) (u : L × View) → Lent lock_takes lock_gives g t ps h u → AllQuiet ps
+      → AllFound (λ a. can_start Alone a caller key op ≡ false) ps → WasBusy t.1 caller key op u.1
+  was_busy caller key op g t ps h u row quiet each =
+      ⊎_elim (λ same. inl (ap (λ (z : L × View). z.1) same)) (λ found. inr found) (last_busy caller key op g t ps h u row quiet each)
+
+  pub tried_left : OnePhase → OwnSteps → (caller : Caller) (key : Bytes) (op : Op) (ended : Result Reply Refusal) (g : G) (t : L × View) (h : G) (u : L × View) (may_fail : G → L × View → Type 0)
+      → t.1.session ≡ Some caller.session → t.1.holds ≡ false → IsTried lock_takes lock_gives lock_finds may_fail caller key op g t ended h u
       → (u.0 ≡ t.0) × SeatTried t.1 caller key op ended u.1 × IsBelow caller ended
-  tried_left law own caller key op (Ok reply) g t h u mine free x =
+  tried_left law own caller key op (Ok reply) g t h u may_fail mine free x =
       let done : StepDone = x.0 in
       let y = x.2 in
-      let begins = y.made.begins in
-      let l = phase_lent law caller.session g t (StartsAt caller key op (begun.Done done)) h u mine free y in
-      let made = added caller.session t.1 y.before y.after u.1 (Step caller op key nothing_said None done.reply) done.place l.1 (own.done y.before y.after caller key op done y.made.may begins) in
+      let begins = y.made.first.begins in
+      let l = phase_lent law caller.session g t (StartsBy Alone caller key op (begun.Done done)) h u mine free y in
+      let made = added caller.session t.1 y.before y.after u.1 (Step caller op key nothing_said None done.reply) done.place l.1 (own.done y.before y.after caller key op done y.made.first.may begins) in
       (l.0, record { out = nothing_said; shared_with = None; place = whole_place y.after done.place; asked_for = refl; made = subst (λ (z : Reply). HasMade t.1 u.1 (Step caller op key nothing_said None z) (whole_place y.after done.place)) x.1 made }, call_below y.before caller key op begins.0)
-  tried_left law own caller key op (Err refusal) g t h u mine free x =
+  tried_left law own caller key op (Err refusal) g t h u may_fail mine free x =
       ⊎_elim
       (λ y.
-      let begins = y.made.begins in
-      let l = phase_lent law caller.session g t (StartsAt caller key op (begun.Refused refusal)) h u mine free y in
+      let begins = y.made.first.begins in
+      let l = phase_lent law caller.session g t (StartsBy Alone caller key op (begun.Refused refusal)) h u mine free y in
       let seen = kept caller.session t.1 y.before y.after u.1 l.1 (own.refused y.before y.after caller key op refusal begins) in
-      (l.0, (seen, inr (ap (λ (s : State). first_refusal s caller key op) (l.1.noted ∙ begins.1) ∙ begins.0)), tt))
-      (λ y. let r = rests_seen caller.session g t h u mine free y.1 in (r.0, (r.1, inl y.0), tt))
+      let noted : u.1.noted ≡ y.before = l.1.noted ∙ begins.1 in
+      (l.0, (seen, inr (ap (λ (s : State). first_refusal s caller key op) noted ∙ begins.0, ap (λ (s : State). asks_outside s key op) noted ∙ y.made.alone refl, all_seen caller.session t.1 y.before y.after u.1 l.1)), tt))
+      (λ y.
+      let busy = y.1 in
+      let r = rests_seen caller.session g t h u mine free busy.rests in
+      (r.0, (r.1, inl (y.0, was_busy caller key op g t busy.rests.idle h u busy.rests.lent busy.rests.quiet busy.each)), tt))
       x
 
 -- 6. A call that runs a processor.

@@ -4,6 +4,8 @@
 --                                          phase of the session led to the state that the view has seen and notes since
 --     seen_itself, seen_on, made_on        a view has seen itself; what was seen and then seen, and seen and then made
 --     phase_lent                           a phase after lendings in which nothing was done is such a lending
+--     all_seen                             the front is the whole history of the state that the view notes
+--     lend_seat                            the seat after one lending
 --     rests_seen                           lendings in which nothing was done: the seat has seen them
 --     kept, added                          a phase that leaves the own steps, and one that adds its step
 --     HasGrown, gained                     one that gains an own step, whose place in the history is known alone
@@ -118,7 +120,7 @@ front_on session v a b w x = prefix-trans v.front (whole_history a) w.front x.fr
 pub kept : (session : ℕ) (v : View) (a b : State) (w : View) → Lending session v a b w → own_steps session b ≡ own_steps session a → HasSeen v w
 kept session v a b w x same = record { seat = x.seat; front = front_on session v a b w x; own = x.own_is ∙ own_stay session a b x.uniform.grows.same.ended same ∙ x.own }
 
-all_seen : (session : ℕ) (v : View) (a b : State) (w : View) → Lending session v a b w → HasAllSeen w
+pub all_seen : (session : ℕ) (v : View) (a b : State) (w : View) → Lending session v a b w → HasAllSeen w
 all_seen session v a b w x = record { reached = subst IsReached (sym x.noted) x.uniform.reached; front = x.front_is ∙ ap whole_history (sym x.noted) }
 
 more_by : (event : Event) (xs ys us vs : List Event) → xs ≡ us → ys ≡ vs → HasOneMore event xs ys → HasOneMore event us vs
@@ -202,7 +204,7 @@ seen_quiet session v a b mine finds quiet =
 -- 5. Rows of lendings.
 
 module _ {G L : Type 0} where
-  lend_seat : (g : G) (t : L × View) (a b : State) (h : G) (u : L × View) → Lends lock_takes lock_gives g t a b h u → u ≡ (t.0, after_give (after_take t.1 a) b)
+  pub lend_seat : (g : G) (t : L × View) (a b : State) (h : G) (u : L × View) → Lends lock_takes lock_gives g t a b h u → u ≡ (t.0, after_give (after_take t.1 a) b)
   lend_seat g t a b h u one = one.gave ∙ ap (λ (z : L × View). (z.0, after_give z.1 b)) one.took.0
 
   one_lent : OnePhase → (session : ℕ) (g : G) (t : L × View) (a b : State) (h : G) (u : L × View) → t.1.session ≡ Some session → IsPhaseOf session a b → Lends lock_takes lock_gives g t a b h u

@@ -1,17 +1,15 @@
 -- One phase of a session, from that of its agent over the lock of one seat.
---     steps_in                 how many own steps more there are after a phase that changes this of the counts
---     HasLonger                a phase leaves so many own steps more
---     begun_longer, committed_longer, picked_longer
---                              that is so of a first phase, of a commit and of a pick-up
---     picks_late               a pick-up that isn't too early is a pick-up
+--     picked_late              a pick-up that waits isn't too early
 --     of_asked                 a session that has asked its loader or its writer is of the cache as before
 --     of_same                  so is one that has the same seats and the same agent
 --     set_itself               a row of seats in which a seat is replaced by itself
 --     start_needs, commit_needs    what a first phase and a commit ask of the stripe that they find
 --     phase_left               a phase: what is said of the session, which is of the cache as before
---     LooksSo, looked_longer, look_lent    a look is a phase in which nothing was done
+--     phase_map                a phase that says less
+--     LooksSo, look_lent       a look is a phase in which nothing was done
 --     number_at, shape_found, agent_same   the seat at a stripe with a number, the shape of the stripe, and the agent after a look
-use Rattle.std.proofs.Common.{◌≡◌, ⊎_elim, inl, ◌+◌, ◌<◌, ℕ, false, None, Some, IsSome, List, [], ◌++◌, filter, length, get_or, le_refl, zero, suc, ◌∷◌, slice_get, slice_set, refl, sym, ap, subst, ◌∙◌, arith}
+use Rattle.std.proofs.Common.{◌≡◌, ⊎_elim, inl, ◌+◌, ◌<◌, ℕ, true, false, Some, IsSome, List, [], ◌++◌, filter, length, get_or, le_refl, zero, suc, ◌∷◌, slice_get, slice_set, refl, sym, ap, subst, ◌∙◌, arith}
+use Rattle.std.proofs.lemmas.Bool.{true≢false}
 use Rattle.std.proofs.lemmas.Option.{slice_get_read, same_Some}
 use Rattle.std.proofs.lemmas.List.{length-append}
 use Rattle.jc_types.specs.Stripes.{stripe_of}
@@ -41,16 +39,16 @@ use Rattle.jc_stripe.specs.declared.ticket.Reservation.{Reservation}
 use Rattle.jc_stripe.proofs.CallerLemmas.{adds_one, gains_one}
 use Rattle.jc_lock.specs.Views.{Finds}
 use Rattle.jc_lock.proofs.CallerLemmas.{prefix-refl, same_itself}
-use Rattle.jc_session.specs.Counting.{one_more, counts_after, counted_begun, counted_picked}
+use Rattle.jc_session.specs.Counting.{IsCounted, one_more, counts_after}
 use Rattle.jc_session.specs.declared.agent.Agent.{Agent}
 use Rattle.jc_session.specs.declared.counts.Counted.{Counted}
-use Rattle.jc_session.specs.declared.counts.Counted.TheVariants.{Nothing, Step as OneStep, Reserved, Committed, Joined, Answered, Retried}
+use Rattle.jc_session.specs.declared.counts.Counted.TheVariants.{Nothing, Step as OneStep, Reserved, Committed, Joined, Answered, Retried, Withdrawn}
 use Rattle.jc_session.specs.declared.counts.Counts.{Counts}
 use Rattle.jc_gate.specs.Lending.{ComesAfter}
-use Rattle.jc_engine.specs.Answered.{IsAnswered}
+use Rattle.jc_engine.specs.Answered.{CallAnswer, IsAnswered}
 use Rattle.jc_engine.specs.Chain.{LentPhase}
-use Rattle.jc_engine.specs.Needs.{BeginsIfClear, CommitsHere, IsReported, PicksUpLate}
-use Rattle.jc_engine.specs.declared.answered.Answered.{Answered as AnsweredBy}
+use Rattle.jc_engine.specs.Needs.{BeginsIfClear, CommitsHere, IsReported, PicksUpBy, PicksUpLate}
+use Rattle.jc_engine.proofs.Counted.{steps_in, counted_longer}
 use Rattle.jc_cache.specs.Caches.{CacheState}
 use Rattle.jc_cache.specs.Fronts.{IsSameSeat}
 use Rattle.jc_cache.specs.PhaseCalls.{SeatPhase, PhaseAt, MayStart}
@@ -62,18 +60,6 @@ use Rattle.jc_cache.proofs.Seats.{set_get, set_locks, set_total, one_longer, cap
 
 -- 1. Own steps.
 
-abbrev pub steps_in : Counted → ℕ
-steps_in Nothing = 0
-steps_in OneStep = 1
-steps_in Reserved = 0
-steps_in Committed = 1
-steps_in Joined = 0
-steps_in Answered = 1
-steps_in Retried = 0
-
-abbrev pub HasLonger : ℕ → Counted → State → State → Type 0
-HasLonger session counted old new = length (own_steps session new) ≡ length (own_steps session old) + steps_in counted
-
 -- so many more in the present generation are so many more in all of them
 all_longer : (session more : ℕ) (old new : State) → new.ended ≡ old.ended → length (own_steps session new) ≡ length (own_steps session old) + more → length (all_own_steps session new) ≡ length (all_own_steps session old) + more
 all_longer session more old new ended longer =
@@ -83,31 +69,10 @@ all_longer session more old new ended longer =
     let same : length (all_own_steps session new) ≡ length (past ++ own_steps session new) = λ i. length (filter (is_own_step session []) (past_events (ended i)) ++ own_steps session new) in
     omega arith
 
-as_long : (session : ℕ) (old new : State) → own_steps session new ≡ own_steps session old → length (own_steps session new) ≡ length (own_steps session old) + 0
-as_long session old new same = let long = ap length same in omega arith
-
-pub begun_longer : OwnSteps → (caller : Caller) (key : Bytes) (op : Op) (b : Begun) (old new : State) → MayBegin old caller key → Begins old caller key op b new → HasLonger caller.session (counted_begun b) old new
-begun_longer law caller key op (begun.Done done) old new may begins =
-    one_longer _ _ _ (adds_one caller.session old new (Step caller op key nothing_said None done.reply) done.place (law.done old new caller key op done may begins))
-begun_longer law caller key op (begun.Asks ticket) old new may begins = as_long caller.session old new (law.reserves old new caller key op ticket begins)
-begun_longer law caller key op (begun.Joined join) old new may begins = as_long caller.session old new (law.joins old new caller key op join begins)
-begun_longer law caller key op (begun.Refused refusal) old new may begins = as_long caller.session old new (law.refused old new caller key op refusal begins)
-
-pub committed_longer : OwnSteps → (r : Reservation) (out : Out) (done : StepDone) (old new : State) → IsReached old → Commits old r out done new → HasLonger r.caller.session Committed old new
-committed_longer law r out done old new reached commits =
-    one_longer _ _ _ (adds_one r.caller.session old new (Step r.caller r.op r.key out None done.reply) done.place (law.commits old new r out done reached commits))
-
-pub picked_longer : OwnSteps → (join : JoinClaim) (p : Picked) (old new : State) → IsReached old → PicksUp old join p new → HasLonger join.caller.session (counted_picked p) old new
-picked_longer law join (picked.Answer reply place shared_with) old new reached picks =
-    let gains = law.picks_up old new join reply place shared_with reached picks in
-    one_longer _ _ _ (gains_one join.caller.session old new _ place gains.1)
-picked_longer law join picked.Again old new reached picks = as_long join.caller.session old new (law.again old new join reached picks)
-picked_longer law join (picked.NotYet back) old new reached picks = as_long join.caller.session old new (law.not_yet old new join back picks)
-
-pub picks_late : (old new : State) (join : JoinClaim) (p : Picked) → PicksUpLate old join p new → PicksUp old join p new
-picks_late old new join (picked.Answer reply place shared_with) picks = picks
-picks_late old new join picked.Again picks = picks
-picks_late old new join (picked.NotYet back) picks = absurd picks
+pub picked_late : (old new : State) (join : JoinClaim) (p : Picked) → PicksUpBy true old join p new → PicksUpLate old join p new
+picked_late old new join (picked.Answer reply place shared_with) by = by.picks
+picked_late old new join picked.Again by = by.picks
+picked_late old new join (picked.NotYet back) by = absurd (true≢false by.last)
 
 same_count : (counts : Counts) (own : ℕ) → counts.own ≡ capped own → counts.own ≡ capped (own + 0)
 same_count counts own is = let none : own ≡ own + 0 = omega arith in is ∙ ap capped none
@@ -123,13 +88,14 @@ counted_own counts Committed own is = more_count counts own is
 counted_own counts Joined own is = same_count counts own is
 counted_own counts Answered own is = more_count counts own is
 counted_own counts Retried own is = same_count counts own is
+counted_own counts Withdrawn own is = same_count counts own is
 
 -- 2. The phase at a seat.
 
 module _ {G : Type 0} where
-  seat_phase : OnePhase → (session : ℕ) (made phase : State → State → Type 0) (g : G) (t : Seated) (h : G) (u : Seated) → t.1.session ≡ Some session → t.1.holds ≡ false
-      → ((a b : State) → IsReached a → made a b → phase a b) → LentPhase lock_takes lock_gives lock_finds session g t made h u → (u.0 ≡ t.0) × SeatPhase session t.1 phase u.1
-  seat_phase law session made phase g t h u mine free makes x =
+  seat_phase : OnePhase → (session : ℕ) (made : State → State → Type 0) (g : G) (t : Seated) (h : G) (u : Seated) → t.1.session ≡ Some session → t.1.holds ≡ false
+      → LentPhase lock_takes lock_gives lock_finds session g t made h u → (u.0 ≡ t.0) × SeatPhase session t.1 made u.1
+  seat_phase law session made g t h u mine free x =
       let lent = phase_lent law session g t made h u mine free x in
       let l : Lending session t.1 x.before x.after u.1 = lent.1 in (
         lent.0,
@@ -139,7 +105,7 @@ module _ {G : Type 0} where
           same = l.same;
           front = l.front;
           own = l.own;
-          made = subst (phase x.before) (sym l.noted) (makes x.before x.after l.reached x.made);
+          made = subst (made x.before) (sym l.noted) x.made;
           one = subst (IsPhaseOf session x.before) (sym l.noted) l.one;
           seat = l.seat;
           front_is = l.front_is ∙ ap whole_history (sym l.noted);
@@ -147,11 +113,12 @@ module _ {G : Type 0} where
         },
       )
 
-  seat_longer : OnePhase → (session : ℕ) (counted : Counted) (made : State → State → Type 0) (g : G) (t : Seated) (h : G) (u : Seated) → t.1.session ≡ Some session → t.1.holds ≡ false
-      → ((a b : State) → IsReached a → made a b → HasLonger session counted a b) → LentPhase lock_takes lock_gives lock_finds session g t made h u → length u.1.own ≡ length t.1.own + steps_in counted
-  seat_longer law session counted made g t h u mine free longer x =
+  seat_longer : OnePhase → OwnSteps → (session : ℕ) (counted : Counted) (made : State → State → Type 0) (g : G) (t : Seated) (h : G) (u : Seated) → t.1.session ≡ Some session → t.1.holds ≡ false
+      → (x : LentPhase lock_takes lock_gives lock_finds session g t made h u) → IsCounted counted session x.before x.after → length u.1.own ≡ length t.1.own + steps_in counted
+  seat_longer law steps session counted made g t h u mine free x is =
       let l = (phase_lent law session g t made h u mine free x).1 in
-      ap length l.own_is ∙ all_longer session (steps_in counted) x.before x.after l.uniform.grows.same.ended (longer x.before x.after l.reached x.made) ∙ ap (λ (es : List Event). length es + steps_in counted) l.own
+      ap length l.own_is ∙ all_longer session (steps_in counted) x.before x.after l.uniform.grows.same.ended (counted_longer steps counted session x.before x.after l.reached is)
+      ∙ ap (λ (es : List Event). length es + steps_in counted) l.own
 
 -- 3. The session.
 
@@ -180,24 +147,37 @@ module _ {I J : Type 0} {D : I → Type 0} {E : J → Type 0} where
         own = ap (λ (a : Agent I J D E). a.counts.own) left ∙ counted_own old.agent.counts counted (own_total old.seats.items) of.own ∙ ap capped (sym total);
       }
 
-  pub phase_left : {G : Type 0} → OnePhase → (cache : CacheState) (old new : Session I J D E) (stripe at : ℕ) (counted : Counted) (made phase : State → State → Type 0) (g : G) (t : Seated) (h : G) (u : Seated)
-      → IsOf cache old → at ≡ stripe → slice_get old.seats.items at ≡ Some t → new.seats.items ≡ slice_set old.seats.items at u → new.agent ≡ record old.agent { counts = counts_after old.agent.counts counted }
-      → ((a b : State) → IsReached a → made a b → phase a b) → ((a b : State) → IsReached a → made a b → HasLonger old.agent.caller.session counted a b)
-      → LentPhase lock_takes lock_gives lock_finds old.agent.caller.session g t made h u → PhaseAt stripe old phase counted new × IsOf cache new
-  phase_left law cache old new stripe at counted made phase g t h u of at_is was now left makes longer x =
-      let seat = of.seats at t was in
-      let p = seat_phase law old.agent.caller.session made phase g t h u seat.of_session seat.free makes x in (
-        record {
-          lock = t.0;
-          before = t.1;
-          after = u.1;
-          was = subst (λ (i : ℕ). slice_get old.seats.items i ≡ Some t) at_is was;
-          now = subst (λ (i : ℕ). new.seats.items ≡ slice_set old.seats.items i (t.0, u.1)) at_is (now ∙ ap (slice_set old.seats.items at) (seat_is t u p.0));
-          seat = p.1;
-          left = left;
-        },
-        of_after cache old new at t u counted of was now p.0 p.1.seat left (seat_longer law old.agent.caller.session counted made g t h u seat.of_session seat.free longer x),
+  pub phase_left : {G : Type 0} → OnePhase → OwnSteps → (cache : CacheState) (old new : Session I J D E) (stripe : ℕ) (counted : Counted) (made : State → State → Type 0) (g : G) (t : Seated) (h : G) (u : Seated)
+      → IsOf cache old → slice_get old.seats.items stripe ≡ Some t → new.seats.items ≡ slice_set old.seats.items stripe u → new.agent ≡ record old.agent { counts = counts_after old.agent.counts counted }
+      → (x : LentPhase lock_takes lock_gives lock_finds old.agent.caller.session g t made h u) → IsCounted counted old.agent.caller.session x.before x.after → PhaseAt stripe old made counted new × IsOf cache new
+  phase_left law steps cache old new stripe counted made g t h u of was now left x is =
+      let seat = of.seats stripe t was in
+      let p = seat_phase law old.agent.caller.session made g t h u seat.of_session seat.free x in (
+        record { lock = t.0; before = t.1; after = u.1; was = was; now = now ∙ ap (slice_set old.seats.items stripe) (seat_is t u p.0); seat = p.1; left = left },
+        of_after cache old new stripe t u counted of was now p.0 p.1.seat left (seat_longer law steps old.agent.caller.session counted made g t h u seat.of_session seat.free x is),
       )
+
+  pub phase_map : (stripe at : ℕ) (old : Session I J D E) (made phase : State → State → Type 0) (counted : Counted) (new : Session I J D E) → at ≡ stripe → ((a b : State) → made a b → phase a b) → PhaseAt at old made counted new → PhaseAt stripe old phase counted new
+  phase_map stripe at old made phase counted new at_is leads p = subst (λ (n : ℕ). PhaseAt n old phase counted new) at_is record {
+    lock = p.lock;
+    before = p.before;
+    after = p.after;
+    was = p.was;
+    now = p.now;
+    seat = record {
+      found = p.seat.found;
+      reached = p.seat.reached;
+      same = p.seat.same;
+      front = p.seat.front;
+      own = p.seat.own;
+      made = leads p.seat.found p.after.noted p.seat.made;
+      one = p.seat.one;
+      seat = p.seat.seat;
+      front_is = p.seat.front_is;
+      own_is = p.seat.own_is;
+    };
+    left = p.left;
+  }
 
   -- 4. What a phase asks of the stripe.
 
@@ -210,7 +190,7 @@ module _ {I J : Type 0} {D : I → Type 0} {E : J → Type 0} where
         may = ap (λ (es : List Event). may_come_all es old.agent.caller key) (finds.own old.agent.caller.session seat.of_session) ∙ may t (subst (λ (i : ℕ). slice_get old.seats.items i ≡ Some t) at_is there);
       }
 
-  pub commit_needs : (cache : CacheState) (old : Session I J D E) (ticket : TicketClaim) (answered : AnsweredBy) (at : ℕ) (t : Seated) (state : State) → IsOf cache old → IsAnswered ticket answered → IsReported cache.config ticket.reservation answered
+  pub commit_needs : (cache : CacheState) (old : Session I J D E) (ticket : TicketClaim) (answered : CallAnswer) (at : ℕ) (t : Seated) (state : State) → IsOf cache old → IsAnswered ticket answered → IsReported cache.config ticket.reservation answered
       → slice_get old.seats.items at ≡ Some t → Finds t.1 state → CommitsHere ticket answered state
   commit_needs cache old ticket answered at t state of is_answered reported there finds =
       let seat = of.seats at t there in record {
@@ -224,23 +204,23 @@ module _ {I J : Type 0} {D : I → Type 0} {E : J → Type 0} where
 abbrev pub LooksSo : State → List Bytes → List Bytes → State → Type 0
 LooksSo a old new b = (b ≡ a) × Looks a old new
 
-pub looked_longer : (session : ℕ) (found seen : List Bytes) (old new : State) → LooksSo old found seen new → HasLonger session Nothing old new
-looked_longer session found seen old new looks = as_long session old new (ap (own_steps session) looks.0)
-
 pub look_lent : {G : Type 0} (session : ℕ) (made : State → State → Type 0) (g : G) (t : Seated) (a : State) (gate : G) (token : Seated) (h : G) (u : Seated) → t.1.session ≡ Some session → lock_takes g t a gate token → IsReached a → lock_gives gate token a h u
-    → ((n : ℕ) (b : State) → token.1.session ≡ Some n → Finds u.1 b → ComesAfter n a b) → made a a → LentPhase lock_takes lock_gives lock_finds session g t made h u
-look_lent session made g t a gate token h u mine took reached gave next is = record {
-  gate = g;
-  token = t;
-  rests = record { idle = []; quiet = tt; lent = (refl, refl) };
-  before = a;
-  after = a;
-  since = record { first = a; finds_first = took.1; after = record { same = same_itself a; front = prefix-refl (whole_history a); next = le_refl a.next; own = refl } };
-  lent = record { gate = gate; token = token; took = took; reached = reached; gave = gave };
-  made = is;
-  one = inl refl;
-  next = λ b finds. next session b (ap (λ (s : Seated). s.1.session) took.0 ∙ mine) finds;
-}
+    → ((n : ℕ) (b : State) → token.1.session ≡ Some n → Finds u.1 b → ComesAfter n a b) → made a a → (x : LentPhase lock_takes lock_gives lock_finds session g t made h u) × IsCounted Nothing session x.before x.after
+look_lent session made g t a gate token h u mine took reached gave next is = (
+  record {
+    gate = g;
+    token = t;
+    rests = record { idle = []; quiet = tt; lent = (refl, refl) };
+    before = a;
+    after = a;
+    since = record { first = a; finds_first = took.1; after = record { same = same_itself a; front = prefix-refl (whole_history a); next = le_refl a.next; own = refl } };
+    lent = record { gate = gate; token = token; took = took; reached = reached; gave = gave };
+    made = is;
+    one = inl refl;
+    next = λ b finds. next session b (ap (λ (s : Seated). s.1.session) took.0 ∙ mine) finds;
+  },
+  inl (refl, refl),
+)
 
 module _ {I J : Type 0} {D : I → Type 0} {E : J → Type 0} where
   pub number_at : (cache : CacheState) (session : Session I J D E) (number : ℕ) (t : Seated) → IsOf cache session → number < cache.config.stripes → t ≡ get_or session.seats.items number t → slice_get session.seats.items number ≡ Some t
@@ -256,7 +236,7 @@ module _ {I J : Type 0} {D : I → Type 0} {E : J → Type 0} where
   agent_same old mid new free took gave =
       gave ∙ ap (λ (a : Agent I J D E). record a { hands = record a.hands { held = 0 } }) took ∙ ap (λ (n : ℕ). record old { hands = record old.hands { held = n } }) (sym free)
 
-  -- 5. A call outside.
+  -- 6. A call outside.
 
   pub of_asked : (cache : CacheState) (old new : Session I J D E) → new ≡ record old { agent = record old.agent { hands = new.agent.hands } } → new.agent.hands.held ≡ 0
       → (IsSome old.agent.hands.outside.loader → IsSome new.agent.hands.outside.loader) → (IsSome old.agent.hands.outside.writer → IsSome new.agent.hands.outside.writer) → IsOf cache old → IsOf cache new

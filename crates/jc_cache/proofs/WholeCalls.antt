@@ -2,6 +2,7 @@
 --     some_stripe        there is a stripe
 --     lock_near, seat_near
 --                        there is a lock, and a seat of the session, for a key's stripe
+--     number_near        the number of a key's stripe is one of the cache's
 --     at_key, seat_at    the number of a key's stripe, and the session's seat there
 --     free_at            the seat is at the lock in its place, which it has not taken
 --     speaks_at          it is of the session that makes the next call
@@ -69,6 +70,9 @@ below_stripes config key at fits at_is = subst (λ (n : ℕ). n < config.stripes
 pub lock_near : (config : Config) (locks : List TableId) (key : Bytes) (at : ℕ) → IsShaped config locks → at ≡ stripe_of key config.stripes → at < length locks
 lock_near config locks key at shaped at_is = subst (λ (n : ℕ). at < n) (sym shaped.count) (below_stripes config key at shaped.fits at_is)
 
+pub number_near : (cache : CacheState) (config : Config) (key : Bytes) (at : ℕ) → check config ≡ Ok tt → config ≡ cache.config → at ≡ stripe_of key config.stripes → at < cache.config.stripes
+number_near cache config key at fits same at_is = subst (λ (c : Config). at < c.stripes) same (below_stripes config key at fits at_is)
+
 seat_is : (t u : TableId × View) → u.0 ≡ t.0 → u ≡ (t.0, u.1)
 seat_is t u same i = (same i, u.1)
 
@@ -122,14 +126,14 @@ module _ {I J : Type 0} {D : I → Type 0} {E : J → Type 0} where
 
   -- 3. What it leaves.
 
-  pub tried : {G : Type 0} → OnePhase → OwnSteps → OwnNumbers → (cache : CacheState) (old new : Session I J D E) (a : Agent I J D E) (key : Bytes) (op : Op) (at : ℕ) (ended : Result Reply Refusal) (g : G) (t : TableId × View) (h : G) (u : TableId × View)
+  pub tried : {G : Type 0} → OnePhase → OwnSteps → OwnNumbers → (cache : CacheState) (old new : Session I J D E) (a : Agent I J D E) (key : Bytes) (op : Op) (at : ℕ) (ended : Result Reply Refusal) (g : G) (t : TableId × View) (h : G) (u : TableId × View) (may_fail : G → TableId × View → Type 0)
       → MayCall cache old → a ≡ (next_call old).agent → at ≡ stripe_of key cache.config.stripes → slice_get old.seats.items at ≡ Some t → new.seats.items ≡ slice_set old.seats.items at u
-      → new.agent ≡ record a { counts = record a.counts { own = own_after a.counts.own ended } } → IsTried lock_takes lock_gives lock_finds a.caller key op g t ended h u
+      → new.agent ≡ record a { counts = record a.counts { own = own_after a.counts.own ended } } → IsTried lock_takes lock_gives lock_finds may_fail a.caller key op g t ended h u
       → Tried cache old key op ended new × MayCall cache new
-  tried law own numbers cache old new a key op at ended g t h u may is at_is there now agent x =
+  tried law own numbers cache old new a key op at ended g t h u may_fail may is at_is there now agent x =
       let b : Agent I J D E = (next_call old).agent in
       let seat = may.own.seats at t there in
-      let left = tried_left law own b.caller key op ended g t h u seat.of_session seat.free (subst (λ (z : Agent I J D E). IsTried lock_takes lock_gives lock_finds z.caller key op g t ended h u) is x) in
+      let left = tried_left law own b.caller key op ended g t h u may_fail seat.of_session seat.free (subst (λ (z : Agent I J D E). IsTried lock_takes lock_gives lock_finds may_fail z.caller key op g t ended h u) is x) in
       let new_is : new.agent ≡ record b { counts = record b.counts { own = own_after b.counts.own ended } } = agent ∙ ap (λ (z : Agent I J D E). record z { counts = record z.counts { own = own_after z.counts.own ended } }) is in
       let hands : new.agent.hands ≡ b.hands = ap (λ (z : Agent I J D E). z.hands) new_is in
       let now' : new.seats.items ≡ slice_set old.seats.items at (t.0, u.1) = now ∙ ap (slice_set old.seats.items at) (seat_is t u left.0) in

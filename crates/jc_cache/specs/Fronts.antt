@@ -9,9 +9,12 @@
 --                    the present generation, and it is one own step more
 --     IsAskedFor     what a call has asked outside for its step: if it shares another call's load, nothing
 --     MakesStep      the call's step: its caller, operation and key, and this reply
---     SeatAfter      a whole call: its step was made, or it was refused as the state that the view keeps says; of the refusals that change
---                    nothing it is the full history alone
---     SeatTried      a call that waits for nobody: its step was made, it was refused as the state that the view keeps says, or as busy
+--     SeatAfter      a whole call: its step was made, or it was refused as the state that the view keeps says, whose whole history is the
+--                    front; of the refusals that change nothing it is the full history alone
+--     WasBusy        a call that waits for nobody couldn't be made: the seat has found no stripe, or the one that it found last is one on
+--                    which the call can't be made without waiting or asking; it was given back as it was, or with its generation ended
+--     SeatTried      such a call: its step was made, it was refused as busy, or, though it need ask nobody, as the state that the view keeps
+--                    says
 --     IsBetween      a state of the stripe in which a call was decided: between the former front and the present one
 --     IsNext         the place of a step at a key that was made in this state: it is the next event of the state's whole history, or the
 --                    next one behind the eviction that made room for the key, which was missing
@@ -33,8 +36,12 @@ use Rattle.jc_stripe.specs.State.{State}
 use Rattle.jc_stripe.specs.Generations.{past_events, whole_history, IsOfSameStripe}
 use Rattle.jc_stripe.specs.Reached.{IsReached}
 use Rattle.jc_stripe.specs.Refusals.{first_refusal}
+use Rattle.jc_stripe.specs.Renewal.{StaysOrRenews}
+use Rattle.jc_stripe.specs.Tests.{asks_outside}
 use Rattle.jc_stripe.specs.OwnSteps.{HasOneMore}
 use Rattle.jc_lock.specs.declared.view.View.{View}
+use Rattle.jc_engine.specs.Needs.{can_start}
+use Rattle.jc_engine.specs.declared.first.How.TheVariants.{Alone}
 
 -- 1. One seat.
 
@@ -81,12 +88,18 @@ pub record MakesStep (before : View) (caller : Caller) (key : Bytes) (op : Op) (
 abbrev pub SeatAfter : View → Caller → Bytes → Op → Out → Result Reply Refusal → View → Type 0
 SeatAfter before caller key op asked (Ok reply) after = MakesStep before caller key op asked reply after
 SeatAfter before caller key op asked (Err refusal) after =
-    HasSeen before after × (asked ≡ nothing_said) × (refusal ≡ HistoryFull) × (first_refusal after.noted caller key op ≡ Some refusal)
+    HasSeen before after × (asked ≡ nothing_said) × (refusal ≡ HistoryFull) × (first_refusal after.noted caller key op ≡ Some refusal) × HasAllSeen after
+
+abbrev pub WasBusy : View → Caller → Bytes → Op → View → Type 0
+WasBusy before caller key op after =
+    (after ≡ before) ⊎ ((found : State) × (can_start Alone found caller key op ≡ false) × StaysOrRenews found after.noted)
 
 abbrev pub SeatTried : View → Caller → Bytes → Op → Result Reply Refusal → View → Type 0
 SeatTried before caller key op (Ok reply) after = MakesStep before caller key op nothing_said reply after
 SeatTried before caller key op (Err refusal) after =
-    HasSeen before after × ((refusal ≡ Busy) ⊎ (first_refusal after.noted caller key op ≡ Some refusal))
+    HasSeen before after
+    × (((refusal ≡ Busy) × WasBusy before caller key op after)
+    ⊎ ((first_refusal after.noted caller key op ≡ Some refusal) × (asks_outside after.noted key op ≡ false) × HasAllSeen after))
 
 pub record IsBetween (before : View) (state : State) (after : View) : Type 0 where
   pub reached : IsReached state

@@ -1,6 +1,7 @@
 -- The phase calls of a cache, of which whole calls are made.
 --     SeatPhase     one phase of the session on the stripe that its seat has taken, and the state that it left, which the view then keeps
 --     PhaseAt       a phase call at the stripe with a number
+--     MayFind       a state in which the session may find the stripe with a number
 --     MayStart      the session's own steps let its current call begin at a key
 use Rattle.std.specs.Prelude.{◌≡◌, ℕ, true, Some, slice_get, slice_set}
 use mathlib.Core.List.{IsPrefix}
@@ -14,6 +15,7 @@ use Rattle.jc_stripe.specs.OnePhase.{IsPhaseOf}
 use Rattle.jc_stripe.specs.Renewal.{all_own_steps}
 use Rattle.jc_stripe.specs.OwnSteps.{may_come_all}
 use Rattle.jc_lock.specs.declared.view.View.{View}
+use Rattle.jc_lock.specs.Views.{Finds}
 use Rattle.jc_session.specs.declared.counts.Counted.{Counted}
 use Rattle.jc_session.specs.Counting.{counts_after}
 use Rattle.jc_cache.specs.declared.session.Session.{Session}
@@ -44,3 +46,6 @@ pub record PhaseAt {I J : Type 0} {D : I → Type 0} {E : J → Type 0} (stripe 
 abbrev pub MayStart : {I J : Type 0} {D : I → Type 0} {E : J → Type 0} → CacheState → Session I J D E → Bytes → Type 0
 MayStart cache session key = (seat : TableId × View) → slice_get session.seats.items (stripe_of key cache.config.stripes) ≡ Some seat
     → may_come_all seat.1.own session.agent.caller key ≡ true
+
+abbrev pub MayFind : {I J : Type 0} {D : I → Type 0} {E : J → Type 0} → Session I J D E → ℕ → State → Type 0
+MayFind session number state = (seat : TableId × View) × (slice_get session.seats.items number ≡ Some seat) × Finds seat.1 state

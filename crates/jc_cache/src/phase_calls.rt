@@ -5,24 +5,25 @@
 //! and until the stripe is one on which this phase can be made: a first phase until the session has no other call out there, a
 //! commit or a pick-up until the ticket or the join is out there, as it always is on the cache that gave it. The session has then
 //! seen the stripe up to the phase.
-ghost use Rattle.std.specs.Prelude.{◌≡◌, ◌+◌, ◌<◌, ◌≤◌, true, IsSome, vec_len, vec_capacity};
+ghost use Rattle.std.specs.Prelude.{◌≡◌, ◌+◌, ◌<◌, ◌≤◌, true, false, vec_len, vec_capacity};
 ghost use Rattle.jc_types.specs.Stripes.{stripe_of};
 ghost use Rattle.jc_model.specs.Group.{load_only, write_only};
 ghost use Rattle.jc_outside.specs.declared.done.Origin.TheVariants.{Live};
 ghost use Rattle.jc_stripe.specs.Effects.{HasReport, change_due, process_out};
 ghost use Rattle.jc_stripe.specs.Keys.{Looks};
-ghost use Rattle.jc_stripe.specs.Phases.{Commits, PicksUp};
+ghost use Rattle.jc_stripe.specs.Phases.{Commits, PicksUp, Withdraws};
+ghost use Rattle.jc_stripe.specs.State.{State};
 ghost use Rattle.jc_stripe.specs.Tickets.{asks_loader, asks_processor, asks_writer, claim_of};
 ghost use Rattle.jc_session.specs.Counting.{counted_begun, counted_picked};
-ghost use Rattle.jc_session.specs.declared.counts.Counted.TheVariants.{Committed, Nothing};
+ghost use Rattle.jc_session.specs.declared.counts.Counted.TheVariants.{Committed, Nothing, Withdrawn};
 ghost use Rattle.jc_engine.specs.Answered.{IsAnswered, out_of};
 ghost use Rattle.jc_engine.specs.Needs.{IsReported, PicksUpLate, StartsAt};
 ghost use Rattle.jc_cache.specs.Sessions.{IsOf};
-ghost use Rattle.jc_cache.specs.PhaseCalls.{MayStart, PhaseAt};
+ghost use Rattle.jc_cache.specs.PhaseCalls.{MayFind, MayStart, PhaseAt};
 
 use crate::cache::Cache;
 use crate::session::Session;
-use jc_engine::{Answered, Commit, PickUp, PickUpNow, StartNow, make_phase};
+use jc_engine::{Answer, Commit, First, How, Phase, PickUp, Processed, Withdraw, lend};
 use jc_model::Op;
 use jc_session::Counted;
 use jc_stripe::phase_laws::{is_uniform, own_steps};
@@ -42,14 +43,14 @@ impl Cache {
             (λ a b. StartsAt session.old.agent.caller key.now op.now result a b)
             (counted_begun result) session.new }
     {
-        is_uniform();
-        own_steps();
         let at = stripe_of(key, self.config.stripes);
-        let caller = session.agent.caller();
-        let mut lock = &self.locks[at];
-        let seat = &mut session.seats[at];
-        let agent = &mut session.agent;
-        make_phase(rt, &mut lock, seat, agent, StartNow { caller, key, op })
+        let first = First {
+            caller: session.agent.caller(),
+            key,
+            op,
+            how: How::Now,
+        };
+        self.phase_at(rt, session, at, first)
     }
 
     /// The last phase of a call whose loader has answered.
@@ -71,7 +72,7 @@ impl Cache {
             (λ a b. Commits a ticket.reservation (load_only done.answer) result b)
             Committed session.new }
     {
-        self.commit(rt, session, ticket, Answered::Loaded(done))
+        self.commit(rt, session, ticket, done)
     }
 
     /// The last phase of a call whose writer has reported.
@@ -93,7 +94,7 @@ impl Cache {
             (λ a b. Commits a ticket.reservation (write_only done.answer) result b)
             Committed session.new }
     {
-        self.commit(rt, session, ticket, Answered::Written(done))
+        self.commit(rt, session, ticket, done)
     }
 
     /// The last phase of a call whose processor has run.
@@ -119,7 +120,7 @@ impl Cache {
             (λ a b. Commits a ticket.reservation (process_out done report) result b)
             Committed session.new }
     {
-        self.commit(rt, session, ticket, Answered::Processed(done, report))
+        self.commit(rt, session, ticket, Processed { done, report })
     }
 
     /// A call that has joined a load asks for its answer. It does not wait for the answer: `NotYet` gives the join back.
@@ -132,13 +133,8 @@ impl Cache {
         ensures phase { PhaseAt (stripe_of join.key self.now.config.stripes) session.old
             (λ a b. PicksUp a join result b) (counted_picked result) session.new }
     {
-        is_uniform();
-        own_steps();
         let at = stripe_of(join.key(), self.config.stripes);
-        let mut lock = &self.locks[at];
-        let seat = &mut session.seats[at];
-        let agent = &mut session.agent;
-        make_phase(rt, &mut lock, seat, agent, PickUpNow { join })
+        self.phase_at(rt, session, at, PickUp { join, waits: false })
     }
 
     /// The answer of a load that a call has joined. It waits until the load was answered, or was given back (`Again`).
@@ -151,29 +147,37 @@ impl Cache {
         ensures phase { PhaseAt (stripe_of join.key self.now.config.stripes) session.old
             (λ a b. PicksUpLate a join result b) (counted_picked result) session.new }
     {
-        is_uniform();
-        own_steps();
         let at = stripe_of(join.key(), self.config.stripes);
-        let mut lock = &self.locks[at];
-        let seat = &mut session.seats[at];
-        let agent = &mut session.agent;
-        make_phase(rt, &mut lock, seat, agent, PickUp { join })
+        self.phase_at(rt, session, at, PickUp { join, waits: true })
+    }
+
+    /// Gives up a call that has reserved its key and asked nobody: nothing is appended, and the entry stays. Each call that has joined
+    /// its load begins again.
+    ///
+    /// Conditions: the session is of this cache, and the ticket is of the session and has asked nobody.
+    pub fn withdraw<R: Wait>(&self, rt: &R, session: &mut Session, ticket: Ticket)
+        requires own { IsOf self.now session.old }
+        requires caller { ticket.reservation.caller.session ≡ session.old.agent.caller.session }
+        requires unasked { ticket.asked ≡ false }
+        ensures own { IsOf self.now session.new }
+        ensures phase { PhaseAt (stripe_of ticket.reservation.key self.now.config.stripes) session.old
+            (λ a b. Withdraws a ticket.reservation b) Withdrawn session.new }
+    {
+        let at = stripe_of(&ticket.reservation().key, self.config.stripes);
+        self.phase_at(rt, session, at, Withdraw { ticket });
     }
 
     /// Pauses once, for a call that has met another call's reservation of this key. It may return though nothing has changed.
     ///
     /// Conditions: the session is of this cache, and has no reservation out, so that nobody waits for it meanwhile.
-    pub fn wait_for_change<R: Wait>(&self, rt: &R, session: &mut Session, key: &Key)
-        requires own { IsOf self.now session.old }
-        requires reservations { session.old.agent.counts.reservations ≡ 0 }
-        ensures own { IsOf self.now session.new }
-        ensures seats { session.new.seats.items ≡ session.old.seats.items }
-        ensures agent { session.new.agent ≡ session.old.agent }
+    pub fn wait_for_change<R: Wait>(&self, rt: &R, session: &Session, key: &Key)
+        requires own { IsOf self.now session.now }
+        requires reservations { session.now.agent.counts.reservations ≡ 0 }
     {
         let at = stripe_of(key, self.config.stripes);
-        let mut lock = &self.locks[at];
-        let seat = &mut session.seats[at];
-        session.agent.wait_for_change(rt, &mut lock, seat);
+        session
+            .agent
+            .wait_for_change(rt, &&self.locks[at], &session.seats[at]);
     }
 
     /// Appends the keys of one stripe that have an entry, each once, in byte order. It changes no stripe, and takes no memory.
@@ -191,6 +195,7 @@ impl Cache {
         ensures capacity { vec_capacity out.new ≡ vec_capacity out.old }
     {
         is_uniform();
+        own_steps();
         let mut lock = &self.locks[number];
         let seat = &mut session.seats[number];
         let agent = &mut session.agent;
@@ -200,28 +205,48 @@ impl Cache {
     }
 
     /// The last phase of a call that was answered outside.
-    fn commit<R: Wait>(
+    fn commit<A: Answer, R: Wait>(
         &self,
         rt: &R,
         session: &mut Session,
         ticket: Ticket,
-        answered: Answered,
+        answer: A,
     ) -> StepDone
         requires own { IsOf self.now session.old }
         requires caller { ticket.reservation.caller.session ≡ session.old.agent.caller.session }
-        requires answered { IsAnswered ticket answered }
-        requires reported { IsReported self.now.config ticket.reservation answered }
+        requires answered { IsAnswered ticket (A.answered answer) }
+        requires reported { IsReported self.now.config ticket.reservation (A.answered answer) }
         ensures own { IsOf self.now session.new }
         ensures phase { PhaseAt (stripe_of ticket.reservation.key self.now.config.stripes) session.old
-            (λ a b. Commits a ticket.reservation (out_of answered) result b)
+            (λ a b. Commits a ticket.reservation (out_of (A.answered answer)) result b)
             Committed session.new }
+    {
+        let at = stripe_of(&ticket.reservation().key, self.config.stripes);
+        self.phase_at(rt, session, at, Commit { ticket, answer })
+    }
+
+    /// Makes a phase of the session on the stripe with this number.
+    ///
+    /// Conditions: the session is of this cache, and the phase is of the session; there is a stripe of this number, and each state in
+    /// which the session may find it has what the phase needs.
+    fn phase_at<P: Phase, R: Wait>(
+        &self,
+        rt: &R,
+        session: &mut Session,
+        number: usize,
+        phase: P,
+    ) -> P::Answer
+        requires own { IsOf self.now session.old }
+        requires stripe { number < self.now.config.stripes }
+        requires who { P.who phase ≡ session.old.agent.caller.session }
+        requires needs { (a : State) → MayFind session.old number a → P.needs phase a }
+        ensures own { IsOf self.now session.new }
+        ensures phase { PhaseAt number session.old (λ a b. P.makes phase a result b) (P.counts result) session.new }
     {
         is_uniform();
         own_steps();
-        let at = stripe_of(&ticket.reservation().key, self.config.stripes);
-        let mut lock = &self.locks[at];
-        let seat = &mut session.seats[at];
-        let agent = &mut session.agent;
-        make_phase(rt, &mut lock, seat, agent, Commit { ticket, answered })
+        let mut lock = &self.locks[number];
+        let seat = &mut session.seats[number];
+        lend(rt, &mut lock, seat, &mut session.agent, phase)
     }
 }

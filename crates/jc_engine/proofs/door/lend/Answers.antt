@@ -51,20 +51,20 @@ returns-in-Ok-clause-ready g c = record {
 
 pub returns-in-Ok-clause-phase : goal.returns-in-Ok-clause-phase
 returns-in-Ok-clause-phase g c = (
-      record {
-        gate = c.loop.gate;
-        token = c.loop.token;
-        rests = c.loop.invariant.2.rests;
-        before = c.take-stripe.result.value;
-        after = c.make.new.stripe;
-        since = c.loop.invariant.3 _ c.take-stripe.ensures.found.0;
-        lent = record { gate = c.take-stripe.new.gate; token = c.take-stripe.new.token; took = c.take-stripe.ensures.takes; reached = c.take-stripe.ensures.found.1; gave = c.give.ensures.gives };
-        made = rw (← c.deref_mut.ensures.value, ← c.loop.invariant.1) c.in-Ok.ensures.made.0;
-        one = rw (← c.requires.fits.who_is, ← c.loop.invariant.1, ← c.deref_mut.ensures.value) (phase_of _ _ _ _ c.in-Ok.ensures.made.1);
-        next = λ a f. c.give.ensures.next _ a (c.take-stripe.ensures.speaks _ (c.loop.invariant.2.speaks _ c.requires.ready.speaks)) f;
-      },
-      rw (← c.requires.fits.who_is, ← c.loop.invariant.1, ← c.deref_mut.ensures.value) c.in-Ok.ensures.made.1,
-    )
+  record {
+    gate = c.loop.gate;
+    token = c.loop.token;
+    rests = c.loop.invariant.2.rests;
+    before = c.take-stripe.result.value;
+    after = c.make.new.stripe;
+    since = c.loop.invariant.3 _ c.take-stripe.ensures.found.0;
+    lent = record { gate = c.take-stripe.new.gate; token = c.take-stripe.new.token; took = c.take-stripe.ensures.takes; reached = c.take-stripe.ensures.found.1; gave = c.give.ensures.gives };
+    made = rw (← c.deref_mut.ensures.value, ← c.loop.invariant.1) c.in-Ok.ensures.made.0;
+    one = rw (← c.requires.fits.who_is, ← c.loop.invariant.1, ← c.deref_mut.ensures.value) (phase_of _ _ _ _ c.in-Ok.ensures.made.1);
+    next = λ a f. c.give.ensures.next _ a (c.take-stripe.ensures.speaks _ (c.loop.invariant.2.speaks _ c.requires.ready.speaks)) f;
+  },
+  rw (← c.requires.fits.who_is, ← c.loop.invariant.1, ← c.deref_mut.ensures.value) c.in-Ok.ensures.made.1,
+)
 
 pub loop-init : goal.loop-init
 loop-init g c = (
@@ -76,14 +76,14 @@ loop-init g c = (
 
 pub loop-preserved-then-not-is_due : goal.loop-preserved-then-not-is_due
 loop-preserved-then-not-is_due g c = (
-      search rules,
-      c.loop.invariant.1,
-      tries-left g.G.Gate.takes g.G.Gate.gives g.G.Gate.finds g.G.Gate.is_free g.G.Gate.speaks_for (g.P.Phase.needs c.args.phase) _ _ _ _ c.take-stripe.result.value _ _ _ _ c.args.agent.now.caller.session
-          (λ x y after. g.met.P.Phase.stays c.args.phase x y (rw c.requires.fits.who_is after))
-          c.loop.invariant.2 c.take-stripe.ensures.takes c.take-stripe.ensures.found.0 c.take-stripe.ensures.found.1 c.take-stripe.ensures.speaks c.requires.ready.speaks c.leave.ensures.left,
-      tries-since g.G.Gate.takes g.G.Gate.gives g.G.Gate.finds g.G.Gate.is_free g.G.Gate.speaks_for (g.P.Phase.needs c.args.phase) _ _ _ _ c.take-stripe.result.value _ _ _ _ c.args.agent.now.caller.session
-          c.loop.invariant.2 c.take-stripe.ensures.speaks c.requires.ready.speaks (c.loop.invariant.3 _ c.take-stripe.ensures.found.0) c.leave.ensures.left,
-    )
+  search rules,
+  c.loop.invariant.1,
+  tries-left g.G.Gate.takes g.G.Gate.gives g.G.Gate.finds g.G.Gate.is_free g.G.Gate.speaks_for (g.P.Phase.needs c.args.phase) _ _ _ _ c.take-stripe.result.value _ _ _ _ c.args.agent.now.caller.session
+      (λ x y after. g.met.P.Phase.stays c.args.phase x y (rw c.requires.fits.who_is after))
+      c.loop.invariant.2 c.take-stripe.ensures.takes c.take-stripe.ensures.found.0 c.take-stripe.ensures.found.1 c.take-stripe.ensures.speaks c.requires.ready.speaks c.leave.ensures.left,
+  tries-since g.G.Gate.takes g.G.Gate.gives g.G.Gate.finds g.G.Gate.is_free g.G.Gate.speaks_for (g.P.Phase.needs c.args.phase) _ _ _ _ c.take-stripe.result.value _ _ _ _ c.args.agent.now.caller.session
+      c.loop.invariant.2 c.take-stripe.ensures.speaks c.requires.ready.speaks (c.loop.invariant.3 _ c.take-stripe.ensures.found.0) c.leave.ensures.left,
+)
 
 pub loop-preserved : goal.loop-preserved
 loop-preserved g c =

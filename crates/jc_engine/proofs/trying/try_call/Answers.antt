@@ -60,13 +60,13 @@ pub returns-in-Err-clause-tried : goal.returns-in-Err-clause-tried
 returns-in-Err-clause-tried g c =
     let missed = c.in-Err.ensures.back.2 in
     inr (
-    refl,
-    record {
-      rests = missed.rests;
-      each = each_is _ _ missed.rests.idle
-          (λ a why. subst (λ (who : Caller). can_start Alone a who c.args.key.now c.args.op.now ≡ false) c.caller.ensures
-          (⊎_elim (λ never. not_so _ never) (λ put_off. absurd (true≢false (sym put_off.put_off))) why))
-          missed.each;
-      none = missed.none;
-    },
+      refl,
+      record {
+        rests = missed.rests;
+        each = each_is _ _ missed.rests.idle
+            (λ a why. subst (λ (who : Caller). can_start Alone a who c.args.key.now c.args.op.now ≡ false) c.caller.ensures
+            (⊎_elim (λ never. not_so _ never) (λ put_off. absurd (true≢false (sym put_off.put_off))) why))
+            missed.each;
+        none = missed.none;
+      },
     )

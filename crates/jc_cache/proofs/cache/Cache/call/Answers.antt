@@ -14,42 +14,31 @@ index_mut-seat-requires g c =
     subst (λ (n : ℕ). c.stripe_of-at.result < n) (sym c.args.session.now.seats.ok.0)
     (seat_near c.args.self.now c.args.session.now _ c.args.key.now _ c.requires.may.own c.self.invariant.fits (ap (λ (z : CacheState). z.config) c.self.view_is) c.stripe_of-at.ensures)
 
-pub call-requires-clause-free : goal.call-requires-clause-free
-call-requires-clause-free g c =
-    let same : c.self.inside.config ≡ c.args.self.now.config = ap (λ (z : CacheState). z.config) c.self.view_is in
-    let there : slice_get c.args.session.now.seats.items c.stripe_of-at.result ≡ Some c.index_mut-seat.result.now =
-    seat_at c.args.self.now c.args.session.now _ c.args.key.now _ _ c.requires.may.own c.self.invariant.fits same c.stripe_of-at.ensures c.index_mut-seat.ensures.value in
-    free_at c.args.self.now c.args.session.now c.self.inside.locks.items c.stripe_of-at.result c.index_mut-seat.result.now c.index.result.now c.requires.may.own (ap (λ (z : CacheState). z.locks) c.self.view_is) there c.index.ensures
-
-pub call-requires-clause-speaks : goal.call-requires-clause-speaks
-call-requires-clause-speaks g c =
-    let same : c.self.inside.config ≡ c.args.self.now.config = ap (λ (z : CacheState). z.config) c.self.view_is in
-    let there : slice_get c.args.session.now.seats.items c.stripe_of-at.result ≡ Some c.index_mut-seat.result.now =
-    seat_at c.args.self.now c.args.session.now _ c.args.key.now _ _ c.requires.may.own c.self.invariant.fits same c.stripe_of-at.ensures c.index_mut-seat.ensures.value in
-    speaks_at c.args.self.now c.args.session.now c.next_call.new.self c.stripe_of-at.result c.index_mut-seat.result.now c.requires.may.own c.next_call.ensures.call there
-
-pub call-requires-clause-held : goal.call-requires-clause-held
-call-requires-clause-held g c = ap (λ a. a.hands.held) c.next_call.ensures.call ∙ c.requires.may.own.held
-
 pub call-requires-clause-op : goal.call-requires-clause-op
 call-requires-clause-op g c = c.requires.op
 
-pub call-requires-clause-none : goal.call-requires-clause-none
-call-requires-clause-none g c = (ap (λ a. a.counts.reservations) c.next_call.ensures.call ∙ c.requires.may.reservations, ap (λ a. a.counts.joins) c.next_call.ensures.call ∙ c.requires.may.joins)
-
-pub call-requires-clause-needs : goal.call-requires-clause-needs
-call-requires-clause-needs g c a finds =
+pub call-requires-clause-ready : goal.call-requires-clause-ready
+call-requires-clause-ready g c =
     let same : c.self.inside.config ≡ c.args.self.now.config = ap (λ (z : CacheState). z.config) c.self.view_is in
     let there : slice_get c.args.session.now.seats.items c.stripe_of-at.result ≡ Some c.index_mut-seat.result.now =
     seat_at c.args.self.now c.args.session.now _ c.args.key.now _ _ c.requires.may.own c.self.invariant.fits same c.stripe_of-at.ensures c.index_mut-seat.ensures.value in
-    may_begin c.laws.ensures.numbers c.args.self.now c.args.session.now c.next_call.new.self c.stripe_of-at.result _ _ a c.requires.may c.next_call.ensures.call there finds
+    record {
+      held = ap (λ a. a.hands.held) c.next_call.ensures.call ∙ c.requires.may.own.held;
+      free = free_at c.args.self.now c.args.session.now c.self.inside.locks.items c.stripe_of-at.result c.index_mut-seat.result.now c.index.result.now c.requires.may.own (ap (λ (z : CacheState). z.locks) c.self.view_is) there c.index.ensures;
+      speaks = speaks_at c.args.self.now c.args.session.now c.next_call.new.self c.stripe_of-at.result c.index_mut-seat.result.now c.requires.may.own c.next_call.ensures.call there;
+    }
 
-pub call-requires-clause-writer : goal.call-requires-clause-writer
-call-requires-clause-writer g c a finds on =
+pub call-requires-clause-may : goal.call-requires-clause-may
+call-requires-clause-may g c =
     let same : c.self.inside.config ≡ c.args.self.now.config = ap (λ (z : CacheState). z.config) c.self.view_is in
     let there : slice_get c.args.session.now.seats.items c.stripe_of-at.result ≡ Some c.index_mut-seat.result.now =
     seat_at c.args.self.now c.args.session.now _ c.args.key.now _ _ c.requires.may.own c.self.invariant.fits same c.stripe_of-at.ensures c.index_mut-seat.ensures.value in
-    writer_there c.args.self.now c.args.session.now c.next_call.new.self c.stripe_of-at.result _ a c.requires.may c.next_call.ensures.call there finds on
+    record {
+      reservations = ap (λ a. a.counts.reservations) c.next_call.ensures.call ∙ c.requires.may.reservations;
+      joins = ap (λ a. a.counts.joins) c.next_call.ensures.call ∙ c.requires.may.joins;
+      begins = λ a finds. may_begin c.laws.ensures.numbers c.args.self.now c.args.session.now c.next_call.new.self c.stripe_of-at.result _ _ a c.requires.may c.next_call.ensures.call there finds;
+      writes = λ a finds on. writer_there c.args.self.now c.args.session.now c.next_call.new.self c.stripe_of-at.result _ a c.requires.may c.next_call.ensures.call there finds on;
+    }
 
 pub returns-clause-may : goal.returns-clause-may
 returns-clause-may g c =

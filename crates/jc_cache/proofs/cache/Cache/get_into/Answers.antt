@@ -15,39 +15,28 @@ index_mut-seat-requires g c =
     subst (λ (n : ℕ). c.stripe_of-at.result < n) (sym c.args.session.now.seats.ok.0)
     (seat_near c.args.self.now c.args.session.now _ c.args.key.now _ c.requires.may.own c.self.invariant.fits (ap (λ (z : CacheState). z.config) c.self.view_is) c.stripe_of-at.ensures)
 
-pub get-requires-clause-free : goal.get-requires-clause-free
-get-requires-clause-free g c =
+pub get-requires-clause-ready : goal.get-requires-clause-ready
+get-requires-clause-ready g c =
     let same : c.self.inside.config ≡ c.args.self.now.config = ap (λ (z : CacheState). z.config) c.self.view_is in
     let there : slice_get c.args.session.now.seats.items c.stripe_of-at.result ≡ Some c.index_mut-seat.result.now =
     seat_at c.args.self.now c.args.session.now _ c.args.key.now _ _ c.requires.may.own c.self.invariant.fits same c.stripe_of-at.ensures c.index_mut-seat.ensures.value in
-    free_at c.args.self.now c.args.session.now c.self.inside.locks.items c.stripe_of-at.result c.index_mut-seat.result.now c.index.result.now c.requires.may.own (ap (λ (z : CacheState). z.locks) c.self.view_is) there c.index.ensures
+    record {
+      held = ap (λ a. a.hands.held) c.next_call.ensures.call ∙ c.requires.may.own.held;
+      free = free_at c.args.self.now c.args.session.now c.self.inside.locks.items c.stripe_of-at.result c.index_mut-seat.result.now c.index.result.now c.requires.may.own (ap (λ (z : CacheState). z.locks) c.self.view_is) there c.index.ensures;
+      speaks = speaks_at c.args.self.now c.args.session.now c.next_call.new.self c.stripe_of-at.result c.index_mut-seat.result.now c.requires.may.own c.next_call.ensures.call there;
+    }
 
-pub get-requires-clause-speaks : goal.get-requires-clause-speaks
-get-requires-clause-speaks g c =
+pub get-requires-clause-may : goal.get-requires-clause-may
+get-requires-clause-may g c =
     let same : c.self.inside.config ≡ c.args.self.now.config = ap (λ (z : CacheState). z.config) c.self.view_is in
     let there : slice_get c.args.session.now.seats.items c.stripe_of-at.result ≡ Some c.index_mut-seat.result.now =
     seat_at c.args.self.now c.args.session.now _ c.args.key.now _ _ c.requires.may.own c.self.invariant.fits same c.stripe_of-at.ensures c.index_mut-seat.ensures.value in
-    speaks_at c.args.self.now c.args.session.now c.next_call.new.self c.stripe_of-at.result c.index_mut-seat.result.now c.requires.may.own c.next_call.ensures.call there
-
-pub get-requires-clause-held : goal.get-requires-clause-held
-get-requires-clause-held g c = ap (λ a. a.hands.held) c.next_call.ensures.call ∙ c.requires.may.own.held
-
-pub get-requires-clause-none : goal.get-requires-clause-none
-get-requires-clause-none g c = (ap (λ a. a.counts.reservations) c.next_call.ensures.call ∙ c.requires.may.reservations, ap (λ a. a.counts.joins) c.next_call.ensures.call ∙ c.requires.may.joins)
-
-pub get-requires-clause-needs : goal.get-requires-clause-needs
-get-requires-clause-needs g c a finds =
-    let same : c.self.inside.config ≡ c.args.self.now.config = ap (λ (z : CacheState). z.config) c.self.view_is in
-    let there : slice_get c.args.session.now.seats.items c.stripe_of-at.result ≡ Some c.index_mut-seat.result.now =
-    seat_at c.args.self.now c.args.session.now _ c.args.key.now _ _ c.requires.may.own c.self.invariant.fits same c.stripe_of-at.ensures c.index_mut-seat.ensures.value in
-    may_begin c.laws.ensures.numbers c.args.self.now c.args.session.now c.next_call.new.self c.stripe_of-at.result _ _ a c.requires.may c.next_call.ensures.call there finds
-
-pub get-requires-clause-writer : goal.get-requires-clause-writer
-get-requires-clause-writer g c a finds on =
-    let same : c.self.inside.config ≡ c.args.self.now.config = ap (λ (z : CacheState). z.config) c.self.view_is in
-    let there : slice_get c.args.session.now.seats.items c.stripe_of-at.result ≡ Some c.index_mut-seat.result.now =
-    seat_at c.args.self.now c.args.session.now _ c.args.key.now _ _ c.requires.may.own c.self.invariant.fits same c.stripe_of-at.ensures c.index_mut-seat.ensures.value in
-    writer_there c.args.self.now c.args.session.now c.next_call.new.self c.stripe_of-at.result _ a c.requires.may c.next_call.ensures.call there finds on
+    record {
+      reservations = ap (λ a. a.counts.reservations) c.next_call.ensures.call ∙ c.requires.may.reservations;
+      joins = ap (λ a. a.counts.joins) c.next_call.ensures.call ∙ c.requires.may.joins;
+      begins = λ a finds. may_begin c.laws.ensures.numbers c.args.self.now c.args.session.now c.next_call.new.self c.stripe_of-at.result _ _ a c.requires.may c.next_call.ensures.call there finds;
+      writes = λ a finds on. writer_there c.args.self.now c.args.session.now c.next_call.new.self c.stripe_of-at.result _ a c.requires.may c.next_call.ensures.call there finds on;
+    }
 
 pub returns-clause-may : goal.returns-clause-may
 returns-clause-may g c =

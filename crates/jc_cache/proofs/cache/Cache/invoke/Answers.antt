@@ -1,6 +1,6 @@
 use Rattle.std.proofs.Common.{◌≡◌, subst, ℕ, ◌<◌, ◌∙◌, ap, refl, sym, Some, slice_get}
 use Rattle.jc_cache.specs.Caches.{CacheState}
-use Rattle.jc_cache.proofs.WholeCalls.{some_stripe, lock_near, seat_near, at_key, seat_at, free_at, speaks_at, may_begin, writes_as, invoked}
+use Rattle.jc_cache.proofs.WholeCalls.{some_stripe, lock_near, seat_near, at_key, seat_at, free_at, speaks_at, may_begin, writes_as, invoked, writer_there}
 use Rattle.jc_cache.proofs.cache.Cache.invoke.Goals as goal
 
 pub stripe_of-at-requires : goal.stripe_of-at-requires
@@ -14,39 +14,35 @@ index_mut-seat-requires g c =
     subst (λ (n : ℕ). c.stripe_of-at.result < n) (sym c.args.session.now.seats.ok.0)
     (seat_near c.args.self.now c.args.session.now _ c.args.key.now _ c.requires.may.own c.self.invariant.fits (ap (λ (z : CacheState). z.config) c.self.view_is) c.stripe_of-at.ensures)
 
-pub invoke-requires-clause-free : goal.invoke-requires-clause-free
-invoke-requires-clause-free g c =
-    let same : c.self.inside.config ≡ c.args.self.now.config = ap (λ (z : CacheState). z.config) c.self.view_is in
-    let there : slice_get c.args.session.now.seats.items c.stripe_of-at.result ≡ Some c.index_mut-seat.result.now =
-    seat_at c.args.self.now c.args.session.now _ c.args.key.now _ _ c.requires.may.own c.self.invariant.fits same c.stripe_of-at.ensures c.index_mut-seat.ensures.value in
-    free_at c.args.self.now c.args.session.now c.self.inside.locks.items c.stripe_of-at.result c.index_mut-seat.result.now c.index.result.now c.requires.may.own (ap (λ (z : CacheState). z.locks) c.self.view_is) there c.index.ensures
-
-pub invoke-requires-clause-speaks : goal.invoke-requires-clause-speaks
-invoke-requires-clause-speaks g c =
-    let same : c.self.inside.config ≡ c.args.self.now.config = ap (λ (z : CacheState). z.config) c.self.view_is in
-    let there : slice_get c.args.session.now.seats.items c.stripe_of-at.result ≡ Some c.index_mut-seat.result.now =
-    seat_at c.args.self.now c.args.session.now _ c.args.key.now _ _ c.requires.may.own c.self.invariant.fits same c.stripe_of-at.ensures c.index_mut-seat.ensures.value in
-    speaks_at c.args.self.now c.args.session.now c.next_call.new.self c.stripe_of-at.result c.index_mut-seat.result.now c.requires.may.own c.next_call.ensures.call there
-
-pub invoke-requires-clause-held : goal.invoke-requires-clause-held
-invoke-requires-clause-held g c = ap (λ a. a.hands.held) c.next_call.ensures.call ∙ c.requires.may.own.held
-
-pub invoke-requires-clause-none : goal.invoke-requires-clause-none
-invoke-requires-clause-none g c = (ap (λ a. a.counts.reservations) c.next_call.ensures.call ∙ c.requires.may.reservations, ap (λ a. a.counts.joins) c.next_call.ensures.call ∙ c.requires.may.joins)
-
-pub invoke-requires-clause-needs : goal.invoke-requires-clause-needs
-invoke-requires-clause-needs g c a finds =
-    let same : c.self.inside.config ≡ c.args.self.now.config = ap (λ (z : CacheState). z.config) c.self.view_is in
-    let there : slice_get c.args.session.now.seats.items c.stripe_of-at.result ≡ Some c.index_mut-seat.result.now =
-    seat_at c.args.self.now c.args.session.now _ c.args.key.now _ _ c.requires.may.own c.self.invariant.fits same c.stripe_of-at.ensures c.index_mut-seat.ensures.value in
-    may_begin c.laws.ensures.numbers c.args.self.now c.args.session.now c.next_call.new.self c.stripe_of-at.result _ _ a c.requires.may c.next_call.ensures.call there finds
-
 pub invoke-requires-clause-through : goal.invoke-requires-clause-through
 invoke-requires-clause-through g c a finds =
     let same : c.self.inside.config ≡ c.args.self.now.config = ap (λ (z : CacheState). z.config) c.self.view_is in
     let there : slice_get c.args.session.now.seats.items c.stripe_of-at.result ≡ Some c.index_mut-seat.result.now =
     seat_at c.args.self.now c.args.session.now _ c.args.key.now _ _ c.requires.may.own c.self.invariant.fits same c.stripe_of-at.ensures c.index_mut-seat.ensures.value in
     writes_as c.args.self.now c.args.session.now c.stripe_of-at.result _ a c.requires.may there finds ∙ ap (λ k. k.write_through) (sym same)
+
+pub invoke-requires-clause-ready : goal.invoke-requires-clause-ready
+invoke-requires-clause-ready g c =
+    let same : c.self.inside.config ≡ c.args.self.now.config = ap (λ (z : CacheState). z.config) c.self.view_is in
+    let there : slice_get c.args.session.now.seats.items c.stripe_of-at.result ≡ Some c.index_mut-seat.result.now =
+    seat_at c.args.self.now c.args.session.now _ c.args.key.now _ _ c.requires.may.own c.self.invariant.fits same c.stripe_of-at.ensures c.index_mut-seat.ensures.value in
+    record {
+      held = ap (λ a. a.hands.held) c.next_call.ensures.call ∙ c.requires.may.own.held;
+      free = free_at c.args.self.now c.args.session.now c.self.inside.locks.items c.stripe_of-at.result c.index_mut-seat.result.now c.index.result.now c.requires.may.own (ap (λ (z : CacheState). z.locks) c.self.view_is) there c.index.ensures;
+      speaks = speaks_at c.args.self.now c.args.session.now c.next_call.new.self c.stripe_of-at.result c.index_mut-seat.result.now c.requires.may.own c.next_call.ensures.call there;
+    }
+
+pub invoke-requires-clause-may : goal.invoke-requires-clause-may
+invoke-requires-clause-may g c =
+    let same : c.self.inside.config ≡ c.args.self.now.config = ap (λ (z : CacheState). z.config) c.self.view_is in
+    let there : slice_get c.args.session.now.seats.items c.stripe_of-at.result ≡ Some c.index_mut-seat.result.now =
+    seat_at c.args.self.now c.args.session.now _ c.args.key.now _ _ c.requires.may.own c.self.invariant.fits same c.stripe_of-at.ensures c.index_mut-seat.ensures.value in
+    record {
+      reservations = ap (λ a. a.counts.reservations) c.next_call.ensures.call ∙ c.requires.may.reservations;
+      joins = ap (λ a. a.counts.joins) c.next_call.ensures.call ∙ c.requires.may.joins;
+      begins = λ a finds. may_begin c.laws.ensures.numbers c.args.self.now c.args.session.now c.next_call.new.self c.stripe_of-at.result _ _ a c.requires.may c.next_call.ensures.call there finds;
+      writes = λ a finds on. writer_there c.args.self.now c.args.session.now c.next_call.new.self c.stripe_of-at.result _ a c.requires.may c.next_call.ensures.call there finds on;
+    }
 
 pub returns-clause-may : goal.returns-clause-may
 returns-clause-may g c =

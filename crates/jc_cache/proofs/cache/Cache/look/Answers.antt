@@ -5,7 +5,7 @@ use Rattle.jc_stripe.specs.State.{State}
 use Rattle.jc_session.specs.declared.counts.Counted.TheVariants.{Nothing}
 use Rattle.jc_cache.specs.Caches.{CacheState}
 use Rattle.jc_cache.proofs.WholeCalls.{free_at}
-use Rattle.jc_cache.proofs.SessionPhases.{LooksSo, looked_longer, look_lent, number_at, shape_found, agent_same, phase_left}
+use Rattle.jc_cache.proofs.SessionPhases.{LooksSo, look_lent, number_at, shape_found, agent_same, phase_left}
 use Rattle.jc_cache.proofs.cache.Cache.look.Goals as goal
 
 pub take-stripe-requires-clause-held : goal.take-stripe-requires-clause-held
@@ -53,9 +53,8 @@ returns-clause-own g c = let old = c.args.session.now in
     let looks : Looks a c.args.out.now.items c.keys.new.out.items = subst (λ (s : State). Looks s c.args.out.now.items c.keys.new.out.items) c.deref.ensures c.keys.ensures.keys in
     let lent = look_lent old.agent.caller.session makes c.take-stripe.new.gate t a c.take-stripe.new.gate c.take-stripe.new.token c.give.new.gate c.give.new.token (c.requires.own.seats c.args.number t there).of_session
     c.take-stripe.ensures.takes c.take-stripe.ensures.found.1 c.give.ensures.gives c.give.ensures.next (refl, looks) in
-    (phase_left c.is_uniform.ensures c.args.self.now old _ c.args.number c.args.number Nothing makes makes c.take-stripe.new.gate t c.give.new.gate c.give.new.token c.requires.own refl there refl
-    (agent_same old.agent c.take-stripe.new.self c.give.new.self c.requires.own.held c.take-stripe.ensures.agent c.give.ensures.agent) (λ x y reached m. m)
-    (λ x y reached m. looked_longer old.agent.caller.session _ _ x y m) lent).1
+    (phase_left c.is_uniform.ensures c.own_steps.ensures c.args.self.now old _ c.args.number Nothing makes c.take-stripe.new.gate t c.give.new.gate c.give.new.token c.requires.own there refl
+    (agent_same old.agent c.take-stripe.new.self c.give.new.self c.requires.own.held c.take-stripe.ensures.agent c.give.ensures.agent) lent.0 lent.1).1
 
 pub returns-clause-phase : goal.returns-clause-phase
 returns-clause-phase g c = let old = c.args.session.now in
@@ -65,9 +64,8 @@ returns-clause-phase g c = let old = c.args.session.now in
     let looks : Looks a c.args.out.now.items c.keys.new.out.items = subst (λ (s : State). Looks s c.args.out.now.items c.keys.new.out.items) c.deref.ensures c.keys.ensures.keys in
     let lent = look_lent old.agent.caller.session makes c.take-stripe.new.gate t a c.take-stripe.new.gate c.take-stripe.new.token c.give.new.gate c.give.new.token (c.requires.own.seats c.args.number t there).of_session
     c.take-stripe.ensures.takes c.take-stripe.ensures.found.1 c.give.ensures.gives c.give.ensures.next (refl, looks) in
-    (phase_left c.is_uniform.ensures c.args.self.now old _ c.args.number c.args.number Nothing makes makes c.take-stripe.new.gate t c.give.new.gate c.give.new.token c.requires.own refl there refl
-    (agent_same old.agent c.take-stripe.new.self c.give.new.self c.requires.own.held c.take-stripe.ensures.agent c.give.ensures.agent) (λ x y reached m. m)
-    (λ x y reached m. looked_longer old.agent.caller.session _ _ x y m) lent).0
+    (phase_left c.is_uniform.ensures c.own_steps.ensures c.args.self.now old _ c.args.number Nothing makes c.take-stripe.new.gate t c.give.new.gate c.give.new.token c.requires.own there refl
+    (agent_same old.agent c.take-stripe.new.self c.give.new.self c.requires.own.held c.take-stripe.ensures.agent c.give.ensures.agent) lent.0 lent.1).0
 
 pub returns-clause-capacity : goal.returns-clause-capacity
 returns-clause-capacity g c = c.keys.ensures.capacity

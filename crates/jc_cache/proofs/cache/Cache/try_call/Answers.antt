@@ -14,25 +14,19 @@ index_mut-seat-requires g c =
     subst (λ (n : ℕ). c.stripe_of-at.result < n) (sym c.args.session.now.seats.ok.0)
     (seat_near c.args.self.now c.args.session.now _ c.args.key.now _ c.requires.may.own c.self.invariant.fits (ap (λ (z : CacheState). z.config) c.self.view_is) c.stripe_of-at.ensures)
 
-pub try_call-requires-clause-free : goal.try_call-requires-clause-free
-try_call-requires-clause-free g c =
+pub try_call-requires-clause-ready : goal.try_call-requires-clause-ready
+try_call-requires-clause-ready g c =
     let same : c.self.inside.config ≡ c.args.self.now.config = ap (λ (z : CacheState). z.config) c.self.view_is in
     let there : slice_get c.args.session.now.seats.items c.stripe_of-at.result ≡ Some c.index_mut-seat.result.now =
     seat_at c.args.self.now c.args.session.now _ c.args.key.now _ _ c.requires.may.own c.self.invariant.fits same c.stripe_of-at.ensures c.index_mut-seat.ensures.value in
-    free_at c.args.self.now c.args.session.now c.self.inside.locks.items c.stripe_of-at.result c.index_mut-seat.result.now c.index.result.now c.requires.may.own (ap (λ (z : CacheState). z.locks) c.self.view_is) there c.index.ensures
+    record {
+      held = ap (λ a. a.hands.held) c.next_call.ensures.call ∙ c.requires.may.own.held;
+      free = free_at c.args.self.now c.args.session.now c.self.inside.locks.items c.stripe_of-at.result c.index_mut-seat.result.now c.index.result.now c.requires.may.own (ap (λ (z : CacheState). z.locks) c.self.view_is) there c.index.ensures;
+      speaks = speaks_at c.args.self.now c.args.session.now c.next_call.new.self c.stripe_of-at.result c.index_mut-seat.result.now c.requires.may.own c.next_call.ensures.call there;
+    }
 
-pub try_call-requires-clause-speaks : goal.try_call-requires-clause-speaks
-try_call-requires-clause-speaks g c =
-    let same : c.self.inside.config ≡ c.args.self.now.config = ap (λ (z : CacheState). z.config) c.self.view_is in
-    let there : slice_get c.args.session.now.seats.items c.stripe_of-at.result ≡ Some c.index_mut-seat.result.now =
-    seat_at c.args.self.now c.args.session.now _ c.args.key.now _ _ c.requires.may.own c.self.invariant.fits same c.stripe_of-at.ensures c.index_mut-seat.ensures.value in
-    speaks_at c.args.self.now c.args.session.now c.next_call.new.self c.stripe_of-at.result c.index_mut-seat.result.now c.requires.may.own c.next_call.ensures.call there
-
-pub try_call-requires-clause-held : goal.try_call-requires-clause-held
-try_call-requires-clause-held g c = ap (λ a. a.hands.held) c.next_call.ensures.call ∙ c.requires.may.own.held
-
-pub try_call-requires-clause-needs : goal.try_call-requires-clause-needs
-try_call-requires-clause-needs g c a finds =
+pub try_call-requires-clause-begins : goal.try_call-requires-clause-begins
+try_call-requires-clause-begins g c a finds =
     let same : c.self.inside.config ≡ c.args.self.now.config = ap (λ (z : CacheState). z.config) c.self.view_is in
     let there : slice_get c.args.session.now.seats.items c.stripe_of-at.result ≡ Some c.index_mut-seat.result.now =
     seat_at c.args.self.now c.args.session.now _ c.args.key.now _ _ c.requires.may.own c.self.invariant.fits same c.stripe_of-at.ensures c.index_mut-seat.ensures.value in
@@ -44,7 +38,7 @@ returns-clause-may g c =
     let there : slice_get c.args.session.now.seats.items c.stripe_of-at.result ≡ Some c.index_mut-seat.result.now =
     seat_at c.args.self.now c.args.session.now _ c.args.key.now _ _ c.requires.may.own c.self.invariant.fits same c.stripe_of-at.ensures c.index_mut-seat.ensures.value in
     (tried c.laws.ensures.uniform c.laws.ensures.steps c.laws.ensures.numbers c.args.self.now c.args.session.now _ c.next_call.new.self c.args.key.now c.args.op.now c.stripe_of-at.result
-    c.try_call.result _ c.index_mut-seat.result.now c.try_call.new.gate c.try_call.new.token c.requires.may c.next_call.ensures.call (at_key c.args.self.now _ c.args.key.now _ same c.stripe_of-at.ensures) there refl
+    c.try_call.result _ c.index_mut-seat.result.now c.try_call.new.gate c.try_call.new.token _ c.requires.may c.next_call.ensures.call (at_key c.args.self.now _ c.args.key.now _ same c.stripe_of-at.ensures) there refl
     c.try_call.ensures.agent c.try_call.ensures.tried).1
 
 pub returns-clause-call : goal.returns-clause-call
@@ -53,5 +47,5 @@ returns-clause-call g c =
     let there : slice_get c.args.session.now.seats.items c.stripe_of-at.result ≡ Some c.index_mut-seat.result.now =
     seat_at c.args.self.now c.args.session.now _ c.args.key.now _ _ c.requires.may.own c.self.invariant.fits same c.stripe_of-at.ensures c.index_mut-seat.ensures.value in
     (tried c.laws.ensures.uniform c.laws.ensures.steps c.laws.ensures.numbers c.args.self.now c.args.session.now _ c.next_call.new.self c.args.key.now c.args.op.now c.stripe_of-at.result
-    c.try_call.result _ c.index_mut-seat.result.now c.try_call.new.gate c.try_call.new.token c.requires.may c.next_call.ensures.call (at_key c.args.self.now _ c.args.key.now _ same c.stripe_of-at.ensures) there refl
+    c.try_call.result _ c.index_mut-seat.result.now c.try_call.new.gate c.try_call.new.token _ c.requires.may c.next_call.ensures.call (at_key c.args.self.now _ c.args.key.now _ same c.stripe_of-at.ensures) there refl
     c.try_call.ensures.agent c.try_call.ensures.tried).0

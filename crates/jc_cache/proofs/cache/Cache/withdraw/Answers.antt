@@ -1,0 +1,19 @@
+use Rattle.std.proofs.Common.{◌∙◌, ap}
+use Rattle.jc_types.specs.Stripes.{stripe_of}
+use Rattle.jc_stripe.specs.declared.ticket.Reservation.{Reservation}
+use Rattle.jc_cache.specs.Caches.{CacheState}
+use Rattle.jc_cache.proofs.WholeCalls.{some_stripe, at_key, number_near}
+use Rattle.jc_cache.proofs.SessionPhases.{phase_map}
+use Rattle.jc_cache.proofs.cache.Cache.withdraw.Goals as goal
+
+pub stripe_of-at-requires : goal.stripe_of-at-requires
+stripe_of-at-requires g c = some_stripe c.self.inside.config c.self.invariant.fits
+
+pub phase_at-requires-clause-stripe : goal.phase_at-requires-clause-stripe
+phase_at-requires-clause-stripe g c = number_near c.args.self.now c.self.inside.config c.reservation.result.now.key c.stripe_of-at.result c.self.invariant.fits (ap (λ (z : CacheState). z.config) c.self.view_is) c.stripe_of-at.ensures
+
+pub returns-clause-phase : goal.returns-clause-phase
+returns-clause-phase g c =
+    phase_map _ c.stripe_of-at.result c.args.session.now _ _ _ _
+    (at_key c.args.self.now _ c.reservation.result.now.key _ (ap (λ (z : CacheState). z.config) c.self.view_is) c.stripe_of-at.ensures ∙ ap (λ (r : Reservation). stripe_of r.key c.args.self.now.config.stripes) c.reservation.ensures)
+    (λ a b m. m) c.phase_at.ensures.phase
