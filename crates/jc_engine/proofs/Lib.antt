@@ -11,3 +11,4 @@ pub mod Processing
 pub mod Unasked
 pub mod Wanted
 pub mod Later
+pub mod CallerLemmas

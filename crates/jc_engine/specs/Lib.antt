@@ -6,3 +6,4 @@ pub mod Asking
 pub mod Calls
 pub mod Owned
 pub mod Values
+pub mod MadeIn
