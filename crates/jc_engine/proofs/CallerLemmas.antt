@@ -1,8 +1,9 @@
--- Lemmas for the crates above: in which state a step was made, and on which entry.
+-- Lemmas for the crates above: in which state a step was made, and on which entry; what a whole history leaves.
 --     next_place     the place of a step that is appended is the next one
 --     shown_same     a processor's call: the entry is the same in the state in which it was committed as in the one that was found first
 --     asks_first     a processor's call that has somebody to ask asks its processor, on the entry that was found
 --     not_done       and is not done before
+--     reached_cache  what is cached is what the whole history leaves of the first opening
 use Rattle.std.proofs.Common.{◌≡◌, ◌==◌, ◌&&◌, ◌+◌, ◌++◌, ◌∷◌, map, inl, inr, ℕ, Bool, true, false, if◌then◌else◌, Option, None, Some, is_some, is_none, List, length, slice_get, append_assoc, refl, sym, ap, subst, ◌∙◌, arith}
 use Rattle.std.proofs.lemmas.List.{length-append}
 use Rattle.std.specs.FinMap.{len}
@@ -37,6 +38,7 @@ use Rattle.jc_engine.specs.declared.entering.Entered.TheVariants as entered
 use Rattle.jc_engine.specs.Needs.{Starts}
 use Rattle.jc_engine.specs.Calls.{EntersAs}
 use Rattle.jc_engine.specs.MadeIn.{IsNext}
+pub use Rattle.jc_engine.proofs.Increments.{reached_cache}
 
 -- 1. The place of a step.
 

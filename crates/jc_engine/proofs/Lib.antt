@@ -12,3 +12,4 @@ pub mod Unasked
 pub mod Wanted
 pub mod Later
 pub mod CallerLemmas
+pub mod Increments

@@ -7,3 +7,4 @@ pub mod Calls
 pub mod Owned
 pub mod Values
 pub mod MadeIn
+pub mod Increments

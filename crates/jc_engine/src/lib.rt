@@ -11,6 +11,7 @@ mod ending;
 mod entering;
 mod getting;
 mod invoking;
+pub mod laws;
 mod owned;
 mod phase;
 mod phases;
