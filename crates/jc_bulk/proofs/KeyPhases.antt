@@ -41,12 +41,12 @@ use Rattle.jc_stripe.specs.declared.begun.StepDone.{StepDone}
 use Rattle.jc_stripe.specs.declared.ticket.Reservation.{Reservation}
 use Rattle.jc_lock.specs.declared.view.View.{View}
 use Rattle.jc_lock.proofs.CallerLemmas.{prefix-refl, prefix-trans}
+use Rattle.jc_engine.specs.MadeIn.{IsNext}
 use Rattle.jc_engine.specs.Needs.{PicksUpLate, StartsAt}
+use Rattle.jc_engine.proofs.CallerLemmas.{next_place}
 use Rattle.jc_stripe.proofs.Beside.{ask_found}
 use Rattle.jc_stripe.proofs.CallerLemmas.{adds_whole, call_below, gains_whole, may_in_all, of_same, put_off_or_full}
-use Rattle.jc_cache.specs.Fronts.{IsNext}
 use Rattle.jc_cache.specs.PhaseCalls.{SeatPhase}
-use Rattle.jc_cache.proofs.CallEnds.{next_place}
 use Rattle.jc_bulk.specs.Keys.{HasBegun, HasPicked, IsCommitted, IsEarly, IsJoinFor}
 use Rattle.jc_bulk.specs.Recorded.{steps_of}
 use Rattle.jc_bulk.specs.Seats.{HasGrown}

@@ -42,7 +42,8 @@ use Rattle.jc_stripe.specs.declared.begun.Begun.TheVariants as begun
 use Rattle.jc_stripe.specs.declared.begun.Picked.{Picked}
 use Rattle.jc_stripe.specs.declared.begun.Picked.TheVariants as picked
 use Rattle.jc_lock.specs.declared.view.View.{View}
-use Rattle.jc_cache.specs.Fronts.{HasAllSeen, IsNext}
+use Rattle.jc_engine.specs.MadeIn.{IsNext}
+use Rattle.jc_cache.specs.Fronts.{HasAllSeen}
 use Rattle.jc_session.specs.declared.counts.Counted.{Counted}
 use Rattle.jc_session.specs.declared.counts.Counted.TheVariants as counted
 use Rattle.jc_bulk.specs.declared.progress.Progress.{Progress}

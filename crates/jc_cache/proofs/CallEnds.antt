@@ -8,13 +8,10 @@
 --     last_busy, was_busy
 --                      a call that waits for nobody and wasn't made: the stripe that it found last
 --     tried_left       a call that waits for nobody
---     next_place       the place of a step that is appended is the next one
 --     committed_left   a call that had somebody to ask: it is between, and its step was made, in the state in which it was committed
---     shown_same       a processor's call: the entry is the same in the state in which it was committed as in the one that was found first
 --     invoked_left     a whole call that runs a processor: its step was made in a state with the entry that was found first
-use Rattle.std.proofs.Common.{◌≡◌, ◌⊎◌, ◌==◌, ◌&&◌, ◌≤◌, ◌+◌, ◌++◌, ◌∷◌, map, ⊎_elim, inl, inr, ℕ, zero, suc, Bool, true, false, not, if◌then◌else◌, nat_lt, nat_le, Option, None, Some, is_some, is_none, Result, Ok, Err, List, [], length, slice_get, append_assoc, refl, sym, ap, subst, ◌∙◌, arith}
+use Rattle.std.proofs.Common.{◌≡◌, ◌⊎◌, ◌∷◌, ◌&&◌, ◌≤◌, ⊎_elim, inl, inr, ℕ, zero, suc, Bool, true, false, if◌then◌else◌, nat_lt, nat_le, Option, None, Some, is_none, Result, Ok, Err, List, [], length, slice_get, refl, sym, ap, subst, ◌∙◌, arith}
 use Rattle.std.proofs.lemmas.Bool.{and_parts}
-use Rattle.std.proofs.lemmas.List.{length-append}
 use mathlib.Core.List.{IsPrefix}
 use Rattle.jc_types.specs.declared.caller.Caller.{Caller}
 use Rattle.jc_types.specs.declared.limits.TheConstants.{RESERVATIONS_MAX, JOINERS_MAX}
@@ -22,35 +19,26 @@ use Rattle.jc_types.specs.declared.refusal.Refusal.{Refusal}
 use Rattle.jc_types.specs.declared.refusal.Refusal.TheVariants as refusal
 use Rattle.jc_types.specs.Refusals.{is_put_off}
 use Rattle.jc_model.specs.Cache.{Bytes, entry_at}
-use Rattle.jc_model.specs.Group.{Group, nothing_said, victim_events, evicted_events, step_event, shared_event, step_place}
-use Rattle.jc_model.specs.Table.{entry_after}
-use Rattle.jc_model.specs.declared.event.Cause.TheVariants.{Full}
+use Rattle.jc_model.specs.Group.{nothing_said}
 use Rattle.jc_model.specs.declared.event.Event.{Event}
-use Rattle.jc_model.specs.declared.event.Event.TheVariants.{Step, Evict}
+use Rattle.jc_model.specs.declared.event.Event.TheVariants.{Step}
 use Rattle.jc_model.specs.declared.event.Op.{Op}
 use Rattle.jc_model.specs.declared.event.Op.TheVariants.{Get, Invoke}
 use Rattle.jc_model.specs.declared.event.Out.{Out}
 use Rattle.jc_model.specs.declared.event.Reply.{Reply}
-use Rattle.std.specs.FinMap.{len}
-use Rattle.jc_stripe.specs.State.{State, is_reserved, is_key, reservation_of}
-use Rattle.jc_stripe.specs.Generations.{past_events, whole_history, whole_place}
-use Rattle.jc_stripe.specs.OrderOfUse.{least_used}
-use Rattle.jc_stripe.specs.Reached.{IsReached}
-use Rattle.jc_stripe.specs.Tickets.{TicketClaim, JoinClaim, entry_seen}
-use Rattle.jc_stripe.specs.Refusals.{first_asked, first_refusal, has_room, last_number, load_at, load_joined, may_join, needs_free_key, needs_reservation, places_needed}
+use Rattle.jc_stripe.specs.State.{State, is_reserved, reservation_of}
+use Rattle.jc_stripe.specs.Generations.{whole_history, whole_place}
+use Rattle.jc_stripe.specs.Tickets.{TicketClaim, JoinClaim}
+use Rattle.jc_stripe.specs.Refusals.{first_refusal, has_room, last_number, load_at, load_joined, may_join, needs_free_key, needs_reservation, places_needed}
 use Rattle.jc_stripe.specs.OnePhase.{OnePhase}
 use Rattle.jc_stripe.specs.OwnSteps.{OwnSteps, StepsBehind, may_come_all}
-use Rattle.jc_stripe.specs.Phases.{Begins, Commits, PicksUp, Steps, after_commit, new_group}
+use Rattle.jc_stripe.specs.Phases.{Begins, Commits, PicksUp, after_commit}
 use Rattle.jc_stripe.specs.declared.begun.Begun.{Begun}
 use Rattle.jc_stripe.specs.declared.begun.Begun.TheVariants as begun
 use Rattle.jc_stripe.specs.declared.begun.Picked.TheVariants as picked
 use Rattle.jc_stripe.specs.declared.begun.StepDone.{StepDone}
-use Rattle.jc_stripe.specs.declared.ticket.First.{First as Whom}
-use Rattle.jc_stripe.specs.declared.ticket.First.TheVariants as first
 use Rattle.jc_stripe.specs.declared.ticket.Reservation.{Reservation}
-use Rattle.jc_stripe.proofs.Beside.{ask_found}
 use Rattle.jc_stripe.proofs.CallerLemmas.{call_below, may_in_all, put_off_or_full}
-use Rattle.jc_stripe.proofs.SharedSteps.{stands_at}
 use Rattle.jc_lock.specs.declared.view.View.{View}
 use Rattle.jc_lock.proofs.CallerLemmas.{prefix-trans, same_on}
 use Rattle.jc_engine.specs.declared.entering.Entered.{Entered}
@@ -62,8 +50,10 @@ use Rattle.jc_engine.specs.Chain.{AllQuiet, LentPhase}
 use Rattle.jc_engine.specs.Doors.{AllFound}
 use Rattle.jc_engine.specs.declared.first.How.TheVariants.{Alone}
 use Rattle.jc_engine.specs.Needs.{Starts, StartsBy, can_start}
+use Rattle.jc_engine.specs.MadeIn.{IsNext}
+use Rattle.jc_engine.proofs.CallerLemmas.{asks_first, next_place, not_done, shown_same}
 use Rattle.jc_engine.specs.Calls.{Rejoins, Retries, EntersAs, Enters, EndsAs, IsTried}
-use Rattle.jc_cache.specs.Fronts.{HasAllSeen, HasSeen, HasMade, WasBusy, MakesStep, SeatAfter, SeatTried, IsBetween, IsNext, IsMadeIn}
+use Rattle.jc_cache.specs.Fronts.{HasAllSeen, HasSeen, HasMade, WasBusy, MakesStep, SeatAfter, SeatTried, IsBetween, IsMadeIn}
 use Rattle.jc_cache.proofs.Lendings.{lock_takes, lock_gives, lock_finds, Lending, HasGrown, seen_itself, seen_on, made_on, grown_on, grown_behind, kept, added, gained, front_grows, longer_on, rests_seen, phase_lent, all_seen, lend_seat}
 
 -- 1. First phases.
@@ -314,52 +304,6 @@ module _ {G L : Type 0} where
 
 -- 6. A call that runs a processor.
 
--- the step's place, by whether its key is missing before it, is there after it, the stripe is full, and which entry could go
-at_next : (state : State) (key : Bytes) (place : ℕ) (history : List Event) (missing has full : Bool) (least : Option Bytes) (middle last : List Event)
-    → (missing ≡ true → entry_at state.cache key ≡ None)
-    → place ≡ length (whole_history state) + length (victim_events (if (missing && has) && full then least else None))
-    → history ≡ whole_history state ++ ((victim_events (if (missing && has) && full then least else None) ++ middle) ++ last)
-    → IsNext state key place history
-at_next state key place history false has full least middle last none at is = inl (omega (arith, at))
-at_next state key place history true false full least middle last none at is = inl (omega (arith, at))
-at_next state key place history true true false least middle last none at is = inl (omega (arith, at))
-at_next state key place history true true true None middle last none at is = inl (omega (arith, at))
-at_next state key place history true true true (Some victim) middle last none at is =
-    inr (omega (arith, at), none refl, (victim, ap (λ (es : List Event). slice_get es (length (whole_history state))) is ∙ stands_at (whole_history state) (Evict victim Full) (middle ++ last)))
-
-none_is : (entry : Option Bytes) → is_none entry ≡ true → entry ≡ None
-none_is None h = refl
-none_is (Some value) h = cc
-
-pub next_place : (old new : State) (caller : Caller) (key : Bytes) (op : Op) (out : Out) (callers : List Caller) (done : StepDone) → Steps old caller key op out callers done new → IsNext old key (whole_place new done.place) (whole_history new)
-next_place old new caller key op out callers done x =
-    let group : Group = new_group old caller key op out callers x.short in
-    let entry : Option Bytes = entry_at old.cache key in
-    let past : List Event = past_events old.ended in
-    let ended : past_events new.ended ≡ past = ap (λ (s : State). past_events s.ended) x.after in
-    let far : length (past_events new.ended) ≡ length past = ap length ended in
-    let long = length-append past old.history in
-    let at = x.place in
-    at_next old key (whole_place new done.place) (whole_history new) (is_none entry) (is_some (entry_after op entry out)) (len old.cache == old.config.capacity) (least_used old)
-    (step_event group ∷ map (shared_event (step_place (length old.history) group) key out.load) group.joined) (evicted_events key group.evicted)
-    (none_is entry) (omega arith) ((λ i. ended i ++ (x.after i).history) ∙ sym (append_assoc past old.history _))
-
--- whom an entered call asks first
-abbrev first_of : Entered → Whom
-first_of (entered.Done reply) = first.Nobody
-first_of (entered.Refused refusal) = first.Nobody
-first_of (entered.Asks ticket) = ticket.reservation.first
-
--- what a processor's reservation asks is the entry
-pub shown_same : (before : State) (caller : Caller) (key : Bytes) (ticket : TicketClaim) (first : State) (out : Out) (done : StepDone) (after : State) → IsReached before → Commits before ticket.reservation out done after
-    → ticket.reservation.key ≡ key → ticket.reservation.op ≡ Invoke → first_asked first.config Invoke (entry_at first.cache key) ≡ ticket.reservation.first
-    → entry_at before.cache key ≡ entry_at first.cache key
-shown_same before caller key ticket first out done after reached commits key_is op_is asks =
-    let r : Reservation = ticket.reservation in
-    let now : first_asked before.config r.op (entry_at before.cache r.key) ≡ r.first = ask_found before.config before.cache (is_key r.key) before.reservations r commits.0 reached.asks in
-    let here : first_asked before.config Invoke (entry_at before.cache key) ≡ r.first = subst (λ (p : Op × Bytes). first_asked before.config p.0 (entry_at before.cache p.1) ≡ r.first) (λ i. (op_is i, key_is i)) now in
-    ap entry_seen (here ∙ sym asks)
-
 -- what is known of the state in which a processor's call was decided
 pub record AloneLeft {L : Type 0} (t : L × View) (caller : Caller) (key : Bytes) (asked : Out) (ended : Result Reply Refusal) (first : State) (u : L × View) : Type 0 where
   pub decided : State
@@ -394,27 +338,10 @@ module _ {G L : Type 0} where
         next,
       )
 
-  -- a processor's call that has somebody to ask asks its processor, on the entry that was found
-  asks_first : (caller : Caller) (key : Bytes) (b : Begun) (ticket : TicketClaim) (before after : State) (g : G) (t : L × View) (h : G) (u : L × View)
-      → Starts caller key Invoke b before after → EntersAs lock_takes lock_gives lock_finds caller key Invoke b (entered.Asks ticket) g t h u
-      → first_asked before.config Invoke (entry_at before.cache key) ≡ ticket.reservation.first
-  asks_first caller key (begun.Done done) ticket before after g t h u s ends = let bad = ends.0 in cc
-  asks_first caller key (begun.Refused refusal) ticket before after g t h u s ends = let bad = ends.0 in cc
-  asks_first caller key (begun.Asks mine) ticket before after g t h u s ends = s.first.begins.2 ∙ sym (ap first_of ends.0)
-  asks_first caller key (begun.Joined join) ticket before after g t h u s ends = let bad = ends.3 in cc
-
-  -- and is not done before
-  not_done : (caller : Caller) (key : Bytes) (b : Begun) (reply : Reply) (before after : State) (g : G) (t : L × View) (h : G) (u : L × View)
-      → Starts caller key Invoke b before after → EntersAs lock_takes lock_gives lock_finds caller key Invoke b (entered.Done reply) g t h u → ⊥
-  not_done caller key (begun.Done done) reply before after g t h u s ends = let bad = s.first.begins.1 in cc
-  not_done caller key (begun.Refused refusal) reply before after g t h u s ends = let bad = ends.0 in cc
-  not_done caller key (begun.Asks mine) reply before after g t h u s ends = let bad = ends.0 in cc
-  not_done caller key (begun.Joined join) reply before after g t h u s ends = let bad = s.first.begins.1 in cc
-
   ends_alone : OnePhase → OwnSteps → (caller : Caller) (key : Bytes) (b : Begun) (met : Entered) (asked : Out) (ended : Result Reply Refusal) (first next : State) (m : G) (w : L × View) (t : L × View) (k : G) (v : L × View) (h : G) (u : L × View)
       → t.1.session ≡ Some caller.session → v.0 ≡ t.0 → EnteredAt t.1 caller key Invoke met v.1 → Starts caller key Invoke b first next → EntersAs lock_takes lock_gives lock_finds caller key Invoke b met m w k v
       → EndsAs lock_takes lock_gives lock_finds caller key Invoke met asked ended k v h u → CallLeft t caller key Invoke asked ended first u → AloneLeft t caller key asked ended first u
-  ends_alone law own caller key b (entered.Done reply) asked ended first next m w t k v h u mine lock at starts enters ends left = absurd (not_done caller key b reply first next m w k v starts enters)
+  ends_alone law own caller key b (entered.Done reply) asked ended first next m w t k v h u mine lock at starts enters ends left = absurd (not_done lock_takes lock_gives lock_finds caller key b reply first next m w k v starts enters)
   ends_alone law own caller key b (entered.Refused refusal) asked ended first next m w t k v h u mine lock at starts enters ends left =
       let both = subst (λ (e : Result Reply Refusal). (l : CallLeft t caller key Invoke asked e first u) × IsMadeIn t.1 caller key Invoke asked e u.1 l.seat first) (sym ends.0)
       (subst (λ (e : Result Reply Refusal). CallLeft t caller key Invoke asked e first u) ends.0 left, tt) in
@@ -426,7 +353,7 @@ module _ {G L : Type 0} where
         decided = y.before;
         left = both.0;
         made = both.1;
-        entry = shown_same y.before caller key ticket first asked ends.0 y.after y.lent.reached y.made at.3 at.4 (asks_first caller key b ticket first next m w k v starts enters);
+        entry = shown_same y.before caller key ticket first asked ends.0 y.after y.lent.reached y.made at.3 at.4 (asks_first lock_takes lock_gives lock_finds caller key b ticket first next m w k v starts enters);
       }
 
   pub invoked_left : OnePhase → OwnSteps → StepsBehind → (caller : Caller) (key : Bytes) (met : Entered) (asked : Out) (ended : Result Reply Refusal) (g : G) (t : L × View) (k : G) (v : L × View) (h : G) (u : L × View)

@@ -14,3 +14,4 @@ pub mod Meetings
 pub mod Skipped
 pub mod Readings
 pub mod EndedGenerations
+pub mod Increments

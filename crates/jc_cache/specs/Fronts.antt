@@ -16,19 +16,16 @@
 --     SeatTried      such a call: its step was made, it was refused as busy, or, though it need ask nobody, as the state that the view keeps
 --                    says
 --     IsBetween      a state of the stripe in which a call was decided: between the former front and the present one
---     IsNext         the place of a step at a key that was made in this state: it is the next event of the state's whole history, or the
---                    next one behind the eviction that made room for the key, which was missing
 --     IsMadeIn       the call's step, if it was made, was made in this state
-use Rattle.std.specs.Prelude.{◌≡◌, ◌≤◌, ◌⊎◌, ◌+◌, ℕ, List, false, length, Option, None, Some, Result, Ok, Err, slice_get}
+use Rattle.std.specs.Prelude.{◌≡◌, ◌≤◌, ◌⊎◌, ℕ, false, length, Option, None, Some, Result, Ok, Err, slice_get}
 use mathlib.Core.List.{IsPrefix}
 use Rattle.jc_types.specs.declared.caller.Caller.{Caller}
 use Rattle.jc_types.specs.declared.refusal.Refusal.{Refusal}
 use Rattle.jc_types.specs.declared.refusal.Refusal.TheVariants.{Busy, HistoryFull}
-use Rattle.jc_model.specs.Cache.{Bytes, entry_at}
+use Rattle.jc_model.specs.Cache.{Bytes}
 use Rattle.jc_model.specs.Group.{nothing_said}
-use Rattle.jc_model.specs.declared.event.Cause.TheVariants.{Full}
 use Rattle.jc_model.specs.declared.event.Event.{Event}
-use Rattle.jc_model.specs.declared.event.Event.TheVariants.{Step, Evict}
+use Rattle.jc_model.specs.declared.event.Event.TheVariants.{Step}
 use Rattle.jc_model.specs.declared.event.Op.{Op}
 use Rattle.jc_model.specs.declared.event.Out.{Out}
 use Rattle.jc_model.specs.declared.event.Reply.{Reply}
@@ -42,6 +39,7 @@ use Rattle.jc_stripe.specs.OwnSteps.{HasOneMore}
 use Rattle.jc_lock.specs.declared.view.View.{View}
 use Rattle.jc_engine.specs.Needs.{can_start}
 use Rattle.jc_engine.specs.declared.first.How.TheVariants.{Alone}
+use Rattle.jc_engine.specs.MadeIn.{IsNext}
 
 -- 1. One seat.
 
@@ -108,11 +106,6 @@ pub record IsBetween (before : View) (state : State) (after : View) : Type 0 whe
   pub later : IsPrefix (whole_history state) after.front
 
 -- 3. The state in which a call's step was made.
-
-abbrev pub IsNext : State → Bytes → ℕ → List Event → Type 0
-IsNext state key place history =
-    (place ≡ length (whole_history state))
-    ⊎ ((place ≡ length (whole_history state) + 1) × (entry_at state.cache key ≡ None) × ((victim : Bytes) × (slice_get history (length (whole_history state)) ≡ Some (Evict victim Full))))
 
 abbrev pub IsMadeIn : (before : View) (caller : Caller) (key : Bytes) (op : Op) (asked : Out) (ended : Result Reply Refusal) (after : View) → SeatAfter before caller key op asked ended after → State → Type 0
 IsMadeIn before caller key op asked (Ok reply) after seat state = IsNext state key seat.place after.front

@@ -13,3 +13,5 @@ pub mod Wanted
 pub mod Later
 pub mod NotMade
 pub mod Counted
+pub mod CallerLemmas
+pub mod Increments

@@ -7,3 +7,5 @@ pub mod Calls
 pub mod Owned
 pub mod Values
 pub mod Doors
+pub mod MadeIn
+pub mod Increments

@@ -13,6 +13,7 @@ mod first;
 mod getting;
 mod invoking;
 mod joining;
+pub mod laws;
 mod owned;
 mod trying;
 

@@ -28,7 +28,7 @@ use Rattle.jc_bulk.specs.Recorded.{steps_of}
 use Rattle.jc_bulk.specs.Seats.{HasGrown, Moves, view_at, view_of}
 use Rattle.jc_bulk.proofs.CallerLemmas.{Seated, and_left, grown_itself, grown_on, longer, no-steps, not_here, place_or, refused_later, refused_since, still-before, there_on, waiting_many, waiting_there}
 use Rattle.jc_lock.proofs.CallerLemmas.{prefix-trans, same_on}
-use Rattle.jc_cache.specs.Fronts.{IsNext}
+use Rattle.jc_engine.specs.MadeIn.{IsNext}
 use Rattle.jc_invoke.specs.Keys.{IsAt, IsSoFar, invoke_ops}
 
 -- 1. One key.

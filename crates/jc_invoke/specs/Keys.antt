@@ -30,7 +30,8 @@ use Rattle.jc_stripe.specs.Reached.{IsReached}
 use Rattle.jc_stripe.specs.declared.ticket.Reservation.{Reservation}
 use Rattle.jc_lock.specs.declared.view.View.{View}
 use Rattle.jc_cache.specs.Caches.{CacheState}
-use Rattle.jc_cache.specs.Fronts.{HasAllSeen, IsNext}
+use Rattle.jc_engine.specs.MadeIn.{IsNext}
+use Rattle.jc_cache.specs.Fronts.{HasAllSeen}
 use Rattle.jc_cache.specs.Sessions.{IsOf}
 use Rattle.jc_cache.specs.declared.session.Session.{Session}
 use Rattle.jc_bulk.specs.declared.progress.Progress.{Progress}
