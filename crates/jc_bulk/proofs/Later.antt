@@ -4,7 +4,6 @@
 --     settled_all        nothing is out
 --     refused_stay       keys that wait are refused: those that have ended stay so
 --     refused_on         the call under way, once the keys that waited are refused
---     paused_on          the call under way, after a pause
 use Rattle.std.proofs.Common.{◌≡◌, ◌++◌, ℕ, zero, suc, List, [], ◌∷◌, map, slice_get, true, false, Option, Some, Result, inl, refl, sym, ap, ◌∙◌, subst}
 use Rattle.std.proofs.lemmas.List.{length-map}
 use Rattle.std.proofs.lemmas.Option.{same_Some}
@@ -130,15 +129,3 @@ module _ {I J : Type 0} {D : I → Type 0} {E : J → Type 0} where
         joins_are = none_are is_joined (λ key op join. IsJoinFor caller (view_of n first key) key op join) targets (map refused_if_waiting ps)
             (λ i r there. let from = map_from ps i r there in ap is_joined from.2 ∙ refused_not_joined from.0 (none_in is_joined (λ key op join. IsJoinFor caller (view_of n first key) key op join) targets ps u.so_far.many u.joins_are i from.0 from.1));
       }
-
-  pub paused_on : (cache : CacheState) (caller : Caller) (targets : List (Bytes × Op)) (rounds : List Round) (first : List Seated) (old new : Session I J D E) (ps : List Progress)
-      → IsOf cache new → new.seats.items ≡ old.seats.items → new.agent ≡ old.agent → IsUnderway cache caller targets rounds first old ps [] [] → IsUnderway cache caller targets rounds first new ps [] []
-  paused_on cache caller targets rounds first old new ps own seats agent u = record {
-    own = own;
-    caller_is = ap (λ (a : Agent I J D E). a.caller) agent ∙ u.caller_is;
-    reservations = ap (λ (a : Agent I J D E). a.counts.reservations) agent ∙ u.reservations;
-    joins_out = ap (λ (a : Agent I J D E). a.counts.joins) agent ∙ u.joins_out;
-    so_far = subst (λ (xs : List Seated). IsSoFar caller cache.config.stripes targets rounds first xs ps) (sym seats) u.so_far;
-    calls_are = u.calls_are;
-    joins_are = u.joins_are;
-  }

@@ -8,7 +8,7 @@ ghost use Rattle.jc_bulk.specs.Calls.{reserved_keys, with_answers, with_call};
 ghost use Rattle.jc_stripe.specs.Refusals.{last_number};
 ghost use Rattle.jc_engine.specs.Asking.{KeepsTypes};
 ghost use Rattle.jc_cache.specs.Caches.{CacheState};
-ghost use Rattle.jc_cache.specs.Sessions.{IsOf};
+ghost use Rattle.jc_cache.specs.Sessions.{HoldsNothing, IsOf};
 ghost use Rattle.jc_bulk.specs.CallsInside.{IsAnswered, batch_room, out_of};
 ghost use Rattle.jc_bulk.specs.Rounds.{Round, CallsOnce, answer_to, round_returned};
 
@@ -168,7 +168,7 @@ impl Calls {
     ///
     /// Conditions: the session holds no stripe; if the calls write or delete, it has a writer.
     pub fn ask<R: Wait>(self, rt: &R, session: &mut Session) -> (AnsweredCalls, Result<(), u32>)
-        requires held { session.old.agent.hands.held ≡ 0 }
+        requires nothing { HoldsNothing session.old }
         requires asked { HasOneToAsk self.kind session.old.agent.hands.outside.writer }
         ensures own { (cache : CacheState) → IsOf cache session.old → IsOf cache session.new }
         ensures round { (round : Round) × IsAskedOf self.kind self.items round

@@ -111,8 +111,10 @@ pub fn commit_written<R: Wait>(
 /// Waits for the answer of a load that the session's current call has joined at a key. `Again` says that the load was given back
 /// unanswered; `NotYet` isn't answered.
 ///
-/// Conditions: the session is of this cache; the join is of its current call, which has made no step at the key.
+/// Conditions: the session is of this cache, and has no reservation out; the join is of its current call, which has made no step at
+/// the key.
 pub fn pick_key<R: Wait>(rt: &R, cache: &Cache, session: &mut Session, join: Join) -> Picked
+    requires reservations { session.old.agent.counts.reservations ≡ 0 }
     requires own { IsOf cache.now session.old }
     requires caller { join.caller ≡ session.old.agent.caller }
     requires early { IsEarly session.old.agent.caller }

@@ -8,7 +8,6 @@ ghost use Rattle.jc_types.specs.declared.caller.Caller.{Caller};
 ghost use Rattle.jc_model.specs.declared.event.Op.TheVariants.{Get};
 ghost use Rattle.jc_stripe.specs.Tickets.{JoinClaim};
 ghost use Rattle.jc_stripe.specs.declared.begun.Picked.{Picked as PickedState};
-ghost use Rattle.jc_stripe.specs.declared.ticket.Reservation.{Reservation};
 ghost use Rattle.jc_lock.specs.declared.view.View.{View};
 ghost use Rattle.jc_session.specs.Counting.{counts_after, counted_picked};
 ghost use Rattle.jc_cache.specs.Sessions.{IsOf};
@@ -32,7 +31,7 @@ use jc_types::Value;
 use std::sync::Wait;
 
 /// The pick-ups of a round, at each key that has joined a load, in their order. It waits until each load was answered, or was given
-/// back.
+/// back. Nothing is reserved meanwhile: each reservation of the round has ended.
 pub(crate) fn pick_round<R: Wait>(
     rt: &R,
     cache: &Cache,
@@ -42,15 +41,15 @@ pub(crate) fn pick_round<R: Wait>(
     joins: &mut Vec<Join>,
 )
     requires distinct { IsDistinct (pointwise ◌==◌) (keys_of (ops_of targets.now)) }
-    requires underway { (caller : Caller) × (rounds : List Round) × (first : List (TableId × View)) × (calls : List Reservation)
-        × IsUnderway cache.now caller (ops_of targets.now) rounds first session.old progress.old calls joins.old.items }
+    requires underway { (caller : Caller) × (rounds : List Round) × (first : List (TableId × View))
+        × IsUnderway cache.now caller (ops_of targets.now) rounds first session.old progress.old [] joins.old.items }
     ensures goes { GoesOn session.old.seats.items session.new.seats.items progress.old progress.new }
     ensures agent { session.new.agent ≡ record session.old.agent { counts = session.new.agent.counts } }
     ensures room { vec_capacity joins.new ≡ vec_capacity joins.old }
     ensures none { joins.new.items ≡ [] }
-    ensures underway { (caller : Caller) (rounds : List Round) (first : List (TableId × View)) (calls : List Reservation)
-        → IsUnderway cache.now caller (ops_of targets.now) rounds first session.old progress.old calls joins.old.items
-        → IsUnderway cache.now caller (ops_of targets.now) rounds first session.new progress.new calls [] }
+    ensures underway { (caller : Caller) (rounds : List Round) (first : List (TableId × View))
+        → IsUnderway cache.now caller (ops_of targets.now) rounds first session.old progress.old [] joins.old.items
+        → IsUnderway cache.now caller (ops_of targets.now) rounds first session.new progress.new [] [] }
 {
     let _types: Option<&(Reply, Value)> = None;
     joins.reverse();
@@ -72,15 +71,15 @@ fn pick_at<R: Wait>(
     requires distinct { IsDistinct (pointwise ◌==◌) (keys_of (ops_of targets.now)) }
     requires place { place < length progress.old }
     requires before { AreUnder is_joined place progress.old }
-    requires underway { (caller : Caller) × (rounds : List Round) × (first : List (TableId × View)) × (calls : List Reservation)
-        × IsUnderway cache.now caller (ops_of targets.now) rounds first session.old progress.old calls (reverse joins.old.items) }
+    requires underway { (caller : Caller) × (rounds : List Round) × (first : List (TableId × View))
+        × IsUnderway cache.now caller (ops_of targets.now) rounds first session.old progress.old [] (reverse joins.old.items) }
     ensures goes { GoesOn session.old.seats.items session.new.seats.items progress.old progress.new }
     ensures agent { session.new.agent ≡ record session.old.agent { counts = session.new.agent.counts } }
     ensures room { vec_capacity joins.new ≡ vec_capacity joins.old }
     ensures before { AreUnder is_joined (place + 1) progress.new }
-    ensures underway { (caller : Caller) (rounds : List Round) (first : List (TableId × View)) (calls : List Reservation)
-        → IsUnderway cache.now caller (ops_of targets.now) rounds first session.old progress.old calls (reverse joins.old.items)
-        → IsUnderway cache.now caller (ops_of targets.now) rounds first session.new progress.new calls (reverse joins.new.items) }
+    ensures underway { (caller : Caller) (rounds : List Round) (first : List (TableId × View))
+        → IsUnderway cache.now caller (ops_of targets.now) rounds first session.old progress.old [] (reverse joins.old.items)
+        → IsUnderway cache.now caller (ops_of targets.now) rounds first session.new progress.new [] (reverse joins.new.items) }
 {
     let _types: Option<&(Reply, Value)> = None;
     if is_joined(&progress[place]) {
@@ -105,14 +104,14 @@ fn pick_next<R: Wait>(
     requires place { place < length progress.old }
     requires there { slice_get progress.old place ≡ Some Joined }
     requires before { AreUnder is_joined place progress.old }
-    requires underway { (caller : Caller) × (rounds : List Round) × (first : List (TableId × View)) × (calls : List Reservation) × (rest : List JoinClaim)
-        × IsUnderway cache.now caller (ops_of targets.now) rounds first session.old progress.old calls (join ∷ rest) }
+    requires underway { (caller : Caller) × (rounds : List Round) × (first : List (TableId × View)) × (rest : List JoinClaim)
+        × IsUnderway cache.now caller (ops_of targets.now) rounds first session.old progress.old [] (join ∷ rest) }
     ensures progress { (p : ProgressState) × (is_joined p ≡ false) × (progress.new ≡ slice_set progress.old place p) }
     ensures agent { session.new.agent ≡ record session.old.agent { counts = session.new.agent.counts } }
     ensures grown { (i : ℕ) → HasGrown (view_at session.old.seats.items i) (view_at session.new.seats.items i) }
-    ensures underway { (caller : Caller) (rounds : List Round) (first : List (TableId × View)) (calls : List Reservation) (rest : List JoinClaim)
-        → IsUnderway cache.now caller (ops_of targets.now) rounds first session.old progress.old calls (join ∷ rest)
-        → IsUnderway cache.now caller (ops_of targets.now) rounds first session.new progress.new calls rest }
+    ensures underway { (caller : Caller) (rounds : List Round) (first : List (TableId × View)) (rest : List JoinClaim)
+        → IsUnderway cache.now caller (ops_of targets.now) rounds first session.old progress.old [] (join ∷ rest)
+        → IsUnderway cache.now caller (ops_of targets.now) rounds first session.new progress.new [] rest }
 {
     let _types: Option<&(Reply, Value)> = None;
     progress[place] = pick(rt, cache, session, join);
@@ -120,6 +119,7 @@ fn pick_next<R: Wait>(
 
 /// The pick-up of a join.
 fn pick<R: Wait>(rt: &R, cache: &Cache, session: &mut Session, join: Join) -> Progress
+    requires reservations { session.old.agent.counts.reservations ≡ 0 }
     requires own { IsOf cache.now session.old }
     requires caller { join.caller ≡ session.old.agent.caller }
     requires early { IsEarly session.old.agent.caller }

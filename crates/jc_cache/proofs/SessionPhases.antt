@@ -1,5 +1,6 @@
 -- One phase of a session, from that of its agent over the lock of one seat.
 --     picked_late              a pick-up that waits isn't too early
+--     holds_nothing            a session of a cache holds nothing between two calls
 --     of_asked                 a session that has asked its loader or its writer is of the cache as before
 --     of_same                  so is one that has the same seats and the same agent
 --     set_itself               a row of seats in which a seat is replaced by itself
@@ -52,7 +53,7 @@ use Rattle.jc_engine.proofs.Counted.{steps_in, counted_longer}
 use Rattle.jc_cache.specs.Caches.{CacheState}
 use Rattle.jc_cache.specs.Fronts.{IsSameSeat}
 use Rattle.jc_cache.specs.PhaseCalls.{SeatPhase, PhaseAt, MayStart}
-use Rattle.jc_cache.specs.Sessions.{IsSeatAt, IsOf, own_total, capped}
+use Rattle.jc_cache.specs.Sessions.{IsSeatAt, IsOf, HoldsNothing, own_total, capped}
 use Rattle.jc_cache.specs.declared.session.Session.{Session}
 use Rattle.jc_cache.proofs.Lendings.{lock_takes, lock_gives, lock_finds, Lending, phase_lent}
 use Rattle.jc_cache.proofs.Rows.{Seated, locks_of, length_locks}
@@ -237,6 +238,9 @@ module _ {I J : Type 0} {D : I → Type 0} {E : J → Type 0} where
       gave ∙ ap (λ (a : Agent I J D E). record a { hands = record a.hands { held = 0 } }) took ∙ ap (λ (n : ℕ). record old { hands = record old.hands { held = n } }) (sym free)
 
   -- 6. A call outside.
+
+  pub holds_nothing : (cache : CacheState) (session : Session I J D E) → IsOf cache session → HoldsNothing session
+  holds_nothing cache session of = record { held = of.held; seats = λ i seat there. (of.seats i seat there).free }
 
   pub of_asked : (cache : CacheState) (old new : Session I J D E) → new ≡ record old { agent = record old.agent { hands = new.agent.hands } } → new.agent.hands.held ≡ 0
       → (IsSome old.agent.hands.outside.loader → IsSome new.agent.hands.outside.loader) → (IsSome old.agent.hands.outside.writer → IsSome new.agent.hands.outside.writer) → IsOf cache old → IsOf cache new

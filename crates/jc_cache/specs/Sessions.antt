@@ -4,6 +4,7 @@
 --     capped        a number, or the last one if it is beyond that
 --     IsOf          a session is one of this cache's: its seats are at this cache's locks and its session's alone, its hands hold
 --                   nothing, it has the loader and the writer that the cache's shape asks for, and it counts its own steps
+--     HoldsNothing  a session's hands hold nothing, and none of its seats has taken its stripe
 --     BeginsAt      a session's seats have noted and seen what those of the cache's owner have: so it begins
 --     MayCall       such a session may begin its next call: it has no reservation and no join out, and its own steps are all of calls
 --                   before that one
@@ -42,6 +43,10 @@ pub record IsOf {I J : Type 0} {D : I → Type 0} {E : J → Type 0} (cache : Ca
   pub loads : cache.config.read_through ≡ true → IsSome session.agent.hands.outside.loader
   pub writes : cache.config.write_through ≡ true → IsSome session.agent.hands.outside.writer
   pub own : session.agent.counts.own ≡ capped (own_total session.seats.items)
+
+pub record HoldsNothing {I J : Type 0} {D : I → Type 0} {E : J → Type 0} (session : Session I J D E) : Type 0 where
+  pub held : session.agent.hands.held ≡ 0
+  pub seats : (i : ℕ) (seat : TableId × View) → slice_get session.seats.items i ≡ Some seat → seat.1.holds ≡ false
 
 pub record BeginsAt {I J : Type 0} {D : I → Type 0} {E : J → Type 0} (owner : OwnerState) (session : Session I J D E) : Type 0 where
   pub noted : noted_by session.seats.items ≡ owner.noted

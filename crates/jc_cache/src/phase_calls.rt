@@ -139,9 +139,11 @@ impl Cache {
 
     /// The answer of a load that a call has joined. It waits until the load was answered, or was given back (`Again`).
     ///
-    /// Conditions: the session is of this cache, and the join is of the session.
+    /// Conditions: the session is of this cache, and has no reservation out, so that nobody waits for it meanwhile; the join is of the
+    /// session.
     pub fn wait_for_load<R: Wait>(&self, rt: &R, session: &mut Session, join: Join) -> Picked
         requires own { IsOf self.now session.old }
+        requires reservations { session.old.agent.counts.reservations ≡ 0 }
         requires caller { join.caller.session ≡ session.old.agent.caller.session }
         ensures own { IsOf self.now session.new }
         ensures phase { PhaseAt (stripe_of join.key self.now.config.stripes) session.old
@@ -229,6 +231,9 @@ impl Cache {
     ///
     /// Conditions: the session is of this cache, and the phase is of the session; there is a stripe of this number, and each state in
     /// which the session may find it has what the phase needs.
+    ///
+    /// In line, as `lend` is.
+    #[inline(always)]
     fn phase_at<P: Phase, R: Wait>(
         &self,
         rt: &R,

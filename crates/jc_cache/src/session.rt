@@ -13,7 +13,7 @@ ghost use Rattle.jc_stripe.specs.Tickets.{Claim, asks_loader, asks_processor, en
 ghost use Rattle.jc_session.specs.Boxed.{boxed};
 ghost use Rattle.jc_cache.specs.Calls.{next_call};
 ghost use Rattle.jc_cache.specs.Caches.{CacheState};
-ghost use Rattle.jc_cache.specs.Sessions.{IsOf};
+ghost use Rattle.jc_cache.specs.Sessions.{HoldsNothing, IsOf};
 
 use jc_batch::Batch;
 use jc_lock::Seat;
@@ -67,7 +67,7 @@ impl Session {
     ///
     /// Conditions: the session holds no stripe, as between any two calls; the ask's reservation asks the loader first.
     pub fn ask_loader<R: Wait>(&mut self, rt: &R, ask: Ask) -> LoadDone<Ask>
-        requires held { self.old.agent.hands.held ≡ 0 }
+        requires nothing { HoldsNothing self.old }
         requires first { asks_loader ask.reservation.first ≡ true }
         ensures done { (result.ask ≡ ask) × (result.origin ≡ Live) × (is_load_given result.answer ≡ true) }
         ensures loader { LoadsOnce (boxed loads) (boxed load_state)
@@ -87,7 +87,7 @@ impl Session {
     ///
     /// Conditions: the session holds no stripe, as between any two calls, and has a writer; the ask has a change.
     pub fn ask_writer<R: Wait>(&mut self, rt: &R, ask: Ask) -> WriteDone<Ask>
-        requires held { self.old.agent.hands.held ≡ 0 }
+        requires nothing { HoldsNothing self.old }
         requires change { is_some ask.change ≡ true }
         requires writer { IsSome self.old.agent.hands.outside.writer }
         ensures done { (result.ask ≡ ask) × (result.origin ≡ Live) × (is_write_given result.answer ≡ true) }
@@ -116,7 +116,7 @@ impl Session {
         processor: &mut Box<dyn EntryProcessor + Send + Drop>,
         args: &[Value],
     ) -> ProcDone<Ask>
-        requires held { self.old.agent.hands.held ≡ 0 }
+        requires nothing { HoldsNothing self.old }
         requires first { asks_processor ask.reservation.first ≡ true }
         ensures done { (result.ask ≡ ask) × (result.origin ≡ Live) × (is_process_given result.process ≡ true) }
         ensures run { RunsOnce processes process_state
@@ -147,7 +147,7 @@ impl Session {
         batch: LoadBatch,
         done: &mut Vec<LoadDone<Ask>>,
     )
-        requires held { self.old.agent.hands.held ≡ 0 }
+        requires nothing { HoldsNothing self.old }
         requires batch { batch.items ≡ map (λ (ask : Claim). ask.reservation.key) asks.items }
         requires room { vec_len done.old + vec_len asks ≤ vec_capacity done.old }
         ensures own { (cache : CacheState) → IsOf cache self.old → IsOf cache self.new }
@@ -179,7 +179,7 @@ impl Session {
         batch: Batch,
         done: &mut Vec<WriteDone<Ask>>,
     ) -> Result<(), u32>
-        requires held { self.old.agent.hands.held ≡ 0 }
+        requires nothing { HoldsNothing self.old }
         requires writer { IsSome self.old.agent.hands.outside.writer }
         requires batch { changes_of batch
             ≡ asked_changes (λ (ask : Claim). ask.reservation.key) (λ (ask : Claim). ask.change) asks.items }

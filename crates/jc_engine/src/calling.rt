@@ -57,6 +57,9 @@ pub fn call<G: Gate, R: Wait>(
 }
 
 /// Asks the loader or the writer, whichever the ticket's reservation asks first, and commits the call. It gives the step's reply.
+///
+/// Out of line: a call that is done at once shouldn't clear the room of what is answered.
+#[inline(never)]
 fn ask_and_end<G: Gate, R: Wait>(
     rt: &R,
     gate: &mut G,
@@ -122,8 +125,8 @@ fn ask_writer<G: Gate, R: Wait>(
 
 /// The last phase of a call that was answered.
 ///
-/// Out of line: so the room of a step is cleared once.
-#[inline(never)]
+/// In line: a ticket, an answer and a step are large, and shouldn't be copied once more.
+#[inline(always)]
 pub(crate) fn end<G: Gate, A: Answer, R: Wait>(
     rt: &R,
     gate: &mut G,

@@ -325,19 +325,5 @@ module _ {I J : Type 0} {D : I → Type 0} {E : J → Type 0} where
             (λ i r there. let from = map_from ps i r there in ap is_reserved from.2 ∙ refused_free from.0 (none_in is_reserved (IsTicketFor caller cache.config) (invoke_ops keys) ps u.so_far.many u.calls_are i from.0 from.1));
       }
 
-  pub paused_on : (S : Bytes → Option Bytes → Out → Type 0) (cache : CacheState) (caller : Caller) (keys : List Bytes) (first : List Seated) (old new : Session I J D E) (ps : List Progress)
-      → IsOf cache new → new.seats.items ≡ old.seats.items → new.agent ≡ old.agent → IsUnderway S cache caller keys first old ps [] → IsUnderway S cache caller keys first new ps []
-  paused_on S cache caller keys first old new ps own seats agent u = record {
-    own = own;
-    caller_is = ap (λ (a : Agent I J D E). a.caller) agent ∙ u.caller_is;
-    reservations = ap (λ (a : Agent I J D E). a.counts.reservations) agent ∙ u.reservations;
-    joins_out = ap (λ (a : Agent I J D E). a.counts.joins) agent ∙ u.joins_out;
-    so_far = subst (λ (xs : List Seated). IsSoFar S caller cache.config.stripes keys first xs ps) (sym seats) u.so_far;
-    calls_are = u.calls_are;
-  }
-
   pub types_on : (old mid new : Agent I J D E) → KeepsTypes old mid → KeepsTypes mid new → KeepsTypes old new
   types_on old mid new one two = (two.0 ∙ one.0, two.1 ∙ one.1)
-
-  pub types_same : (old new : Agent I J D E) → new.hands ≡ old.hands → KeepsTypes old new
-  types_same old new same = (ap (λ h. option_map (λ b. b.vtable) h.outside.loader) same, ap (λ h. option_map (λ b. b.vtable) h.outside.writer) same)

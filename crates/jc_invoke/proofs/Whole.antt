@@ -110,12 +110,6 @@ module _ {P L W : Type 0} (processes : ProcessRelation P) (process_state : P →
       → CallsEach processes process_state loads load_state writes_all deletes_all write_state args through p l u (round ∷ []) q m v
   one_call round p q l m u v call = (q, m, v, call, (refl, refl, refl))
 
-  pub calls_from : (rounds : List InvokeRound) (p q : P) (k l m : Option L) (u v w : Option W) → l ≡ k → v ≡ u → CallsEach processes process_state loads load_state writes_all deletes_all write_state args through p l v rounds q m w
-      → CallsEach processes process_state loads load_state writes_all deletes_all write_state args through p k u rounds q m w
-  calls_from rounds p q k l m u v w same same' each =
-      subst (λ x. CallsEach processes process_state loads load_state writes_all deletes_all write_state args through p x u rounds q m w) same
-      (subst (λ x. CallsEach processes process_state loads load_state writes_all deletes_all write_state args through p l x rounds q m w) same' each)
-
 -- 3. The call.
 
 module _ {I J P Z : Type 0} {D : I → Type 0} {E : J → Type 0} {F : P → Type 0}

@@ -8,7 +8,7 @@ ghost use Rattle.jc_outside.specs.CallingAll.{writes_done};
 ghost use Rattle.jc_stripe.specs.Tickets.{Claim};
 ghost use Rattle.jc_session.specs.Boxed.{boxed};
 ghost use Rattle.jc_cache.specs.Caches.{CacheState};
-ghost use Rattle.jc_cache.specs.Sessions.{IsOf};
+ghost use Rattle.jc_cache.specs.Sessions.{HoldsNothing, IsOf};
 ghost use Rattle.jc_batch.specs.Changes.{changes_of};
 ghost use Rattle.jc_bulk.specs.Calls.{is_change_of, is_delete};
 ghost use Rattle.jc_bulk.specs.CallsInside.{batch_room};
@@ -98,7 +98,7 @@ impl BatchCall {
     ///
     /// Conditions: the session holds no stripe; if anything is asked for, it has a writer.
     pub(crate) fn ask<R: Wait>(self, rt: &R, session: &mut Session) -> Vec<WriteDone<Ask>>
-        requires held { session.old.agent.hands.held ≡ 0 }
+        requires nothing { HoldsNothing session.old }
         requires writer { (self.items ≡ [] → ⊥) → IsSome session.old.agent.hands.outside.writer }
         ensures own { (cache : CacheState) → IsOf cache session.old → IsOf cache session.new }
         ensures writer { (said : Bytes → WriteAnswer)

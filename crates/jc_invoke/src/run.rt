@@ -9,7 +9,7 @@ ghost use Rattle.jc_outside.specs.Calling.{KeepsType};
 ghost use Rattle.jc_stripe.specs.Tickets.{claim_of, entry_seen, is_loadable};
 ghost use Rattle.jc_session.specs.Boxed.{boxed};
 ghost use Rattle.jc_cache.specs.Caches.{CacheState};
-ghost use Rattle.jc_cache.specs.Sessions.{IsOf};
+ghost use Rattle.jc_cache.specs.Sessions.{HoldsNothing, IsOf};
 ghost use Rattle.jc_bulk.specs.CallsInside.{reserved_by};
 ghost use Rattle.jc_bulk.specs.Calls.{reserved_keys};
 ghost use Rattle.jc_invoke.specs.Room.{IsDone, IsFresh, are_fresh, asked_keys, claims_after, key_run, reservations_of};
@@ -126,7 +126,7 @@ fn run_one<R: Wait>(
     writes: &mut BatchCall,
     deletes: &mut BatchCall,
 ) -> Run
-    requires held { session.old.agent.hands.held ≡ 0 }
+    requires nothing { HoldsNothing session.old }
     requires fresh { IsFresh ticket }
     requires kinds { (writes.old.deletes ≡ false) × (deletes.old.deletes ≡ true) }
     requires room { (0 < writes.old.room) × (0 < deletes.old.room) }

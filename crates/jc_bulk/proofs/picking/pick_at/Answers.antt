@@ -1,4 +1,4 @@
-use Rattle.std.proofs.Common.{◌+◌, reverse, refl, sym, ap, subst, ◌∙◌}
+use Rattle.std.proofs.Common.{◌+◌, [], reverse, refl, sym, ap, subst, ◌∙◌}
 use Rattle.std.proofs.lemmas.Option.{slice_get-get_or}
 use Rattle.jc_bulk.specs.declared.progress.Progress.TheVariants.{Joined}
 use Rattle.jc_bulk.specs.KeyProgress.{is_joined}
@@ -15,13 +15,13 @@ pick_next-requires-clause-there g c = joined_at c.args.progress.now c.args.place
 pub pick_next-requires-clause-underway : goal.pick_next-requires-clause-underway
 pick_next-requires-clause-underway g c =
     let r = c.requires.underway in
-    (r.0, r.1, r.2, r.3, reverse c.pop.new.self.items, subst (IsUnderway c.args.cache.now r.0 (ops_of c.args.targets.now) r.1 r.2 c.args.session.now c.args.progress.now r.3) (last_first c.args.joins.now.items c.pop.new.self.items c.in-Some.join c.in-Some.ensures.items) r.4)
+    (r.0, r.1, r.2, reverse c.pop.new.self.items, subst (IsUnderway c.args.cache.now r.0 (ops_of c.args.targets.now) r.1 r.2 c.args.session.now c.args.progress.now []) (last_first c.args.joins.now.items c.pop.new.self.items c.in-Some.join c.in-Some.ensures.items) r.3)
 
 pub unreachable-requires : goal.unreachable-requires
 unreachable-requires g c =
     let r = c.requires.underway in
-    none_joined c.args.cache.now r.0 (ops_of c.args.targets.now) r.1 r.2 c.args.session.now c.args.progress.now r.3 (reverse c.args.joins.now.items) c.args.place (ap reverse (none_long c.args.joins.now.items (sym c.args.joins.now.ok.0 ∙ c.in-None.ensures.cases.0)))
-    (joined_at c.args.progress.now c.args.place c.index-progress-place.result c.requires.place (sym c.is_joined.ensures ∙ c.if-is_joined.true)) r.4
+    none_joined c.args.cache.now r.0 (ops_of c.args.targets.now) r.1 r.2 c.args.session.now c.args.progress.now [] (reverse c.args.joins.now.items) c.args.place (ap reverse (none_long c.args.joins.now.items (sym c.args.joins.now.ok.0 ∙ c.in-None.ensures.cases.0)))
+    (joined_at c.args.progress.now c.args.place c.index-progress-place.result c.requires.place (sym c.is_joined.ensures ∙ c.if-is_joined.true)) r.3
 
 pub returns-in-Some-clause-goes : goal.returns-in-Some-clause-goes
 returns-in-Some-clause-goes g c =
@@ -37,9 +37,9 @@ returns-in-Some-clause-before g c =
     subst (AreUnder is_joined (c.args.place + 1)) (sym c.pick_next.ensures.progress.2) (under_set is_joined c.args.progress.now c.args.place c.pick_next.ensures.progress.0 c.pick_next.ensures.progress.1 c.requires.before)
 
 pub returns-in-Some-clause-underway : goal.returns-in-Some-clause-underway
-returns-in-Some-clause-underway g c caller rounds first calls u =
-    c.pick_next.ensures.underway caller rounds first calls (reverse c.pop.new.self.items)
-    (subst (IsUnderway c.args.cache.now caller (ops_of c.args.targets.now) rounds first c.args.session.now c.args.progress.now calls) (last_first c.args.joins.now.items c.pop.new.self.items c.in-Some.join c.in-Some.ensures.items) u)
+returns-in-Some-clause-underway g c caller rounds first u =
+    c.pick_next.ensures.underway caller rounds first (reverse c.pop.new.self.items)
+    (subst (IsUnderway c.args.cache.now caller (ops_of c.args.targets.now) rounds first c.args.session.now c.args.progress.now []) (last_first c.args.joins.now.items c.pop.new.self.items c.in-Some.join c.in-Some.ensures.items) u)
 
 pub returns-else-is_joined-clause-before : goal.returns-else-is_joined-clause-before
 returns-else-is_joined-clause-before g c =

@@ -61,7 +61,7 @@ pick_round-requires-clause-underway g c =
     (subst (λ xs. IsUnderway c.args.cache.now r.0 (ops_of c.args.targets.now) r.1 r.2 c.args.session.now c.args.progress.now xs c.args.joins.now.items) (sym c.requires.none.0)
     (subst (λ ys. IsUnderway c.args.cache.now r.0 (ops_of c.args.targets.now) r.1 r.2 c.args.session.now c.args.progress.now [] ys) (sym c.requires.none.1) r.4)))
     (asked_stay c.args.cache.now.config (ops_of c.args.targets.now) r.1 c.args.progress.now c.start_round.new.progress c.start_round.ensures.goes.stay r.3) in
-    (r.0, r.1 ++ e.0, r.2, [], e.6)
+    (r.0, r.1 ++ e.0, r.2, e.6)
 
 pub returns-clause-goes : goal.returns-clause-goes
 returns-clause-goes g c = goes_both _ _ _ _ _ _ (goes_both _ _ _ _ _ _ c.start_round.ensures.goes c.end_calls-fault.ensures.goes) c.pick_round.ensures.goes
@@ -103,7 +103,7 @@ returns-clause-underway g c caller rounds first u a =
       noted_round c.args.cause.now c.note_first.new.cause c.note_fault.new.cause c.note_first-2.new.cause c.end_calls-fault.result c.start_round.new.progress c.pick_round.new.progress (faults_in e.0)
           (stay_on _ _ _ c.end_calls-fault.ensures.goes.stay c.pick_round.ensures.goes.stay) c.note_first.ensures c.note_fault.ensures c.note_first-2.ensures e.3,
       asked_stay c.args.cache.now.config (ops_of c.args.targets.now) (rounds ++ e.0) c.end_calls-fault.new.progress c.pick_round.new.progress c.pick_round.ensures.goes.stay e.4,
-      c.pick_round.ensures.underway caller (rounds ++ e.0) first [] e.6,
+      c.pick_round.ensures.underway caller (rounds ++ e.0) first e.6,
       round_starts c.args.cache.now caller c.args.targets.now rounds first c.args.session.now c.start_round.new.session c.args.progress.now c.start_round.new.progress c.pick_round.new.progress c.args.calls c.start_round.new.calls c.start_round.new.joins.items
           (vec_capacity c.args.joins.now) c.pick_round.new.session.seats.items e.0 e.1 c.requires.distinct u started c.requires.none.0 c.start_round.ensures.fills c.start_round.ensures.goes.stay
           (goes_both _ _ _ _ _ _ c.end_calls-fault.ensures.goes c.pick_round.ensures.goes)

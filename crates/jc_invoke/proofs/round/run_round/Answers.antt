@@ -11,6 +11,7 @@ use Rattle.jc_invoke.proofs.Once.{run_more, run_stay}
 use Rattle.jc_invoke.proofs.Runs.{calls_round, has_writer, reported, round_of}
 use Rattle.jc_invoke.proofs.Underway.{asked_on, keys_distinct, settled_all}
 use Rattle.jc_invoke.proofs.Whole.{said_more}
+use Rattle.jc_cache.proofs.SessionPhases.{holds_nothing}
 use Rattle.jc_invoke.proofs.round.run_round.Goals as goal
 
 pub start_round-requires-clause-settled : goal.start_round-requires-clause-settled
@@ -27,10 +28,10 @@ run_each-requires-clause-distinct g c =
     let r = c.requires.underway in
     distinct_reserved r.0 c.args.cache.now.config (invoke_ops c.args.keys.now) c.start_round.new.progress (map reserved_by c.start_round.new.tickets.items) (keys_distinct c.args.keys.now c.requires.distinct) (c.start_round.ensures.underway r.0 r.1 r.2 r.3).calls_are
 
-pub ask-written-requires-clause-held : goal.ask-written-requires-clause-held
-ask-written-requires-clause-held g c =
+pub ask-written-requires-clause-nothing : goal.ask-written-requires-clause-nothing
+ask-written-requires-clause-nothing g c =
     let r = c.requires.underway in
-    (c.run_each.ensures.own c.args.cache.now (c.start_round.ensures.underway r.0 r.1 r.2 r.3).own).held
+    holds_nothing _ _ (c.run_each.ensures.own c.args.cache.now (c.start_round.ensures.underway r.0 r.1 r.2 r.3).own)
 
 pub ask-written-requires-clause-writer : goal.ask-written-requires-clause-writer
 ask-written-requires-clause-writer g c some =
@@ -38,10 +39,10 @@ ask-written-requires-clause-writer g c some =
     let of = c.run_each.ensures.own c.args.cache.now (c.start_round.ensures.underway r.0 r.1 r.2 r.3).own in
     has_writer c.config.result.now.write_through false c.run_each.new.runs.items c.run_each.new.writes.items c.run_each.new.session.agent.hands.outside.writer c.run_each.ensures.writes.0 (λ on. of.writes (sym (ap (λ k. k.write_through) c.config.ensures.config) ∙ on)) some
 
-pub ask-deleted-requires-clause-held : goal.ask-deleted-requires-clause-held
-ask-deleted-requires-clause-held g c =
+pub ask-deleted-requires-clause-nothing : goal.ask-deleted-requires-clause-nothing
+ask-deleted-requires-clause-nothing g c =
     let r = c.requires.underway in
-    (c.ask-written.ensures.own c.args.cache.now (c.run_each.ensures.own c.args.cache.now (c.start_round.ensures.underway r.0 r.1 r.2 r.3).own)).held
+    holds_nothing _ _ (c.ask-written.ensures.own c.args.cache.now (c.run_each.ensures.own c.args.cache.now (c.start_round.ensures.underway r.0 r.1 r.2 r.3).own))
 
 pub ask-deleted-requires-clause-writer : goal.ask-deleted-requires-clause-writer
 ask-deleted-requires-clause-writer g c some =

@@ -3,8 +3,8 @@ use Rattle.jc_bulk.specs.KeyProgress.{StayEnded}
 use Rattle.jc_invoke.specs.Keys.{HasRun, IsUnderway}
 use Rattle.jc_invoke.specs.Runs.{IsRunOf}
 use Rattle.jc_invoke.proofs.Once.{run_stay}
-use Rattle.jc_invoke.proofs.Underway.{paused_on, refused_on, refused_stay, types_on, types_same}
-use Rattle.jc_invoke.proofs.Whole.{calls_from, one_call}
+use Rattle.jc_invoke.proofs.Underway.{refused_on, refused_stay}
+use Rattle.jc_invoke.proofs.Whole.{one_call}
 use Rattle.jc_invoke.proofs.rounds.run_later_round.Goals as goal
 
 pub wait_for_change-requires-clause-own : goal.wait_for_change-requires-clause-own
@@ -17,27 +17,14 @@ pub run_round-requires-clause-room : goal.run_round-requires-clause-room
 run_round-requires-clause-room g c = (_, c.in-Ok.ensures)
 
 pub run_round-requires-clause-underway : goal.run_round-requires-clause-underway
-run_round-requires-clause-underway g c =
-    let r = c.requires.underway in
-    (r.0, r.1, r.2, paused_on (IsRunOf c.args.cache.now.config.write_through r.1) c.args.cache.now r.0 c.args.keys.now r.2 c.args.session.now c.wait_for_change.new.session c.args.progress.now c.wait_for_change.ensures.own c.wait_for_change.ensures.seats c.wait_for_change.ensures.agent r.3)
-
-pub returns-in-Ok-clause-types : goal.returns-in-Ok-clause-types
-returns-in-Ok-clause-types g c = (
-  types_on c.args.session.now.agent c.wait_for_change.new.session.agent c.run_round.new.session.agent
-      (types_same c.args.session.now.agent c.wait_for_change.new.session.agent (ap (λ a. a.hands) c.wait_for_change.ensures.agent)) c.run_round.ensures.types.0,
-  c.run_round.ensures.types.1,
-)
+run_round-requires-clause-underway g c = c.requires.underway
 
 pub returns-in-Ok-clause-underway : goal.returns-in-Ok-clause-underway
 returns-in-Ok-clause-underway g c caller rounds first u has =
-    let e = c.run_round.ensures.underway caller rounds first
-    (paused_on (IsRunOf c.args.cache.now.config.write_through rounds) c.args.cache.now caller c.args.keys.now first c.args.session.now c.wait_for_change.new.session c.args.progress.now c.wait_for_change.ensures.own c.wait_for_change.ensures.seats c.wait_for_change.ensures.agent u) has in (
+    let e = c.run_round.ensures.underway caller rounds first u has in (
       e.0 ∷ [],
-      calls_from _ _ _ _ _ _ _ c.args.args.now c.args.cache.now.config.write_through (e.0 ∷ []) c.args.processor.now c.run_round.new.processor c.args.session.now.agent.hands.outside.loader c.wait_for_change.new.session.agent.hands.outside.loader c.run_round.new.session.agent.hands.outside.loader
-          c.args.session.now.agent.hands.outside.writer c.wait_for_change.new.session.agent.hands.outside.writer c.run_round.new.session.agent.hands.outside.writer
-          (ap (λ a. a.hands.outside.loader) c.wait_for_change.ensures.agent) (ap (λ a. a.hands.outside.writer) c.wait_for_change.ensures.agent)
-          (one_call _ _ _ _ _ _ _ c.args.args.now c.args.cache.now.config.write_through e.0 c.args.processor.now c.run_round.new.processor c.wait_for_change.new.session.agent.hands.outside.loader c.run_round.new.session.agent.hands.outside.loader
-          c.wait_for_change.new.session.agent.hands.outside.writer c.run_round.new.session.agent.hands.outside.writer e.1),
+      one_call _ _ _ _ _ _ _ c.args.args.now c.args.cache.now.config.write_through e.0 c.args.processor.now c.run_round.new.processor c.args.session.now.agent.hands.outside.loader c.run_round.new.session.agent.hands.outside.loader
+          c.args.session.now.agent.hands.outside.writer c.run_round.new.session.agent.hands.outside.writer e.1,
       e.2,
       e.3,
     )

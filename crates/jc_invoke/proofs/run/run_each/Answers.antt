@@ -3,10 +3,11 @@ use Rattle.jc_bulk.specs.CallsInside.{reserved_by}
 use Rattle.jc_bulk.proofs.CallerLemmas.{last_first}
 use Rattle.jc_invoke.specs.Room.{are_fresh}
 use Rattle.jc_invoke.proofs.Runs.{claims_push, items_then, next_new, one_of, rest_on, runs_push}
+use Rattle.jc_cache.proofs.SessionPhases.{holds_nothing}
 use Rattle.jc_invoke.proofs.run.run_each.Goals as goal
 
-pub run_one-run-requires-clause-held : goal.run_one-run-requires-clause-held
-run_one-run-requires-clause-held g c = (c.running.invariant.own c.requires.own.0 c.requires.own.1).held
+pub run_one-run-requires-clause-nothing : goal.run_one-run-requires-clause-nothing
+run_one-run-requires-clause-nothing g c = holds_nothing _ _ (c.running.invariant.own c.requires.own.0 c.requires.own.1)
 
 pub run_one-run-requires-clause-new : goal.run_one-run-requires-clause-new
 run_one-run-requires-clause-new g c =
