@@ -1,7 +1,6 @@
 -- Generations that a session ends.
 --     end_of           what a stripe says of it
 --     turn_of          a generation was ended, or the stripe is as it was
---     ended_turn       so it may be given back
 --     ended_seen       the seat has seen what it had seen
 --     ended_may        the session may call as before
 use Rattle.std.proofs.Common.{◌≡◌, ◌<◌, ℕ, inl, inr, ⊎_elim, List, length, set, slice_get, Option, Some, None, Result, Ok, Err, IfOk, IfErr, ◌++◌, refl, sym, ap, subst, ◌∙◌, arith}
@@ -13,7 +12,7 @@ use Rattle.jc_model.specs.declared.event.Event.{Event}
 use Rattle.jc_stripe.specs.State.{State}
 use Rattle.jc_stripe.specs.Generations.{whole_history}
 use Rattle.jc_stripe.specs.Renewal.{Renewal, Renews, StaysOrRenews, EndsGeneration}
-use Rattle.jc_lock.specs.Views.{IsPhaseBy, IsTurnBy, Finds, after_take, after_give, own_steps_of}
+use Rattle.jc_lock.specs.Views.{Finds, after_give, own_steps_of}
 use Rattle.jc_lock.specs.declared.view.View.{View}
 use Rattle.jc_lock.proofs.CallerLemmas.{same_on}
 use Rattle.jc_cache.specs.Caches.{CacheState}
@@ -23,7 +22,7 @@ use Rattle.jc_cache.specs.Meeting.{KeepRow}
 use Rattle.jc_cache.specs.Sessions.{MayCall}
 use Rattle.jc_cache.specs.declared.session.Session.{Session}
 use Rattle.jc_cache.proofs.Lendings.{seen_itself}
-use Rattle.jc_cache.proofs.Meetings.{got_set, got_other, row_set, may_stay, idle_phase, refreshed_seen}
+use Rattle.jc_cache.proofs.Meetings.{got_set, got_other, row_set, may_stay, refreshed_seen}
 use Rattle.jc_cache.proofs.Rows.{Seated}
 
 pub turn_of : {A : Type 0} (answer : Result (Option ℕ) A) (old new : List Event) (found left : State) → IsEndOf answer old new found left → StaysOrRenews found left
@@ -36,12 +35,6 @@ pub end_of : {A : Type 0} (answer : Result (Option ℕ) A) (old new : List Event
     → IsEndOf answer old new found left
 end_of (Ok ended) old new found left ok err = ok
 end_of (Err failed) old new found left ok err = err
-
-pub ended_turn : (v w : View) (found left : State) → (session : ℕ) × (v.session ≡ Some session) → w ≡ after_take v found → StaysOrRenews found left → IsTurnBy w.session w.noted left
-ended_turn v w found left session is turn = ⊎_elim
-    (λ same. subst (IsTurnBy w.session w.noted) (sym same) (idle_phase v w found session is))
-    (λ renews. inr (subst (λ (z : View). Renews z.noted left) (sym is) renews))
-    turn
 
 renewed_seen : (v : View) (found left : State) → (session : ℕ) × (v.session ≡ Some session) → Renewal → Finds v found → Renews found left → HasSeen v (after_give v left)
 renewed_seen v found left session law finds renews =

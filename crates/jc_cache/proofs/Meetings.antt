@@ -3,7 +3,6 @@
 --     row_set                     a row of seats is kept if one of them has seen more
 --     HasRest, rest_set           from a place on a row is as it was, and then from the next one on
 --     TellBelow, tell_next, tell_all    what is told at the first stripes, at one more, and at all
---     idle_phase                  a stripe may be given back as it was found
 --     refreshed_seen, joined_seen    a seat that was refreshed, and one that was told, have seen what they had seen
 --     there_row                   the seat at a place of a row of a session's seats
 --     teller_seen, hearer_seen    each seat of a row has seen what it had seen
@@ -19,7 +18,7 @@ use Rattle.jc_model.specs.declared.event.Event.{Event}
 use Rattle.jc_stripe.specs.OwnSteps.{is_before_call}
 use Rattle.jc_stripe.specs.State.{State}
 use Rattle.jc_stripe.specs.Generations.{IsOfSameStripe}
-use Rattle.jc_lock.specs.Views.{IsPhaseBy, IsTurnBy, Finds, after_take, after_give, after_join, own_steps_of}
+use Rattle.jc_lock.specs.Views.{Finds, after_give, after_join, own_steps_of}
 use Rattle.jc_lock.specs.declared.view.View.{View}
 use Rattle.jc_lock.proofs.CallerLemmas.{same_itself}
 use Rattle.jc_session.specs.Counting.{one_more}
@@ -85,10 +84,6 @@ tell_all xs ys xs' ys' n locks long le below i a b a' b' at_a = let near = slice
 own_found : (v : View) (state : State) → (session : ℕ) × (v.session ≡ Some session) → Finds v state → own_steps_of v.session state ≡ v.own
 own_found v state session finds = ap (λ o. own_steps_of o state) session.1 ∙ finds.own session.0 session.1
 
-pub idle_phase : (v w : View) (state : State) → (session : ℕ) × (v.session ≡ Some session) → w ≡ after_take v state → IsTurnBy w.session w.noted state
-idle_phase v w state session is =
-    inl (subst (λ (z : View). IsPhaseBy z.session z.noted state) (sym is) (subst (λ (o : Option ℕ). IsPhaseBy o state state) (sym session.1) (inl refl)))
-
 pub refreshed_seen : (v w : View) (state : State) → (session : ℕ) × (v.session ≡ Some session) → Finds v state → w ≡ after_give v state → HasSeen v w
 refreshed_seen v w state session finds is = subst (HasSeen v) (sym is) record {
   seat = record { session = refl; next_session = refl; spent = refl; free = refl; same = finds.same; next = finds.next };
@@ -112,13 +107,13 @@ joined_seen v w other free is front = record {
 
 -- 4. A session's seats.
 
-pub there_row : (xs ys : List Seated) (locks : List TableId) (i : ℕ) (seat : Seated) (lock : TableId) → AreSessionSeats locks xs → KeepRow xs ys → HasRest i xs ys → i < length locks
-    → seat ≡ get_or ys i seat → lock ≡ get_or locks i lock → (slice_get ys i ≡ Some seat) × IsSessionSeat lock seat
-there_row xs ys locks i seat lock are row rest near at_seat at_lock =
+pub there_row : (xs ys : List Seated) (locks : List TableId) (i : ℕ) (seat : Seated) (lock : TableId) (session : ℕ) → AreSessionSeats locks session xs → KeepRow xs ys → HasRest i xs ys → i < length locks
+    → seat ≡ get_or ys i seat → lock ≡ get_or locks i lock → (slice_get ys i ≡ Some seat) × IsSessionSeat lock session seat
+there_row xs ys locks i seat lock session are row rest near at_seat at_lock =
     let now = row.locks ∙ are.0 in
     let there = slice_get_read ys (length locks) i seat (sym (length_locks ys locks now)) near at_seat in
     let is = lock_there ys locks i seat lock now there (slice_get_read locks (length locks) i lock refl near at_lock) in
-    (there, subst (λ (l : TableId). IsSessionSeat l seat) is (are.1 i seat (sym (rest i (le_refl i)) ∙ there)))
+    (there, subst (λ (l : TableId). IsSessionSeat l session seat) is (are.1 i seat (sym (rest i (le_refl i)) ∙ there)))
 
 teller_seen : (xs ys xs' ys' : List Seated) (locks : List TableId) → locks_of xs ≡ locks → locks_of ys ≡ locks → KeepRow xs xs' → KeepRow ys ys' → TellEach xs ys xs' ys'
     → (i : ℕ) (a' : Seated) → slice_get xs' i ≡ Some a' → (a : Seated) × (slice_get xs i ≡ Some a) × HasSeen a.1 a'.1

@@ -4,7 +4,7 @@
 --                       the teller's front is a prefix of the hearer's
 --     TellEach          so it is at each stripe, of two rows of seats before and after
 --     Meets             so it is of two sessions, and all else of both stays
---     IsSessionSeat     a seat of a session at this lock, which has not taken the stripe
+--     IsSessionSeat     a seat of this session at this lock, which has not taken the stripe
 --     AreSessionSeats   so is each of a row, at each of these locks
 --     KeepRow           a row of seats is at the same locks, and has as many own steps
 use Rattle.std.specs.Prelude.{◌≡◌, ℕ, List, map, false, Some, slice_get}
@@ -41,14 +41,14 @@ pub record Meets {I J : Type 0} {D : I → Type 0} {E : J → Type 0} (teller he
 
 -- 2. Rows of seats.
 
-pub record IsSessionSeat (lock : TableId) (seat : TableId × View) : Type 0 where
+pub record IsSessionSeat (lock : TableId) (session : ℕ) (seat : TableId × View) : Type 0 where
   pub at : seat.0 ≡ lock
-  pub session : (session : ℕ) × (seat.1.session ≡ Some session)
+  pub session_is : seat.1.session ≡ Some session
   pub free : seat.1.holds ≡ false
 
-abbrev pub AreSessionSeats : List TableId → List (TableId × View) → Type 0
-AreSessionSeats locks seats = (map (λ (seat : TableId × View). seat.0) seats ≡ locks)
-    × ((i : ℕ) (seat : TableId × View) → slice_get seats i ≡ Some seat → IsSessionSeat seat.0 seat)
+abbrev pub AreSessionSeats : List TableId → ℕ → List (TableId × View) → Type 0
+AreSessionSeats locks session seats = (map (λ (seat : TableId × View). seat.0) seats ≡ locks)
+    × ((i : ℕ) (seat : TableId × View) → slice_get seats i ≡ Some seat → IsSessionSeat seat.0 session seat)
 
 pub record KeepRow (before after : List (TableId × View)) : Type 0 where
   pub locks : map (λ (seat : TableId × View). seat.0) after ≡ map (λ (seat : TableId × View). seat.0) before

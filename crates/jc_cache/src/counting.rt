@@ -12,6 +12,7 @@ use crate::session::Session;
 use jc_lock::{HistLock, Seat};
 use jc_model::Statistics;
 use jc_model::statistics::statistics_laws;
+use jc_session::Agent;
 use std::sync::Wait;
 
 impl Cache {
@@ -30,13 +31,20 @@ impl Cache {
         ensures reads { Reads session.old session.new }
         ensures counted { result ≡ statistics_of (all_events (noted_by session.new.seats.items)) }
     {
-        read_each(rt, &self.locks, &mut session.seats)
+        read_each(rt, &self.locks, &mut session.agent, &mut session.seats)
     }
 }
 
 /// Reads at each of these locks what its stripe counts, and counts it all together.
-fn read_each<R: Wait>(rt: &R, locks: &[HistLock], seats: &mut Vec<Seat>) -> Statistics
-    requires { AreSessionSeats locks.now seats.old.items }
+fn read_each<R: Wait>(
+    rt: &R,
+    locks: &[HistLock],
+    agent: &mut Agent,
+    seats: &mut Vec<Seat>,
+) -> Statistics
+    requires held { agent.old.hands.held ≡ 0 }
+    requires seats { AreSessionSeats locks.now agent.old.caller.session seats.old.items }
+    ensures agent { agent.new ≡ agent.old }
     ensures keeps { KeepRow seats.old.items seats.new.items }
     ensures reads { HasReadEach seats.old.items seats.new.items }
     ensures counted { result ≡ statistics_of (all_events (noted_by seats.new.items)) }
@@ -44,20 +52,23 @@ fn read_each<R: Wait>(rt: &R, locks: &[HistLock], seats: &mut Vec<Seat>) -> Stat
     statistics_laws();
     let mut total = Statistics::new();
     for i in 0..locks.len() {
-        total = total.together(&read_at(rt, &locks[i], &mut seats[i]));
+        total = total.together(&read_at(rt, &locks[i], agent, &mut seats[i]));
     }
     total
 }
 
 /// Takes the stripe, reads what it counts, and gives it back.
-fn read_at<R: Wait>(rt: &R, lock: &HistLock, seat: &mut Seat) -> Statistics
-    requires { IsSessionSeat lock.now seat.old }
+fn read_at<R: Wait>(rt: &R, lock: &HistLock, agent: &mut Agent, seat: &mut Seat) -> Statistics
+    requires held { agent.old.hands.held ≡ 0 }
+    requires seat { IsSessionSeat lock.now agent.old.caller.session seat.old }
+    ensures agent { agent.new ≡ agent.old }
     ensures lock { seat.new.0 ≡ seat.old.0 }
     ensures reads { HasRead seat.old.1 seat.new.1 }
     ensures counted { result ≡ statistics_of (whole_history seat.new.1.noted) }
 {
-    let stripe = lock.take(rt, seat);
+    let mut gate = lock;
+    let stripe = agent.take(rt, &mut gate, seat);
     let statistics = stripe.statistics();
-    lock.give(seat, stripe);
+    agent.give_back(&mut gate, seat, stripe);
     statistics
 }

@@ -11,6 +11,7 @@ use crate::cache::Cache;
 use crate::session::Session;
 use jc_lock::{HistLock, Seat};
 use jc_model::Event;
+use jc_session::Agent;
 use jc_stripe::phase_laws::renewal;
 use std::alloc::AllocError;
 use std::sync::Wait;
@@ -41,7 +42,8 @@ impl Cache {
         ensures ended { EndsAt stripe session.old
             (λ found left. IsEndOf result out.old.items out.new.items found left) session.new }
     {
-        end_at(rt, &self.locks[stripe], &mut session.seats[stripe], out)
+        let seat = &mut session.seats[stripe];
+        end_at(rt, &self.locks[stripe], &mut session.agent, seat, out)
     }
 }
 
@@ -49,18 +51,22 @@ impl Cache {
 fn end_at<R: Wait>(
     rt: &R,
     lock: &HistLock,
+    agent: &mut Agent,
     seat: &mut Seat,
     out: &mut Vec<Event>,
 ) -> Result<Option<u64>, AllocError>
-    requires { IsSessionSeat lock.now seat.old }
+    requires held { agent.old.hands.held ≡ 0 }
+    requires seat { IsSessionSeat lock.now agent.old.caller.session seat.old }
+    ensures agent { agent.new ≡ agent.old }
     ensures lock { seat.new.0 ≡ seat.old.0 }
     ensures ended { (found : State) × (left : State) × Finds seat.old.1 found
         × IsEndOf result out.old.items out.new.items found left
         × (seat.new.1 ≡ after_give seat.old.1 left) × HasSeen seat.old.1 seat.new.1 }
 {
     renewal();
-    let mut stripe = lock.take(rt, seat);
+    let mut gate = lock;
+    let mut stripe = agent.take(rt, &mut gate, seat);
     let ended = stripe.end_generation(out);
-    lock.give(seat, stripe);
+    agent.give_back(&mut gate, seat, stripe);
     ended
 }

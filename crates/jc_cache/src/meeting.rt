@@ -1,11 +1,12 @@
 //! Two sessions meet: one tells the other what it has seen.
-ghost use Rattle.std.specs.Prelude.{◌≡◌};
+ghost use Rattle.std.specs.Prelude.{ℕ, ◌≡◌};
 ghost use Rattle.jc_cache.specs.Meeting.{TellsAt, TellEach, Meets, IsSessionSeat, AreSessionSeats, KeepRow};
 ghost use Rattle.jc_cache.specs.Sessions.{MayCall};
 
 use crate::cache::Cache;
 use crate::session::Session;
 use jc_lock::{HistLock, Seat};
+use jc_session::Agent;
 use std::sync::Wait;
 
 impl Cache {
@@ -24,32 +25,50 @@ impl Cache {
         ensures hearer { MayCall self.now hearer.new }
         ensures met { Meets teller.old hearer.old teller.new hearer.new }
     {
-        tell_each(rt, &self.locks, &mut teller.seats, &mut hearer.seats);
+        let agent = &mut teller.agent;
+        tell_each(rt, &self.locks, agent, &mut teller.seats, &mut hearer.seats);
     }
 }
 
 /// At each of these locks the seat of the first row is brought up to date, and tells the seat of the second row what it has seen.
-fn tell_each<R: Wait>(rt: &R, locks: &[HistLock], tellers: &mut Vec<Seat>, hearers: &mut Vec<Seat>)
-    requires tellers { AreSessionSeats locks.now tellers.old.items }
-    requires hearers { AreSessionSeats locks.now hearers.old.items }
+fn tell_each<R: Wait>(
+    rt: &R,
+    locks: &[HistLock],
+    agent: &mut Agent,
+    tellers: &mut Vec<Seat>,
+    hearers: &mut Vec<Seat>,
+)
+    requires held { agent.old.hands.held ≡ 0 }
+    requires tellers { AreSessionSeats locks.now agent.old.caller.session tellers.old.items }
+    requires hearers { (session : ℕ) × AreSessionSeats locks.now session hearers.old.items }
+    ensures agent { agent.new ≡ agent.old }
     ensures tellers { KeepRow tellers.old.items tellers.new.items }
     ensures hearers { KeepRow hearers.old.items hearers.new.items }
     ensures told { TellEach
         tellers.old.items hearers.old.items tellers.new.items hearers.new.items }
 {
     for i in 0..locks.len() {
-        tell_at(rt, &locks[i], &mut tellers[i], &mut hearers[i]);
+        tell_at(rt, &locks[i], agent, &mut tellers[i], &mut hearers[i]);
     }
 }
 
 /// The teller's seat takes the stripe and gives it back, and tells the hearer's what it has seen.
-fn tell_at<R: Wait>(rt: &R, lock: &HistLock, teller: &mut Seat, hearer: &mut Seat)
-    requires teller { IsSessionSeat lock.now teller.old }
-    requires hearer { IsSessionSeat lock.now hearer.old }
+fn tell_at<R: Wait>(
+    rt: &R,
+    lock: &HistLock,
+    agent: &mut Agent,
+    teller: &mut Seat,
+    hearer: &mut Seat,
+)
+    requires held { agent.old.hands.held ≡ 0 }
+    requires teller { IsSessionSeat lock.now agent.old.caller.session teller.old }
+    requires hearer { (session : ℕ) × IsSessionSeat lock.now session hearer.old }
+    ensures agent { agent.new ≡ agent.old }
     ensures locks { (teller.new.0 ≡ teller.old.0) × (hearer.new.0 ≡ hearer.old.0) }
     ensures told { TellsAt teller.old.1 hearer.old.1 teller.new.1 hearer.new.1 }
 {
-    let stripe = lock.take(rt, teller);
-    lock.give(teller, stripe);
+    let mut gate = lock;
+    let stripe = agent.take(rt, &mut gate, teller);
+    agent.give_back(&mut gate, teller, stripe);
     lock.tell(teller, hearer);
 }

@@ -9,6 +9,7 @@ use Rattle.jc_cache.proofs.counting.read_each.Given as goal
 
 abbrev pub invariant-loop-i : goal.invariant-loop-i
 invariant-loop-i g l = record {
+  agent : l.agent ≡ l.initial.agent;
   keeps : KeepRow l.initial.seats.items l.seats.items;
   rest : HasRest l.i l.initial.seats.items l.seats.items;
   read : ReadBelow l.i l.initial.seats.items l.seats.items;

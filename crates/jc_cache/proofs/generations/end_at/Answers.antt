@@ -1,19 +1,28 @@
-use Rattle.std.proofs.Common.{◌≡◌, ◌∙◌, ap, subst, sym}
+use Rattle.std.proofs.Common.{◌≡◌, ◌∙◌, ap, subst, sym, Some}
 use Rattle.jc_stripe.specs.State.{State}
 use Rattle.jc_lock.specs.Views.{after_give}
-use Rattle.jc_lock.specs.declared.view.View.{View}
 use Rattle.jc_cache.specs.Fronts.{HasSeen}
 use Rattle.jc_cache.specs.Generations.{IsEndOf}
-use Rattle.jc_cache.proofs.EndedGenerations.{end_of, turn_of, ended_turn, ended_seen}
+use Rattle.jc_cache.proofs.EndedGenerations.{end_of, turn_of, ended_seen}
+use Rattle.jc_cache.proofs.SessionPhases.{agent_same}
 use Rattle.jc_cache.proofs.generations.end_at.Goals as goal
 
-pub give-requires-clause-phase : goal.give-requires-clause-phase
-give-requires-clause-phase g c =
+pub give_back-requires-clause-held : goal.give_back-requires-clause-held
+give_back-requires-clause-held g c = ap (λ a. a.hands.held) c.take-stripe.ensures.agent
+
+pub give_back-requires-clause-speaks : goal.give_back-requires-clause-speaks
+give_back-requires-clause-speaks g c = c.take-stripe.ensures.speaks _ c.requires.seat.session_is ∙ ap (λ a. Some a.caller.session) (sym c.take-stripe.ensures.agent)
+
+pub give_back-requires-clause-rest : goal.give_back-requires-clause-rest
+give_back-requires-clause-rest g c =
     let found : State = c.take-stripe.result.value in
     let left : State = c.end_generation-ended.new.self in
     let end = subst (λ (s : State). IsEndOf c.end_generation-ended.result c.args.out.now.items c.end_generation-ended.new.out.items s left) c.deref_mut.ensures.value
     (end_of c.end_generation-ended.result _ _ c.deref_mut.result.now left c.end_generation-ended.ensures.ended c.end_generation-ended.ensures.err) in
-    ended_turn c.args.seat.now.1 c.take-stripe.new.seat.1 found left c.requires.session c.take-stripe.ensures.taken (turn_of c.end_generation-ended.result _ _ found left end)
+    (found, c.take-stripe.ensures.taken, turn_of c.end_generation-ended.result _ _ found left end)
+
+pub returns-clause-agent : goal.returns-clause-agent
+returns-clause-agent g c = agent_same c.args.agent.now c.take-stripe.new.self c.give_back.new.self c.requires.held c.take-stripe.ensures.agent c.give_back.ensures.agent
 
 pub returns-clause-ended : goal.returns-clause-ended
 returns-clause-ended g c =
@@ -22,11 +31,11 @@ returns-clause-ended g c =
     let left : State = c.end_generation-ended.new.self in
     let end = subst (λ (s : State). IsEndOf c.end_generation-ended.result c.args.out.now.items c.end_generation-ended.new.out.items s left) c.deref_mut.ensures.value
     (end_of c.end_generation-ended.result _ _ c.deref_mut.result.now left c.end_generation-ended.ensures.ended c.end_generation-ended.ensures.err) in
-    let is : c.give.new.seat.1 ≡ after_give v left = c.give.ensures.seat ∙ ap (λ (z : View). after_give z left) c.take-stripe.ensures.taken in (
+    let is : c.give_back.new.token.1 ≡ after_give v left = ap (λ z. z.1) c.give_back.ensures.gives ∙ ap (λ z. after_give z.1 left) c.take-stripe.ensures.takes.0 in (
       found,
       left,
-      c.take-stripe.ensures.found,
+      c.take-stripe.ensures.found.0,
       end,
       is,
-      subst (HasSeen v) (sym is) (ended_seen v found left c.requires.session c.renewal.ensures c.take-stripe.ensures.found (turn_of c.end_generation-ended.result _ _ found left end)),
+      subst (HasSeen v) (sym is) (ended_seen v found left (_, c.requires.seat.session_is) c.renewal.ensures c.take-stripe.ensures.found.0 (turn_of c.end_generation-ended.result _ _ found left end)),
     )

@@ -1,9 +1,11 @@
+use Rattle.std.specs.Prelude.{◌≡◌}
 use Rattle.jc_cache.specs.Meeting.{KeepRow}
 use Rattle.jc_cache.proofs.Meetings.{HasRest, TellBelow}
 use Rattle.jc_cache.proofs.meeting.tell_each.Given as goal
 
 abbrev pub invariant-loop-i : goal.invariant-loop-i
 invariant-loop-i g l = record {
+  agent : l.agent ≡ l.initial.agent;
   tellers : KeepRow l.initial.tellers.items l.tellers.items;
   hearers : KeepRow l.initial.hearers.items l.hearers.items;
   teller_rest : HasRest l.i l.initial.tellers.items l.tellers.items;
