@@ -1,9 +1,10 @@
 -- A whole call on a stripe that nobody else has.
+--     there_is      the stripe that the owner has
 --     owner_at      the one phase leads from what the owner had to what it has
 --     no_retries    nobody is told to retry on an idle stripe
 --     ends_owned    how the call ends there
 --     owned_call    the whole call
-use Rattle.std.proofs.Common.{◌≡◌, ◌+◌, ◌∙◌, ℕ, zero, suc, List, [], ◌∷◌, Bool, true, false, cond, Option, Some, None, Result, Ok, Err, refl, sym, ap, subst}
+use Rattle.std.proofs.Common.{◌≡◌, ◌+◌, ◌∙◌, ℕ, zero, suc, List, [], ◌∷◌, Bool, true, false, cond, Option, Some, None, IsSome, Result, Ok, Err, refl, sym, ap, subst}
 use Rattle.std.proofs.lemmas.Option.{same_Some}
 use Rattle.jc_types.specs.declared.caller.Caller.{Caller}
 use Rattle.jc_types.specs.declared.refusal.Refusal.{Refusal}
@@ -58,6 +59,10 @@ module _ {T : Type 0} where
   pub owner_at : (who : ℕ) (g : OwnerState) (t : T) (phase : State → State → Type 0) (h : OwnerState) (u : T) (a : State) → g.here ≡ Some a → a.lives ≡ false
       → (x : LentPhase owner_takes owner_gives owner_finds who g t phase h u) → (x.before ≡ a) × (h.here ≡ Some x.after)
   owner_at who g t phase h u a is alone x = (same_Some x.before a (sym x.lent.took.0 ∙ idle_stays g t x.rests.idle x.gate x.token a is alone x.rests.lent x.rests.quiet), x.lent.gave)
+
+pub there_is : (owner : Option State) → IsSome owner → (a : State) × (owner ≡ Some a)
+there_is None there = cc
+there_is (Some a) there = (a, refl)
 
 -- 2. Nobody joins a load on an idle stripe.
 
@@ -175,7 +180,7 @@ module _ {T : Type 0} (caller : Caller) (key : Bytes) (op : Op) where
 module _ {I J T : Type 0} {D : I → Type 0} {E : J → Type 0}
     (loads : LoadRelation ((i : I) × D i)) (load_state : (i : I) × D i → List ℕ)
     (writes : WriteRelation ((j : J) × E j)) (write_state : (j : J) × E j → List ℕ) where
-  pub owned_call : WholeCall → JoinsOnlyLoads → (old new : Agent I J D E) (key : Bytes) (op : Op) (g : OwnerState) (t : T) (ended : Result Reply Refusal) (h : OwnerState) (u : T) (a : State) → g.here ≡ Some a → IsAlone a
+  abbrev pub owned_call : WholeCall → JoinsOnlyLoads → (old new : Agent I J D E) (key : Bytes) (op : Op) (g : OwnerState) (t : T) (ended : Result Reply Refusal) (h : OwnerState) (u : T) (a : State) → g.here ≡ Some a → IsAlone a
       → IsCall loads load_state writes write_state owner_takes owner_gives owner_finds old key op g t ended new h u
       → IsOwnedCall loads load_state writes write_state old key op g.here ended new h.here
   owned_call whole joins old new key op g t ended h u a is idle x =

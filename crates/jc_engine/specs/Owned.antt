@@ -4,22 +4,26 @@
 --     EndsCall        how a call ends: with one step, or refused as its first phase refuses it, and then nothing is asked and nothing
 --                     changes
 --     IsOwnedCall     a whole call on an owner's stripe: how it ends there, and what it leaves of the agent, the loader and the writer
+--     IsOwnedInvocation    one that runs a processor, which is shown the entry that the stripe had and stays of its type
+use Rattle.std.specs.declared.dyn_box.DynBox.{DynBox}
 use Rattle.std.specs.Prelude.{◌≡◌, ◌+◌, ℕ, List, [], Option, None, Some, Result, Ok, Err, if◌then◌else◌}
 use Rattle.jc_types.specs.declared.caller.Caller.{Caller}
 use Rattle.jc_types.specs.declared.refusal.Refusal.{Refusal}
 use Rattle.jc_model.specs.Cache.{Bytes, entry_at}
 use Rattle.jc_model.specs.Group.{nothing_said}
 use Rattle.jc_model.specs.declared.event.Op.{Op}
+use Rattle.jc_model.specs.declared.event.Op.TheVariants.{Invoke}
 use Rattle.jc_model.specs.declared.event.Out.{Out}
 use Rattle.jc_model.specs.declared.event.Reply.{Reply}
 use Rattle.jc_outside.specs.Calling.{LoadRelation, WriteRelation}
+use Rattle.jc_mutentry.specs.Running.{ProcessRelation}
 use Rattle.jc_stripe.specs.declared.begun.StepDone.{StepDone}
 use Rattle.jc_stripe.specs.State.{State}
 use Rattle.jc_stripe.specs.Refusals.{first_asked, first_refusal, reserves}
 use Rattle.jc_stripe.specs.Phases.{Steps}
 use Rattle.jc_session.specs.Boxed.{boxed}
 use Rattle.jc_session.specs.declared.agent.Agent.{Agent}
-use Rattle.jc_engine.specs.Asking.{AsksLoader, AsksWriter, KeepsTypes, change_wanted, own_after}
+use Rattle.jc_engine.specs.Asking.{AsksLoader, AsksWriter, KeepsTypes, RunsProcessor, change_wanted, own_after}
 
 abbrev pub next_after : State → Bytes → Op → ℕ
 next_after old key op = if reserves (first_asked old.config op (entry_at old.cache key)) then old.next + 1 else old.next
@@ -49,3 +53,13 @@ pub record IsOwnedCall
   pub types : KeepsTypes old new
   pub held : new.hands.held ≡ 0
   pub agent : new ≡ record old { counts = record old.counts { own = own_after old.counts.own ended }; hands = new.hands }
+
+pub record IsOwnedInvocation
+    {I J P Z : Type 0} {D : I → Type 0} {E : J → Type 0} {F : P → Type 0}
+    (loads : LoadRelation ((i : I) × D i)) (load_state : (i : I) × D i → List ℕ)
+    (writes : WriteRelation ((j : J) × E j)) (write_state : (j : J) × E j → List ℕ)
+    (processes : ProcessRelation (DynBox P Z F)) (process_state : DynBox P Z F → List ℕ)
+    (old : Agent I J D E) (key : Bytes) (args : List Bytes) (processor : DynBox P Z F) (owner : Option State) (ended : Result Reply Refusal) (new : Agent I J D E) (processor' : DynBox P Z F) (owner' : Option State) : Type 0 where
+  pub call : IsOwnedCall loads load_state writes write_state old key Invoke owner ended new owner'
+  pub run : RunsProcessor processes process_state processor call.before key args call.out processor'
+  pub type : processor'.vtable ≡ processor.vtable

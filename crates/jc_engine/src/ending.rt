@@ -1,4 +1,7 @@
 //! The last phase of a call that has somebody to ask: it is committed with what was answered, or given back unasked.
+ghost use Rattle.std.specs.Prelude.{◌↔◌, IsTrue};
+ghost use Rattle.jc_stripe.specs.State.{IsOut};
+
 use crate::door::Phase;
 use jc_session::Counted;
 use jc_stripe::{Ask, LoadDone, ProcDone, StepDone, Stripe, Ticket, WriteDone};
@@ -96,7 +99,7 @@ impl<A: Answer> Phase for Commit<A> {
     ghost stays = { λ p a b after needs. commits-stays p.ticket (A.answered p.answer) a b after needs };
 
     fn is_due(&self, stripe: &Stripe) -> bool {
-        stripe.holds(self.ticket.reservation())
+        is_out(stripe, &self.ticket)
     }
 
     fn make(self, stripe: &mut Stripe) -> Result<StepDone, Self> {
@@ -139,7 +142,7 @@ impl Phase for Withdraw {
     ghost stays = { λ p a b after needs. needs };
 
     fn is_due(&self, stripe: &Stripe) -> bool {
-        stripe.holds(self.ticket.reservation())
+        is_out(stripe, &self.ticket)
     }
 
     fn make(self, stripe: &mut Stripe) -> Result<(), Self> {
@@ -151,4 +154,11 @@ impl Phase for Withdraw {
     fn counted(_none: &()) -> Counted {
         Counted::Withdrawn
     }
+}
+
+/// Whether a ticket's reservation is out here.
+fn is_out(stripe: &Stripe, ticket: &Ticket) -> bool
+    ensures { IsTrue result ↔ IsOut stripe.now ticket.now.reservation }
+{
+    stripe.holds(ticket.reservation())
 }

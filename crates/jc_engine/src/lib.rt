@@ -25,5 +25,5 @@ pub use first::{First, How};
 pub use getting::get;
 pub use invoking::invoke;
 pub use joining::PickUp;
-pub use owned::call_owned;
+pub use owned::{call_owned, invoke_owned};
 pub use trying::try_call;

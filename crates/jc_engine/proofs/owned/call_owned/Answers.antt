@@ -1,11 +1,5 @@
-use Rattle.std.proofs.Common.{◌≡◌, Option, None, Some, IsSome, refl}
-use Rattle.jc_stripe.specs.State.{State}
-use Rattle.jc_engine.proofs.OwnedCalls.{owned_call}
+use Rattle.jc_engine.proofs.OwnedCalls.{owned_call, there_is}
 use Rattle.jc_engine.proofs.owned.call_owned.Goals as goal
-
-there_is : (owner : Option State) → IsSome owner → (a : State) × (owner ≡ Some a)
-there_is None there = cc
-there_is (Some a) there = (a, refl)
 
 pub returns : goal.returns
 returns g c =

@@ -1,0 +1,19 @@
+use Rattle.std.proofs.Common.{◌≡◌, ◌∙◌, ap, sym}
+use Rattle.std.proofs.lemmas.Option.{same_Some}
+use Rattle.jc_engine.proofs.OwnedCalls.{owned_call, there_is}
+use Rattle.jc_engine.proofs.owned.invoke_owned.Goals as goal
+
+pub invoke-requires-clause-through : goal.invoke-requires-clause-through
+invoke-requires-clause-through g c a found = ap (λ s. s.config.write_through) (same_Some _ _ (sym found ∙ c.stripe.ensures)) ∙ sym (ap (λ k. k.write_through) c.config.ensures)
+
+pub returns : goal.returns
+returns g c =
+    let there = there_is c.args.owner.now.here c.requires.ready.1 in
+    record {
+      call = record {
+        call = owned_call _ _ _ _ c.whole_call.ensures c.joins_only_loads.ensures c.args.agent.now c.invoke.new.agent c.args.key.now _ c.args.owner.now _ c.invoke.result c.invoke.new.gate _
+            there.0 there.1 (c.requires.idle there.0 there.1) c.invoke.ensures.call.call;
+        run = c.invoke.ensures.call.run;
+        type = c.invoke.ensures.call.type;
+      };
+    }
