@@ -5,13 +5,15 @@
 --     KeepsTypes       the agent's loader and writer are of the types that they had before
 --     IsAsked          a ticket's loader or writer, whichever its reservation asks first, was asked once, and answered this; all else of the
 --                      agent stays
+--     WritesEffect     the writer was asked once for what a processor's run changes, if that is to be written and there is a change; all else
+--                      of the agent stays
 --     IsProcessed      a ticket's processor was run once, on the entry that the ticket's first phase found, and the writer was asked for its
 --                      net effect, if it is to be; all else of the agent stays
 --     own_after        how many steps the agent has made after a call
 --     RunsProcessor    what a step's answer says of the processor: it was run once, on the entry that the step found, which it may load with
 --                      read-through on if it is missing, and this is what came of it; or it is untouched
 use Rattle.std.specs.declared.dyn_box.DynBox.{DynBox}
-use Rattle.std.specs.Prelude.{◌≡◌, ◌&&◌, ℕ, List, Bool, true, Option, None, Result, Ok, Err, is_none, MatchBool, if◌then◌else◌}
+use Rattle.std.specs.Prelude.{◌≡◌, ◌&&◌, ℕ, List, Bool, true, Option, None, Result, Ok, Err, is_none, is_some, MatchBool, if◌then◌else◌}
 use Rattle.jc_types.specs.declared.refusal.Refusal.{Refusal}
 use Rattle.jc_model.specs.declared.event.Op.{Op}
 use Rattle.jc_model.specs.declared.event.Out.{Out}
@@ -26,9 +28,10 @@ use Rattle.jc_types.specs.declared.config.Config.{Config}
 use Rattle.jc_model.specs.Table.{write_ask, process_ask, is_load_given, is_write_given, is_process_given}
 use Rattle.jc_outside.specs.Calling.{KeepsType, LoadRelation, LoadsOnce, WriteRelation, WritesOnce}
 use Rattle.jc_outside.specs.Done.{WriteResult}
-use Rattle.jc_mutentry.specs.Done.{ProcessResult}
+use Rattle.jc_outside.specs.declared.done.Origin.TheVariants.{Live}
+use Rattle.jc_mutentry.specs.Done.{ProcessResult, effect_change}
 use Rattle.jc_mutentry.specs.Running.{ProcessRelation, RunsOnce}
-use Rattle.jc_stripe.specs.Effects.{report_answer}
+use Rattle.jc_stripe.specs.Effects.{HasReport, report_answer}
 use Rattle.jc_stripe.specs.State.{State}
 use Rattle.jc_stripe.specs.Tickets.{Claim, TicketClaim, asks_writer, change_asked, entry_seen, is_loadable}
 use Rattle.jc_session.specs.Boxed.{boxed}
@@ -62,6 +65,18 @@ pub record IsAsked
       → AsksWriter (boxed writes) (boxed write_state) old.hands.outside.writer ticket.reservation.key wanted (out_of answer).write new.hands.outside.writer
   pub process : (out_of answer).process ≡ NotAsked
   pub types : KeepsTypes old new
+  pub held : new.hands.held ≡ 0
+  pub rest : new ≡ record old { hands = new.hands }
+
+pub record WritesEffect
+    {I J : Type 0} {D : I → Type 0} {E : J → Type 0} (writes : WriteRelation ((j : J) × E j)) (write_state : (j : J) × E j → List ℕ)
+    (write_through : Bool) (old : Agent I J D E) (ticket : TicketClaim) (done : ProcessResult Claim) (result : Option (WriteResult Claim)) (new : Agent I J D E) (ticket' : TicketClaim) : Type 0 where
+  pub report : HasReport Live ticket.reservation (if write_through then effect_change done.load done.process else None) result
+  pub writer : AsksWriter (boxed writes) (boxed write_state) old.hands.outside.writer ticket.reservation.key
+      (if write_through then process_ask done.process else None) (report_answer result) new.hands.outside.writer
+  pub types : KeepsTypes old new
+  pub ticket_is : ticket' ≡ record ticket { writer_asked = is_some result }
+  pub loader : new.hands.outside.loader ≡ old.hands.outside.loader
   pub held : new.hands.held ≡ 0
   pub rest : new ≡ record old { hands = new.hands }
 

@@ -7,7 +7,7 @@ ghost use Rattle.jc_stripe.specs.Effects.{HasReport, report_answer};
 ghost use Rattle.jc_stripe.specs.State.{State};
 ghost use Rattle.jc_stripe.specs.Tickets.{asks_processor, claim_of};
 ghost use Rattle.jc_session.specs.Boxed.{boxed};
-ghost use Rattle.jc_engine.specs.Asking.{AsksWriter, IsProcessed, KeepsTypes};
+ghost use Rattle.jc_engine.specs.Asking.{IsProcessed, WritesEffect};
 ghost use Rattle.jc_engine.specs.Calls.{IsInvocation, MayCallAt};
 ghost use Rattle.jc_engine.specs.Doors.{IsReady};
 
@@ -114,17 +114,8 @@ fn write_effect<G: Gate, R: Wait>(
     requires writer { write_through ≡ true → IsSome agent.old.hands.outside.writer }
     requires asked { (ticket.old.asked ≡ true) × (ticket.old.writer_asked ≡ false) }
     requires claim { done.now.ask ≡ claim_of ticket.old.reservation }
-    ensures report { HasReport Live ticket.old.reservation
-        (if write_through then effect_change done.now.load done.now.process else None) result }
-    ensures writer { AsksWriter (boxed writes) (boxed write_state)
-        agent.old.hands.outside.writer ticket.old.reservation.key
-        (if write_through then process_ask done.now.process else None)
-        (report_answer result) agent.new.hands.outside.writer }
-    ensures types { KeepsTypes agent.old agent.new }
-    ensures ticket { ticket.new ≡ record ticket.old { writer_asked = is_some result } }
-    ensures loader { agent.new.hands.outside.loader ≡ agent.old.hands.outside.loader }
-    ensures held { agent.new.hands.held ≡ 0 }
-    ensures rest { agent.new ≡ record agent.old { hands = agent.new.hands } }
+    ensures { WritesEffect writes write_state
+        write_through agent.old ticket.old done.now result agent.new ticket.new }
 {
     if !write_through {
         return None;

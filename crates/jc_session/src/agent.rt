@@ -1,16 +1,12 @@
 //! Agents.
-ghost use Rattle.std.specs.Prelude.{◌≡◌, ℕ, max, true, is_some, IsSome, IfSome, IfNone};
-ghost use Rattle.jc_model.specs.Table.{is_load_given, is_write_given, is_process_given};
-ghost use Rattle.jc_outside.specs.declared.done.Origin.TheVariants.{Live};
-ghost use Rattle.jc_outside.specs.Calling.{KeepsType, LoadsOnce, WritesOnce};
-ghost use Rattle.jc_mutentry.specs.Running.{RunsOnce, LoadsIfGiven};
+ghost use Rattle.std.specs.Prelude.{◌≡◌, max, true, is_some, IsSome, IfSome, IfNone};
 ghost use Rattle.jc_stripe.specs.State.{State};
-ghost use Rattle.jc_stripe.specs.Tickets.{asks_loader, asks_processor, entry_seen, is_loadable};
-ghost use Rattle.jc_stripe.specs.Reached.{IsReached};
+ghost use Rattle.jc_stripe.specs.Tickets.{asks_loader, asks_processor};
 ghost use Rattle.jc_stripe.specs.Renewal.{StaysOrRenews};
-ghost use Rattle.jc_gate.specs.Lending.{ComesAfter};
-ghost use Rattle.jc_session.specs.Boxed.{boxed};
-ghost use Rattle.jc_session.specs.Counting.{one_more, call_before, counts_after, IsCounted};
+ghost use Rattle.jc_session.specs.Asked.{LoaderAsked, WriterAsked, ProcessorRun};
+ghost use Rattle.jc_session.specs.Counting.{one_more, call_before, IsCounted};
+ghost use Rattle.jc_session.specs.Lending.{Taken, NotTaken, Given};
+ghost use Rattle.jc_session.specs.declared.counts.Counted.TheVariants.{Nothing};
 
 mod calls_all;
 
@@ -127,14 +123,10 @@ impl Agent {
     pub fn try_take<G: Gate>(&mut self, gate: &mut G, token: &mut G::Token) -> Option<Box<Stripe>>
         requires held { self.old.hands.held ≡ 0 }
         requires free { G.is_free gate.old token.old }
-        ensures some { IfSome result (λ s. self.new ≡ record self.old { hands = record self.old.hands { held = 1 } }) }
-        ensures none { IfNone result (self.new ≡ self.old) }
-        ensures speaks { (n : ℕ) → G.speaks_for token.old n → G.speaks_for token.new n }
-        ensures taken { IfSome result (λ s. G.has gate.new token.new s.value) }
-        ensures takes { IfSome result (λ s. G.takes gate.old token.old s.value gate.new token.new) }
-        ensures found { IfSome result (λ s. G.finds gate.old token.old s.value × IsReached s.value) }
-        ensures failed { IfNone result (G.may_fail gate.old token.old) }
-        ensures same { IfNone result ((gate.new ≡ gate.old) × (token.new ≡ token.old)) }
+        ensures some { IfSome result (λ s. Taken G.has G.takes G.finds G.speaks_for
+            self.old gate.old token.old s.value self.new gate.new token.new) }
+        ensures none { IfNone result (NotTaken G.may_fail
+            self.old gate.old token.old self.new gate.new token.new) }
     {
         let stripe = gate.try_take(token)?;
         self.hands.hold();
@@ -152,11 +144,8 @@ impl Agent {
     ) -> Box<Stripe>
         requires held { self.old.hands.held ≡ 0 }
         requires free { G.is_free gate.old token.old }
-        ensures agent { self.new ≡ record self.old { hands = record self.old.hands { held = 1 } } }
-        ensures speaks { (n : ℕ) → G.speaks_for token.old n → G.speaks_for token.new n }
-        ensures taken { G.has gate.new token.new result.value }
-        ensures takes { G.takes gate.old token.old result.value gate.new token.new }
-        ensures found { G.finds gate.old token.old result.value × IsReached result.value }
+        ensures { Taken G.has G.takes G.finds G.speaks_for
+            self.old gate.old token.old result.value self.new gate.new token.new }
     {
         let stripe = gate.take(rt, token);
         self.hands.hold();
@@ -171,12 +160,8 @@ impl Agent {
         requires held { self.old.hands.held ≡ 1 }
         requires speaks { G.speaks_for token.old self.old.caller.session }
         requires rest { (a : State) × G.has gate.old token.old a × StaysOrRenews a stripe.value }
-        ensures agent { self.new ≡ record self.old { hands = record self.old.hands { held = 0 } } }
-        ensures speaks { (n : ℕ) → G.speaks_for token.old n → G.speaks_for token.new n }
-        ensures free { G.is_free gate.new token.new }
-        ensures gives { G.gives gate.old token.old stripe.value gate.new token.new }
-        ensures next { (n : ℕ) (a : State) → G.speaks_for token.old n → G.finds gate.new token.new a
-            → ComesAfter n stripe.value a }
+        ensures { Given G.gives G.finds G.is_free G.speaks_for
+            Nothing self.old gate.old token.old stripe.value self.new gate.new token.new }
     {
         gate.give(token, stripe);
         self.hands.let_go();
@@ -197,15 +182,8 @@ impl Agent {
         requires speaks { G.speaks_for token.old self.old.caller.session }
         requires phase { (a : State) × G.has gate.old token.old a
             × IsCounted counted self.old.caller.session a stripe.value }
-        ensures agent { self.new ≡ record self.old {
-          counts = counts_after self.old.counts counted;
-          hands = record self.old.hands { held = 0 };
-        } }
-        ensures speaks { (n : ℕ) → G.speaks_for token.old n → G.speaks_for token.new n }
-        ensures free { G.is_free gate.new token.new }
-        ensures gives { G.gives gate.old token.old stripe.value gate.new token.new }
-        ensures next { (n : ℕ) (a : State) → G.speaks_for token.old n → G.finds gate.new token.new a
-            → ComesAfter n stripe.value a }
+        ensures { Given G.gives G.finds G.is_free G.speaks_for
+            counted self.old gate.old token.old stripe.value self.new gate.new token.new }
     {
         gate.give(token, stripe);
         self.hands.let_go();
@@ -248,15 +226,7 @@ impl Agent {
     pub fn ask_loader<R: Wait>(&mut self, rt: &R, ask: Ask) -> LoadDone<Ask>
         requires held { self.old.hands.held ≡ 0 }
         requires first { asks_loader ask.reservation.first ≡ true }
-        ensures ask { result.ask ≡ ask }
-        ensures origin { result.origin ≡ Live }
-        ensures given { is_load_given result.answer ≡ true }
-        ensures loader { LoadsOnce (boxed loads) (boxed load_state)
-            self.old.hands.outside.loader ask.reservation.key result.answer self.new.hands.outside.loader }
-        ensures loader_type { KeepsType self.old.hands.outside.loader self.new.hands.outside.loader }
-        ensures writer { self.new.hands.outside.writer ≡ self.old.hands.outside.writer }
-        ensures held { self.new.hands.held ≡ 0 }
-        ensures rest { self.new ≡ record self.old { hands = self.new.hands } }
+        ensures { LoaderAsked loads load_state self.old ask result self.new }
     {
         call_loader(rt, &mut self.hands, ask)
     }
@@ -270,16 +240,7 @@ impl Agent {
         requires held { self.old.hands.held ≡ 0 }
         requires change { is_some ask.change ≡ true }
         requires writer { IsSome self.old.hands.outside.writer }
-        ensures ask { result.ask ≡ ask }
-        ensures origin { result.origin ≡ Live }
-        ensures given { is_write_given result.answer ≡ true }
-        ensures writer { WritesOnce (boxed writes) (boxed write_state)
-            self.old.hands.outside.writer ask.reservation.key ask.change
-            result.answer self.new.hands.outside.writer }
-        ensures writer_type { KeepsType self.old.hands.outside.writer self.new.hands.outside.writer }
-        ensures loader { self.new.hands.outside.loader ≡ self.old.hands.outside.loader }
-        ensures held { self.new.hands.held ≡ 0 }
-        ensures rest { self.new ≡ record self.old { hands = self.new.hands } }
+        ensures { WriterAsked writes write_state self.old ask result self.new }
     {
         call_writer(rt, &mut self.hands, ask)
     }
@@ -300,19 +261,8 @@ impl Agent {
     ) -> ProcDone<Ask>
         requires held { self.old.hands.held ≡ 0 }
         requires first { asks_processor ask.reservation.first ≡ true }
-        ensures ask { result.ask ≡ ask }
-        ensures origin { result.origin ≡ Live }
-        ensures given { is_process_given result.process ≡ true }
-        ensures run { RunsOnce processes process_state
-            processor.old ask.reservation.key args.now (is_loadable ask.reservation.first) (entry_seen ask.reservation.first)
-            result.load result.process processor.new }
-        ensures loader { LoadsIfGiven (boxed loads) (boxed load_state)
-            self.old.hands.outside.loader ask.reservation.key result.load self.new.hands.outside.loader }
-        ensures loader_type { KeepsType self.old.hands.outside.loader self.new.hands.outside.loader }
-        ensures processor_type { processor.new.vtable ≡ processor.old.vtable }
-        ensures writer { self.new.hands.outside.writer ≡ self.old.hands.outside.writer }
-        ensures held { self.new.hands.held ≡ 0 }
-        ensures rest { self.new ≡ record self.old { hands = self.new.hands } }
+        ensures { ProcessorRun loads load_state processes process_state
+            self.old ask args.now processor.old result self.new processor.new }
     {
         run_processor(rt, &mut self.hands, processor, ask, args)
     }

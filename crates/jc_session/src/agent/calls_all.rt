@@ -1,13 +1,9 @@
 //! An agent's calls outside for many keys at once.
-ghost use Rattle.std.specs.Prelude.{◌≡◌, ◌≤◌, ◌+◌, ◌++◌, List, map, Some, IsSome, vec_len, vec_capacity};
-ghost use Rattle.jc_model.specs.Cache.{Bytes};
-ghost use Rattle.jc_model.specs.declared.event.LoadAnswer.{LoadAnswer};
-ghost use Rattle.jc_model.specs.declared.event.WriteAnswer.{WriteAnswer};
+ghost use Rattle.std.specs.Prelude.{◌≡◌, ◌≤◌, ◌+◌, map, IsSome, vec_len, vec_capacity};
 ghost use Rattle.jc_batch.specs.Changes.{changes_of};
-ghost use Rattle.jc_outside.specs.Calling.{KeepsType};
-ghost use Rattle.jc_outside.specs.CallingAll.{LoadsAllOnce, WritesAllOnce, loads_done, writes_done, asked_changes};
+ghost use Rattle.jc_outside.specs.CallingAll.{asked_changes};
 ghost use Rattle.jc_stripe.specs.Tickets.{Claim};
-ghost use Rattle.jc_session.specs.Boxed.{boxed};
+ghost use Rattle.jc_session.specs.Asked.{LoaderAskedAll, WriterAskedAll};
 
 use super::Agent;
 use jc_batch::Batch;
@@ -32,15 +28,9 @@ impl Agent {
         requires held { self.old.hands.held ≡ 0 }
         requires batch { batch.items ≡ map (λ (ask : Claim). ask.reservation.key) asks.items }
         requires room { vec_len done.old + vec_len asks ≤ vec_capacity done.old }
-        ensures loader { (said : Bytes → LoadAnswer)
-            × LoadsAllOnce (boxed loads_all) (boxed load_state)
-            self.old.hands.outside.loader batch.items said self.new.hands.outside.loader
-            × (done.new.items ≡ done.old.items ++ loads_done (λ (ask : Claim). ask.reservation.key) said asks.items) }
-        ensures loader_type { KeepsType self.old.hands.outside.loader self.new.hands.outside.loader }
+        ensures asked { LoaderAskedAll loads_all load_state
+            self.old asks.items batch.items done.old.items done.new.items self.new }
         ensures room { vec_capacity done.new ≡ vec_capacity done.old }
-        ensures writer { self.new.hands.outside.writer ≡ self.old.hands.outside.writer }
-        ensures held { self.new.hands.held ≡ 0 }
-        ensures rest { self.new ≡ record self.old { hands = self.new.hands } }
     {
         call_loader_all(rt, &mut self.hands, asks, batch, done);
     }
@@ -65,15 +55,9 @@ impl Agent {
         requires batch { changes_of batch
             ≡ asked_changes (λ (ask : Claim). ask.reservation.key) (λ (ask : Claim). ask.change) asks.items }
         requires room { vec_len done.old + vec_len asks ≤ vec_capacity done.old }
-        ensures writer { (said : Bytes → WriteAnswer)
-            × WritesAllOnce (boxed writes_all) (boxed deletes_all) (boxed write_state)
-            self.old.hands.outside.writer batch result said self.new.hands.outside.writer
-            × (done.new.items ≡ done.old.items ++ writes_done (λ (ask : Claim). ask.reservation.key) said asks.items) }
-        ensures writer_type { KeepsType self.old.hands.outside.writer self.new.hands.outside.writer }
+        ensures asked { WriterAskedAll writes_all deletes_all write_state
+            self.old asks.items batch result done.old.items done.new.items self.new }
         ensures room { vec_capacity done.new ≡ vec_capacity done.old }
-        ensures loader { self.new.hands.outside.loader ≡ self.old.hands.outside.loader }
-        ensures held { self.new.hands.held ≡ 0 }
-        ensures rest { self.new ≡ record self.old { hands = self.new.hands } }
     {
         call_writer_all(rt, &mut self.hands, asks, batch, done)
     }

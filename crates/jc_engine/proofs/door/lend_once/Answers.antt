@@ -9,13 +9,13 @@ use Rattle.jc_engine.proofs.NotMade.{not_found, not_made}
 use Rattle.jc_engine.proofs.door.lend_once.Goals as goal
 
 pub make-requires-clause-needs : goal.make-requires-clause-needs
-make-requires-clause-needs g c = rw (c.deref_mut.ensures.value) (c.requires.fits.needs_it _ c.in-Some.ensures.found.0)
+make-requires-clause-needs g c = rw (c.deref_mut.ensures.value) (c.requires.fits.needs_it _ c.in-Some.ensures.some.found.0)
 
 pub give-requires-clause-phase : goal.give-requires-clause-phase
 give-requires-clause-phase g c = (
   c.in-Some.stripe.value,
-  c.in-Some.ensures.taken,
-  rw (c.counted.ensures, ap (λ a. a.caller.session) c.in-Some.ensures.some, ← c.requires.fits.who_is, ← c.deref_mut.ensures.value) c.in-Ok.ensures.made.1,
+  c.in-Some.ensures.some.taken,
+  rw (c.counted.ensures, ap (λ a. a.caller.session) c.in-Some.ensures.some.agent, ← c.requires.fits.who_is, ← c.deref_mut.ensures.value) c.in-Ok.ensures.made.1,
 )
 
 pub returns-in-Ok-clause-made : goal.returns-in-Ok-clause-made
@@ -25,18 +25,18 @@ returns-in-Ok-clause-made g c = record {
   rests = rests-start g.G.Gate.takes g.G.Gate.gives g.G.Gate.finds c.args.gate.now c.args.token.now;
   before = c.in-Some.stripe.value;
   after = c.make.new.stripe;
-  since = since_start g.G.Gate.finds _ c.args.gate.now c.args.token.now _ c.in-Some.ensures.found.0;
-  lent = record { gate = c.try_take.new.gate; token = c.try_take.new.token; took = c.in-Some.ensures.takes; reached = c.in-Some.ensures.found.1; gave = c.give.ensures.gives };
+  since = since_start g.G.Gate.finds _ c.args.gate.now c.args.token.now _ c.in-Some.ensures.some.found.0;
+  lent = record { gate = c.try_take.new.gate; token = c.try_take.new.token; took = c.in-Some.ensures.some.takes; reached = c.in-Some.ensures.some.found.1; gave = c.give.ensures.gives };
   made = rw (← c.deref_mut.ensures.value) c.in-Ok.ensures.made.0;
   one = rw (← c.requires.fits.who_is, ← c.deref_mut.ensures.value) (phase_of _ _ _ _ c.in-Ok.ensures.made.1);
-  next = λ a f. c.give.ensures.next _ a (c.in-Some.ensures.speaks _ c.requires.ready.speaks) f;
+  next = λ a f. c.give.ensures.next _ a (c.in-Some.ensures.some.speaks _ c.requires.ready.speaks) f;
 }
 
 pub returns-in-None-clause-back : goal.returns-in-None-clause-back
 returns-in-None-clause-back g c = (
   refl,
-  c.in-None.ensures.none,
-  rw (c.in-None.ensures.same.0, c.in-None.ensures.same.1) (not_found g.G.Gate.takes g.G.Gate.gives g.G.Gate.finds g.G.Gate.may_fail (g.P.Phase.due c.args.phase) (g.P.Phase.puts_off c.args.phase) c.args.agent.now.caller.session c.args.gate.now c.args.token.now c.in-None.ensures.failed),
+  c.in-None.ensures.none.none,
+  rw (c.in-None.ensures.none.same.0, c.in-None.ensures.none.same.1) (not_found g.G.Gate.takes g.G.Gate.gives g.G.Gate.finds g.G.Gate.may_fail (g.P.Phase.due c.args.phase) (g.P.Phase.puts_off c.args.phase) c.args.agent.now.caller.session c.args.gate.now c.args.token.now c.in-None.ensures.none.failed),
 )
 
 pub returns-then-not-is_due-clause-back : goal.returns-then-not-is_due-clause-back
@@ -45,7 +45,7 @@ returns-then-not-is_due-clause-back g c =
       refl,
       search rules,
       not_made g.G.Gate.takes g.G.Gate.gives g.G.Gate.finds g.G.Gate.may_fail (g.P.Phase.due c.args.phase) (g.P.Phase.puts_off c.args.phase) c.args.agent.now.caller.session g.G.Gate.is_free g.G.Gate.speaks_for c.args.gate.now c.args.token.now found c.try_take.new.gate c.try_take.new.token c.leave.new.gate c.leave.new.token
-          c.in-Some.ensures.takes c.in-Some.ensures.found.0 c.in-Some.ensures.found.1 (c.in-Some.ensures.speaks _ c.requires.ready.speaks) c.leave.ensures.left
+          c.in-Some.ensures.some.takes c.in-Some.ensures.some.found.0 c.in-Some.ensures.some.found.1 (c.in-Some.ensures.some.speaks _ c.requires.ready.speaks) c.leave.ensures.left
           (inl (λ due. true≢false (sym (c.is_due.ensures.1 (subst (g.P.Phase.due c.args.phase) (sym c.deref-2.ensures) due)) ∙ c.if-not-is_due.true))),
     )
 
@@ -58,6 +58,6 @@ returns-in-Err-clause-back g c =
       c.in-Err.ensures.back.0,
       search rules,
       not_made g.G.Gate.takes g.G.Gate.gives g.G.Gate.finds g.G.Gate.may_fail (g.P.Phase.due c.args.phase) (g.P.Phase.puts_off c.args.phase) c.args.agent.now.caller.session g.G.Gate.is_free g.G.Gate.speaks_for c.args.gate.now c.args.token.now found c.try_take.new.gate c.try_take.new.token c.leave-in-Err.new.gate c.leave-in-Err.new.token
-          c.in-Some.ensures.takes c.in-Some.ensures.found.0 c.in-Some.ensures.found.1 (c.in-Some.ensures.speaks _ c.requires.ready.speaks) left
+          c.in-Some.ensures.some.takes c.in-Some.ensures.some.found.0 c.in-Some.ensures.some.found.1 (c.in-Some.ensures.some.speaks _ c.requires.ready.speaks) left
           (inr (subst (g.P.Phase.puts_off c.args.phase) c.deref_mut.ensures.value c.in-Err.ensures.back.2)),
     )
