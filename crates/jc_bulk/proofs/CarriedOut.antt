@@ -9,26 +9,23 @@
 --     end_ok, end_err, get_ok, get_err    by whether it has a cause
 --     succeeds_of, fails_of, gets_of, fails_get_of    by the keys that the call was given
 --     few_fail        a call with no more keys than may be
-use Rattle.std.proofs.Common.{◌≡◌, ◌&&◌, ◌⊎◌, ⊎_elim, inl, inr, ◌<◌, ◌≤◌, ◌+◌, ◌*◌, ◌++◌, ℕ, zero, suc, List, [], ◌∷◌, All, length, map, Bool, true, false, cond, not, nat_le, nat_lt, Option, None, Some, Result, Ok, Err, slice_get, refl, sym, ap, subst, ◌∙◌, arith}
+use Rattle.std.proofs.Common.{◌≡◌, ◌&&◌, ◌⊎◌, ⊎_elim, inl, inr, ◌<◌, ◌≤◌, ◌+◌, ◌*◌, ◌++◌, ℕ, zero, suc, List, [], ◌∷◌, All, length, Bool, true, false, nat_le, nat_lt, Option, None, Some, Result, Ok, Err, slice_get, refl, sym, ap, subst, ◌∙◌, arith}
 use Rattle.std.proofs.lemmas.Bool.Decides.{nat_tests}
-use Rattle.std.proofs.lemmas.List.{length-append}
 use Rattle.std.proofs.lemmas.List.Elements.{All-nil, All-cons}
 use Rattle.std.proofs.lemmas.List.Sums.{count_by-le-length}
-use Rattle.std.specs.List.{IsAmong, list_all}
-use mathlib.Core.List.{IsPrefix}
+use Rattle.std.specs.List.{list_all}
 use Rattle.jc_types.specs.declared.caller.Caller.{Caller}
 use Rattle.jc_types.specs.declared.limits.TheConstants.{BULK_KEYS_MAX, STEP_PLACES, RESERVATIONS_MAX, JOINERS_MAX}
 use Rattle.jc_types.specs.declared.refusal.Refusal.{Refusal}
-use Rattle.jc_types.specs.declared.refusal.Refusal.TheVariants.{HistoryFull, OutOfMemory, Busy, TooManyInFlight, TooManyJoiners}
+use Rattle.jc_types.specs.declared.refusal.Refusal.TheVariants.{HistoryFull, OutOfMemory}
 use Rattle.jc_model.specs.Cache.{Bytes}
-use Rattle.jc_model.specs.declared.event.Event.{Event}
 use Rattle.jc_model.specs.declared.event.Op.{Op}
 use Rattle.jc_model.specs.declared.event.Reply.{Reply}
 use Rattle.jc_outside.specs.CallingAll.{LoadAllRelation, WriteAllRelation, DeleteAllRelation}
 use Rattle.jc_stripe.proofs.CallerLemmas.{lacks_room}
 use Rattle.jc_stripe.specs.OwnSteps.{is_before_call}
 use Rattle.jc_stripe.specs.Reached.{IsReached}
-use Rattle.jc_stripe.specs.Refusals.{first_refusal, has_room, last_number, needs_free_key, places_needed}
+use Rattle.jc_stripe.specs.Refusals.{has_room, last_number, needs_free_key, places_needed}
 use Rattle.jc_stripe.specs.State.{State, promised, waits}
 use Rattle.jc_lock.specs.declared.view.View.{View}
 use Rattle.jc_lock.specs.Views.{spent_view}
@@ -37,11 +34,11 @@ use Rattle.jc_session.specs.Counting.{one_more}
 use Rattle.jc_engine.specs.Asking.{KeepsTypes}
 use Rattle.jc_cache.specs.Caches.{CacheState}
 use Rattle.jc_cache.specs.Calls.{next_call}
-use Rattle.jc_cache.specs.Sessions.{IsOf, MayCall}
+use Rattle.jc_cache.specs.Sessions.{MayCall}
 use Rattle.jc_cache.specs.declared.session.Session.{Session}
 use Rattle.jc_bulk.specs.declared.progress.Progress.{Progress}
 use Rattle.jc_bulk.specs.declared.progress.Progress.TheVariants.{Waiting, Reserved, Joined, Ended}
-use Rattle.jc_bulk.specs.Bulk.{AsksEachOnce, FailsInPart, FailsToGet, GetsAll, IsCarriedOut, IsNearFull, IsOutOfMemory, IsRefusedWhole, Succeeds, WasNearFull, causes_of, near_places}
+use Rattle.jc_bulk.specs.Bulk.{AsksEachOnce, FailsInPart, FailsToGet, GetsAll, IsNearFull, IsOutOfMemory, IsRefusedWhole, Succeeds, WasNearFull, causes_of}
 use Rattle.jc_bulk.specs.Carrying.{EndsSo}
 use Rattle.jc_bulk.specs.Ends.{KeyEnd, failed_entries, found_entries, key_end, key_ends, key_ops}
 use Rattle.jc_bulk.specs.KeyProgress.{IsCauseIn, StillWaits, all_waiting, failures, is_joined, is_reserved}

@@ -5,7 +5,7 @@
 --     entries_new     the next key is in none of them
 --     entries_whole   the entries of all keys
 --     failures_are    the failures are those of the entries that failed
-use Rattle.std.proofs.Common.{◌≡◌, ◌==◌, ◌||◌, ◌<◌, ◌≤◌, ◌+◌, ◌++◌, ℕ, zero, suc, List, [], ◌∷◌, length, map, take, get_or, min, false, Option, None, Some, option_map, Result, Ok, Err, slice_get, append_assoc, refl, sym, ap, ◌∙◌, arith, append-nil}
+use Rattle.std.proofs.Common.{◌≡◌, ◌==◌, ◌||◌, ◌<◌, ◌≤◌, ◌+◌, ◌++◌, ℕ, zero, suc, List, [], ◌∷◌, length, map, take, get_or, min, false, Option, None, Some, option_map, Result, slice_get, append_assoc, refl, sym, ap, ◌∙◌, arith, append-nil}
 use Rattle.std.proofs.lemmas.Bool.{or_parts}
 use Rattle.std.proofs.lemmas.List.{take_all, take_more, length-take, take-map}
 use Rattle.std.proofs.lemmas.List.Elements.{filter_map-append}

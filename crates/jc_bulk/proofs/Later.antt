@@ -13,9 +13,7 @@ use Rattle.jc_model.specs.Cache.{Bytes}
 use Rattle.jc_model.specs.declared.event.Op.{Op}
 use Rattle.jc_model.specs.declared.event.Reply.{Reply}
 use Rattle.jc_outside.specs.CallingAll.{LoadAllRelation, WriteAllRelation, DeleteAllRelation}
-use Rattle.jc_session.specs.declared.agent.Agent.{Agent}
 use Rattle.jc_cache.specs.Caches.{CacheState}
-use Rattle.jc_cache.specs.Sessions.{IsOf}
 use Rattle.jc_cache.specs.declared.session.Session.{Session}
 use Rattle.jc_lock.specs.declared.view.View.{View}
 use Rattle.jc_bulk.specs.declared.progress.Progress.{Progress}
@@ -24,7 +22,7 @@ use Rattle.jc_bulk.specs.KeyProgress.{StayEnded, is_joined, is_reserved, is_sett
 use Rattle.jc_bulk.specs.Keys.{IsAt, IsJoinFor, IsTicketFor}
 use Rattle.jc_bulk.specs.Rounds.{CallsInRounds, Round}
 use Rattle.jc_bulk.specs.Seats.{view_of}
-use Rattle.jc_bulk.specs.SoFar.{AreSettledFrom, IsSoFar, IsUnderway}
+use Rattle.jc_bulk.specs.SoFar.{AreSettledFrom, IsUnderway}
 use Rattle.jc_bulk.proofs.Out.{none_are, none_in}
 use Rattle.jc_bulk.proofs.SeatPhases.{Seated}
 

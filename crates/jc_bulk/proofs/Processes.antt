@@ -2,19 +2,15 @@
 --     asks_process      it asks the processor
 --     done_never        it isn't done at once
 --     joined_never      it joins no load
-use Rattle.std.proofs.Common.{◌≡◌, true, false, true≢false, Option, sym, ap, ◌∙◌}
+use Rattle.std.proofs.Common.{◌≡◌, true, false, true≢false, sym, ap}
 use Rattle.jc_types.specs.declared.caller.Caller.{Caller}
-use Rattle.jc_types.specs.declared.config.Config.{Config}
 use Rattle.jc_model.specs.Cache.{Bytes}
-use Rattle.jc_model.specs.declared.event.Op.TheVariants.{Get, Invoke}
-use Rattle.jc_model.specs.declared.event.Op.{Op}
+use Rattle.jc_model.specs.declared.event.Op.TheVariants.{Invoke}
 use Rattle.jc_stripe.specs.State.{State}
-use Rattle.jc_stripe.specs.Refusals.{first_asked, reserves, may_join}
+use Rattle.jc_stripe.specs.Refusals.{reserves, may_join}
 use Rattle.jc_stripe.specs.Tickets.{JoinClaim, TicketClaim, asks_processor}
 use Rattle.jc_stripe.specs.declared.begun.Begun.TheVariants as begun
 use Rattle.jc_stripe.specs.declared.begun.StepDone.{StepDone}
-use Rattle.jc_stripe.specs.declared.ticket.First.{First}
-use Rattle.jc_stripe.specs.declared.ticket.First.TheVariants.{Nobody}
 use Rattle.jc_lock.specs.declared.view.View.{View}
 use Rattle.jc_engine.specs.Needs.{StartsAt}
 use Rattle.jc_bulk.specs.Keys.{IsJoinFor}

@@ -18,7 +18,6 @@ use Rattle.jc_batch.specs.declared.batch.Batch.TheVariants.{Writes, Deletes}
 use Rattle.jc_outside.specs.CallingAll.{LoadAllRelation, WriteAllRelation, DeleteAllRelation}
 use Rattle.jc_stripe.specs.Refusals.{first_asked, writer_for}
 use Rattle.jc_stripe.specs.Tickets.{asks_loader, change_asked}
-use Rattle.jc_stripe.specs.declared.ticket.First.{First}
 use Rattle.jc_stripe.specs.declared.ticket.First.TheVariants.{Nobody}
 use Rattle.jc_session.specs.Boxed.{boxed}
 use Rattle.jc_cache.specs.Caches.{CacheState}

@@ -7,7 +7,7 @@
 --     entries_by      each key of whose end something is said, with that, in the call's order
 --     failed_entries  each key that ended in a fault or a refusal, with it, in the call's order
 --     found_entries   each key whose step replied a value, with it, in the call's order
-use Rattle.std.specs.Prelude.{◌++◌, List, [], ◌∷◌, map, Option, None, Some, option_map, Result, Ok, Err}
+use Rattle.std.specs.Prelude.{◌++◌, List, [], ◌∷◌, map, Option, None, option_map, Result, Ok, Err}
 use Rattle.std.specs.List.{filter_map}
 use Rattle.jc_types.specs.declared.refusal.Refusal.{Refusal}
 use Rattle.jc_model.specs.declared.event.Op.{Op}

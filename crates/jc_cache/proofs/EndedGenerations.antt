@@ -3,14 +3,13 @@
 --     turn_of          a generation was ended, or the stripe is as it was
 --     ended_seen       the seat has seen what it had seen
 --     ended_may        the session may call as before
-use Rattle.std.proofs.Common.{◌≡◌, ◌<◌, ℕ, inl, inr, ⊎_elim, List, length, set, slice_get, Option, Some, None, Result, Ok, Err, IfOk, IfErr, ◌++◌, refl, sym, ap, subst, ◌∙◌, arith}
+use Rattle.std.proofs.Common.{◌≡◌, ℕ, inl, inr, ⊎_elim, List, set, slice_get, Option, Some, None, Result, Ok, Err, IfOk, IfErr, ◌++◌, refl, sym, ap, subst, ◌∙◌, arith}
 use mathlib.Core.List.{IsPrefix}
 use mathlib.Core.Logic.{dite}
 use native.Mathlib.Decide.{ℕ_discrete}
 use Rattle.std.proofs.lemmas.Option.{same_Some}
 use Rattle.jc_model.specs.declared.event.Event.{Event}
 use Rattle.jc_stripe.specs.State.{State}
-use Rattle.jc_stripe.specs.Generations.{whole_history}
 use Rattle.jc_stripe.specs.Renewal.{Renewal, Renews, StaysOrRenews, EndsGeneration}
 use Rattle.jc_lock.specs.Views.{Finds, after_give, own_steps_of}
 use Rattle.jc_lock.specs.declared.view.View.{View}

@@ -9,7 +9,7 @@
 --     rests_seen                           lendings in which nothing was done: the seat has seen them
 --     kept, added                          a phase that leaves the own steps, and one that adds its step
 --     HasGrown, gained                     one that gains an own step, whose place in the history is known alone
-use Rattle.std.proofs.Common.{◌≡◌, ◌≤◌, ℕ, false, inl, Option, Some, List, [], ◌∷◌, length, slice_get, refl, sym, ap, subst, ◌∙◌, arith, le_refl}
+use Rattle.std.proofs.Common.{◌≡◌, ◌≤◌, ℕ, false, Option, Some, List, [], ◌∷◌, length, slice_get, refl, sym, ap, subst, ◌∙◌, arith, le_refl}
 use Rattle.std.proofs.lemmas.List.{length-append}
 use mathlib.Core.List.{IsPrefix}
 use Rattle.jc_model.specs.declared.event.Event.{Event}

@@ -7,7 +7,7 @@
 --     there_row                   the seat at a place of a row of a session's seats
 --     teller_seen, hearer_seen    each seat of a row has seen what it had seen
 --     may_stay, teller_may, hearer_may    a session whose seats have seen more may call as before
-use Rattle.std.proofs.Common.{◌≡◌, ◌+◌, ◌<◌, ◌≤◌, ℕ, zero, suc, true, false, inl, Option, Some, IsSome, List, [], ◌∷◌, length, set, get_or, slice_get, refl, sym, ap, subst, subst₂, ◌∙◌, le_refl, arith}
+use Rattle.std.proofs.Common.{◌≡◌, ◌+◌, ◌<◌, ◌≤◌, ℕ, zero, suc, true, false, Some, IsSome, List, [], ◌∷◌, length, set, get_or, slice_get, refl, sym, ap, subst, subst₂, ◌∙◌, le_refl, arith}
 use Rattle.std.proofs.lemmas.Option.{same_Some, slice_get_read, slice_get_within}
 use Rattle.std.specs.List.{list_all}
 use mathlib.Core.List.{IsPrefix}

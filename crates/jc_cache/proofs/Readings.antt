@@ -4,7 +4,7 @@
 --     events_snoc                       the events of stripes with one more
 --     counted_next, counted_all         what the first stripes count, with one more, and what all count
 --     read_may                          a session that has read may call as before
-use Rattle.std.proofs.Common.{◌≡◌, ◌+◌, ◌<◌, ◌≤◌, ℕ, zero, suc, Some, List, [], ◌∷◌, ◌++◌, length, map, set, take, slice_get, refl, sym, ap, subst, subst₂, ◌∙◌, le_refl, add-one, arith, append_assoc, append-nil}
+use Rattle.std.proofs.Common.{◌≡◌, ◌+◌, ◌<◌, ◌≤◌, ℕ, zero, suc, Some, List, [], ◌∷◌, ◌++◌, length, set, take, slice_get, refl, sym, ap, subst, subst₂, ◌∙◌, le_refl, add-one, arith, append_assoc, append-nil}
 use Rattle.std.proofs.lemmas.Option.{same_Some, slice_get_within}
 use Rattle.std.proofs.lemmas.List.{map-append}
 use mathlib.Core.Logic.{dite}
@@ -16,11 +16,11 @@ use Rattle.jc_model.specs.Statistics.{statistics_of, together, StatisticsLaws}
 use Rattle.jc_stripe.specs.State.{State}
 use Rattle.jc_stripe.specs.Generations.{whole_history}
 use Rattle.jc_cache.specs.Caches.{CacheState, noted_by}
-use Rattle.jc_cache.specs.Counting.{HasRead, HasReadEach, Reads, all_events}
+use Rattle.jc_cache.specs.Counting.{HasRead, HasReadEach, all_events}
 use Rattle.jc_cache.specs.Meeting.{KeepRow}
 use Rattle.jc_cache.specs.Sessions.{MayCall}
 use Rattle.jc_cache.specs.declared.session.Session.{Session}
-use Rattle.jc_cache.proofs.Rows.{Seated, locks_of, length_locks, seat_there}
+use Rattle.jc_cache.proofs.Rows.{Seated, length_locks, seat_there}
 use Rattle.jc_cache.proofs.Meetings.{HasRest, got_set, got_other, may_stay}
 
 -- 1. Which stripes were read.

@@ -17,11 +17,7 @@ use Rattle.jc_types.specs.Stripes.{stripe_of}
 use Rattle.jc_types.specs.declared.caller.Caller.{Caller}
 use Rattle.jc_types.specs.declared.config.Config.{Config}
 use Rattle.jc_model.specs.Cache.{Bytes}
-use Rattle.jc_model.specs.Group.{nothing_said}
 use Rattle.jc_model.specs.declared.event.Event.{Event}
-use Rattle.jc_model.specs.declared.event.Event.TheVariants.{Step}
-use Rattle.jc_model.specs.declared.event.Op.{Op}
-use Rattle.jc_model.specs.declared.event.Out.{Out}
 use Rattle.jc_stripe.specs.Keys.{Looks}
 use Rattle.jc_stripe.specs.State.{State}
 use Rattle.jc_stripe.specs.Reached.{IsReached}
@@ -29,15 +25,9 @@ use Rattle.jc_stripe.specs.Generations.{past_events, whole_history}
 use Rattle.jc_stripe.specs.Renewal.{all_own_steps}
 use Rattle.jc_stripe.specs.OnePhase.{OnePhase, IsPhaseOf, is_own_step, own_steps}
 use Rattle.jc_stripe.specs.OwnSteps.{OwnSteps, may_come_all}
-use Rattle.jc_stripe.specs.Phases.{MayBegin, Begins, Commits, PicksUp}
 use Rattle.jc_stripe.specs.Tickets.{TicketClaim, JoinClaim}
-use Rattle.jc_stripe.specs.declared.begun.Begun.{Begun}
-use Rattle.jc_stripe.specs.declared.begun.Begun.TheVariants as begun
 use Rattle.jc_stripe.specs.declared.begun.Picked.{Picked}
 use Rattle.jc_stripe.specs.declared.begun.Picked.TheVariants as picked
-use Rattle.jc_stripe.specs.declared.begun.StepDone.{StepDone}
-use Rattle.jc_stripe.specs.declared.ticket.Reservation.{Reservation}
-use Rattle.jc_stripe.proofs.CallerLemmas.{adds_one, gains_one}
 use Rattle.jc_lock.specs.Views.{Finds}
 use Rattle.jc_lock.proofs.CallerLemmas.{prefix-refl, same_itself}
 use Rattle.jc_session.specs.Counting.{IsCounted, one_more, counts_after}
@@ -57,7 +47,7 @@ use Rattle.jc_cache.specs.Sessions.{IsSeatAt, IsOf, HoldsNothing, own_total, cap
 use Rattle.jc_cache.specs.declared.session.Session.{Session}
 use Rattle.jc_cache.proofs.Lendings.{lock_takes, lock_gives, lock_finds, Lending, phase_lent}
 use Rattle.jc_cache.proofs.Rows.{Seated, locks_of, length_locks}
-use Rattle.jc_cache.proofs.Seats.{set_get, set_locks, set_total, one_longer, capped_more, seat_stays}
+use Rattle.jc_cache.proofs.Seats.{set_get, set_locks, set_total, capped_more, seat_stays}
 
 -- 1. Own steps.
 

@@ -8,7 +8,7 @@
 --     tries-left    one more that left the stripe without a phase
 --     tries-since   and what is found after it
 --     lent-map      a phase that says less
-use Rattle.std.proofs.Common.{◌≡◌, ℕ, List, [], ◌∷◌, ◌++◌, refl, sym, subst}
+use Rattle.std.proofs.Common.{ℕ, List, [], ◌∷◌, ◌++◌, refl, subst}
 use Rattle.jc_stripe.specs.State.{State}
 use Rattle.jc_stripe.specs.Reached.{IsReached}
 use Rattle.jc_gate.specs.Lending.{ComesAfter, Lends, Lent}

@@ -1,6 +1,6 @@
 -- What a phase counts says how many own steps it adds.
 --     counted_longer    at most one phase of a session, which changes this of its counts, leaves so many own steps more
-use Rattle.std.proofs.Common.{◌≡◌, ◌+◌, ◌∙◌, inl, inr, ℕ, List, ◌∷◌, None, Some, length, ap, sym, subst, arith}
+use Rattle.std.proofs.Common.{◌≡◌, ◌+◌, ◌∙◌, inl, inr, ℕ, List, ◌∷◌, None, length, ap, sym, subst, arith}
 use Rattle.std.proofs.lemmas.List.{length-append}
 use Rattle.jc_types.specs.declared.caller.Caller.{Caller}
 use Rattle.jc_model.specs.Cache.{Bytes}

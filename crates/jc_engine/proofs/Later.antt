@@ -13,7 +13,7 @@
 --     hit_call         and is the whole call
 --     hit_told         so what it wrote is what the call returns
 --     not_found        what is not there is None
-use Rattle.std.proofs.Common.{◌≡◌, ◌∙◌, ℕ, zero, suc, List, [], ◌∷◌, ◌++◌, length, true, false, Result, Ok, Option, None, Some, IsSome, is_some, option_map, refl, sym, ap, subst}
+use Rattle.std.proofs.Common.{◌≡◌, ◌∙◌, ℕ, zero, suc, List, [], ◌∷◌, ◌++◌, length, true, false, Result, Ok, Option, None, Some, is_some, option_map, refl, sym, ap, subst}
 use Rattle.jc_types.specs.declared.caller.Caller.{Caller}
 use Rattle.jc_types.specs.declared.refusal.Refusal.{Refusal}
 use Rattle.jc_model.specs.Cache.{Bytes}
@@ -33,10 +33,9 @@ use Rattle.jc_session.specs.declared.counts.Counted.TheVariants.{Step}
 use Rattle.jc_session.specs.declared.agent.Agent.{Agent}
 use Rattle.jc_engine.specs.Asking.{AsksWriter, change_wanted}
 use Rattle.jc_engine.specs.Chain.{AllQuiet, Rests, Since, LentPhase}
-use Rattle.jc_engine.specs.Needs.{BeginsIfClear, Starts, Hits, counted_hit}
+use Rattle.jc_engine.specs.Needs.{Starts, Hits, counted_hit}
 use Rattle.jc_engine.specs.Values.{value_in, value_told}
-use Rattle.jc_engine.specs.Stays.{begins-stays}
-use Rattle.jc_engine.specs.Calls.{Rejoins, Retries, EntersAs, Enters, IsCall}
+use Rattle.jc_engine.specs.Calls.{Retries, EntersAs, Enters, IsCall}
 use Rattle.jc_engine.specs.declared.entering.Entered.{Entered}
 use Rattle.jc_engine.specs.declared.entering.Entered.TheVariants as entered
 use Rattle.jc_stripe.specs.declared.begun.Begun.{Begun}

@@ -6,7 +6,6 @@
 use Rattle.std.proofs.Common.{◌≡◌, ◌⊎◌, ℕ, List, [], ◌∷◌, ◌++◌, refl, subst}
 use Rattle.jc_stripe.specs.State.{State}
 use Rattle.jc_stripe.specs.Reached.{IsReached}
-use Rattle.jc_engine.specs.Chain.{Since}
 use Rattle.jc_engine.specs.Doors.{AllFound, IsLeft, IsNotMade}
 use Rattle.jc_engine.proofs.Coming.{since_start, since_on, since_both}
 use Rattle.jc_engine.proofs.Later.{all-append, lent-append}

@@ -3,7 +3,7 @@
 --     results_new     the next key is in none of them
 --     results_whole   the results of all keys
 --     refused_near    a key that was refused for the history's sake: its stripe is near full
-use Rattle.std.proofs.Common.{◌≡◌, ◌==◌, ◌⊎◌, ⊎_elim, ◌<◌, ◌≤◌, ◌+◌, ◌++◌, ℕ, List, [], length, take, get_or, false, Option, Some, option_map, Result, Ok, Err, slice_get, refl, sym, subst, ◌∙◌}
+use Rattle.std.proofs.Common.{◌≡◌, ◌==◌, ⊎_elim, ◌<◌, ◌≤◌, ◌+◌, ◌++◌, ℕ, List, [], length, take, get_or, false, Option, Some, option_map, Result, Ok, Err, slice_get, refl, sym, subst, ◌∙◌}
 use Rattle.std.specs.List.{cons_option, list_any, IsDistinct}
 use Rattle.std.specs.Map.{keys_of}
 use Rattle.std.specs.Cmp.Lexicographic.{pointwise}

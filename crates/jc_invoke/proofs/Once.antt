@@ -3,13 +3,12 @@
 --     runs_out                          the keys of these runs are those that are out
 --     runs_shown                        what is out has the processor shown what is due
 --     run_more                          one round more, once each key that was reserved is over
-use Rattle.std.proofs.Common.{◌≡◌, ◌==◌, ◌||◌, ◌⊎◌, ⊎_elim, inl, inr, ◌++◌, ℕ, zero, suc, List, [], ◌∷◌, append-nil, length, map, set, slice_get, Bool, true, false, true≢false, MatchBool, Some, Result, refl, sym, ap, ◌∙◌, subst, arith}
+use Rattle.std.proofs.Common.{◌≡◌, ◌==◌, ◌||◌, ◌⊎◌, ⊎_elim, inl, inr, ◌++◌, ℕ, zero, suc, List, [], ◌∷◌, append-nil, length, map, slice_get, Bool, true, false, true≢false, Some, Result, refl, sym, ap, ◌∙◌, subst}
 use Rattle.std.proofs.lemmas.Cmp.{nat_list_eq_equiv}
 use Rattle.std.proofs.lemmas.List.{map-append}
 use Rattle.std.proofs.lemmas.List.Concat.{flat_map-append}
 use Rattle.std.proofs.lemmas.List.Elements.{All-append, All-cons, All-nil}
 use Rattle.std.proofs.lemmas.List.Folds.{list_any-append}
-use Rattle.std.proofs.lemmas.Map.Keys.{IsDistinct-cons, IsDistinct-head, IsDistinct-tail}
 use Rattle.std.proofs.lemmas.Option.{same_Some}
 use Rattle.std.specs.List.{All, AllByRecursion, IsDistinct}
 use Rattle.std.specs.Map.{keys_of}
@@ -23,7 +22,6 @@ use Rattle.jc_model.specs.declared.event.Op.{Op}
 use Rattle.jc_model.specs.declared.event.Op.TheVariants.{Invoke}
 use Rattle.jc_model.specs.declared.event.Reply.{Reply}
 use Rattle.jc_model.specs.declared.event.WriteAnswer.{WriteAnswer}
-use Rattle.jc_batch.proofs.CallerLemmas.{at_place}
 use Rattle.jc_stripe.proofs.CallerLemmas.{none_twice}
 use Rattle.jc_stripe.specs.Refusals.{first_asked}
 use Rattle.jc_stripe.specs.Tickets.{entry_seen, is_loadable}

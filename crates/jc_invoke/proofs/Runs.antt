@@ -4,19 +4,15 @@
 --     new_claim        the next key isn't among those that are to be asked for
 --     changes_are      what is asked for, as changes of keys
 --     each_told        each run was told by its round
-use Rattle.std.proofs.Common.{◌≡◌, ◌==◌, ◌||◌, ◌++◌, ℕ, zero, suc, List, [], ◌∷◌, length, map, Bool, true, false, MatchBool, Option, None, Some, IsSome, Result, reverse, if◌then◌else◌, refl, sym, ap, subst, ◌∙◌, arith}
+use Rattle.std.proofs.Common.{◌≡◌, ◌==◌, ◌||◌, ◌++◌, ℕ, zero, suc, List, [], ◌∷◌, length, map, Bool, true, false, Option, None, Some, IsSome, Result, reverse, if◌then◌else◌, refl, sym, ap, subst, ◌∙◌, arith}
 use Rattle.std.proofs.lemmas.Cmp.{nat_list_eq_equiv}
 use Rattle.std.proofs.lemmas.List.{map-append, reverse-reverse}
-use Rattle.std.proofs.lemmas.Map.Keys.{IsDistinct-head, IsDistinct-tail, IsDistinct-cons}
+use Rattle.std.proofs.lemmas.Map.Keys.{IsDistinct-head, IsDistinct-tail}
 use Rattle.std.specs.List.{AllByRecursion, IsAmong, IsDistinct, cons_option}
-use Rattle.std.specs.Map.{keys_of}
 use Rattle.std.specs.Cmp.Lexicographic.{pointwise}
-use Rattle.jc_types.specs.declared.caller.Caller.{Caller}
-use Rattle.jc_types.specs.declared.config.Config.{Config}
 use Rattle.jc_model.specs.Batches.{is_among}
 use Rattle.jc_model.specs.Cache.{Bytes}
 use Rattle.jc_model.specs.declared.event.Change.{Change}
-use Rattle.jc_model.specs.declared.event.Op.{Op}
 use Rattle.jc_model.specs.declared.event.WriteAnswer.{WriteAnswer}
 use Rattle.jc_model.specs.declared.event.WriteAnswer.TheVariants.{NotAsked}
 use Rattle.jc_batch.specs.Changes.{changes_of}
@@ -30,10 +26,6 @@ use Rattle.jc_stripe.specs.declared.ticket.Reservation.{Reservation}
 use Rattle.jc_cache.specs.declared.session.Session.{Session}
 use Rattle.jc_bulk.specs.Calls.{is_change_of, is_delete}
 use Rattle.jc_bulk.specs.CallsInside.{reserved_by}
-use Rattle.jc_bulk.specs.declared.progress.Progress.{Progress}
-use Rattle.jc_bulk.specs.KeyProgress.{is_reserved}
-use Rattle.jc_bulk.specs.Keys.{IsTicketFor}
-use Rattle.jc_bulk.specs.SoFar.{AreIn}
 use Rattle.jc_bulk.specs.Calls.{reserved_keys}
 use Rattle.jc_bulk.proofs.CallerLemmas.{among_last}
 use Rattle.jc_invoke.specs.Room.{AreReported, RunState, asked_keys, claim_after, claims_after, key_run, processed_out, reports, reservations_of, wanted}

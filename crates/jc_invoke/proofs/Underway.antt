@@ -7,7 +7,7 @@
 --     op_at            the operation is always the same
 --     all_committed    no key is reserved any more
 --     none_left        a key that is reserved has a run
-use Rattle.std.proofs.Common.{◌≡◌, ◌==◌, ⊎_elim, inl, inr, ◌<◌, ◌≤◌, ◌-◌, ℕ, zero, suc, List, [], ◌∷◌, ◌++◌, length, set, map, Bool, true, false, Option, Some, Result, Ok, Err, IfOk, IfErr, option_map, nat_lt, if◌then◌else◌, slice_get, refl, sym, ap, subst, ◌∙◌, arith}
+use Rattle.std.proofs.Common.{◌≡◌, ◌==◌, ⊎_elim, inl, inr, ◌<◌, ◌≤◌, ◌-◌, ℕ, zero, suc, List, [], ◌∷◌, ◌++◌, length, set, map, Bool, true, false, Option, Some, Result, Ok, Err, IfOk, IfErr, nat_lt, if◌then◌else◌, slice_get, refl, sym, ap, subst, ◌∙◌, arith}
 use Rattle.std.proofs.lemmas.List.{map-append}
 use Rattle.std.proofs.lemmas.Option.{same_Some}
 use Rattle.std.specs.List.{IsDistinct}

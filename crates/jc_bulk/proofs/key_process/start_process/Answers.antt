@@ -1,4 +1,3 @@
-use Rattle.std.proofs.Common.{◌≡◌, sym, ap, subst, ◌∙◌}
 use Rattle.jc_model.specs.declared.event.Op.TheVariants.{Invoke}
 use Rattle.jc_bulk.proofs.KeyCalls.{may_start, start_told}
 use Rattle.jc_bulk.proofs.Processes.{asks_process, done_never, joined_never}

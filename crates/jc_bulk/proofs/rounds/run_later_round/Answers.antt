@@ -1,5 +1,4 @@
 use Rattle.std.proofs.Common.{[], append-nil, vec_capacity, refl, sym, ap, subst, arith}
-use Rattle.jc_session.specs.Boxed.{boxed}
 use Rattle.jc_bulk.specs.Bulk.{HasAsked}
 use Rattle.jc_bulk.specs.KeyProgress.{IsNoted, StayEnded, failures}
 use Rattle.jc_bulk.specs.SoFar.{GoesOn, IsUnderway}

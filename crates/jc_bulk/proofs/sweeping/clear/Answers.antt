@@ -1,4 +1,4 @@
-use Rattle.std.proofs.Common.{◌==◌, sym, ◌∙◌, subst, ap}
+use Rattle.std.proofs.Common.{◌==◌, sym, ◌∙◌, subst}
 use Rattle.std.specs.List.{IsDistinct}
 use Rattle.std.specs.Cmp.Lexicographic.{pointwise}
 use Rattle.jc_bulk.specs.Targets.{clear_ops}

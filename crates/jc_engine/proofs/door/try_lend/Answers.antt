@@ -1,5 +1,4 @@
-use Rattle.std.proofs.Common.{◌∙◌, ap, sym, subst, rules}
-use Rattle.jc_stripe.specs.State.{State}
+use Rattle.std.proofs.Common.{◌∙◌, ap, sym, subst}
 use Rattle.jc_engine.specs.Chain.{LentPhase}
 use Rattle.jc_engine.specs.Doors.{IsNotMade}
 use Rattle.jc_engine.proofs.Later.{lent_later}

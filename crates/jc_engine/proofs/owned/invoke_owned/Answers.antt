@@ -1,4 +1,4 @@
-use Rattle.std.proofs.Common.{◌≡◌, ◌∙◌, ap, sym}
+use Rattle.std.proofs.Common.{◌∙◌, ap, sym}
 use Rattle.std.proofs.lemmas.Option.{same_Some}
 use Rattle.jc_engine.proofs.OwnedCalls.{owned_call, there_is}
 use Rattle.jc_engine.proofs.owned.invoke_owned.Goals as goal

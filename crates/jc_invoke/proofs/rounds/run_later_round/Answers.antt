@@ -1,4 +1,4 @@
-use Rattle.std.proofs.Common.{◌∷◌, [], append-nil, refl, sym, ap, subst}
+use Rattle.std.proofs.Common.{◌∷◌, [], append-nil, refl, sym, subst}
 use Rattle.jc_bulk.specs.KeyProgress.{StayEnded}
 use Rattle.jc_invoke.specs.Keys.{HasRun, IsUnderway}
 use Rattle.jc_invoke.specs.Runs.{IsRunOf}

@@ -1,4 +1,3 @@
-use Rattle.std.proofs.Common.{refl}
 use Rattle.jc_cache.proofs.Readings.{read_may}
 use Rattle.jc_cache.proofs.cache.Cache.statistics.Goals as goal
 
