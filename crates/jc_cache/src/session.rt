@@ -1,16 +1,9 @@
 //! Sessions.
-ghost use Rattle.std.specs.Prelude.{◌≡◌, ◌≤◌, ◌+◌, ◌++◌, map, true, is_some, IsSome, vec_len, vec_capacity};
-ghost use Rattle.jc_model.specs.Cache.{Bytes};
-ghost use Rattle.jc_model.specs.Table.{is_load_given, is_write_given, is_process_given};
-ghost use Rattle.jc_model.specs.declared.event.LoadAnswer.{LoadAnswer};
-ghost use Rattle.jc_model.specs.declared.event.WriteAnswer.{WriteAnswer};
+ghost use Rattle.std.specs.Prelude.{◌≡◌, ◌≤◌, ◌+◌, map, true, is_some, IsSome, vec_len, vec_capacity};
 ghost use Rattle.jc_batch.specs.Changes.{changes_of};
-ghost use Rattle.jc_outside.specs.declared.done.Origin.TheVariants.{Live};
-ghost use Rattle.jc_outside.specs.Calling.{KeepsType, LoadsOnce, WritesOnce};
-ghost use Rattle.jc_outside.specs.CallingAll.{LoadsAllOnce, WritesAllOnce, loads_done, writes_done, asked_changes};
-ghost use Rattle.jc_mutentry.specs.Running.{RunsOnce, LoadsIfGiven};
-ghost use Rattle.jc_stripe.specs.Tickets.{Claim, asks_loader, asks_processor, entry_seen, is_loadable};
-ghost use Rattle.jc_session.specs.Boxed.{boxed};
+ghost use Rattle.jc_outside.specs.CallingAll.{asked_changes};
+ghost use Rattle.jc_stripe.specs.Tickets.{Claim, asks_loader, asks_processor};
+ghost use Rattle.jc_session.specs.Asked.{LoaderAsked, LoaderAskedAll, ProcessorRun, WriterAsked, WriterAskedAll};
 ghost use Rattle.jc_cache.specs.Calls.{next_call};
 ghost use Rattle.jc_cache.specs.Caches.{CacheState};
 ghost use Rattle.jc_cache.specs.Sessions.{HoldsNothing, IsOf};
@@ -69,11 +62,7 @@ impl Session {
     pub fn ask_loader<R: Wait>(&mut self, rt: &R, ask: Ask) -> LoadDone<Ask>
         requires nothing { HoldsNothing self.old }
         requires first { asks_loader ask.reservation.first ≡ true }
-        ensures done { (result.ask ≡ ask) × (result.origin ≡ Live) × (is_load_given result.answer ≡ true) }
-        ensures loader { LoadsOnce (boxed loads) (boxed load_state)
-            self.old.agent.hands.outside.loader ask.reservation.key result.answer self.new.agent.hands.outside.loader }
-        ensures loader_type { KeepsType self.old.agent.hands.outside.loader self.new.agent.hands.outside.loader }
-        ensures writer { self.new.agent.hands.outside.writer ≡ self.old.agent.hands.outside.writer }
+        ensures asked { LoaderAsked loads load_state self.old.agent ask result self.new.agent }
         ensures rest { self.new ≡ record self.old { agent = record self.old.agent { hands = self.new.agent.hands } } }
         ensures own { (cache : CacheState) → IsOf cache self.old → IsOf cache self.new }
     {
@@ -90,12 +79,7 @@ impl Session {
         requires nothing { HoldsNothing self.old }
         requires change { is_some ask.change ≡ true }
         requires writer { IsSome self.old.agent.hands.outside.writer }
-        ensures done { (result.ask ≡ ask) × (result.origin ≡ Live) × (is_write_given result.answer ≡ true) }
-        ensures writer { WritesOnce (boxed writes) (boxed write_state)
-            self.old.agent.hands.outside.writer ask.reservation.key ask.change
-            result.answer self.new.agent.hands.outside.writer }
-        ensures writer_type { KeepsType self.old.agent.hands.outside.writer self.new.agent.hands.outside.writer }
-        ensures loader { self.new.agent.hands.outside.loader ≡ self.old.agent.hands.outside.loader }
+        ensures asked { WriterAsked writes write_state self.old.agent ask result self.new.agent }
         ensures rest { self.new ≡ record self.old { agent = record self.old.agent { hands = self.new.agent.hands } } }
         ensures own { (cache : CacheState) → IsOf cache self.old → IsOf cache self.new }
     {
@@ -118,15 +102,8 @@ impl Session {
     ) -> ProcDone<Ask>
         requires nothing { HoldsNothing self.old }
         requires first { asks_processor ask.reservation.first ≡ true }
-        ensures done { (result.ask ≡ ask) × (result.origin ≡ Live) × (is_process_given result.process ≡ true) }
-        ensures run { RunsOnce processes process_state
-            processor.old ask.reservation.key args.now (is_loadable ask.reservation.first) (entry_seen ask.reservation.first)
-            result.load result.process processor.new }
-        ensures loader { LoadsIfGiven (boxed loads) (boxed load_state)
-            self.old.agent.hands.outside.loader ask.reservation.key result.load self.new.agent.hands.outside.loader }
-        ensures loader_type { KeepsType self.old.agent.hands.outside.loader self.new.agent.hands.outside.loader }
-        ensures processor_type { processor.new.vtable ≡ processor.old.vtable }
-        ensures writer { self.new.agent.hands.outside.writer ≡ self.old.agent.hands.outside.writer }
+        ensures asked { ProcessorRun loads load_state processes process_state
+            self.old.agent ask args.now processor.old result self.new.agent processor.new }
         ensures rest { self.new ≡ record self.old { agent = record self.old.agent { hands = self.new.agent.hands } } }
         ensures own { (cache : CacheState) → IsOf cache self.old → IsOf cache self.new }
     {
@@ -150,16 +127,11 @@ impl Session {
         requires nothing { HoldsNothing self.old }
         requires batch { batch.items ≡ map (λ (ask : Claim). ask.reservation.key) asks.items }
         requires room { vec_len done.old + vec_len asks ≤ vec_capacity done.old }
-        ensures own { (cache : CacheState) → IsOf cache self.old → IsOf cache self.new }
-        ensures loader { (said : Bytes → LoadAnswer)
-            × LoadsAllOnce (boxed loads_all) (boxed load_state)
-            self.old.agent.hands.outside.loader batch.items said self.new.agent.hands.outside.loader
-            × (done.new.items ≡ done.old.items ++ loads_done (λ (ask : Claim). ask.reservation.key) said asks.items) }
-        ensures loader_type { KeepsType self.old.agent.hands.outside.loader self.new.agent.hands.outside.loader }
+        ensures asked { LoaderAskedAll loads_all load_state
+            self.old.agent asks.items batch.items done.old.items done.new.items self.new.agent }
         ensures room { vec_capacity done.new ≡ vec_capacity done.old }
-        ensures writer { self.new.agent.hands.outside.writer ≡ self.old.agent.hands.outside.writer }
-        ensures rest { self.new
-            ≡ record self.old { agent = record self.old.agent { hands = self.new.agent.hands } } }
+        ensures rest { self.new ≡ record self.old { agent = record self.old.agent { hands = self.new.agent.hands } } }
+        ensures own { (cache : CacheState) → IsOf cache self.old → IsOf cache self.new }
     {
         self.agent.ask_loader_all(rt, asks, batch, done);
     }
@@ -184,16 +156,11 @@ impl Session {
         requires batch { changes_of batch
             ≡ asked_changes (λ (ask : Claim). ask.reservation.key) (λ (ask : Claim). ask.change) asks.items }
         requires room { vec_len done.old + vec_len asks ≤ vec_capacity done.old }
-        ensures own { (cache : CacheState) → IsOf cache self.old → IsOf cache self.new }
-        ensures writer { (said : Bytes → WriteAnswer)
-            × WritesAllOnce (boxed writes_all) (boxed deletes_all) (boxed write_state)
-            self.old.agent.hands.outside.writer batch result said self.new.agent.hands.outside.writer
-            × (done.new.items ≡ done.old.items ++ writes_done (λ (ask : Claim). ask.reservation.key) said asks.items) }
-        ensures writer_type { KeepsType self.old.agent.hands.outside.writer self.new.agent.hands.outside.writer }
+        ensures asked { WriterAskedAll writes_all deletes_all write_state
+            self.old.agent asks.items batch result done.old.items done.new.items self.new.agent }
         ensures room { vec_capacity done.new ≡ vec_capacity done.old }
-        ensures loader { self.new.agent.hands.outside.loader ≡ self.old.agent.hands.outside.loader }
-        ensures rest { self.new
-            ≡ record self.old { agent = record self.old.agent { hands = self.new.agent.hands } } }
+        ensures rest { self.new ≡ record self.old { agent = record self.old.agent { hands = self.new.agent.hands } } }
+        ensures own { (cache : CacheState) → IsOf cache self.old → IsOf cache self.new }
     {
         self.agent.ask_writer_all(rt, asks, batch, done)
     }
