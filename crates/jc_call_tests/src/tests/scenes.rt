@@ -48,6 +48,9 @@ const TEXTS: &[&str] = &[
     beside::ONE_LOAD,
     beside::PUT_WAITS,
     beside::HIT_DURING_WRITE,
+    beside::LOAD_GIVEN_UP,
+    beside::FAILING_LOAD_GIVEN_UP,
+    beside::WRITE_GIVEN_UP,
     random::WELL,
     random::DOWN_AT_TIMES,
 ];
