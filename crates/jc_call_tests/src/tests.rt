@@ -42,6 +42,7 @@ mod manners;
 mod meeting;
 mod mutexed;
 mod outside;
+mod owned;
 mod phases;
 mod random;
 mod reopening;
