@@ -45,6 +45,7 @@ mod outside;
 mod owned;
 mod phases;
 mod random;
+mod real_time;
 mod reopening;
 mod scenes;
 mod scripted;
