@@ -1,9 +1,11 @@
 //! Calls and their answers, as words.
+ghost use Rattle.std.specs.Prelude.{◌≡◌, false};
+ghost use Rattle.jc_model.specs.Table.{is_invoke};
 ghost use Rattle.jc_cache.specs.Sessions.{MayCall};
 
 use super::invoking::invoked;
 use jc_cache::{Cache, Session};
-use jc_model::Reply;
+use jc_model::{Op, Reply};
 use jc_types::{Key, Refusal, Value};
 use std::alloc::Global;
 use std::process::Abort;
@@ -51,6 +53,19 @@ pub fn replied_as(reply: Reply) -> Answer {
     match reply {
         Reply::Fault(fault) => Err(fault),
         Reply::Unit | Reply::Flag(_) | Reply::Value(_) => Ok(reply),
+    }
+}
+
+/// The operation that a text says, with its value if it takes one.
+pub fn op_of(rt: &impl Abort, op: &str, text: &str) -> Op
+    ensures { is_invoke result ≡ false }
+{
+    match op {
+        "get" => Op::Get,
+        "remove" => Op::Remove,
+        "put" => Op::Put(value(rt, text)),
+        "replace" => Op::Replace(value(rt, text)),
+        _ => panic!(rt; "no operation: {op}"),
     }
 }
 

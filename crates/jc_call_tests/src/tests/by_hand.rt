@@ -5,7 +5,8 @@ ghost use Rattle.jc_cache.specs.Sessions.{IsOf, MayCall};
 use super::closing::closed;
 use super::histories::are_steps;
 use super::phases::{
-    ask_loader, ask_writer, is_busy, join_load, not_yet, picks, replies, report, reserve, run, sees,
+    ask_loader, ask_writer, gives_up, is_busy, is_to_retry, join_load, not_yet, picks, replies,
+    report, reserve, run, sees,
 };
 use super::scripted::processor_of;
 use super::stage::push;
@@ -23,10 +24,12 @@ struct Three {
 /// A story is a text of lines, each a part's name and what it says:
 ///
 /// - `with`: how the first session's loader and writer behave;
-/// - `call`: which call the first session makes phase by phase, on `a`: `get`, `put`, or `invoke` with the processor's calls;
+/// - `call`: which call the first session makes phase by phase, on `a`: `get`, `put`, or `invoke` with the processor's calls; or
+///   `withdraw`, a `get` that it gives up before it asks anybody;
 /// - `reply`: what it is answered;
 /// - `first`, `between`, `then`: what a third session does before the first phase, between the phases, and after the last one;
 /// - `parked`: what it does while the second session's answer waits to be picked up;
+/// - `retry`, `again`: whole calls of the second session, which was told to retry, and then of the first one, which gave its call up;
 /// - `lives`: that the cache lives on, over a history that has room for so many events;
 /// - `steps`: the steps of the stripe.
 ///
@@ -74,6 +77,42 @@ fn load<R: Abort + Wait>(
     replies(rt, step.reply, part(story, "reply"));
     desk.plays(rt, alloc, cache, third, part(story, "parked"));
     picks(rt, cache, second, join, step.place, part(story, "reply"));
+    desk.plays(rt, alloc, cache, third, part(story, "then"));
+}
+
+/// A load that is given up before the loader is asked: nothing is appended, and a second session, which has joined it, is told to
+/// retry. The key can be reserved again at once. Then both may make whole calls.
+fn withdraw<R: Abort + Wait>(
+    rt: &R,
+    alloc: Global,
+    desk: &Desk,
+    cache: &Cache,
+    sessions: &mut Three,
+    story: &str,
+)
+    requires first { MayCall cache.now sessions.old.first }
+    requires second { MayCall cache.now sessions.old.second }
+    requires third { MayCall cache.now sessions.old.third }
+    ensures first { IsOf cache.now sessions.new.first }
+    ensures second { IsOf cache.now sessions.new.second }
+    ensures third { IsOf cache.now sessions.new.third }
+{
+    let Three {
+        first,
+        second,
+        third,
+    } = sessions;
+    let a = key(rt, "a");
+    let ticket = reserve(rt, cache, first, &a, &Op::Get);
+    let join = join_load(rt, cache, second, &a);
+    desk.plays(rt, alloc, cache, third, part(story, "between"));
+    gives_up(rt, cache, first, ticket);
+    let ticket = reserve(rt, cache, first, &a, &Op::Get);
+    gives_up(rt, cache, first, ticket);
+    desk.plays(rt, alloc, cache, third, part(story, "parked"));
+    is_to_retry(rt, cache, second, join);
+    desk.plays(rt, alloc, cache, second, part(story, "retry"));
+    desk.plays(rt, alloc, cache, first, part(story, "again"));
     desk.plays(rt, alloc, cache, third, part(story, "then"));
 }
 
@@ -162,6 +201,7 @@ fn play<R: Abort + Wait>(
 {
     match first_word(part(story, "call")) {
         ("get", _) => load(rt, alloc, desk, cache, sessions, story),
+        ("withdraw", _) => withdraw(rt, alloc, desk, cache, sessions, story),
         ("put", _) => write(rt, alloc, desk, cache, sessions, story),
         ("invoke", calls) => process(rt, alloc, desk, cache, sessions, story, calls),
         (other, _) => panic!(rt; "no call: {other}"),
@@ -257,9 +297,10 @@ fn stage_of(rt: &impl Abort, alloc: Global, story: &str) -> Stage
 }
 
 /// The first session's loader fails with 7, and its writer with 9, in the second three. A load that failed is also the answer of who
-/// has joined it; a write that failed leaves the entry. In the last one the history is full while an answer is there that nobody has
-/// picked up: it ends after that.
-const STORIES: [&str; 7] = [
+/// has joined it; a write that failed leaves the entry. In the seventh one the history is full while an answer is there that nobody
+/// has picked up: it ends after that. In the last two the first session's load is given up: its loader, which fails, isn't asked. Who is
+/// told to retry has no answer to pick up, so the history ends meanwhile.
+const STORIES: [&str; 9] = [
     "\
 with plain plain
 call get
@@ -321,6 +362,26 @@ between get b = 2 | 1 0 0
 parked tryget b = 2; tryget b = 2; tryget b = 2; tryget b = 2; tryget b = 2; tryget b = 2; tryget b = 2; \
 tryget b = 2; tryget b = 2; tryget b = 2; tryget b = 2; tryget b = 2; tryget b = 2; tryget b = Busy; tryget b = Busy
 then tryget b = 2; tryget b = 2; get b = 2 | 2 0 0
+",
+    "\
+with fails7 plain
+call withdraw
+between get b = 2 | 1 0 0; tryget a = Busy; tryput a 5 = Busy
+parked get b = 2 | 1 0 0; own 2
+retry own 0; get a = 1 | 2 0 0; own 1
+again own 0; get a = 1 | 2 0 0; own 1
+then get a = 1 | 2 0 0
+steps 2 b 2, 2 b 2, 1#2 a 1 < 1, 0#3 a 1 < -, 2 a 1 < -
+",
+    "\
+with fails7 plain
+lives 16
+call withdraw
+between get b = 2 | 1 0 0
+parked tryget b = 2; tryget b = 2; tryget b = 2; tryget b = 2; tryget b = 2; tryget b = 2; tryget b = 2; \
+tryget b = 2; tryget b = 2; tryget b = 2; tryget b = 2; tryget b = 2; tryget b = 2; tryget b = 2; tryget b = 2
+retry get a = 1 | 2 0 0
+again get a = 1 | 2 0 0; own 1
 ",
 ];
 

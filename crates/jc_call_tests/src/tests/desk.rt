@@ -1,5 +1,6 @@
-//! A store whose loaders and writers count their calls, with signals between threads.
+//! A store whose loaders and writers count their calls, with signals between threads, and a clock.
 use super::manners::Actor;
+use super::real_time::Times;
 use super::signals::Signals;
 use super::*;
 use jc_cache::ClosedStripe;
@@ -10,6 +11,7 @@ use jc_store::{Counting, SharedCounts, SharedStore, Store, StoreLoader, StoreWri
 pub struct Desk {
     pub store: SharedStore,
     pub signals: Signals,
+    pub times: Times,
     counts: SharedCounts,
 }
 
@@ -20,6 +22,7 @@ impl Desk {
         Desk {
             store: SharedStore::new(alloc, store).expect(rt, "memory"),
             signals: Signals::new(alloc).expect(rt, "memory"),
+            times: Times::new(alloc),
             counts: SharedCounts::new(alloc).expect(rt, "memory"),
         }
     }

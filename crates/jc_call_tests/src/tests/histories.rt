@@ -3,6 +3,7 @@ use super::answers::replied_as;
 use super::*;
 use jc_cache::ClosedStripe;
 use jc_model::{Event, LoadAnswer};
+use jc_stripe::Stripe;
 use jc_types::Caller;
 use std::alloc::AllocError;
 
@@ -17,11 +18,26 @@ pub fn events(alloc: Global, stripe: &ClosedStripe) -> Result<Vec<Event>, AllocE
 /// key and its reply, and perhaps what was loaded, as in `0 a 1, 0#2 a - < -`.
 pub fn are_steps(rt: &impl Abort, alloc: Global, stripe: &ClosedStripe, steps: &str) {
     let events = events(alloc, stripe).expect(rt, "memory");
+    are_events(rt, &events, steps);
+}
+
+/// The same of these events.
+pub fn are_events(rt: &impl Abort, events: &[Event], steps: &str) {
     let mut texts = steps.split(", ");
-    for event in &events {
+    for event in events {
         is_step(rt, event, texts.next().unwrap_or("no step"));
     }
     is(rt, texts.next(), None);
+}
+
+/// The events of a stripe that is nobody else's.
+pub fn events_of(rt: &impl Abort, alloc: Global, stripe: &Stripe) -> Vec<Event> {
+    let count = stripe.events_len();
+    let mut events = Vec::with_capacity(alloc, count).expect(rt, "memory");
+    stripe
+        .append_events(0, count, &mut events)
+        .expect(rt, "memory");
+    events
 }
 
 /// An event is the step that a text says.

@@ -10,16 +10,20 @@
 //!
 //! `skip N` has the next call begin by the number N.
 //!
+//! `withdraw get a` begins a call by phases, which has to reserve its key and asks nobody. It says so as a loader that waits does, and
+//! gives the call up when such a loader may answer.
+//!
 //! Between threads: `await` waits until a loader or a writer that waits was asked, `raise` lets it answer, and `rest` lets other
 //! threads go on.
 ghost use Rattle.jc_cache.specs.Sessions.{MayCall};
 
-use super::answers::first_word;
+use super::answers::{first_word, op_of};
+use super::phases::{gives_up, reserve};
 use super::*;
 use jc_cache::Statistics;
 
 /// A call, its answer, and the counts by then, if a line says any.
-fn parts<'a>(rt: &impl Abort, line: &'a str) -> (&'a str, &'a str, Option<&'a str>) {
+pub fn parts<'a>(rt: &impl Abort, line: &'a str) -> (&'a str, &'a str, Option<&'a str>) {
     let (call, counts) = match line.split_once(" | ") {
         Some((call, counts)) => (call, Some(counts)),
         None => (line, None),
@@ -84,6 +88,19 @@ impl Desk {
         }
     }
 
+    /// Begins a call, and gives it up when loaders that wait may answer. A text says its operation, its key, and perhaps a value.
+    fn withdraw<R: Abort + Wait>(&self, rt: &R, cache: &Cache, session: &mut Session, text: &str)
+        requires { MayCall cache.now session.old }
+        ensures { MayCall cache.now session.new }
+    {
+        let (op, rest) = first_word(text);
+        let (at, value) = first_word(rest);
+        let op = op_of(rt, op, value);
+        let ticket = reserve(rt, cache, session, &key(rt, at), &op);
+        is(rt, self.signals.wait_as_asked(), Ok(()));
+        gives_up(rt, cache, session, ticket);
+    }
+
     /// Does what a line says.
     pub fn play<R: Abort + Wait>(
         &self,
@@ -104,6 +121,7 @@ impl Desk {
             "ends" => ends(rt, alloc, cache, session, rest),
             "own" => is(rt, Some(session.own()), rest.parse().ok()),
             "skip" => session.skip_to(rest.parse().ok().expect(rt, rest)),
+            "withdraw" => self.withdraw(rt, cache, session, rest),
             "await" => self.signals.wait_for_ask(rt),
             "raise" => self.signals.raise(),
             "rest" => signals::rest(),

@@ -2,6 +2,7 @@
 ghost use Rattle.std.specs.Prelude.{◌≡◌, []};
 ghost use Rattle.jc_stripe.specs.Generations.{whole_history};
 
+use super::histories::events_of;
 use super::*;
 use jc_gate::{Gate, MutexGate};
 use jc_model::{Op, legal};
@@ -57,9 +58,6 @@ fn threads_put_under_a_mutex(rt: HostRuntime) {
     );
     let stripe = gate.into_stripe().expect(&rt, "the stripe");
     is(&rt, stripe.events_len(), 3 * CALLS as usize);
-    let mut events = Vec::with_capacity(alloc, stripe.events_len()).expect(&rt, "memory");
-    stripe
-        .append_events(0, stripe.events_len(), &mut events)
-        .expect(&rt, "memory");
+    let events = events_of(&rt, alloc, &stripe);
     assert!(&rt; legal(alloc, &config, &[], &events).expect(&rt, "memory"));
 }

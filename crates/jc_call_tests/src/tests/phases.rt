@@ -4,6 +4,7 @@ ghost use Rattle.jc_outside.specs.declared.done.Origin.TheVariants.{Live};
 ghost use Rattle.jc_stripe.specs.Effects.{HasReport, change_due};
 ghost use Rattle.jc_stripe.specs.Tickets.{asks_loader, asks_processor, asks_writer, claim_of};
 ghost use Rattle.jc_cache.specs.Sessions.{IsOf, MayCall};
+ghost use Rattle.jc_call_tests.specs.Between.{HasOut};
 
 use super::answers::replied_as;
 use super::*;
@@ -11,7 +12,7 @@ use jc_cache::{
     Ask, Begun, EntryProcessor, First, Join, LoadDone, Op, Picked, ProcDone, Ticket, WriteDone,
 };
 use jc_model::Reply;
-use jc_stripe::phase_laws::own_numbers;
+use jc_stripe::phase_laws::{own_numbers, own_steps};
 
 // 1. First phases.
 
@@ -25,10 +26,12 @@ pub fn reserve<R: Abort + Wait>(
 ) -> Ticket
     requires { MayCall cache.now session.old }
     ensures own { IsOf cache.now session.new }
+    ensures out { HasOut cache.now session.new 1 0 }
     ensures caller { result.reservation.caller.session ≡ session.new.agent.caller.session }
     ensures unasked { (result.asked ≡ false) × (result.writer_asked ≡ false) }
 {
     own_numbers();
+    own_steps();
     session.next_call();
     match cache.start(rt, session, key, op) {
         Begun::Asks(ticket) => ticket,
@@ -40,9 +43,11 @@ pub fn reserve<R: Abort + Wait>(
 pub fn join_load<R: Abort + Wait>(rt: &R, cache: &Cache, session: &mut Session, key: &Key) -> Join
     requires { MayCall cache.now session.old }
     ensures own { IsOf cache.now session.new }
+    ensures out { HasOut cache.now session.new 0 1 }
     ensures caller { result.caller.session ≡ session.new.agent.caller.session }
 {
     own_numbers();
+    own_steps();
     session.next_call();
     match cache.start(rt, session, key, &Op::Get) {
         Begun::Joined(join) => join,
@@ -177,7 +182,33 @@ pub fn report<R: Abort + Wait>(
     }
 }
 
-// 3. Pick-ups, replies, and what is cached.
+// 3. Calls that are given up.
+
+/// A session gives up a call that has reserved its key and asked nobody. It may call again.
+pub fn gives_up<R: Abort + Wait>(rt: &R, cache: &Cache, session: &mut Session, ticket: Ticket)
+    requires out { HasOut cache.now session.old 1 0 }
+    requires caller { ticket.reservation.caller.session ≡ session.old.agent.caller.session }
+    requires unasked { ticket.asked ≡ false }
+    ensures { MayCall cache.now session.new }
+{
+    own_steps();
+    cache.withdraw(rt, session, ticket);
+}
+
+/// A session is told to retry, since the load that it has joined was given up. It may call again.
+pub fn is_to_retry<R: Abort + Wait>(rt: &R, cache: &Cache, session: &mut Session, join: Join)
+    requires out { HasOut cache.now session.old 0 1 }
+    requires caller { join.caller.session ≡ session.old.agent.caller.session }
+    ensures { MayCall cache.now session.new }
+{
+    own_steps();
+    match cache.pick_up(rt, session, join) {
+        Picked::Again => {}
+        _other => panic!(rt; "the load wasn't given up"),
+    }
+}
+
+// 4. Pick-ups, replies, and what is cached.
 
 /// The load that a session has joined isn't over.
 pub fn not_yet<R: Abort + Wait>(rt: &R, cache: &Cache, session: &mut Session, join: Join) -> Join

@@ -5,6 +5,7 @@ ghost use Rattle.jc_cache.specs.Sessions.{MayCall};
 
 use super::answers::{called_bare, called_valued};
 use super::manners::DOWN;
+use super::real_time::Times;
 use super::*;
 
 /// How many calls each session makes.
@@ -66,14 +67,22 @@ fn is_well_or_down(rt: &impl Abort, answer: Option<Answer>) {
     }
 }
 
-/// Makes random calls, always the same ones for a seed.
-pub fn call_often<R: Abort + Wait>(rt: &R, cache: &Cache, session: &mut Session, seed: u64)
+/// Makes random calls, always the same ones for a seed, and notes when each began and returned.
+pub fn call_often<R: Abort + Wait>(
+    rt: &R,
+    times: &Times,
+    cache: &Cache,
+    session: &mut Session,
+    seed: u64,
+)
     requires { MayCall cache.now session.old }
     ensures { MayCall cache.now session.new }
 {
     let mut random = Random(seed);
     'calling: for _ in 0..CALLS {
+        let began = times.now();
         call_once(rt, cache, session, &mut random);
+        times.note(rt, session.caller(), began);
     }
 }
 

@@ -10,12 +10,18 @@
 //! its call, the key and the reply, and perhaps what was loaded.
 //!
 //!     steps 0 a 1, 1#2 a 1 < -
+//!
+//! Of random calls it may say that the steps of each stripe are in the order of real time (`real_time.rt`):
+//!
+//!     steps in real time
 ghost use Rattle.std.specs.Prelude.{All};
 ghost use Rattle.jc_cache.specs.Sessions.{MayCall};
 
 use super::histories::are_steps;
+use super::real_time::are_in_real_time;
 use super::{
-    beside, calls, closing, histories, invoking, limits, meeting, outside, random, trying, *,
+    beside, calls, closing, histories, invoking, limits, meeting, outside, random, real_time,
+    trying, *,
 };
 use jc_cache::ClosedStripe;
 use std::thread::Threads;
@@ -48,8 +54,12 @@ const TEXTS: &[&str] = &[
     beside::ONE_LOAD,
     beside::PUT_WAITS,
     beside::HIT_DURING_WRITE,
+    beside::LOAD_GIVEN_UP,
+    beside::FAILING_LOAD_GIVEN_UP,
+    beside::WRITE_GIVEN_UP,
     random::WELL,
     random::DOWN_AT_TIMES,
+    real_time::ROUNDS,
 ];
 
 /// How many sessions a scene has.
@@ -155,9 +165,10 @@ fn plays<R: Abort + Wait + Threads + Sync>(
     if scene.shape.read_through && scene.shape.write_through {
         are_coherent(rt, alloc, desk, &stripes);
     }
-    if !scene.steps.is_empty() {
-        let first = stripes.first().expect(rt, "a stripe");
-        are_steps(rt, alloc, first, scene.steps);
+    match scene.steps {
+        "" => {}
+        "in real time" => are_in_real_time(rt, alloc, &desk.times, &stripes),
+        steps => are_steps(rt, alloc, stripes.first().expect(rt, "a stripe"), steps),
     }
 }
 

@@ -103,7 +103,12 @@ fn tell_last<R: Abort + Wait>(rt: &R, cache: &Cache, sessions: &mut Vec<Session>
 }
 
 /// Random calls of all sessions beside each other, each on a thread of its own.
-fn call_beside<R: Abort + Wait + Threads + Sync>(rt: &R, cache: &Cache, sessions: &mut Vec<Session>)
+fn call_beside<R: Abort + Wait + Threads + Sync>(
+    rt: &R,
+    desk: &Desk,
+    cache: &Cache,
+    sessions: &mut Vec<Session>,
+)
     requires { All (MayCall cache.now) sessions.old.items }
     ensures { All (MayCall cache.now) sessions.new.items }
 {
@@ -116,7 +121,7 @@ fn call_beside<R: Abort + Wait + Threads + Sync>(rt: &R, cache: &Cache, sessions
         &|seed, session: &mut Session|
             requires { MayCall cache.now session.old }
             ensures { MayCall cache.entry.now session.new }
-        { call_often(rt, cache, session, seed as u64) },
+        { call_often(rt, &desk.times, cache, session, seed as u64) },
     );
 }
 
@@ -135,7 +140,7 @@ fn play_line<R: Abort + Wait + Threads + Sync>(
     let (word, rest) = first_word(line);
     match word {
         "beside" => play_beside(rt, alloc, desk, cache, sessions, rest),
-        "random" => call_beside(rt, cache, sessions),
+        "random" => call_beside(rt, desk, cache, sessions),
         "meet" => tell_last(rt, cache, sessions),
         _ => {
             let (at, rest) = by_session(line);
