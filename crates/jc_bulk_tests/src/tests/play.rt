@@ -6,7 +6,7 @@ use super::closing::are_so;
 use super::outside::Outside;
 use super::random::{LIVING, RELIABLE, UNRELIABLE};
 use super::scene::{Scene, scene_of};
-use super::side_by_side::{JOINED, LOADED, MET, RESERVED, put_off};
+use super::side_by_side::{GIVEN_UP, JOINED, LOADED, MET, RESERVED, by_phases};
 use super::stage::Stage;
 use super::whole::{
     LEFT_IN_PART, LEFT_NORMALLY, LEFT_NOTHING, MANY, MANY_LIVING, NEARLY_FULL, PROCESSED_IN_PART,
@@ -16,7 +16,7 @@ use super::*;
 use jc_cache::ClosedStripe;
 use std::thread::Threads;
 
-const SCENES: [&str; 15] = [
+const SCENES: [&str; 16] = [
     TOUR,
     LEFT_IN_PART,
     LEFT_NOTHING,
@@ -29,6 +29,7 @@ const SCENES: [&str; 15] = [
     JOINED,
     MET,
     RESERVED,
+    GIVEN_UP,
     RELIABLE,
     UNRELIABLE,
     LIVING,
@@ -51,8 +52,8 @@ fn played<R: Abort + Wait + Threads + Sync>(
 ) -> Vec<ClosedStripe>
     requires { All (MayCall stage.owner.cache) stage.sessions.items }
 {
-    if lines == "putlate\n" {
-        return put_off(rt, alloc, outside, stage);
+    if lines.starts_with("putlate ") || lines.starts_with("withdraw ") {
+        return by_phases(rt, alloc, outside, stage, lines.trim_end());
     }
     let mut stage = stage;
     stage.plays(rt, alloc, outside, lines);

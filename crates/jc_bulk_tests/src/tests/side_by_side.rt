@@ -7,7 +7,7 @@ use super::closing::closed;
 use super::lines::plays;
 use super::outside::Outside;
 use super::stage::Stage;
-use super::words::{key, value};
+use super::words::{first_word, key, value};
 use super::*;
 use jc_cache::{Begun, ClosedStripe, First, Op, Ticket};
 use jc_stripe::phase_laws::own_numbers;
@@ -55,14 +55,25 @@ beside getall d e = d=4 e=5;putall f=6 = ok;own 6 | getall a b c = a=1 b=2 c=3;o
 counts 0 0 0 3 0 0
 ";
 
-/// A put is put off: the first session's key is reserved while the second one's writer is called.
+/// A put is put off: the first session's key is reserved while the second one's writer is called. It is written in a later round.
 pub const RESERVED: &str = "\
 open 1 4 100
 before
 sessions 2 writers
 fault none
 end counts 0 0 1 2 0 0;stored a=1 b=2 c=3;stripes 4 c=3 b=2 a=1
-putlate
+putlate await;putall a=1 b=2 c=3 = ok;own 3
+";
+
+/// A `get_all` joins the first session's load, which is given up while the second session's loader is called for the other keys.
+/// Then it retries that key in a later round, with its own loader. The load that was given up asks nobody, and leaves nothing.
+pub const GIVEN_UP: &str = "\
+open 1 4 100
+before a=1 b=2 c=3
+sessions 2 loaders
+fault none
+end counts 0 2 0 0 0 0;shared 0;stripes 3 c=3 b=2 a=1
+withdraw await;getall a b c = a=1 b=2 c=3;own 3
 ";
 
 fn is_writer(first: &First) -> bool
@@ -74,27 +85,23 @@ fn is_writer(first: &First) -> bool
     }
 }
 
-/// The first phase of a put, which reserves its key.
+/// The first phase of a call, which reserves its key.
 fn reserve<R: Abort + Wait>(
     rt: &R,
     cache: &Cache,
     session: &mut Session,
     key: &Key,
-    value: &Value,
+    op: &Op,
 ) -> Ticket
     requires { MayCall cache.now session.old }
     ensures own { IsOf cache.now session.new }
     ensures caller { result.reservation.caller.session ≡ session.new.agent.caller.session }
     ensures unasked { result.asked ≡ false }
-    ensures first { asks_writer result.reservation.first ≡ true }
 {
     own_numbers();
     session.next_call();
-    match cache.start(rt, session, key, &Op::Put(*value)) {
-        Begun::Asks(ticket) => {
-            assert!(rt; is_writer(&ticket.reservation().first), "a write");
-            ticket
-        }
+    match cache.start(rt, session, key, op) {
+        Begun::Asks(ticket) => ticket,
         _other => panic!(rt; "nobody is to be asked"),
     }
 }
@@ -105,17 +112,27 @@ fn put_late<R: Abort + Wait>(rt: &R, outside: &Outside, cache: &Cache, session: 
     ensures { IsOf cache.now session.new }
 {
     assert!(rt; cache.config().write_through, "write-through");
-    let mut ticket = reserve(rt, cache, session, &key(rt, "c"), &value(rt, "9"));
+    let put = Op::Put(value(rt, "9"));
+    let mut ticket = reserve(rt, cache, session, &key(rt, "c"), &put);
+    assert!(rt; is_writer(&ticket.reservation().first), "a write");
     outside.signals.raise_first();
     outside.signals.wait_for_second(rt);
     let done = session.ask_writer(rt, ticket.ask());
     let _step = cache.commit_write(rt, session, ticket, done);
 }
 
-/// What the second session does meanwhile: `c` is put off, and written in a later round.
-const PUT_OFF: &str = "await;putall a=1 b=2 c=3 = ok;own 3";
+/// A get of `c`, phase by phase. It says that it has reserved its key, and is given up once the second session's loader was called.
+fn get_in_vain<R: Abort + Wait>(rt: &R, outside: &Outside, cache: &Cache, session: &mut Session)
+    requires { MayCall cache.now session.old }
+    ensures { IsOf cache.now session.new }
+{
+    let ticket = reserve(rt, cache, session, &key(rt, "c"), &Op::Get);
+    outside.signals.raise_first();
+    outside.signals.wait_for_second(rt);
+    cache.withdraw(rt, session, ticket);
+}
 
-/// What the session at this place does.
+/// What the session at this place does: the first one makes the call that a word says by phases, another one plays lines.
 fn act<R: Abort + Wait>(
     rt: &R,
     alloc: Global,
@@ -123,14 +140,18 @@ fn act<R: Abort + Wait>(
     cache: &Cache,
     place: usize,
     session: &mut Session,
+    text: &str,
 )
     requires { MayCall cache.now session.old }
     ensures { IsOf cache.now session.new }
 {
-    if place == 0 {
+    let (word, lines) = first_word(text);
+    if place > 0 {
+        plays(rt, alloc, outside, cache, session, lines);
+    } else if word == "putlate" {
         put_late(rt, outside, cache, session);
     } else {
-        plays(rt, alloc, outside, cache, session, PUT_OFF);
+        get_in_vain(rt, outside, cache, session);
     }
 }
 
@@ -141,6 +162,7 @@ fn act_beside<R: Abort + Wait + Threads + Sync>(
     outside: &Outside,
     cache: &Cache,
     sessions: &mut Vec<Session>,
+    text: &str,
 )
     requires { All (MayCall cache.now) sessions.old.items }
     ensures { All (λ s. IsOf cache.now s) sessions.new.items }
@@ -154,20 +176,22 @@ fn act_beside<R: Abort + Wait + Threads + Sync>(
         &|place, session: &mut Session|
             requires { MayCall cache.now session.old }
             ensures { IsOf cache.entry.now session.new }
-        { act(rt, alloc, outside, cache, place, session) },
+        { act(rt, alloc, outside, cache, place, session, text) },
     );
 }
 
-/// Plays it on a stage of two sessions, and ends the cache.
-pub fn put_off<R: Abort + Wait + Threads + Sync>(
+/// Plays a text on a stage of two sessions, and ends the cache: what the first session does phase by phase, `putlate` or `withdraw`,
+/// and what the second one does meanwhile.
+pub fn by_phases<R: Abort + Wait + Threads + Sync>(
     rt: &R,
     alloc: Global,
     outside: &Outside,
     stage: Stage,
+    text: &str,
 ) -> Vec<ClosedStripe>
     requires { All (MayCall stage.owner.cache) stage.sessions.items }
 {
     let (owner, mut sessions) = stage.into_parts();
-    act_beside(rt, alloc, outside, owner.cache(), &mut sessions);
+    act_beside(rt, alloc, outside, owner.cache(), &mut sessions, text);
     closed(rt, alloc, owner, sessions)
 }

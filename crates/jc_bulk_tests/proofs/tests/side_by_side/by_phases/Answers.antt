@@ -1,7 +1,7 @@
 use Rattle.std.proofs.Common.{sym}
 use Rattle.jc_cache.specs.Sessions.{IsOf, MayCall}
 use Rattle.jc_bulk_tests.proofs.Stages.{at_cache}
-use Rattle.jc_bulk_tests.proofs.tests.side_by_side.put_off.Goals as goal
+use Rattle.jc_bulk_tests.proofs.tests.side_by_side.by_phases.Goals as goal
 
 pub act_beside-requires-after_bounds : goal.act_beside-requires-after_bounds
 act_beside-requires-after_bounds g c κs within =
