@@ -41,11 +41,11 @@ use Rattle.jc_lock.specs.declared.view.View.{View}
 use Rattle.jc_lock.proofs.CallerLemmas.{prefix-trans, same_on}
 use Rattle.jc_engine.specs.declared.entering.Entered.{Entered}
 use Rattle.jc_engine.specs.declared.entering.Entered.TheVariants as entered
-use Rattle.jc_stripe.specs.Renewal.{StaysOrRenews}
+use Rattle.jc_stripe.specs.Renewal.{RenewsIfFull}
 use Rattle.jc_stripe.specs.Tests.{asks_outside}
 use Rattle.jc_gate.specs.Lending.{Lent}
-use Rattle.jc_engine.specs.Chain.{AllQuiet, LentPhase}
-use Rattle.jc_engine.specs.Doors.{AllFound}
+use Rattle.jc_engine.specs.Chain.{LentPhase}
+use Rattle.jc_engine.specs.Doors.{AllFound, AllRenewed}
 use Rattle.jc_engine.specs.declared.first.How.TheVariants.{Alone}
 use Rattle.jc_engine.specs.Needs.{Starts, StartsBy, can_start}
 use Rattle.jc_engine.specs.MadeIn.{IsNext}
@@ -261,17 +261,17 @@ module _ {G L : Type 0} where
 
 module _ {G L : Type 0} where
   -- the stripes that were found one after another, and the last of them
-  last_busy : (caller : Caller) (key : Bytes) (op : Op) (g : G) (t : L × View) (ps : List (State × State)) (h : G) (u : L × View) → Lent lock_takes lock_gives g t ps h u → AllQuiet ps
-      → AllFound (λ a. can_start Alone a caller key op ≡ false) ps → (u ≡ t) ⊎ ((found : State) × (can_start Alone found caller key op ≡ false) × StaysOrRenews found u.1.noted)
+  last_busy : (caller : Caller) (key : Bytes) (op : Op) (g : G) (t : L × View) (ps : List (State × State)) (h : G) (u : L × View) → Lent lock_takes lock_gives g t ps h u → AllRenewed ps
+      → AllFound (λ a. can_start Alone a caller key op ≡ false) ps → (u ≡ t) ⊎ ((found : State) × (can_start Alone found caller key op ≡ false) × RenewsIfFull found u.1.noted)
   last_busy caller key op g t [] h u row quiet each = inl row.1
   last_busy caller key op g t (p ∷ ps) h u row quiet each =
       let noted : row.1.1.noted ≡ p.1 = ap (λ (z : L × View). z.1.noted) (lend_seat g t p.0 p.1 row.0 row.1 row.2) in
       ⊎_elim
-      (λ same. inr (p.0, each.0, subst (StaysOrRenews p.0) (sym (ap (λ (z : L × View). z.1.noted) same ∙ noted)) quiet.0.stays))
+      (λ same. inr (p.0, each.0, subst (RenewsIfFull p.0) (sym (ap (λ (z : L × View). z.1.noted) same ∙ noted)) quiet.0))
       (λ later. inr later)
       (last_busy caller key op row.0 row.1 ps h u row.3 quiet.1 each.1)
 
-  was_busy : (caller : Caller) (key : Bytes) (op : Op) (g : G) (t : L × View) (ps : List (State × State)) (h : G) (u : L × View) → Lent lock_takes lock_gives g t ps h u → AllQuiet ps
+  was_busy : (caller : Caller) (key : Bytes) (op : Op) (g : G) (t : L × View) (ps : List (State × State)) (h : G) (u : L × View) → Lent lock_takes lock_gives g t ps h u → AllRenewed ps
       → AllFound (λ a. can_start Alone a caller key op ≡ false) ps → WasBusy t.1 caller key op u.1
   was_busy caller key op g t ps h u row quiet each =
       ⊎_elim (λ same. inl (ap (λ (z : L × View). z.1) same)) (λ found. inr found) (last_busy caller key op g t ps h u row quiet each)
@@ -297,7 +297,7 @@ module _ {G L : Type 0} where
       (λ y.
       let busy = y.1 in
       let r = rests_seen caller.session g t h u mine free busy.rests in
-      (r.0, (r.1, inl (y.0, was_busy caller key op g t busy.rests.idle h u busy.rests.lent busy.rests.quiet busy.each)), tt))
+      (r.0, (r.1, inl (y.0, was_busy caller key op g t busy.rests.idle h u busy.rests.lent busy.renewed busy.each)), tt))
       x
 
 -- 6. A call that runs a processor.

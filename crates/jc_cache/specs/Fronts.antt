@@ -12,7 +12,8 @@
 --     SeatAfter      a whole call: its step was made, or it was refused as the state that the view keeps says, whose whole history is the
 --                    front; of the refusals that change nothing it is the full history alone
 --     WasBusy        a call that waits for nobody couldn't be made: the seat has found no stripe, or the one that it found last is one on
---                    which the call can't be made without waiting or asking; it was given back as it was, or with its generation ended
+--                    which the call can't be made without waiting or asking; it was given back as it was, or with its generation ended, exactly if that was
+--                    full and might end
 --     SeatTried      such a call: its step was made, it was refused as busy, or, though it need ask nobody, as the state that the view keeps
 --                    says
 --     IsBetween      a state of the stripe in which a call was decided: between the former front and the present one
@@ -33,7 +34,7 @@ use Rattle.jc_stripe.specs.State.{State}
 use Rattle.jc_stripe.specs.Generations.{past_events, whole_history, IsOfSameStripe}
 use Rattle.jc_stripe.specs.Reached.{IsReached}
 use Rattle.jc_stripe.specs.Refusals.{first_refusal}
-use Rattle.jc_stripe.specs.Renewal.{StaysOrRenews}
+use Rattle.jc_stripe.specs.Renewal.{RenewsIfFull}
 use Rattle.jc_stripe.specs.Tests.{asks_outside}
 use Rattle.jc_stripe.specs.OwnSteps.{HasOneMore}
 use Rattle.jc_lock.specs.declared.view.View.{View}
@@ -90,7 +91,7 @@ SeatAfter before caller key op asked (Err refusal) after =
 
 abbrev pub WasBusy : View → Caller → Bytes → Op → View → Type 0
 WasBusy before caller key op after =
-    (after ≡ before) ⊎ ((found : State) × (can_start Alone found caller key op ≡ false) × StaysOrRenews found after.noted)
+    (after ≡ before) ⊎ ((found : State) × (can_start Alone found caller key op ≡ false) × RenewsIfFull found after.noted)
 
 abbrev pub SeatTried : View → Caller → Bytes → Op → Result Reply Refusal → View → Type 0
 SeatTried before caller key op (Ok reply) after = MakesStep before caller key op nothing_said reply after

@@ -11,9 +11,10 @@
 use Rattle.std.proofs.Common.{ℕ, List, [], ◌∷◌, ◌++◌, refl, subst}
 use Rattle.jc_stripe.specs.State.{State}
 use Rattle.jc_stripe.specs.Reached.{IsReached}
+use Rattle.jc_stripe.specs.Renewal.{RenewsIfFull}
 use Rattle.jc_gate.specs.Lending.{ComesAfter, Lends, Lent}
 use Rattle.jc_engine.specs.Chain.{IsQuiet, AllQuiet, Rests, Since, LentPhase}
-use Rattle.jc_engine.specs.Doors.{IsLeft}
+use Rattle.jc_engine.specs.Doors.{AllRenewed, IsLeft}
 use Rattle.jc_engine.proofs.Coming.{since_on}
 
 module _ {G T : Type 0} (takes gives : G → T → State → G → T → Type 0) (finds : G → T → State → Type 0) where
@@ -32,26 +33,33 @@ module _ {G T : Type 0} (takes gives : G → T → State → G → T → Type 0)
   rests-on g t h u a b k v rests one is =
       record { idle = rests.idle ++ (a, b) ∷ []; quiet = all-snoc rests.idle a b rests.quiet is; lent = lent-snoc g t rests.idle h u a b k v rests.lent one }
 
+  renewed-snoc : (ps : List (State × State)) (a b : State) → AllRenewed ps → RenewsIfFull a b → AllRenewed (ps ++ (a, b) ∷ [])
+  renewed-snoc [] a b all is = (is, tt)
+  renewed-snoc (p ∷ ps) a b all is = (all.0, renewed-snoc ps a b all.1 is)
+
   -- what a row of quiet tries keeps
   pub record Tries (is_free : G → T → Type 0) (speaks_for : T → ℕ → Type 0) (P : State → Type 0) (g : G) (t : T) (h : G) (u : T) : Type 0 where
     pub free : is_free h u
     pub speaks : (n : ℕ) → speaks_for t n → speaks_for u n
     pub finds_it : (a : State) → finds h u a → P a
     pub rests : Rests takes gives finds g t h u
+    pub renewed : AllRenewed rests.idle
 
   pub tries-start : (is_free : G → T → Type 0) (speaks_for : T → ℕ → Type 0) (P : State → Type 0) (g : G) (t : T) → is_free g t → ((a : State) → finds g t a → P a) → Tries is_free speaks_for P g t g t
-  tries-start is_free speaks_for P g t free found = record { free = free; speaks = λ n s. s; finds_it = found; rests = rests-start g t }
+  tries-start is_free speaks_for P g t free found = record { free = free; speaks = λ n s. s; finds_it = found; rests = record { idle = []; quiet = tt; lent = (refl, refl) }; renewed = tt }
 
   pub tries-on : (is_free : G → T → Type 0) (speaks_for : T → ℕ → Type 0) (P : State → Type 0) (g : G) (t : T) (h : G) (u : T) (a b : State) (m : G) (w : T) (k : G) (v : T) (session : ℕ)
       → ((x y : State) → ComesAfter session x y → P x → P y)
       → Tries is_free speaks_for P g t h u → takes h u a m w → finds h u a → IsReached a → gives m w b k v → is_free k v → ((n : ℕ) → speaks_for u n → speaks_for w n) → ((n : ℕ) → speaks_for w n → speaks_for v n)
-      → ((n : ℕ) (x : State) → speaks_for w n → finds k v x → ComesAfter n b x) → speaks_for t session → IsQuiet a b
+      → ((n : ℕ) (x : State) → speaks_for w n → finds k v x → ComesAfter n b x) → speaks_for t session → IsQuiet a b → RenewsIfFull a b
       → Tries is_free speaks_for P g t k v
-  tries-on is_free speaks_for P g t h u a b m w k v session stays tries took found reached gave free one two next speaks is = record {
+  unfolding rests-on
+  tries-on is_free speaks_for P g t h u a b m w k v session stays tries took found reached gave free one two next speaks is full = record {
     free = free;
     speaks = λ n s. two n (one n (tries.speaks n s));
     finds_it = λ x f. stays b x (next session x (one session (tries.speaks session speaks)) f) (stays a b (is.after session) (tries.finds_it a found));
     rests = rests-on g t h u a b k v tries.rests record { gate = m; token = w; took = took; reached = reached; gave = gave } is;
+    renewed = renewed-snoc tries.rests.idle a b tries.renewed full;
   }
 
   pub tries-left : (is_free : G → T → Type 0) (speaks_for : T → ℕ → Type 0) (P : State → Type 0) (g : G) (t : T) (h : G) (u : T) (a : State) (m : G) (w : T) (k : G) (v : T) (session : ℕ)
@@ -59,7 +67,7 @@ module _ {G T : Type 0} (takes gives : G → T → State → G → T → Type 0)
       → Tries is_free speaks_for P g t h u → takes h u a m w → finds h u a → IsReached a → ((n : ℕ) → speaks_for u n → speaks_for w n) → speaks_for t session
       → IsLeft gives finds is_free speaks_for m w a k v → Tries is_free speaks_for P g t k v
   tries-left is_free speaks_for P g t h u a m w k v session stays tries took found reached one speaks x =
-      tries-on is_free speaks_for P g t h u a x.left m w k v session stays tries took found reached x.gave x.free one x.speaks (λ n b s f. x.next n b s f) speaks x.quiet
+      tries-on is_free speaks_for P g t h u a x.left m w k v session stays tries took found reached x.gave x.free one x.speaks (λ n b s f. x.next n b s f) speaks x.quiet x.renewed
 
   pub tries-since : (is_free : G → T → Type 0) (speaks_for : T → ℕ → Type 0) (P : State → Type 0) (g : G) (t : T) (h : G) (u : T) (a : State) (m : G) (w : T) (k : G) (v : T) (session : ℕ)
       → Tries is_free speaks_for P g t h u → ((n : ℕ) → speaks_for u n → speaks_for w n) → speaks_for t session

@@ -6,13 +6,17 @@
 use Rattle.std.proofs.Common.{◌≡◌, ◌⊎◌, ℕ, List, [], ◌∷◌, ◌++◌, refl, subst}
 use Rattle.jc_stripe.specs.State.{State}
 use Rattle.jc_stripe.specs.Reached.{IsReached}
-use Rattle.jc_engine.specs.Doors.{AllFound, IsLeft, IsNotMade}
+use Rattle.jc_engine.specs.Doors.{AllFound, AllRenewed, IsLeft, IsNotMade}
 use Rattle.jc_engine.proofs.Coming.{since_start, since_on, since_both}
 use Rattle.jc_engine.proofs.Later.{all-append, lent-append}
 
 each-append : (is : State → Type 0) (ps qs : List (State × State)) → AllFound is ps → AllFound is qs → AllFound is (ps ++ qs)
 each-append is [] qs one two = two
 each-append is (p ∷ ps) qs one two = (one.0, each-append is ps qs one.1 two)
+
+renewed-append : (ps qs : List (State × State)) → AllRenewed ps → AllRenewed qs → AllRenewed (ps ++ qs)
+renewed-append [] qs one two = two
+renewed-append (p ∷ ps) qs one two = (one.0, renewed-append ps qs one.1 two)
 
 pub each_is : (is so : State → Type 0) (ps : List (State × State)) → ((a : State) → is a → so a) → AllFound is ps → AllFound so ps
 each_is is so [] leads each = tt
@@ -32,7 +36,7 @@ none_before (p ∷ ps) qs e = absurd (some_lending p (ps ++ qs) e)
 
 module _ {G T : Type 0} (takes gives : G → T → State → G → T → Type 0) (finds : G → T → State → Type 0) (may_fail : G → T → Type 0) (due puts_off : State → Type 0) (session : ℕ) where
   pub not_found : (g : G) (t : T) → may_fail g t → IsNotMade takes gives finds may_fail due puts_off session g t g t
-  not_found g t fails = record { rests = record { idle = []; quiet = tt; lent = (refl, refl) }; each = tt; none = λ e. fails; since = since_start finds session g t }
+  not_found g t fails = record { rests = record { idle = []; quiet = tt; lent = (refl, refl) }; each = tt; renewed = tt; none = λ e. fails; since = since_start finds session g t }
 
   pub not_made : (is_free : G → T → Type 0) (speaks_for : T → ℕ → Type 0) (g : G) (t : T) (a : State) (m : G) (w : T) (h : G) (u : T)
       → takes g t a m w → finds g t a → IsReached a → speaks_for w session → IsLeft gives finds is_free speaks_for m w a h u → ((due a → ⊥) ⊎ puts_off a)
@@ -44,6 +48,7 @@ module _ {G T : Type 0} (takes gives : G → T → State → G → T → Type 0)
       lent = (h, u, record { gate = m; token = w; took = took; reached = reached; gave = x.gave }, (refl, refl));
     };
     each = (why, tt);
+    renewed = (x.renewed, tt);
     none = λ e. absurd (some_lending (a, x.left) [] e);
     since = λ b later. since_on finds session g t x.left b (since_on finds session g t a x.left (since_start finds session g t a found) (x.quiet.after session)) (x.next session b speaks later);
   }
@@ -57,6 +62,7 @@ module _ {G T : Type 0} (takes gives : G → T → State → G → T → Type 0)
       lent = lent-append takes gives finds g t one.rests.idle h u two.rests.idle k v one.rests.lent two.rests.lent;
     };
     each = each-append _ one.rests.idle two.rests.idle one.each two.each;
+    renewed = renewed-append one.rests.idle two.rests.idle one.renewed two.renewed;
     none = λ e. one.none (none_before one.rests.idle two.rests.idle e);
     since = λ a later. since_both finds session g t h u a one.since (two.since a later);
   }

@@ -15,7 +15,7 @@
 --     IsCall          a whole call
 --     IsInvocation    a whole call that runs a processor, which stays of its type
 --     IsBusy          a call that waits for nobody wasn't made: the stripe wasn't there, or each that was found was one on which it can't be
---                     made without waiting or asking
+--                     made without waiting or asking; a generation has ended exactly if it was full and might end
 --     IsTried         such a call: it is done at once or refused in the one state that it found, or it is refused as busy
 use Rattle.std.specs.declared.dyn_box.DynBox.{DynBox}
 use Rattle.std.specs.Prelude.{◌≡◌, ◌⊎◌, ℕ, zero, suc, List, [], true, false, Option, Result, Ok, Err, IsSome}
@@ -48,7 +48,7 @@ use Rattle.jc_session.specs.declared.agent.Agent.{Agent}
 use Rattle.jc_engine.specs.declared.entering.Entered.{Entered}
 use Rattle.jc_engine.specs.declared.entering.Entered.TheVariants as entered
 use Rattle.jc_engine.specs.Chain.{Rests, Since, LentPhase}
-use Rattle.jc_engine.specs.Doors.{AllFound}
+use Rattle.jc_engine.specs.Doors.{AllFound, AllRenewed}
 use Rattle.jc_engine.specs.Needs.{BeginsIfClear, Starts, StartsBy, can_start}
 use Rattle.jc_engine.specs.declared.first.How.TheVariants.{Alone}
 use Rattle.jc_engine.specs.Asking.{AsksLoader, AsksWriter, KeepsTypes, RunsProcessor, change_wanted, own_after}
@@ -173,6 +173,7 @@ module _ {G T : Type 0} (takes gives : G → T → State → G → T → Type 0)
   pub record IsBusy (g : G) (t : T) (h : G) (u : T) : Type 0 where
     pub rests : Rests takes gives finds g t h u
     pub each : AllFound (λ a. can_start Alone a caller key op ≡ false) rests.idle
+    pub renewed : AllRenewed rests.idle
     pub none : rests.idle ≡ [] → may_fail g t
 
   abbrev pub IsTried : G → T → Result Reply Refusal → G → T → Type 0

@@ -1,11 +1,14 @@
 -- What a session brings to the door of a stripe, and what it leaves there.
 --     IsReady      the agent holds no stripe, and the token has not taken the gate's and speaks for the agent's session
 --     FitsGate     a phase is of this session, and each state in which a take may find the stripe has what the phase needs
---     IsLeft       a stripe that was found in this state is given back without a phase; its generation may have ended
+--     IsLeft       a stripe that was found in this state is given back without a phase, with its generation ended exactly if it is full and
+--                  may end
 --     AllFound     this is so of each state that was found in a row of lendings
+--     AllRenewed   in each of these lendings a generation has ended exactly if it was full and might end
 --     IsNotMade    a phase was tried and not made: on each stripe that was found it couldn't be made, or was put off; if none was found, a
 --                  take may have failed. What the next take finds comes after what a take could have found at first
 use Rattle.std.specs.Prelude.{◌≡◌, ◌⊎◌, ℕ, List, [], ◌∷◌}
+use Rattle.jc_stripe.specs.Renewal.{RenewsIfFull}
 use Rattle.jc_stripe.specs.State.{State}
 use Rattle.jc_gate.specs.Lending.{ComesAfter}
 use Rattle.jc_session.specs.declared.agent.Agent.{Agent}
@@ -23,6 +26,7 @@ pub record FitsGate {G T : Type 0} (finds : G → T → State → Type 0) (needs
 pub record IsLeft {G T : Type 0} (gives : G → T → State → G → T → Type 0) (finds : G → T → State → Type 0) (is_free : G → T → Type 0) (speaks_for : T → ℕ → Type 0) (g : G) (t : T) (found : State) (h : G) (u : T) : Type 0 where
   pub left : State
   pub quiet : IsQuiet found left
+  pub renewed : RenewsIfFull found left
   pub gave : gives g t left h u
   pub free : is_free h u
   pub speaks : (session : ℕ) → speaks_for t session → speaks_for u session
@@ -32,8 +36,13 @@ abbrev pub AllFound : (State → Type 0) → List (State × State) → Type 0
 AllFound is [] = Unit {0}
 AllFound is (p ∷ ps) = is p.0 × AllFound is ps
 
+abbrev pub AllRenewed : List (State × State) → Type 0
+AllRenewed [] = Unit {0}
+AllRenewed (p ∷ ps) = RenewsIfFull p.0 p.1 × AllRenewed ps
+
 pub record IsNotMade {G T : Type 0} (takes gives : G → T → State → G → T → Type 0) (finds : G → T → State → Type 0) (may_fail : G → T → Type 0) (due puts_off : State → Type 0) (session : ℕ) (g : G) (t : T) (h : G) (u : T) : Type 0 where
   pub rests : Rests takes gives finds g t h u
   pub each : AllFound (λ a. (due a → ⊥) ⊎ puts_off a) rests.idle
+  pub renewed : AllRenewed rests.idle
   pub none : rests.idle ≡ [] → may_fail g t
   pub since : (a : State) → finds h u a → Since finds session g t a

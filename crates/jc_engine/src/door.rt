@@ -3,7 +3,7 @@ ghost use Rattle.std.specs.Prelude.{◌≡◌, IfOk, IfErr};
 ghost use Rattle.jc_stripe.specs.Reached.{IsReached};
 ghost use Rattle.jc_session.specs.Counting.{IsCounted, counts_after};
 ghost use Rattle.jc_engine.specs.Chain.{LentPhase};
-ghost use Rattle.jc_engine.specs.Doors.{FitsGate, IsLeft, IsNotMade, IsReady};
+ghost use Rattle.jc_engine.specs.Doors.{AllRenewed, FitsGate, IsLeft, IsNotMade, IsReady};
 
 use jc_gate::Gate;
 use jc_session::{Agent, Counted};
@@ -84,7 +84,8 @@ pub fn lend<G: Gate, P: Phase, R: Wait>(
     ensures agent { agent.new ≡ record agent.old { counts = counts_after agent.old.counts (P.counts result) } }
     ensures phase { (lent : LentPhase G.takes G.gives G.finds agent.old.caller.session gate.old token.old
         (λ a b. P.makes phase a result b) gate.new token.new)
-        × IsCounted (P.counts result) agent.old.caller.session lent.before lent.after }
+        × IsCounted (P.counts result) agent.old.caller.session lent.before lent.after
+        × AllRenewed lent.rests.idle }
 {
     let mut next = phase;
     for _ in rt.forever() {

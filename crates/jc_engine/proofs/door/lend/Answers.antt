@@ -64,6 +64,7 @@ returns-in-Ok-clause-phase g c = (
     next = λ a f. c.give.ensures.next _ a (c.take-stripe.ensures.speaks _ (c.loop.invariant.2.speaks _ c.requires.ready.speaks)) f;
   },
   rw (← c.requires.fits.who_is, ← c.loop.invariant.1, ← c.deref_mut.ensures.value) c.in-Ok.ensures.made.1,
+  c.loop.invariant.2.renewed,
 )
 
 pub loop-init : goal.loop-init

@@ -67,6 +67,7 @@ returns-in-Err-clause-tried g c =
             (λ a why. subst (λ (who : Caller). can_start Alone a who c.args.key.now c.args.op.now ≡ false) c.caller.ensures
             (⊎_elim (λ never. not_so _ never) (λ put_off. absurd (true≢false (sym put_off.put_off))) why))
             missed.each;
+        renewed = missed.renewed;
         none = missed.none;
       },
     )
