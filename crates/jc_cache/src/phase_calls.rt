@@ -3,8 +3,8 @@
 //!
 //! Each takes the key's stripe, makes one phase of the session, and gives the stripe back. It waits while another phase is made there,
 //! and until the stripe is one on which this phase can be made: a first phase until the session has no other call out there, a
-//! commit, a withdrawal or a pick-up until the ticket or the join is out there, as it always is on the cache that gave it. The session has then
-//! seen the stripe up to the phase.
+//! commit, a withdrawal or a pick-up until the ticket or the join is out there, as it always is on the cache that gave it. The
+//! session has then seen the stripe up to the phase.
 ghost use Rattle.std.specs.Prelude.{◌≡◌, ◌+◌, ◌<◌, ◌≤◌, true, false, vec_len, vec_capacity};
 ghost use Rattle.jc_types.specs.Stripes.{stripe_of};
 ghost use Rattle.jc_model.specs.Group.{load_only, write_only};
