@@ -1,5 +1,6 @@
 -- What one lending of a lock leaves of a seat's view.
 --     lock_takes, lock_gives, lock_finds   the relations of a lock's gate, over any type of the reference
+--     lock_speaks_for                      whose its seat is
 --     Lending                              a lending of a session's seat: the state that was found fits the view before, and at most one
 --                                          phase of the session led to the state that the view has seen and notes since
 --     seen_itself, seen_on, made_on        a view has seen itself; what was seen and then seen, and seen and then made
@@ -37,6 +38,9 @@ lock_gives g t b h u = u ≡ (t.0, after_give t.1 b)
 
 abbrev pub lock_finds : {G L : Type 0} → G → L × View → State → Type 0
 lock_finds g t a = Finds t.1 a
+
+abbrev pub lock_speaks_for : {L : Type 0} → L × View → ℕ → Type 0
+lock_speaks_for t session = t.1.session ≡ Some session
 
 -- 2. One lending.
 

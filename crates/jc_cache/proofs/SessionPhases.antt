@@ -9,6 +9,7 @@
 --     phase_map                a phase that says less
 --     LooksSo, look_lent       a look is a phase in which nothing was done
 --     number_at, shape_found, agent_same   the seat at a stripe with a number, the shape of the stripe, and the agent after a look
+--     holds_one                the agent that has taken a stripe, and its seat
 use Rattle.std.proofs.Common.{◌≡◌, ⊎_elim, inl, ◌+◌, ◌<◌, ℕ, true, false, Some, IsSome, List, [], ◌++◌, filter, length, get_or, le_refl, zero, suc, ◌∷◌, slice_get, slice_set, refl, sym, ap, subst, ◌∙◌, arith}
 use Rattle.std.proofs.lemmas.Bool.{true≢false}
 use Rattle.std.proofs.lemmas.Option.{slice_get_read, same_Some}
@@ -43,7 +44,7 @@ use Rattle.jc_engine.proofs.Counted.{steps_in, counted_longer}
 use Rattle.jc_cache.specs.Caches.{CacheState}
 use Rattle.jc_cache.specs.Fronts.{IsSameSeat}
 use Rattle.jc_cache.specs.PhaseCalls.{SeatPhase, PhaseAt, MayStart}
-use Rattle.jc_cache.specs.Sessions.{IsSeatAt, IsOf, HoldsNothing, own_total, capped}
+use Rattle.jc_cache.specs.Sessions.{GoesOn, IsSeatAt, IsOf, HoldsNothing, own_total, capped}
 use Rattle.jc_cache.specs.declared.session.Session.{Session}
 use Rattle.jc_cache.proofs.Lendings.{lock_takes, lock_gives, lock_finds, Lending, phase_lent}
 use Rattle.jc_cache.proofs.Rows.{Seated, locks_of, length_locks}
@@ -140,34 +141,38 @@ module _ {I J : Type 0} {D : I → Type 0} {E : J → Type 0} where
 
   pub phase_left : {G : Type 0} → OnePhase → OwnSteps → (cache : CacheState) (old new : Session I J D E) (stripe : ℕ) (counted : Counted) (made : State → State → Type 0) (g : G) (t : Seated) (h : G) (u : Seated)
       → IsOf cache old → slice_get old.seats.items stripe ≡ Some t → new.seats.items ≡ slice_set old.seats.items stripe u → new.agent ≡ record old.agent { counts = counts_after old.agent.counts counted }
-      → (x : LentPhase lock_takes lock_gives lock_finds old.agent.caller.session g t made h u) → IsCounted counted old.agent.caller.session x.before x.after → PhaseAt stripe old made counted new × IsOf cache new
+      → (x : LentPhase lock_takes lock_gives lock_finds old.agent.caller.session g t made h u) → IsCounted counted old.agent.caller.session x.before x.after → GoesOn cache new (PhaseAt stripe old made counted new)
   phase_left law steps cache old new stripe counted made g t h u of was now left x is =
       let seat = of.seats stripe t was in
-      let p = seat_phase law old.agent.caller.session made g t h u seat.of_session seat.free x in (
-        record { lock = t.0; before = t.1; after = u.1; was = was; now = now ∙ ap (slice_set old.seats.items stripe) (seat_is t u p.0); seat = p.1; left = left },
-        of_after cache old new stripe t u counted of was now p.0 p.1.seat left (seat_longer law steps old.agent.caller.session counted made g t h u seat.of_session seat.free x is),
-      )
+      let p = seat_phase law old.agent.caller.session made g t h u seat.of_session seat.free x in record {
+        own = of_after cache old new stripe t u counted of was now p.0 p.1.seat left (seat_longer law steps old.agent.caller.session counted made g t h u seat.of_session seat.free x is);
+        phase = record { lock = t.0; before = t.1; after = u.1; was = was; now = now ∙ ap (slice_set old.seats.items stripe) (seat_is t u p.0); seat = p.1; left = left };
+      }
 
-  pub phase_map : (stripe at : ℕ) (old : Session I J D E) (made phase : State → State → Type 0) (counted : Counted) (new : Session I J D E) → at ≡ stripe → ((a b : State) → made a b → phase a b) → PhaseAt at old made counted new → PhaseAt stripe old phase counted new
-  phase_map stripe at old made phase counted new at_is leads p = subst (λ (n : ℕ). PhaseAt n old phase counted new) at_is record {
-    lock = p.lock;
-    before = p.before;
-    after = p.after;
-    was = p.was;
-    now = p.now;
-    seat = record {
-      found = p.seat.found;
-      reached = p.seat.reached;
-      same = p.seat.same;
-      front = p.seat.front;
-      own = p.seat.own;
-      made = leads p.seat.found p.after.noted p.seat.made;
-      one = p.seat.one;
-      seat = p.seat.seat;
-      front_is = p.seat.front_is;
-      own_is = p.seat.own_is;
+  pub phase_map : (cache : CacheState) (stripe at : ℕ) (old : Session I J D E) (made phase : State → State → Type 0) (counted : Counted) (new : Session I J D E) → at ≡ stripe → ((a b : State) → made a b → phase a b) → GoesOn cache new (PhaseAt at old made counted new)
+      → GoesOn cache new (PhaseAt stripe old phase counted new)
+  phase_map cache stripe at old made phase counted new at_is leads g = let p = g.phase in record {
+    own = g.own;
+    phase = subst (λ (n : ℕ). PhaseAt n old phase counted new) at_is record {
+      lock = p.lock;
+      before = p.before;
+      after = p.after;
+      was = p.was;
+      now = p.now;
+      seat = record {
+        found = p.seat.found;
+        reached = p.seat.reached;
+        same = p.seat.same;
+        front = p.seat.front;
+        own = p.seat.own;
+        made = leads p.seat.found p.after.noted p.seat.made;
+        one = p.seat.one;
+        seat = p.seat.seat;
+        front_is = p.seat.front_is;
+        own_is = p.seat.own_is;
+      };
+      left = p.left;
     };
-    left = p.left;
   }
 
   -- 4. What a phase asks of the stripe.
@@ -226,6 +231,9 @@ module _ {I J : Type 0} {D : I → Type 0} {E : J → Type 0} where
   pub agent_same : (old mid new : Agent I J D E) → old.hands.held ≡ 0 → mid ≡ record old { hands = record old.hands { held = 1 } } → new ≡ record mid { hands = record mid.hands { held = 0 } } → new ≡ old
   agent_same old mid new free took gave =
       gave ∙ ap (λ (a : Agent I J D E). record a { hands = record a.hands { held = 0 } }) took ∙ ap (λ (n : ℕ). record old { hands = record old.hands { held = n } }) (sym free)
+
+  pub holds_one : (old mid : Agent I J D E) (t : Seated) → mid ≡ record old { hands = record old.hands { held = 1 } } → t.1.session ≡ Some old.caller.session → (mid.hands.held ≡ 1) × (t.1.session ≡ Some mid.caller.session)
+  holds_one old mid t took speaks = (ap (λ (a : Agent I J D E). a.hands.held) took, speaks ∙ ap (λ (a : Agent I J D E). Some a.caller.session) (sym took))
 
   -- 6. A call outside.
 

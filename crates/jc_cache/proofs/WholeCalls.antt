@@ -5,10 +5,10 @@
 --     number_near        the number of a key's stripe is one of the cache's
 --     at_key, seat_at    the number of a key's stripe, and the session's seat there
 --     free_at            the seat is at the lock in its place, which it has not taken
---     speaks_at          it is of the session that makes the next call
+--     ready, ready_next  the session is at the door of the stripe, as it is and for its next call
 --     may_begin          the seat's own steps let the next call come
---     writer_there       if the stripe writes through, the session has a writer
 --     writes_as          the stripe writes through if the cache does
+--     may_call           the session's next call may be made there
 --     called, invoked, tried
 --                        a whole call, one that runs a processor, and one that waits for nobody: what is said of the session, and that
 --                        it may call again
@@ -44,13 +44,14 @@ use Rattle.jc_session.specs.declared.agent.Agent.{Agent}
 use Rattle.jc_session.specs.Boxed.{boxed}
 use Rattle.jc_engine.specs.Asking.{AsksWriter, change_wanted, own_after}
 use Rattle.jc_engine.specs.Needs.{BeginsIfClear}
-use Rattle.jc_engine.specs.Calls.{IsCall, IsInvocation, IsTried}
+use Rattle.jc_engine.specs.Calls.{IsCall, IsInvocation, IsTried, MayCallAt}
+use Rattle.jc_engine.specs.Doors.{IsReady}
 use Rattle.jc_cache.specs.Caches.{CacheState}
 use Rattle.jc_cache.specs.CacheInside.{IsShaped}
 use Rattle.jc_cache.specs.Calls.{next_call, CallsAt, Tried, Invoked}
-use Rattle.jc_cache.specs.Sessions.{IsOf, MayCall}
+use Rattle.jc_cache.specs.Sessions.{Completes, IsOf, MayCall}
 use Rattle.jc_cache.specs.declared.session.Session.{Session}
-use Rattle.jc_cache.proofs.Lendings.{lock_takes, lock_gives, lock_finds}
+use Rattle.jc_cache.proofs.Lendings.{lock_takes, lock_gives, lock_finds, lock_speaks_for}
 use Rattle.jc_cache.proofs.CallEnds.{CallLeft, call_left, tried_left, invoked_left}
 use Rattle.jc_cache.proofs.Rows.{length_locks, lock_there}
 use Rattle.jc_cache.proofs.Seats.{after_call, after_try, may_after}
@@ -103,8 +104,15 @@ module _ {I J : Type 0} {D : I → Type 0} {E : J → Type 0} where
       let is : slice_get cache.locks at ≡ Some lock = ap (λ (ls : List TableId). slice_get ls at) (sym are) ∙ slice_get_read locks _ at lock refl within read in
       (lock_there session.seats.items cache.locks at t lock own.locks there is, (own.seats at t there).free)
 
-  pub speaks_at : (cache : CacheState) (old : Session I J D E) (a : Agent I J D E) (at : ℕ) (t : TableId × View) → IsOf cache old → a ≡ (next_call old).agent → slice_get old.seats.items at ≡ Some t → t.1.session ≡ Some a.caller.session
-  speaks_at cache old a at t own is there = (own.seats at t there).of_session ∙ ap (λ (z : Agent I J D E). Some z.caller.session) (sym is)
+  pub ready : {G : Type 0} {is_free : G → TableId × View → Type 0} {g : G} (cache : CacheState) (old : Session I J D E) (at : ℕ) (t : TableId × View) → IsOf cache old → slice_get old.seats.items at ≡ Some t → is_free g t
+      → IsReady is_free lock_speaks_for g t old.agent
+  ready cache old at t own there free = record { held = own.held; free = free; speaks = (own.seats at t there).of_session }
+
+  pub ready_next : {G : Type 0} {is_free : G → TableId × View → Type 0} {g : G} (cache : CacheState) (old : Session I J D E) (a : Agent I J D E) (at : ℕ) (t : TableId × View) → IsOf cache old → a ≡ (next_call old).agent
+      → slice_get old.seats.items at ≡ Some t → is_free g t → IsReady is_free lock_speaks_for g t a
+  ready_next {G} {is_free} {g} cache old a at t own is there free =
+      let r : IsReady is_free lock_speaks_for g t old.agent = ready cache old at t own there free in
+      subst (λ (z : Agent I J D E). IsReady is_free lock_speaks_for g t z) (sym is) record { held = r.held; free = r.free; speaks = r.speaks }
 
   pub may_begin : OwnNumbers → (cache : CacheState) (old : Session I J D E) (a : Agent I J D E) (at : ℕ) (t : TableId × View) (key : Bytes) (state : State) → MayCall cache old → a ≡ (next_call old).agent → slice_get old.seats.items at ≡ Some t → Finds t.1 state
       → BeginsIfClear a.caller key state
@@ -119,17 +127,21 @@ module _ {I J : Type 0} {D : I → Type 0} {E : J → Type 0} where
   pub writes_as : (cache : CacheState) (old : Session I J D E) (at : ℕ) (t : TableId × View) (state : State) → MayCall cache old → slice_get old.seats.items at ≡ Some t → Finds t.1 state → state.config.write_through ≡ cache.config.write_through
   writes_as cache old at t state may there finds = ap (λ c. c.write_through) (finds.same.config ∙ (may.own.seats at t there).config_is)
 
-  pub writer_there : (cache : CacheState) (old : Session I J D E) (a : Agent I J D E) (at : ℕ) (t : TableId × View) (state : State) → MayCall cache old → a ≡ (next_call old).agent → slice_get old.seats.items at ≡ Some t → Finds t.1 state → state.config.write_through ≡ true
-      → IsSome a.hands.outside.writer
-  writer_there cache old a at t state may is there finds on =
-      subst (λ (z : Agent I J D E). IsSome z.hands.outside.writer) (sym is) (may.own.writes (sym (writes_as cache old at t state may there finds) ∙ on))
+  pub may_call : {G : Type 0} → OwnNumbers → (cache : CacheState) (old : Session I J D E) (a : Agent I J D E) (at : ℕ) (g : G) (t : TableId × View) (key : Bytes) → MayCall cache old → a ≡ (next_call old).agent
+      → slice_get old.seats.items at ≡ Some t → MayCallAt lock_finds key g t a
+  may_call law cache old a at g t key may is there = record {
+    reservations = ap (λ (z : Agent I J D E). z.counts.reservations) is ∙ may.reservations;
+    joins = ap (λ (z : Agent I J D E). z.counts.joins) is ∙ may.joins;
+    begins = λ state finds. may_begin law cache old a at t key state may is there finds;
+    writes = λ state finds on. subst (λ (z : Agent I J D E). IsSome z.hands.outside.writer) (sym is) (may.own.writes (sym (writes_as cache old at t state may there finds) ∙ on));
+  }
 
   -- 3. What it leaves.
 
   pub tried : {G : Type 0} → OnePhase → OwnSteps → OwnNumbers → (cache : CacheState) (old new : Session I J D E) (a : Agent I J D E) (key : Bytes) (op : Op) (at : ℕ) (ended : Result Reply Refusal) (g : G) (t : TableId × View) (h : G) (u : TableId × View) (may_fail : G → TableId × View → Type 0)
       → MayCall cache old → a ≡ (next_call old).agent → at ≡ stripe_of key cache.config.stripes → slice_get old.seats.items at ≡ Some t → new.seats.items ≡ slice_set old.seats.items at u
       → new.agent ≡ record a { counts = record a.counts { own = own_after a.counts.own ended } } → IsTried lock_takes lock_gives lock_finds may_fail a.caller key op g t ended h u
-      → Tried cache old key op ended new × MayCall cache new
+      → Completes cache new (Tried cache old key op ended new)
   tried law own numbers cache old new a key op at ended g t h u may_fail may is at_is there now agent x =
       let b : Agent I J D E = (next_call old).agent in
       let seat = may.own.seats at t there in
@@ -137,8 +149,8 @@ module _ {I J : Type 0} {D : I → Type 0} {E : J → Type 0} where
       let new_is : new.agent ≡ record b { counts = record b.counts { own = own_after b.counts.own ended } } = agent ∙ ap (λ (z : Agent I J D E). record z { counts = record z.counts { own = own_after z.counts.own ended } }) is in
       let hands : new.agent.hands ≡ b.hands = ap (λ (z : Agent I J D E). z.hands) new_is in
       let now' : new.seats.items ≡ slice_set old.seats.items at (t.0, u.1) = now ∙ ap (slice_set old.seats.items at) (seat_is t u left.0) in
-      let after = after_try t.1 b.caller key op ended u.1 left.1 left.2 in (
-        record {
+      let after = after_try t.1 b.caller key op ended u.1 left.1 left.2 in record {
+        call = record {
           before = t.1;
           after = u.1;
           at = record {
@@ -148,13 +160,13 @@ module _ {I J : Type 0} {D : I → Type 0} {E : J → Type 0} where
           };
           seat = left.1;
           left = new_is;
-        },
-        may_after numbers cache old new at t.0 t.1 u.1 ended may there now' after.0 after.1 record {
+        };
+        may = may_after numbers cache old new at t.0 t.1 u.1 ended may there now' after.0 after.1 record {
           left = new_is ∙ ap (λ z. record b { counts = record b.counts { own = own_after b.counts.own ended }; hands = z }) (sym hands);
           held = ap (λ z. z.held) hands ∙ may.own.held;
           types = (ap (λ z. option_map (λ k. k.vtable) z.outside.loader) hands, ap (λ z. option_map (λ k. k.vtable) z.outside.writer) hands);
-        },
-      )
+        };
+      }
 
   module _ {G : Type 0} (loads : LoadRelation ((i : I) × D i)) (load_state : (i : I) × D i → List ℕ) (writes : WriteRelation ((j : J) × E j)) (write_state : (j : J) × E j → List ℕ) where
     abbrev Whole : Agent I J D E → Bytes → Op → G → TableId × View → Result Reply Refusal → Agent I J D E → G → TableId × View → Type 0
@@ -198,18 +210,21 @@ module _ {I J : Type 0} {D : I → Type 0} {E : J → Type 0} where
     pub called : OnePhase → OwnSteps → StepsBehind → OwnNumbers
         → (cache : CacheState) (old new : Session I J D E) (a : Agent I J D E) (key : Bytes) (op : Op) (at : ℕ) (ended : Result Reply Refusal) (g : G) (t : TableId × View) (h : G) (u : TableId × View)
         → MayCall cache old → a ≡ (next_call old).agent → at ≡ stripe_of key cache.config.stripes → slice_get old.seats.items at ≡ Some t → new.seats.items ≡ slice_set old.seats.items at u
-        → Whole a key op g t ended new.agent h u → CallsAt loads load_state writes write_state cache (next_call old) key op ended new × MayCall cache new
+        → Whole a key op g t ended new.agent h u → Completes cache new (CallsAt loads load_state writes write_state cache (next_call old) key op ended new)
     called law own behind numbers cache old new a key op at ended g t h u may is at_is there now y =
         let x = subst (λ (z : Agent I J D E). Whole z key op g t ended new.agent h u) is y in
         let left = left_of law own behind numbers cache old new key op at ended g t h u may there x in
-        (calls_at cache old new key op at ended g t h u at_is there now x x.enters.first.before left refl, may_again numbers cache old new key op at ended g t h u may there now x x.enters.first.before left)
+        record {
+          call = calls_at cache old new key op at ended g t h u at_is there now x x.enters.first.before left refl;
+          may = may_again numbers cache old new key op at ended g t h u may there now x x.enters.first.before left;
+        }
 
     pub invoked : {P Z : Type 0} {F : P → Type 0} → OnePhase → OwnSteps → StepsBehind → OwnNumbers
         → (processes : ProcessRelation (DynBox P Z F)) (process_state : DynBox P Z F → List ℕ)
         → (cache : CacheState) (old new : Session I J D E) (a : Agent I J D E) (key : Bytes) (args : List Bytes) (before after : DynBox P Z F) (at : ℕ) (ended : Result Reply Refusal) (g : G) (t : TableId × View) (h : G) (u : TableId × View)
         → MayCall cache old → a ≡ (next_call old).agent → at ≡ stripe_of key cache.config.stripes → slice_get old.seats.items at ≡ Some t → new.seats.items ≡ slice_set old.seats.items at u
         → IsInvocation loads load_state writes write_state processes process_state lock_takes lock_gives lock_finds a key args before g t ended new.agent after h u
-        → Invoked loads load_state writes write_state processes process_state cache old key args before ended new after × MayCall cache new
+        → Completes cache new (Invoked loads load_state writes write_state processes process_state cache old key args before ended new after)
     invoked law own behind numbers processes process_state cache old new a key args before after at ended g t h u may is at_is there now y =
         let x = subst (λ (z : Agent I J D E). IsInvocation loads load_state writes write_state processes process_state lock_takes lock_gives lock_finds z key args before g t ended new.agent after h u) is y in
         let seat = may.own.seats at t there in
@@ -221,13 +236,13 @@ module _ {I J : Type 0} {D : I → Type 0} {E : J → Type 0} where
         let config : first.config ≡ decided.config = found.between.same.config ∙ sym alone.left.between.same.config in
         let entry : entry_at first.cache key ≡ entry_at decided.cache key = sym {a = entry_at decided.cache key} alone.entry in
         let asked : Out = x.call.asked in
-        let wanted : change_wanted first key Invoke asked.process ≡ change_wanted decided key Invoke asked.process = ap (λ (c : Config). if c.write_through then process_ask asked.process else None) config in (
-          record {
+        let wanted : change_wanted first key Invoke asked.process ≡ change_wanted decided key Invoke asked.process = ap (λ (c : Config). if c.write_through then process_ask asked.process else None) config in record {
+          call = record {
             call = calls_at cache old new key Invoke at ended g t h u at_is there now x.call decided alone.left wanted;
             run = subst (λ (p : Config × Option Bytes). MatchBool (is_process_given asked.process) (RunsOnce processes process_state before key args (p.0.read_through && is_none p.1) p.1 asked.load asked.process after) (after ≡ before))
                 (λ i. (config i, entry i)) x.run;
             alone = alone.made;
             type = x.type;
-          },
-          may_again numbers cache old new key Invoke at ended g t h u may there now x.call decided alone.left,
-        )
+          };
+          may = may_again numbers cache old new key Invoke at ended g t h u may there now x.call decided alone.left;
+        }

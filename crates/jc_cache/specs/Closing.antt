@@ -5,12 +5,14 @@
 --     HasFront       a session has seen no more of each stripe than is in its whole history
 --     IsClosed       a cache is closed: its stripes, each from the opening that its owner has noted, and that each session handed in has
 --                    seen no more of them
+--     HasClosed      the same, and what sessions have brought comes back, in the order of the sessions
 --     IsInUse        at one of these stripes a reservation or a join is out
 --     IsHandedBack   an owner who could not close the cache owns it as before; its seats may have noted and seen more of the stripes
 --     IsCloseRefusal why a cache is not closed: a session is missing, and then nobody looked at a stripe; or all are there, and a
 --                    stripe's state is noted in which something is out, an allocation failed while nothing was out, or somebody held a
 --                    stripe
-use Rattle.std.specs.Prelude.{◌≡◌, ◌≢◌, ◌⊎◌, ℕ, List, length, Some, slice_get}
+--     HasNotClosed   the same, and owner and sessions come back
+use Rattle.std.specs.Prelude.{◌≡◌, ◌≢◌, ◌⊎◌, ℕ, Bool, true, List, map, length, Some, slice_get}
 use Rattle.std.specs.List.{AllZip}
 use Rattle.std.specs.FinMap.{from_entries}
 use mathlib.Core.List.{IsPrefix}
@@ -19,6 +21,7 @@ use Rattle.jc_types.specs.declared.config.Config.{Config}
 use Rattle.jc_types.specs.declared.refusal.Refusal.{Refusal}
 use Rattle.jc_types.specs.declared.refusal.Refusal.TheVariants.{Busy, OutOfMemory, StillReserved}
 use Rattle.jc_outside.specs.declared.done.Origin.TheVariants.{Live}
+use Rattle.jc_outside.specs.declared.hands.Outside.{Outside}
 use Rattle.jc_model.specs.Cache.{Bytes}
 use Rattle.jc_model.specs.Legal.{Legal, IsHistory}
 use Rattle.jc_stripe.specs.State.{State, IsIdle}
@@ -51,6 +54,11 @@ pub record IsClosed {I J : Type 0} {D : I → Type 0} {E : J → Type 0} (owner 
   pub all : length sessions ≡ owner.given
   pub fronts : (n : ℕ) (session : Session I J D E) → slice_get sessions n ≡ Some session → HasFront stripes session.seats.items
 
+pub record HasClosed {I J : Type 0} {D : I → Type 0} {E : J → Type 0} (owner : OwnerState) (sessions : List (Session I J D E)) (stripes : List State) (brought : List (Outside I J D E)) (says : Bool) : Type 0 where
+  pub closed : IsClosed owner sessions stripes
+  pub outside : brought ≡ map (λ (session : Session I J D E). session.agent.hands.outside) sessions
+  pub legal : says ≡ true
+
 -- 2. A cache that is not closed.
 
 abbrev pub IsInUse : List State → Type 0
@@ -69,3 +77,7 @@ IsCloseRefusal owner handed_in refusal left =
     × (((refusal ≡ StillReserved) × IsInUse left.noted)
     ⊎ (((refusal ≡ OutOfMemory) × ((i : ℕ) (state : State) → slice_get left.noted i ≡ Some state → IsIdle state))
     ⊎ (refusal ≡ Busy))))
+
+pub record HasNotClosed {I J : Type 0} {D : I → Type 0} {E : J → Type 0} (owner : OwnerState) (sessions : List (Session I J D E)) (refusal : Refusal) (left : OwnerState) (sessions' : List (Session I J D E)) : Type 0 where
+  pub why : IsCloseRefusal owner (length sessions) refusal left
+  pub back : IsHandedBack owner left × (sessions' ≡ sessions)

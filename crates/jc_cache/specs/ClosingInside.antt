@@ -4,6 +4,8 @@
 --     IsFreeSeat    a seat of no session, which has not taken its stripe
 --     HasTaken      a seat of no session, which has taken its stripe in this state: a reached one, and nothing is out there
 --     HaveTaken     of these seats the first ones have taken their stripes in these states, and the others have not
+--     OwnsSeats     own seats are at these locks, and the first ones have taken their stripes in these states, and the others have not
+--     KeepsOwn      they are the ones that they were, and have taken these
 --     AreIdle       nothing is out in the states that these seats have noted
 --     IsTakeRefusal why a stripe is not taken: something is out in the noted state, or somebody holds the stripe
 --     IsRowRefusal  why the stripes of a row of seats are not taken: one of them is not
@@ -51,6 +53,14 @@ HaveTaken [] [] = Unit {0}
 HaveTaken [] (state ∷ states) = ⊥
 HaveTaken (seat ∷ seats) [] = IsFreeSeat seat.1 × HaveTaken seats []
 HaveTaken (seat ∷ seats) (state ∷ states) = HasTaken seat.1 state × HaveTaken seats states
+
+pub record OwnsSeats (at : List TableId) (own : List (TableId × View)) (states : List State) : Type 0 where
+  pub locks : map (λ (seat : TableId × View). seat.0) own ≡ at
+  pub taken : HaveTaken own states
+
+pub record KeepsOwn (before after : List (TableId × View)) (states : List State) : Type 0 where
+  pub keeps : KeepSeats before after
+  pub taken : HaveTaken after states
 
 -- 2. Stripes that are not taken.
 

@@ -4,6 +4,7 @@
 --                       the teller's front is a prefix of the hearer's
 --     TellEach          so it is at each stripe, of two rows of seats before and after
 --     Meets             so it is of two sessions, and all else of both stays
+--     HaveMet           the same, and both may call the cache again
 --     IsSessionSeat     a seat of this session at this lock, which has not taken the stripe
 --     AreSessionSeats   so is each of a row, at each of these locks
 --     KeepRow           a row of seats is at the same locks, and has as many own steps
@@ -15,7 +16,8 @@ use Rattle.jc_lock.specs.Views.{Finds, after_give}
 use Rattle.jc_lock.specs.declared.view.View.{View}
 use Rattle.jc_cache.specs.declared.session.Session.{Session}
 use Rattle.jc_cache.specs.Fronts.{HasSeen}
-use Rattle.jc_cache.specs.Sessions.{own_total}
+use Rattle.jc_cache.specs.Caches.{CacheState}
+use Rattle.jc_cache.specs.Sessions.{MayCall, own_total}
 
 -- 1. What is told.
 
@@ -38,6 +40,11 @@ pub record Meets {I J : Type 0} {D : I → Type 0} {E : J → Type 0} (teller he
   pub each : TellEach teller.seats.items hearer.seats.items teller'.seats.items hearer'.seats.items
   pub teller_stays : teller'.agent ≡ teller.agent
   pub hearer_stays : hearer'.agent ≡ hearer.agent
+
+pub record HaveMet {I J : Type 0} {D : I → Type 0} {E : J → Type 0} (cache : CacheState) (from to from' to' : Session I J D E) : Type 0 where
+  pub teller : MayCall cache from'
+  pub hearer : MayCall cache to'
+  pub met : Meets from to from' to'
 
 -- 2. Rows of seats.
 

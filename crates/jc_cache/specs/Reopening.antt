@@ -2,14 +2,15 @@
 --     refusal_by       why, by what `check` says of the shape, and by whether all keys are distinct
 --     reopen_refusal   why a closed cache with these entries is not opened in this shape, if enough memory is there: the shape is out of
 --                      its limits, or a key is there twice
+--     IsReopenRefusal  why it is not opened: that, or an allocation failed though it is not refused so
 --     lived            whether the cache of these stripes lived on, by the first of them
 --     IsReopened       who owns a cache, which lives on or doesn't, that was opened with these entries, and which of them were dropped: what the stripes open with
 --                      and what was dropped are all entries, in another order
-use Rattle.std.specs.Prelude.{◌≡◌, List, [], ◌∷◌, ◌++◌, Bool, false, Option, None, Some, Result, Ok, Err, if◌then◌else◌}
+use Rattle.std.specs.Prelude.{◌≡◌, ◌⊎◌, List, [], ◌∷◌, ◌++◌, Bool, false, Option, None, Some, Result, Ok, Err, if◌then◌else◌}
 use Rattle.std.specs.List.Sorted.{IsPermutation}
 use Rattle.jc_types.specs.declared.config.Config.{Config}
 use Rattle.jc_types.specs.declared.refusal.Refusal.{Refusal}
-use Rattle.jc_types.specs.declared.refusal.Refusal.TheVariants.{RepeatedKey}
+use Rattle.jc_types.specs.declared.refusal.Refusal.TheVariants.{OutOfMemory, RepeatedKey}
 use Rattle.jc_types.specs.Limits.{check}
 use Rattle.jc_model.specs.Cache.{Bytes}
 use Rattle.jc_model.specs.Listed.{has_distinct_keys}
@@ -23,6 +24,9 @@ refusal_by (Ok fits) distinct = if distinct then None else Some RepeatedKey
 
 abbrev pub reopen_refusal : Config → List (Bytes × Bytes) → Option Refusal
 reopen_refusal config entries = refusal_by (check config) (has_distinct_keys entries)
+
+abbrev pub IsReopenRefusal : Config → List (Bytes × Bytes) → Refusal → Type 0
+IsReopenRefusal config entries refusal = (reopen_refusal config entries ≡ Some refusal) ⊎ ((reopen_refusal config entries ≡ None) × (refusal ≡ OutOfMemory))
 
 abbrev pub lived : List State → Bool
 lived [] = false

@@ -4,21 +4,31 @@
 --     capped        a number, or the last one if it is beyond that
 --     IsOf          a session is one of this cache's: its seats are at this cache's locks and its session's alone, its hands hold
 --                   nothing, it has the loader and the writer that the cache's shape asks for, and it counts its own steps
+--     IsCaller      a session is one of this cache's, and has the number of this caller
+--     GoesOn        a session is still one of this cache's, after this
 --     HoldsNothing  a session's hands hold nothing, and none of its seats has taken its stripe
+--     HasAsked      a session has asked so, and nothing else of it has changed: it is of the same cache
 --     BeginsAt      a session's seats have noted and seen what those of the cache's owner have: so it begins
 --     MayCall       such a session may begin its next call: it has no reservation and no join out, and its own steps are all of calls
 --                   before that one
-use Rattle.std.specs.Prelude.{◌≡◌, ◌+◌, ℕ, List, [], ◌∷◌, length, map, true, false, Some, IsSome, slice_get, nat_lt, cond}
+--     IsGivenOut    a session that its owner has just given out, with this loader and this writer: it has made no step, and may call
+--     IsNotGivenOut why no session was given out; the owner stays as it was, and loader and writer come back
+--     Completes     a call that ended so, and its session may begin its next call
+use Rattle.std.specs.Prelude.{◌≡◌, ◌⊎◌, ◌+◌, is_some, None, ℕ, List, [], ◌∷◌, length, map, true, false, Some, IsSome, slice_get, nat_lt, cond}
 use Rattle.std.specs.List.{list_all}
 use Rattle.atomic_table.specs.Seated.{TableId}
+use Rattle.jc_types.specs.declared.caller.Caller.{Caller}
 use Rattle.jc_types.specs.declared.config.Config.{Config}
+use Rattle.jc_types.specs.declared.refusal.Refusal.TheVariants.{OutOfMemory}
 use Rattle.jc_outside.specs.declared.done.Origin.TheVariants.{Live}
+use Rattle.jc_outside.specs.declared.hands.Outside.{Outside}
 use Rattle.jc_stripe.specs.Refusals.{last_number}
 use Rattle.jc_stripe.specs.OwnSteps.{is_before_call}
 use Rattle.jc_lock.specs.declared.view.View.{View}
 use Rattle.jc_session.specs.Counting.{one_more}
+use Rattle.jc_session.specs.declared.fault.SessionFault.{SessionFault}
 use Rattle.jc_cache.specs.declared.session.Session.{Session}
-use Rattle.jc_cache.specs.Caches.{CacheState, OwnerState, noted_by, fronts_of}
+use Rattle.jc_cache.specs.Caches.{CacheState, OwnerState, noted_by, fronts_of, session_refusal}
 
 pub record IsSeatAt (config : Config) (stripe session : ℕ) (view : View) : Type 0 where
   pub of_session : view.session ≡ Some session
@@ -44,9 +54,22 @@ pub record IsOf {I J : Type 0} {D : I → Type 0} {E : J → Type 0} (cache : Ca
   pub writes : cache.config.write_through ≡ true → IsSome session.agent.hands.outside.writer
   pub own : session.agent.counts.own ≡ capped (own_total session.seats.items)
 
+pub record IsCaller {I J : Type 0} {D : I → Type 0} {E : J → Type 0} (cache : CacheState) (session : Session I J D E) (who : Caller) : Type 0 where
+  pub own : IsOf cache session
+  pub caller : who.session ≡ session.agent.caller.session
+
+pub record GoesOn {I J : Type 0} {D : I → Type 0} {E : J → Type 0} (cache : CacheState) (session : Session I J D E) (Made : Type 0) : Type 0 where
+  pub own : IsOf cache session
+  pub phase : Made
+
 pub record HoldsNothing {I J : Type 0} {D : I → Type 0} {E : J → Type 0} (session : Session I J D E) : Type 0 where
   pub held : session.agent.hands.held ≡ 0
   pub seats : (i : ℕ) (seat : TableId × View) → slice_get session.seats.items i ≡ Some seat → seat.1.holds ≡ false
+
+pub record HasAsked {I J : Type 0} {D : I → Type 0} {E : J → Type 0} (old new : Session I J D E) (Asked : Type 0) : Type 0 where
+  pub asked : Asked
+  pub rest : new ≡ record old { agent = record old.agent { hands = new.agent.hands } }
+  pub own : (cache : CacheState) → IsOf cache old → IsOf cache new
 
 pub record BeginsAt {I J : Type 0} {D : I → Type 0} {E : J → Type 0} (owner : OwnerState) (session : Session I J D E) : Type 0 where
   pub noted : noted_by session.seats.items ≡ owner.noted
@@ -58,3 +81,22 @@ pub record MayCall {I J : Type 0} {D : I → Type 0} {E : J → Type 0} (cache :
   pub joins : session.agent.counts.joins ≡ 0
   pub numbers : (i : ℕ) (seat : TableId × View) → slice_get session.seats.items i ≡ Some seat
       → list_all (is_before_call session.agent.caller.session (one_more session.agent.caller.call)) seat.1.own ≡ true
+
+pub record IsGivenOut {I J : Type 0} {D : I → Type 0} {E : J → Type 0} (from left : OwnerState) (outside : Outside I J D E) (session : Session I J D E) : Type 0 where
+  pub fits : session_refusal from (is_some outside.loader) (is_some outside.writer) ≡ None
+  pub owner : left ≡ record from { given = from.given + 1 }
+  pub caller : session.agent.caller ≡ record { session = from.given; call = 0 }
+  pub boxes : session.agent.hands.outside ≡ outside
+  pub may : MayCall left.cache session
+  pub none : session.agent.counts.own ≡ 0
+  pub begins : BeginsAt from session
+
+pub record IsNotGivenOut {I J : Type 0} {D : I → Type 0} {E : J → Type 0} (from left : OwnerState) (outside : Outside I J D E) (fault : SessionFault I J D E) : Type 0 where
+  pub why : (session_refusal from (is_some outside.loader) (is_some outside.writer) ≡ Some fault.refusal)
+      ⊎ ((session_refusal from (is_some outside.loader) (is_some outside.writer) ≡ None) × (fault.refusal ≡ OutOfMemory))
+  pub same : left ≡ from
+  pub back : (fault.loader ≡ outside.loader) × (fault.writer ≡ outside.writer)
+
+pub record Completes {I J : Type 0} {D : I → Type 0} {E : J → Type 0} (cache : CacheState) (session : Session I J D E) (Ended : Type 0) : Type 0 where
+  pub may : MayCall cache session
+  pub call : Ended

@@ -1,6 +1,5 @@
 //! A cache of stripes, each under its lock, that threads share.
 ghost use Rattle.std.specs.Prelude.{◌≡◌, false, Result, Ok, length};
-ghost use Rattle.jc_types.specs.Limits.{check};
 ghost use Rattle.jc_types.specs.declared.refusal.Refusal.{Refusal};
 ghost use Rattle.jc_model.specs.Table.{is_invoke};
 ghost use Rattle.jc_model.specs.declared.event.Reply.{Reply};
@@ -8,7 +7,8 @@ ghost use Rattle.jc_model.specs.declared.event.Op.TheVariants.{Get};
 ghost use Rattle.jc_stripe.specs.OnePhase.{OnePhase};
 ghost use Rattle.jc_stripe.specs.OwnSteps.{OwnSteps, OwnNumbers, StepsBehind};
 ghost use Rattle.jc_engine.specs.Values.{value_told};
-ghost use Rattle.jc_cache.specs.Sessions.{MayCall};
+ghost use Rattle.jc_cache.specs.CacheInside.{IsShaped};
+ghost use Rattle.jc_cache.specs.Sessions.{MayCall, Completes};
 ghost use Rattle.jc_cache.specs.Calls.{Called, Tried, Invoked, value_in};
 
 use crate::calls::value_of;
@@ -51,8 +51,7 @@ impl Cache {
     /// The shape of the cache.
     pub fn config(&self) -> &Config
         ensures config { result.now ≡ self.now.config }
-        ensures fits { check self.now.config ≡ Ok tt }
-        ensures count { length self.now.locks ≡ self.now.config.stripes }
+        ensures shaped { IsShaped self.now.config self.now.locks }
     {
         &self.config
     }
@@ -75,9 +74,9 @@ impl Cache {
     ) -> Result<Reply, Refusal>
         requires op { is_invoke op.now ≡ false }
         requires may { MayCall self.now session.old }
-        ensures may { MayCall self.now session.new }
-        ensures call { Called loads load_state writes write_state
-            self.now session.old key.now op.now result session.new }
+        ensures { Completes self.now session.new
+            (Called loads load_state writes write_state
+            self.now session.old key.now op.now result session.new) }
     {
         laws();
         let at = stripe_of(key, self.config.stripes);
@@ -96,10 +95,10 @@ impl Cache {
         value: &mut Option<Value>,
     ) -> Result<(), Refusal>
         requires may { MayCall self.now session.old }
-        ensures may { MayCall self.now session.new }
-        ensures call { (ended : Result Reply Refusal) × Called loads load_state writes write_state
+        ensures { Completes self.now session.new
+            ((ended : Result Reply Refusal) × Called loads load_state writes write_state
             self.now session.old key.now Get ended session.new
-            × (value_in ended ≡ value_told result value.new) }
+            × (value_in ended ≡ value_told result value.new)) }
     {
         laws();
         let at = stripe_of(key, self.config.stripes);
@@ -117,8 +116,8 @@ impl Cache {
         op: &Op,
     ) -> Result<Reply, Refusal>
         requires may { MayCall self.now session.old }
-        ensures may { MayCall self.now session.new }
-        ensures call { Tried self.now session.old key.now op.now result session.new }
+        ensures { Completes self.now session.new
+            (Tried self.now session.old key.now op.now result session.new) }
     {
         laws();
         let at = stripe_of(key, self.config.stripes);
@@ -145,10 +144,10 @@ impl Cache {
         args: &[Value],
     ) -> Result<Option<Value>, Refusal>
         requires may { MayCall self.now session.old }
-        ensures may { MayCall self.now session.new }
-        ensures call { (ended : Result Reply Refusal) × Invoked loads load_state writes write_state processes process_state
+        ensures { Completes self.now session.new
+            ((ended : Result Reply Refusal) × Invoked loads load_state writes write_state processes process_state
             self.now session.old key.now args.now processor.old ended session.new processor.new
-            × (result ≡ value_in ended) }
+            × (result ≡ value_in ended)) }
     {
         laws();
         let at = stripe_of(key, self.config.stripes);

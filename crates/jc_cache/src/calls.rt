@@ -18,7 +18,7 @@
 //! join out.
 ghost use Rattle.std.specs.Prelude.{◌≡◌};
 ghost use Rattle.jc_model.specs.declared.event.Op.TheVariants as op;
-ghost use Rattle.jc_cache.specs.Sessions.{MayCall};
+ghost use Rattle.jc_cache.specs.Sessions.{MayCall, Completes};
 ghost use Rattle.jc_cache.specs.Calls.{Returns, value_in, flag_in, unit_in};
 
 use crate::cache::Cache;
@@ -39,9 +39,9 @@ impl Cache {
         key: &Key,
     ) -> Result<Option<Value>, Refusal>
         requires may { MayCall self.now session.old }
-        ensures may { MayCall self.now session.new }
-        ensures call { Returns loads load_state writes write_state
-            self.now session.old key.now op.Get value_in result session.new }
+        ensures { Completes self.now session.new
+            (Returns loads load_state writes write_state
+            self.now session.old key.now op.Get value_in result session.new) }
     {
         let mut value = None;
         match self.get_into(rt, session, key, &mut value) {
@@ -61,9 +61,9 @@ impl Cache {
         key: &Key,
     ) -> Result<bool, Refusal>
         requires may { MayCall self.now session.old }
-        ensures may { MayCall self.now session.new }
-        ensures call { Returns loads load_state writes write_state
-            self.now session.old key.now op.ContainsKey flag_in result session.new }
+        ensures { Completes self.now session.new
+            (Returns loads load_state writes write_state
+            self.now session.old key.now op.ContainsKey flag_in result session.new) }
     {
         flag_of(self.call(rt, session, key, &Op::ContainsKey))
     }
@@ -80,9 +80,9 @@ impl Cache {
         value: &Value,
     ) -> Result<(), Refusal>
         requires may { MayCall self.now session.old }
-        ensures may { MayCall self.now session.new }
-        ensures call { Returns loads load_state writes write_state
-            self.now session.old key.now (op.Put value.now) unit_in result session.new }
+        ensures { Completes self.now session.new
+            (Returns loads load_state writes write_state
+            self.now session.old key.now (op.Put value.now) unit_in result session.new) }
     {
         unit_of(self.call(rt, session, key, &Op::Put(*value)))
     }
@@ -100,9 +100,9 @@ impl Cache {
         value: &Value,
     ) -> Result<Option<Value>, Refusal>
         requires may { MayCall self.now session.old }
-        ensures may { MayCall self.now session.new }
-        ensures call { Returns loads load_state writes write_state
-            self.now session.old key.now (op.GetAndPut value.now) value_in result session.new }
+        ensures { Completes self.now session.new
+            (Returns loads load_state writes write_state
+            self.now session.old key.now (op.GetAndPut value.now) value_in result session.new) }
     {
         value_of(self.call(rt, session, key, &Op::GetAndPut(*value)))
     }
@@ -120,9 +120,9 @@ impl Cache {
         value: &Value,
     ) -> Result<bool, Refusal>
         requires may { MayCall self.now session.old }
-        ensures may { MayCall self.now session.new }
-        ensures call { Returns loads load_state writes write_state
-            self.now session.old key.now (op.PutIfAbsent value.now) flag_in result session.new }
+        ensures { Completes self.now session.new
+            (Returns loads load_state writes write_state
+            self.now session.old key.now (op.PutIfAbsent value.now) flag_in result session.new) }
     {
         flag_of(self.call(rt, session, key, &Op::PutIfAbsent(*value)))
     }
@@ -134,9 +134,9 @@ impl Cache {
     /// Condition: the session may call the cache.
     pub fn remove<R: Wait>(&self, rt: &R, session: &mut Session, key: &Key) -> Result<bool, Refusal>
         requires may { MayCall self.now session.old }
-        ensures may { MayCall self.now session.new }
-        ensures call { Returns loads load_state writes write_state
-            self.now session.old key.now op.Remove flag_in result session.new }
+        ensures { Completes self.now session.new
+            (Returns loads load_state writes write_state
+            self.now session.old key.now op.Remove flag_in result session.new) }
     {
         flag_of(self.call(rt, session, key, &Op::Remove))
     }
@@ -154,9 +154,9 @@ impl Cache {
         old: &Value,
     ) -> Result<bool, Refusal>
         requires may { MayCall self.now session.old }
-        ensures may { MayCall self.now session.new }
-        ensures call { Returns loads load_state writes write_state
-            self.now session.old key.now (op.RemoveIf old.now) flag_in result session.new }
+        ensures { Completes self.now session.new
+            (Returns loads load_state writes write_state
+            self.now session.old key.now (op.RemoveIf old.now) flag_in result session.new) }
     {
         flag_of(self.call(rt, session, key, &Op::RemoveIf(*old)))
     }
@@ -173,9 +173,9 @@ impl Cache {
         key: &Key,
     ) -> Result<Option<Value>, Refusal>
         requires may { MayCall self.now session.old }
-        ensures may { MayCall self.now session.new }
-        ensures call { Returns loads load_state writes write_state
-            self.now session.old key.now op.GetAndRemove value_in result session.new }
+        ensures { Completes self.now session.new
+            (Returns loads load_state writes write_state
+            self.now session.old key.now op.GetAndRemove value_in result session.new) }
     {
         value_of(self.call(rt, session, key, &Op::GetAndRemove))
     }
@@ -193,9 +193,9 @@ impl Cache {
         value: &Value,
     ) -> Result<bool, Refusal>
         requires may { MayCall self.now session.old }
-        ensures may { MayCall self.now session.new }
-        ensures call { Returns loads load_state writes write_state
-            self.now session.old key.now (op.Replace value.now) flag_in result session.new }
+        ensures { Completes self.now session.new
+            (Returns loads load_state writes write_state
+            self.now session.old key.now (op.Replace value.now) flag_in result session.new) }
     {
         flag_of(self.call(rt, session, key, &Op::Replace(*value)))
     }
@@ -214,9 +214,9 @@ impl Cache {
         new: &Value,
     ) -> Result<bool, Refusal>
         requires may { MayCall self.now session.old }
-        ensures may { MayCall self.now session.new }
-        ensures call { Returns loads load_state writes write_state
-            self.now session.old key.now (op.ReplaceIf old.now new.now) flag_in result session.new }
+        ensures { Completes self.now session.new
+            (Returns loads load_state writes write_state
+            self.now session.old key.now (op.ReplaceIf old.now new.now) flag_in result session.new) }
     {
         flag_of(self.call(
             rt,
@@ -242,9 +242,9 @@ impl Cache {
         value: &Value,
     ) -> Result<Option<Value>, Refusal>
         requires may { MayCall self.now session.old }
-        ensures may { MayCall self.now session.new }
-        ensures call { Returns loads load_state writes write_state
-            self.now session.old key.now (op.GetAndReplace value.now) value_in result session.new }
+        ensures { Completes self.now session.new
+            (Returns loads load_state writes write_state
+            self.now session.old key.now (op.GetAndReplace value.now) value_in result session.new) }
     {
         value_of(self.call(rt, session, key, &Op::GetAndReplace(*value)))
     }

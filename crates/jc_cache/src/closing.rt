@@ -12,8 +12,8 @@ ghost use Rattle.jc_stripe.specs.Generations.{whole_history};
 ghost use Rattle.jc_stripe.specs.OrderOfUse.{by_use};
 ghost use Rattle.jc_stripe.specs.Reached.{IsReached};
 ghost use Rattle.jc_stripe.specs.Reopening.{shares_key};
-ghost use Rattle.jc_cache.specs.Closing.{IsClosed, IsCloseRefusal, IsHandedBack};
-ghost use Rattle.jc_cache.specs.ClosingInside.{AreIdle, HaveTaken, IsRowRefusal, KeepSeats};
+ghost use Rattle.jc_cache.specs.Closing.{HasClosed, HasNotClosed};
+ghost use Rattle.jc_cache.specs.ClosingInside.{AreIdle, HaveTaken, IsRowRefusal, KeepSeats, OwnsSeats};
 ghost use Rattle.jc_cache.specs.Sessions.{IsOf};
 
 mod own_seats;
@@ -96,8 +96,8 @@ impl ClosedStripe {
     pub fn append_entries(&self, out: &mut Vec<(Key, Value)>) -> Result<(), AllocError>
         ensures by_use { OnOk result (out.new.items
             ≡ out.old.items ++ by_use self.now.opening self.now.history) }
-        ensures cache { from_entries (by_use self.now.opening self.now.history) ≡ self.now.cache }
-        ensures once { IsTrue (has_distinct_keys (by_use self.now.opening self.now.history)) }
+        ensures cache { (from_entries (by_use self.now.opening self.now.history) ≡ self.now.cache)
+            × IsTrue (has_distinct_keys (by_use self.now.opening self.now.history)) }
         ensures err { OnErr result (out.new.items ≡ out.old.items) }
     {
         self.stripe.entries(out)
@@ -146,12 +146,10 @@ impl CacheOwner {
     /// Condition: the sessions are of this cache.
     pub fn close(self, alloc: Global, sessions: Vec<Session>) -> Result<Closed, CloseFault>
         requires { All (λ s. IsOf self.cache s) sessions.items }
-        ensures closed { IfOk result (λ c. IsClosed self sessions.items c.stripes.items) }
-        ensures outside { IfOk result (λ c. c.outside.items ≡ map (λ s. s.agent.hands.outside) sessions.items) }
-        ensures legal { IfOk result (λ c. c.legal ≡ true) }
-        ensures why { IfErr result
-            (λ f. IsCloseRefusal self (length sessions.items) f.refusal f.owner) }
-        ensures back { IfErr result (λ f. IsHandedBack self f.owner × (f.sessions.items ≡ sessions.items)) }
+        ensures ok { IfOk result
+            (λ c. HasClosed self sessions.items c.stripes.items c.outside.items c.legal) }
+        ensures err { IfErr result
+            (λ f. HasNotClosed self sessions.items f.refusal f.owner f.sessions.items) }
     {
         if sessions.len() == self.given as usize {
             return self.close_with_all(alloc, sessions);
@@ -167,12 +165,10 @@ impl CacheOwner {
     fn close_with_all(self, alloc: Global, sessions: Vec<Session>) -> Result<Closed, CloseFault>
         requires own { All (λ s. IsOf self.cache s) sessions.items }
         requires all { length sessions.items ≡ self.given }
-        ensures closed { IfOk result (λ c. IsClosed self sessions.items c.stripes.items) }
-        ensures outside { IfOk result (λ c. c.outside.items ≡ map (λ s. s.agent.hands.outside) sessions.items) }
-        ensures legal { IfOk result (λ c. c.legal ≡ true) }
-        ensures why { IfErr result
-            (λ f. IsCloseRefusal self (length sessions.items) f.refusal f.owner) }
-        ensures back { IfErr result (λ f. IsHandedBack self f.owner × (f.sessions.items ≡ sessions.items)) }
+        ensures ok { IfOk result
+            (λ c. HasClosed self sessions.items c.stripes.items c.outside.items c.legal) }
+        ensures err { IfErr result
+            (λ f. HasNotClosed self sessions.items f.refusal f.owner f.sessions.items) }
     {
         is_legal();
         let CacheOwner {
@@ -209,8 +205,7 @@ fn take_stripes(
     own: &mut Vec<Seat>,
     sessions: usize,
 ) -> Result<(Vec<ClosedStripe>, Vec<Outside>), Refusal>
-    requires locks { map (λ (seat : TableId × View). seat.0) own.old.items ≡ locks.now }
-    requires free { HaveTaken own.old.items [] }
+    requires { OwnsSeats locks.now own.old.items [] }
     ensures keeps { KeepSeats own.old.items own.new.items }
     ensures ok { IfOk result (λ r. HaveTaken own.new.items r.0.items
         × (length r.0.items ≡ length own.new.items)) }

@@ -5,7 +5,7 @@ ghost use Rattle.jc_stripe.specs.Generations.{whole_history};
 ghost use Rattle.jc_cache.specs.Caches.{noted_by};
 ghost use Rattle.jc_cache.specs.Counting.{HasRead, HasReadEach, Reads, all_events};
 ghost use Rattle.jc_cache.specs.Meeting.{IsSessionSeat, AreSessionSeats, KeepRow};
-ghost use Rattle.jc_cache.specs.Sessions.{MayCall};
+ghost use Rattle.jc_cache.specs.Sessions.{Completes, MayCall};
 
 use crate::cache::Cache;
 use crate::session::Session;
@@ -27,9 +27,8 @@ impl Cache {
     /// Condition: the session may call the cache.
     pub fn statistics<R: Wait>(&self, rt: &R, session: &mut Session) -> Statistics
         requires { MayCall self.now session.old }
-        ensures may { MayCall self.now session.new }
-        ensures reads { Reads session.old session.new }
-        ensures counted { result ≡ statistics_of (all_events (noted_by session.new.seats.items)) }
+        ensures { Completes self.now session.new (Reads session.old session.new
+            × (result ≡ statistics_of (all_events (noted_by session.new.seats.items)))) }
     {
         read_each(rt, &self.locks, &mut session.agent, &mut session.seats)
     }
@@ -42,8 +41,7 @@ fn read_each<R: Wait>(
     agent: &mut Agent,
     seats: &mut Vec<Seat>,
 ) -> Statistics
-    requires held { agent.old.hands.held ≡ 0 }
-    requires seats { AreSessionSeats locks.now agent.old.caller.session seats.old.items }
+    requires { (agent.old.hands.held ≡ 0) × AreSessionSeats locks.now agent.old.caller.session seats.old.items }
     ensures agent { agent.new ≡ agent.old }
     ensures keeps { KeepRow seats.old.items seats.new.items }
     ensures reads { HasReadEach seats.old.items seats.new.items }
@@ -59,8 +57,7 @@ fn read_each<R: Wait>(
 
 /// Takes the stripe, reads what it counts, and gives it back.
 fn read_at<R: Wait>(rt: &R, lock: &HistLock, agent: &mut Agent, seat: &mut Seat) -> Statistics
-    requires held { agent.old.hands.held ≡ 0 }
-    requires seat { IsSessionSeat lock.now agent.old.caller.session seat.old }
+    requires { (agent.old.hands.held ≡ 0) × IsSessionSeat lock.now agent.old.caller.session seat.old }
     ensures agent { agent.new ≡ agent.old }
     ensures lock { seat.new.0 ≡ seat.old.0 }
     ensures reads { HasRead seat.old.1 seat.new.1 }

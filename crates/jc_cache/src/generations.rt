@@ -5,7 +5,7 @@ ghost use Rattle.jc_lock.specs.Views.{Finds, after_give};
 ghost use Rattle.jc_cache.specs.Fronts.{HasSeen};
 ghost use Rattle.jc_cache.specs.Generations.{IsEndOf, EndsAt};
 ghost use Rattle.jc_cache.specs.Meeting.{IsSessionSeat};
-ghost use Rattle.jc_cache.specs.Sessions.{MayCall};
+ghost use Rattle.jc_cache.specs.Sessions.{Completes, MayCall};
 
 use crate::cache::Cache;
 use crate::session::Session;
@@ -38,9 +38,9 @@ impl Cache {
     ) -> Result<Option<u64>, AllocError>
         requires may { MayCall self.now session.old }
         requires stripe { stripe < self.now.config.stripes }
-        ensures may { MayCall self.now session.new }
-        ensures ended { EndsAt stripe session.old
-            (λ found left. IsEndOf result out.old.items out.new.items found left) session.new }
+        ensures { Completes self.now session.new
+            (EndsAt stripe session.old
+            (λ found left. IsEndOf result out.old.items out.new.items found left) session.new) }
     {
         let seat = &mut session.seats[stripe];
         end_at(rt, &self.locks[stripe], &mut session.agent, seat, out)
@@ -55,8 +55,7 @@ fn end_at<R: Wait>(
     seat: &mut Seat,
     out: &mut Vec<Event>,
 ) -> Result<Option<u64>, AllocError>
-    requires held { agent.old.hands.held ≡ 0 }
-    requires seat { IsSessionSeat lock.now agent.old.caller.session seat.old }
+    requires { (agent.old.hands.held ≡ 0) × IsSessionSeat lock.now agent.old.caller.session seat.old }
     ensures agent { agent.new ≡ agent.old }
     ensures lock { seat.new.0 ≡ seat.old.0 }
     ensures ended { (found : State) × (left : State) × Finds seat.old.1 found

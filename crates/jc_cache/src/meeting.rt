@@ -1,6 +1,6 @@
 //! Two sessions meet: one tells the other what it has seen.
 ghost use Rattle.std.specs.Prelude.{ℕ, ◌≡◌};
-ghost use Rattle.jc_cache.specs.Meeting.{TellsAt, TellEach, Meets, IsSessionSeat, AreSessionSeats, KeepRow};
+ghost use Rattle.jc_cache.specs.Meeting.{TellsAt, TellEach, HaveMet, IsSessionSeat, AreSessionSeats, KeepRow};
 ghost use Rattle.jc_cache.specs.Sessions.{MayCall};
 
 use crate::cache::Cache;
@@ -21,9 +21,7 @@ impl Cache {
     pub fn meet<R: Wait>(&self, rt: &R, teller: &mut Session, hearer: &mut Session)
         requires teller { MayCall self.now teller.old }
         requires hearer { MayCall self.now hearer.old }
-        ensures teller { MayCall self.now teller.new }
-        ensures hearer { MayCall self.now hearer.new }
-        ensures met { Meets teller.old hearer.old teller.new hearer.new }
+        ensures { HaveMet self.now teller.old hearer.old teller.new hearer.new }
     {
         let agent = &mut teller.agent;
         tell_each(rt, &self.locks, agent, &mut teller.seats, &mut hearer.seats);
@@ -38,8 +36,7 @@ fn tell_each<R: Wait>(
     tellers: &mut Vec<Seat>,
     hearers: &mut Vec<Seat>,
 )
-    requires held { agent.old.hands.held ≡ 0 }
-    requires tellers { AreSessionSeats locks.now agent.old.caller.session tellers.old.items }
+    requires tellers { (agent.old.hands.held ≡ 0) × AreSessionSeats locks.now agent.old.caller.session tellers.old.items }
     requires hearers { (session : ℕ) × AreSessionSeats locks.now session hearers.old.items }
     ensures agent { agent.new ≡ agent.old }
     ensures tellers { KeepRow tellers.old.items tellers.new.items }
@@ -60,8 +57,7 @@ fn tell_at<R: Wait>(
     teller: &mut Seat,
     hearer: &mut Seat,
 )
-    requires held { agent.old.hands.held ≡ 0 }
-    requires teller { IsSessionSeat lock.now agent.old.caller.session teller.old }
+    requires teller { (agent.old.hands.held ≡ 0) × IsSessionSeat lock.now agent.old.caller.session teller.old }
     requires hearer { (session : ℕ) × IsSessionSeat lock.now session hearer.old }
     ensures agent { agent.new ≡ agent.old }
     ensures locks { (teller.new.0 ≡ teller.old.0) × (hearer.new.0 ≡ hearer.old.0) }

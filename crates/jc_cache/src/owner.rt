@@ -11,7 +11,7 @@ ghost use Rattle.jc_lock.specs.Views.{after_split, session_view};
 ghost use Rattle.jc_lock.specs.declared.view.View.{View};
 ghost use Rattle.jc_cache.specs.Caches.{OpensWith, fronts_of, noted_by, session_refusal, stripes_opening};
 ghost use Rattle.jc_cache.specs.CacheInside.{IsWhole, GiveNumbers};
-ghost use Rattle.jc_cache.specs.Sessions.{BeginsAt, MayCall};
+ghost use Rattle.jc_cache.specs.Sessions.{IsGivenOut, IsNotGivenOut};
 
 use crate::cache::Cache;
 use crate::session::Session;
@@ -68,9 +68,9 @@ fn locks(
 ) -> Result<(Vec<HistLock>, Vec<Seat>), AllocError>
     requires fits { check config.now ≡ Ok tt }
     requires opened { (lives : Bool) × (entries : List (Bytes × Bytes)) × (stripes.items ≡ stripes_opening lives config.now entries) }
-    ensures whole { IfOk result (λ r. IsWhole config.now 0 r.0.items r.1.items) }
-    ensures noted { IfOk result (λ r. noted_by r.1.items ≡ stripes.items) }
-    ensures fronts { IfOk result (λ r. fronts_of r.1.items ≡ replicate config.now.stripes []) }
+    ensures { IfOk result (λ r. IsWhole config.now 0 r.0.items r.1.items
+        × (noted_by r.1.items ≡ stripes.items)
+        × (fronts_of r.1.items ≡ replicate config.now.stripes [])) }
 {
     let mut locks = Vec::with_capacity(alloc, config.stripes)?;
     let mut seats = Vec::with_capacity(alloc, config.stripes)?;
@@ -103,8 +103,8 @@ pub(crate) fn open_with(
 ) -> Result<(CacheOwner, Vec<(Key, Value)>), AllocError>
     requires fits { check config.now ≡ Ok tt }
     requires once { has_distinct_keys entries.now ≡ true }
-    ensures owner { IfOk result (λ r. OpensWith lives config.now entries.now r.0) }
-    ensures dropped { IfOk result (λ r. r.1.items ≡ dropped config.now entries.now) }
+    ensures { IfOk result (λ r. OpensWith lives config.now entries.now r.0
+        × (r.1.items ≡ dropped config.now entries.now)) }
 {
     let Reopened {
         mut stripes,
@@ -192,17 +192,10 @@ impl CacheOwner {
         loader: Option<Box<dyn CacheLoader + Send + Drop>>,
         writer: Option<Box<dyn CacheWriter + Send + Drop>>,
     ) -> Result<Session, SessionFault>
-        ensures owner { IfOk result (λ s. self.new ≡ record self.old { given = self.old.given + 1 }) }
-        ensures caller { IfOk result (λ s. s.agent.caller ≡ record { session = self.old.given; call = 0 }) }
-        ensures boxes { IfOk result (λ s. (s.agent.hands.outside.loader ≡ loader) × (s.agent.hands.outside.writer ≡ writer)) }
-        ensures may { IfOk result (λ s. MayCall self.new.cache s) }
-        ensures none { IfOk result (λ s. s.agent.counts.own ≡ 0) }
-        ensures begins { IfOk result (λ s. BeginsAt self.old s) }
-        ensures ok { IfOk result (λ s. session_refusal self.old (is_some loader) (is_some writer) ≡ None) }
-        ensures why { IfErr result (λ f. (session_refusal self.old (is_some loader) (is_some writer) ≡ Some f.refusal)
-            ⊎ ((session_refusal self.old (is_some loader) (is_some writer) ≡ None) × (f.refusal ≡ OutOfMemory))) }
-        ensures same { IfErr result (λ f. self.new ≡ self.old) }
-        ensures back { IfErr result (λ f. (f.loader ≡ loader) × (f.writer ≡ writer)) }
+        ensures ok { IfOk result
+            (λ s. IsGivenOut self.old self.new (record { loader = loader; writer = writer }) s) }
+        ensures err { IfErr result
+            (λ f. IsNotGivenOut self.old self.new (record { loader = loader; writer = writer }) f) }
     {
         if let Some(refusal) = self.session_refusal(loader.is_some(), writer.is_some()) {
             return Err(SessionFault {
@@ -254,12 +247,7 @@ impl CacheOwner {
         requires refused { session_refusal self.old (is_some loader) (is_some writer) ≡ None }
         requires empty { seats.items ≡ [] }
         requires room { length self.old.cache.locks ≤ vec_capacity seats }
-        ensures owner { self.new ≡ record self.old { given = self.old.given + 1 } }
-        ensures caller { result.agent.caller ≡ record { session = self.old.given; call = 0 } }
-        ensures boxes { (result.agent.hands.outside.loader ≡ loader) × (result.agent.hands.outside.writer ≡ writer) }
-        ensures may { MayCall self.new.cache result }
-        ensures none { result.agent.counts.own ≡ 0 }
-        ensures begins { BeginsAt self.old result }
+        ensures { IsGivenOut self.old self.new (record { loader = loader; writer = writer }) result }
     {
         let mut seats = seats;
         split(self.cache.locks(), &mut self.seats, &mut seats);

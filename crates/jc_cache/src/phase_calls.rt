@@ -18,7 +18,7 @@ ghost use Rattle.jc_session.specs.Counting.{counted_begun, counted_picked};
 ghost use Rattle.jc_session.specs.declared.counts.Counted.TheVariants.{Committed, Nothing, Withdrawn};
 ghost use Rattle.jc_engine.specs.Answered.{IsAnswered, out_of};
 ghost use Rattle.jc_engine.specs.Needs.{IsReported, PicksUpLate, StartsAt};
-ghost use Rattle.jc_cache.specs.Sessions.{IsOf};
+ghost use Rattle.jc_cache.specs.Sessions.{GoesOn, IsCaller, IsOf};
 ghost use Rattle.jc_cache.specs.PhaseCalls.{MayFind, MayStart, PhaseAt};
 
 use crate::cache::Cache;
@@ -38,10 +38,10 @@ impl Cache {
     pub fn start<R: Wait>(&self, rt: &R, session: &mut Session, key: &Key, op: &Op) -> Begun
         requires own { IsOf self.now session.old }
         requires may { MayStart self.now session.old key.now }
-        ensures own { IsOf self.now session.new }
-        ensures phase { PhaseAt (stripe_of key.now self.now.config.stripes) session.old
+        ensures { GoesOn self.now session.new
+            (PhaseAt (stripe_of key.now self.now.config.stripes) session.old
             (λ a b. StartsAt session.old.agent.caller key.now op.now result a b)
-            (counted_begun result) session.new }
+            (counted_begun result) session.new) }
     {
         let at = stripe_of(key, self.config.stripes);
         let first = First {
@@ -63,14 +63,13 @@ impl Cache {
         ticket: Ticket,
         done: LoadDone<Ask>,
     ) -> StepDone
-        requires own { IsOf self.now session.old }
-        requires caller { ticket.reservation.caller.session ≡ session.old.agent.caller.session }
-        requires first { asks_loader ticket.reservation.first ≡ true }
-        requires done { (done.ask ≡ claim_of ticket.reservation) × (done.origin ≡ Live) }
-        ensures own { IsOf self.now session.new }
-        ensures phase { PhaseAt (stripe_of ticket.reservation.key self.now.config.stripes) session.old
+        requires caller { IsCaller self.now session.old ticket.reservation.caller }
+        requires done { (asks_loader ticket.reservation.first ≡ true)
+            × (done.ask ≡ claim_of ticket.reservation) × (done.origin ≡ Live) }
+        ensures { GoesOn self.now session.new
+            (PhaseAt (stripe_of ticket.reservation.key self.now.config.stripes) session.old
             (λ a b. Commits a ticket.reservation (load_only done.answer) result b)
-            Committed session.new }
+            Committed session.new) }
     {
         self.commit(rt, session, ticket, done)
     }
@@ -85,14 +84,13 @@ impl Cache {
         ticket: Ticket,
         done: WriteDone<Ask>,
     ) -> StepDone
-        requires own { IsOf self.now session.old }
-        requires caller { ticket.reservation.caller.session ≡ session.old.agent.caller.session }
-        requires first { asks_writer ticket.reservation.first ≡ true }
-        requires done { (done.ask ≡ claim_of ticket.reservation) × (done.origin ≡ Live) }
-        ensures own { IsOf self.now session.new }
-        ensures phase { PhaseAt (stripe_of ticket.reservation.key self.now.config.stripes) session.old
+        requires caller { IsCaller self.now session.old ticket.reservation.caller }
+        requires done { (asks_writer ticket.reservation.first ≡ true)
+            × (done.ask ≡ claim_of ticket.reservation) × (done.origin ≡ Live) }
+        ensures { GoesOn self.now session.new
+            (PhaseAt (stripe_of ticket.reservation.key self.now.config.stripes) session.old
             (λ a b. Commits a ticket.reservation (write_only done.answer) result b)
-            Committed session.new }
+            Committed session.new) }
     {
         self.commit(rt, session, ticket, done)
     }
@@ -110,15 +108,14 @@ impl Cache {
         done: ProcDone<Ask>,
         report: Option<WriteDone<Ask>>,
     ) -> StepDone
-        requires own { IsOf self.now session.old }
-        requires caller { ticket.reservation.caller.session ≡ session.old.agent.caller.session }
-        requires first { asks_processor ticket.reservation.first ≡ true }
-        requires done { (done.ask ≡ claim_of ticket.reservation) × (done.origin ≡ Live) }
+        requires caller { IsCaller self.now session.old ticket.reservation.caller }
+        requires done { (asks_processor ticket.reservation.first ≡ true)
+            × (done.ask ≡ claim_of ticket.reservation) × (done.origin ≡ Live) }
         requires report { HasReport Live ticket.reservation (change_due self.now.config done) report }
-        ensures own { IsOf self.now session.new }
-        ensures phase { PhaseAt (stripe_of ticket.reservation.key self.now.config.stripes) session.old
+        ensures { GoesOn self.now session.new
+            (PhaseAt (stripe_of ticket.reservation.key self.now.config.stripes) session.old
             (λ a b. Commits a ticket.reservation (process_out done report) result b)
-            Committed session.new }
+            Committed session.new) }
     {
         self.commit(rt, session, ticket, Processed { done, report })
     }
@@ -127,11 +124,10 @@ impl Cache {
     ///
     /// Conditions: the session is of this cache, and the join is of the session.
     pub fn pick_up<R: Wait>(&self, rt: &R, session: &mut Session, join: Join) -> Picked
-        requires own { IsOf self.now session.old }
-        requires caller { join.caller.session ≡ session.old.agent.caller.session }
-        ensures own { IsOf self.now session.new }
-        ensures phase { PhaseAt (stripe_of join.key self.now.config.stripes) session.old
-            (λ a b. PicksUp a join result b) (counted_picked result) session.new }
+        requires { IsCaller self.now session.old join.caller }
+        ensures { GoesOn self.now session.new
+            (PhaseAt (stripe_of join.key self.now.config.stripes) session.old
+            (λ a b. PicksUp a join result b) (counted_picked result) session.new) }
     {
         let at = stripe_of(join.key(), self.config.stripes);
         self.phase_at(rt, session, at, PickUp { join, waits: false })
@@ -142,12 +138,11 @@ impl Cache {
     /// Conditions: the session is of this cache, and has no reservation out, so that nobody waits for it meanwhile; the join is of the
     /// session.
     pub fn wait_for_load<R: Wait>(&self, rt: &R, session: &mut Session, join: Join) -> Picked
-        requires own { IsOf self.now session.old }
+        requires caller { IsCaller self.now session.old join.caller }
         requires reservations { session.old.agent.counts.reservations ≡ 0 }
-        requires caller { join.caller.session ≡ session.old.agent.caller.session }
-        ensures own { IsOf self.now session.new }
-        ensures phase { PhaseAt (stripe_of join.key self.now.config.stripes) session.old
-            (λ a b. PicksUpLate a join result b) (counted_picked result) session.new }
+        ensures { GoesOn self.now session.new
+            (PhaseAt (stripe_of join.key self.now.config.stripes) session.old
+            (λ a b. PicksUpLate a join result b) (counted_picked result) session.new) }
     {
         let at = stripe_of(join.key(), self.config.stripes);
         self.phase_at(rt, session, at, PickUp { join, waits: true })
@@ -158,12 +153,11 @@ impl Cache {
     ///
     /// Conditions: the session is of this cache, and the ticket is of the session and has asked nobody.
     pub fn withdraw<R: Wait>(&self, rt: &R, session: &mut Session, ticket: Ticket)
-        requires own { IsOf self.now session.old }
-        requires caller { ticket.reservation.caller.session ≡ session.old.agent.caller.session }
+        requires caller { IsCaller self.now session.old ticket.reservation.caller }
         requires unasked { ticket.asked ≡ false }
-        ensures own { IsOf self.now session.new }
-        ensures phase { PhaseAt (stripe_of ticket.reservation.key self.now.config.stripes) session.old
-            (λ a b. Withdraws a ticket.reservation b) Withdrawn session.new }
+        ensures { GoesOn self.now session.new
+            (PhaseAt (stripe_of ticket.reservation.key self.now.config.stripes) session.old
+            (λ a b. Withdraws a ticket.reservation b) Withdrawn session.new) }
     {
         let at = stripe_of(&ticket.reservation().key, self.config.stripes);
         self.phase_at(rt, session, at, Withdraw { ticket });
@@ -190,11 +184,11 @@ impl Cache {
         requires own { IsOf self.now session.old }
         requires stripe { number < self.now.config.stripes }
         requires room { vec_len out.old + self.now.config.capacity ≤ vec_capacity out.old }
-        ensures own { IsOf self.now session.new }
-        ensures phase { PhaseAt number session.old
-            (λ a b. (b ≡ a) × Looks a out.old.items out.new.items) Nothing session.new }
-        ensures few { vec_len out.new ≤ vec_len out.old + self.now.config.capacity }
-        ensures capacity { vec_capacity out.new ≡ vec_capacity out.old }
+        ensures phase { GoesOn self.now session.new
+            (PhaseAt number session.old
+            (λ a b. (b ≡ a) × Looks a out.old.items out.new.items) Nothing session.new) }
+        ensures room { (vec_len out.new ≤ vec_len out.old + self.now.config.capacity)
+            × (vec_capacity out.new ≡ vec_capacity out.old) }
     {
         is_uniform();
         own_steps();
@@ -214,14 +208,13 @@ impl Cache {
         ticket: Ticket,
         answer: A,
     ) -> StepDone
-        requires own { IsOf self.now session.old }
-        requires caller { ticket.reservation.caller.session ≡ session.old.agent.caller.session }
+        requires caller { IsCaller self.now session.old ticket.reservation.caller }
         requires answered { IsAnswered ticket (A.answered answer) }
         requires reported { IsReported self.now.config ticket.reservation (A.answered answer) }
-        ensures own { IsOf self.now session.new }
-        ensures phase { PhaseAt (stripe_of ticket.reservation.key self.now.config.stripes) session.old
+        ensures { GoesOn self.now session.new
+            (PhaseAt (stripe_of ticket.reservation.key self.now.config.stripes) session.old
             (λ a b. Commits a ticket.reservation (out_of (A.answered answer)) result b)
-            Committed session.new }
+            Committed session.new) }
     {
         let at = stripe_of(&ticket.reservation().key, self.config.stripes);
         self.phase_at(rt, session, at, Commit { ticket, answer })
@@ -245,8 +238,8 @@ impl Cache {
         requires stripe { number < self.now.config.stripes }
         requires who { P.who phase ≡ session.old.agent.caller.session }
         requires needs { (a : State) → MayFind session.old number a → P.needs phase a }
-        ensures own { IsOf self.now session.new }
-        ensures phase { PhaseAt number session.old (λ a b. P.makes phase a result b) (P.counts result) session.new }
+        ensures { GoesOn self.now session.new
+            (PhaseAt number session.old (λ a b. P.makes phase a result b) (P.counts result) session.new) }
     {
         is_uniform();
         own_steps();

@@ -5,7 +5,7 @@ ghost use Rattle.jc_types.specs.declared.refusal.Refusal.TheVariants.{OutOfMemor
 ghost use Rattle.jc_model.specs.Listed.{has_distinct_keys};
 ghost use Rattle.jc_stripe.specs.Reached.{IsReached};
 ghost use Rattle.jc_stripe.specs.Reopening.{all_entries, shares_key};
-ghost use Rattle.jc_cache.specs.Reopening.{IsReopened, lived, reopen_refusal};
+ghost use Rattle.jc_cache.specs.Reopening.{IsReopened, lived, IsReopenRefusal};
 
 use crate::closing::{Closed, ClosedStripe};
 use crate::owner::{CacheOwner, open_with};
@@ -48,11 +48,9 @@ impl CacheOwner {
     /// stripes of two caches (`RepeatedKey`), and if an allocation failed (`OutOfMemory`), tested in this order. Old and new stripes
     /// are there together until it returns.
     pub fn reopen(alloc: Global, closed: Closed, config: &Config) -> Result<Reopened, ReopenFault>
-        ensures ok { IfOk result (λ r. IsReopened (lived closed.stripes.items) config.now (all_entries closed.stripes.items) r.owner r.dropped.items) }
-        ensures outside { IfOk result (λ r. r.outside ≡ closed.outside) }
-        ensures why { IfErr result (λ f. (reopen_refusal config.now (all_entries closed.stripes.items) ≡ Some f.refusal)
-            ⊎ ((reopen_refusal config.now (all_entries closed.stripes.items) ≡ None) × (f.refusal ≡ OutOfMemory))) }
-        ensures back { IfErr result (λ f. f.closed ≡ closed) }
+        ensures ok { IfOk result (λ r. IsReopened (lived closed.stripes.items) config.now (all_entries closed.stripes.items) r.owner r.dropped.items
+            × (r.outside ≡ closed.outside)) }
+        ensures err { IfErr result (λ f. IsReopenRefusal config.now (all_entries closed.stripes.items) f.refusal × (f.closed ≡ closed)) }
     {
         match open_again(alloc, &closed.stripes, config) {
             Ok((owner, dropped)) => {
@@ -79,8 +77,7 @@ fn open_again(
     config: &Config,
 ) -> Result<(CacheOwner, Vec<(Key, Value)>), Refusal>
     ensures ok { IfOk result (λ r. IsReopened (lived stripes.now) config.now (all_entries stripes.now) r.0 r.1.items) }
-    ensures why { IfErr result (λ r. (reopen_refusal config.now (all_entries stripes.now) ≡ Some r)
-        ⊎ ((reopen_refusal config.now (all_entries stripes.now) ≡ None) × (r ≡ OutOfMemory))) }
+    ensures err { IfErr result (λ r. IsReopenRefusal config.now (all_entries stripes.now) r) }
 {
     keeps_or_drops();
     config.check()?;

@@ -5,8 +5,7 @@ ghost use Rattle.jc_outside.specs.CallingAll.{asked_changes};
 ghost use Rattle.jc_stripe.specs.Tickets.{Claim, asks_loader, asks_processor};
 ghost use Rattle.jc_session.specs.Asked.{LoaderAsked, LoaderAskedAll, ProcessorRun, WriterAsked, WriterAskedAll};
 ghost use Rattle.jc_cache.specs.Calls.{next_call};
-ghost use Rattle.jc_cache.specs.Caches.{CacheState};
-ghost use Rattle.jc_cache.specs.Sessions.{HoldsNothing, IsOf};
+ghost use Rattle.jc_cache.specs.Sessions.{HasAsked, HoldsNothing};
 
 use jc_batch::Batch;
 use jc_lock::Seat;
@@ -62,9 +61,8 @@ impl Session {
     pub fn ask_loader<R: Wait>(&mut self, rt: &R, ask: Ask) -> LoadDone<Ask>
         requires nothing { HoldsNothing self.old }
         requires first { asks_loader ask.reservation.first ≡ true }
-        ensures asked { LoaderAsked loads load_state self.old.agent ask result self.new.agent }
-        ensures rest { self.new ≡ record self.old { agent = record self.old.agent { hands = self.new.agent.hands } } }
-        ensures own { (cache : CacheState) → IsOf cache self.old → IsOf cache self.new }
+        ensures { HasAsked self.old self.new
+            (LoaderAsked loads load_state self.old.agent ask result self.new.agent) }
     {
         self.agent.ask_loader(rt, ask)
     }
@@ -79,9 +77,8 @@ impl Session {
         requires nothing { HoldsNothing self.old }
         requires change { is_some ask.change ≡ true }
         requires writer { IsSome self.old.agent.hands.outside.writer }
-        ensures asked { WriterAsked writes write_state self.old.agent ask result self.new.agent }
-        ensures rest { self.new ≡ record self.old { agent = record self.old.agent { hands = self.new.agent.hands } } }
-        ensures own { (cache : CacheState) → IsOf cache self.old → IsOf cache self.new }
+        ensures { HasAsked self.old self.new
+            (WriterAsked writes write_state self.old.agent ask result self.new.agent) }
     {
         self.agent.ask_writer(rt, ask)
     }
@@ -102,10 +99,9 @@ impl Session {
     ) -> ProcDone<Ask>
         requires nothing { HoldsNothing self.old }
         requires first { asks_processor ask.reservation.first ≡ true }
-        ensures asked { ProcessorRun loads load_state processes process_state
-            self.old.agent ask args.now processor.old result self.new.agent processor.new }
-        ensures rest { self.new ≡ record self.old { agent = record self.old.agent { hands = self.new.agent.hands } } }
-        ensures own { (cache : CacheState) → IsOf cache self.old → IsOf cache self.new }
+        ensures { HasAsked self.old self.new
+            (ProcessorRun loads load_state processes process_state
+            self.old.agent ask args.now processor.old result self.new.agent processor.new) }
     {
         self.agent.run_processor(rt, ask, processor, args)
     }
@@ -127,11 +123,10 @@ impl Session {
         requires nothing { HoldsNothing self.old }
         requires batch { batch.items ≡ map (λ (ask : Claim). ask.reservation.key) asks.items }
         requires room { vec_len done.old + vec_len asks ≤ vec_capacity done.old }
-        ensures asked { LoaderAskedAll loads_all load_state
-            self.old.agent asks.items batch.items done.old.items done.new.items self.new.agent }
+        ensures asked { HasAsked self.old self.new
+            (LoaderAskedAll loads_all load_state
+            self.old.agent asks.items batch.items done.old.items done.new.items self.new.agent) }
         ensures room { vec_capacity done.new ≡ vec_capacity done.old }
-        ensures rest { self.new ≡ record self.old { agent = record self.old.agent { hands = self.new.agent.hands } } }
-        ensures own { (cache : CacheState) → IsOf cache self.old → IsOf cache self.new }
     {
         self.agent.ask_loader_all(rt, asks, batch, done);
     }
@@ -156,11 +151,10 @@ impl Session {
         requires batch { changes_of batch
             ≡ asked_changes (λ (ask : Claim). ask.reservation.key) (λ (ask : Claim). ask.change) asks.items }
         requires room { vec_len done.old + vec_len asks ≤ vec_capacity done.old }
-        ensures asked { WriterAskedAll writes_all deletes_all write_state
-            self.old.agent asks.items batch result done.old.items done.new.items self.new.agent }
+        ensures asked { HasAsked self.old self.new
+            (WriterAskedAll writes_all deletes_all write_state
+            self.old.agent asks.items batch result done.old.items done.new.items self.new.agent) }
         ensures room { vec_capacity done.new ≡ vec_capacity done.old }
-        ensures rest { self.new ≡ record self.old { agent = record self.old.agent { hands = self.new.agent.hands } } }
-        ensures own { (cache : CacheState) → IsOf cache self.old → IsOf cache self.new }
     {
         self.agent.ask_writer_all(rt, asks, batch, done)
     }

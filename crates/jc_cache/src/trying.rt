@@ -7,7 +7,7 @@
 //! Condition of each call: the session may call the cache.
 ghost use Rattle.std.specs.Prelude.{◌≡◌};
 ghost use Rattle.jc_model.specs.declared.event.Op.TheVariants as op;
-ghost use Rattle.jc_cache.specs.Sessions.{MayCall};
+ghost use Rattle.jc_cache.specs.Sessions.{MayCall, Completes};
 ghost use Rattle.jc_cache.specs.Calls.{Tried, Tries, value_in, flag_in, unit_in};
 
 use crate::cache::Cache;
@@ -22,8 +22,8 @@ impl Cache {
     /// It never waits. Condition: the session may call the cache.
     pub fn try_get(&self, session: &mut Session, key: &Key) -> Result<Option<Value>, Refusal>
         requires may { MayCall self.now session.old }
-        ensures may { MayCall self.now session.new }
-        ensures call { Tries self.now session.old key.now op.Get value_in result session.new }
+        ensures { Completes self.now session.new
+            (Tries self.now session.old key.now op.Get value_in result session.new) }
     {
         value_of(self.try_call(session, key, &Op::Get))
     }
@@ -33,8 +33,8 @@ impl Cache {
     /// It never waits. Condition: the session may call the cache.
     pub fn try_contains_key(&self, session: &mut Session, key: &Key) -> Result<bool, Refusal>
         requires may { MayCall self.now session.old }
-        ensures may { MayCall self.now session.new }
-        ensures call { Tries self.now session.old key.now op.ContainsKey flag_in result session.new }
+        ensures { Completes self.now session.new
+            (Tries self.now session.old key.now op.ContainsKey flag_in result session.new) }
     {
         flag_of(self.try_call(session, key, &Op::ContainsKey))
     }
@@ -44,8 +44,8 @@ impl Cache {
     /// It never waits. Condition: the session may call the cache.
     pub fn try_put(&self, session: &mut Session, key: &Key, value: &Value) -> Result<(), Refusal>
         requires may { MayCall self.now session.old }
-        ensures may { MayCall self.now session.new }
-        ensures call { Tries self.now session.old key.now (op.Put value.now) unit_in result session.new }
+        ensures { Completes self.now session.new
+            (Tries self.now session.old key.now (op.Put value.now) unit_in result session.new) }
     {
         unit_of(self.try_call(session, key, &Op::Put(*value)))
     }

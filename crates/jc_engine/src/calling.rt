@@ -8,7 +8,7 @@ ghost use Rattle.jc_engine.specs.Answered.{Loaded, Written, out_of};
 ghost use Rattle.jc_engine.specs.Asking.{IsAsked};
 ghost use Rattle.jc_engine.specs.Calls.{IsCall, AsksAndEnds, MayCallAt, MayEnd};
 ghost use Rattle.jc_engine.specs.Chain.{LentPhase};
-ghost use Rattle.jc_engine.specs.Doors.{FitsGate, IsReady};
+ghost use Rattle.jc_engine.specs.Doors.{FitsGate, IsReady, MakesCall, MakesPhase};
 ghost use Rattle.jc_engine.specs.Needs.{CommitsHere};
 
 use crate::door::lend;
@@ -45,9 +45,9 @@ pub fn call<G: Gate, R: Wait>(
     requires ready { IsReady G.is_free G.speaks_for gate.old token.old agent.old }
     requires may { MayCallAt G.finds key.now gate.old token.old agent.old }
     requires op { is_invoke op.now ≡ false }
-    ensures ready { IsReady G.is_free G.speaks_for gate.new token.new agent.new }
-    ensures call { IsCall loads load_state writes write_state G.takes G.gives G.finds
-        agent.old key.now op.now gate.old token.old result agent.new gate.new token.new }
+    ensures { MakesCall G.is_free G.speaks_for gate.new token.new agent.new
+        (IsCall loads load_state writes write_state G.takes G.gives G.finds
+        agent.old key.now op.now gate.old token.old result agent.new gate.new token.new) }
 {
     match enter(rt, gate, token, agent, key, op) {
         Entered::Done(reply) => Ok(reply),
@@ -70,9 +70,9 @@ fn ask_and_end<G: Gate, R: Wait>(
     requires ready { IsReady G.is_free G.speaks_for gate.old token.old agent.old }
     requires may { MayEnd G.finds ticket gate.old token.old agent.old }
     requires first { asks_loader ticket.reservation.first || asks_writer ticket.reservation.first ≡ true }
-    ensures ready { IsReady G.is_free G.speaks_for gate.new token.new agent.new }
-    ensures ends { AsksAndEnds loads load_state writes write_state G.takes G.gives G.finds
-        ticket.reservation agent.old gate.old token.old result agent.new gate.new token.new }
+    ensures { MakesCall G.is_free G.speaks_for gate.new token.new agent.new
+        (AsksAndEnds loads load_state writes write_state G.takes G.gives G.finds
+        ticket.reservation agent.old gate.old token.old result agent.new gate.new token.new) }
 {
     let mut ticket = ticket;
     match ticket.reservation().first {
@@ -97,8 +97,7 @@ fn ask_loader<G: Gate, R: Wait>(
     ticket: &mut Ticket,
 ) -> LoadDone<Ask>
     requires ready { IsReady G.is_free G.speaks_for _gate.now _token.now agent.old }
-    requires unasked { ticket.old.asked ≡ false }
-    requires first { asks_loader ticket.old.reservation.first ≡ true }
+    requires unasked { (ticket.old.asked ≡ false) × (asks_loader ticket.old.reservation.first ≡ true) }
     ensures { IsAsked loads load_state writes write_state
         agent.old ticket.old (Loaded result) agent.new ticket.new }
 {
@@ -114,8 +113,7 @@ fn ask_writer<G: Gate, R: Wait>(
     ticket: &mut Ticket,
 ) -> WriteDone<Ask>
     requires ready { IsReady G.is_free G.speaks_for _gate.now _token.now agent.old }
-    requires unasked { ticket.old.asked ≡ false }
-    requires first { asks_writer ticket.old.reservation.first ≡ true }
+    requires unasked { (ticket.old.asked ≡ false) × (asks_writer ticket.old.reservation.first ≡ true) }
     requires writer { IsSome agent.old.hands.outside.writer }
     ensures { IsAsked loads load_state writes write_state
         agent.old ticket.old (Written result) agent.new ticket.new }
@@ -138,10 +136,9 @@ pub(crate) fn end<G: Gate, A: Answer, R: Wait>(
     requires ready { IsReady G.is_free G.speaks_for gate.old token.old agent.old }
     requires fits { FitsGate G.finds (CommitsHere ticket (A.answered answer)) ticket.reservation.caller.session
         gate.old token.old agent.old.caller.session }
-    ensures ready { IsReady G.is_free G.speaks_for gate.new token.new agent.new }
-    ensures agent { agent.new ≡ record agent.old { counts = counts_ended agent.old.counts } }
-    ensures phase { LentPhase G.takes G.gives G.finds agent.old.caller.session gate.old token.old
-        (λ a b. Commits a ticket.reservation (out_of (A.answered answer)) result b) gate.new token.new }
+    ensures { MakesPhase G.is_free G.speaks_for agent.old (counts_ended agent.old.counts) gate.new token.new agent.new
+        (LentPhase G.takes G.gives G.finds agent.old.caller.session gate.old token.old
+        (λ a b. Commits a ticket.reservation (out_of (A.answered answer)) result b) gate.new token.new) }
 {
     lend(rt, gate, token, agent, Commit { ticket, answer })
 }

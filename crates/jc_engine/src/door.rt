@@ -3,7 +3,7 @@ ghost use Rattle.std.specs.Prelude.{◌≡◌, IfOk, IfErr};
 ghost use Rattle.jc_stripe.specs.Reached.{IsReached};
 ghost use Rattle.jc_session.specs.Counting.{IsCounted, counts_after};
 ghost use Rattle.jc_engine.specs.Chain.{LentPhase};
-ghost use Rattle.jc_engine.specs.Doors.{AllRenewed, FitsGate, IsLeft, IsNotMade, IsReady};
+ghost use Rattle.jc_engine.specs.Doors.{AllRenewed, FitsGate, IsLeft, IsNotMade, IsReady, MakesPhase};
 
 use jc_gate::Gate;
 use jc_session::{Agent, Counted};
@@ -80,12 +80,11 @@ pub fn lend<G: Gate, P: Phase, R: Wait>(
 ) -> P::Answer
     requires ready { IsReady G.is_free G.speaks_for gate.old token.old agent.old }
     requires fits { FitsGate G.finds (P.needs phase) (P.who phase) gate.old token.old agent.old.caller.session }
-    ensures ready { IsReady G.is_free G.speaks_for gate.new token.new agent.new }
-    ensures agent { agent.new ≡ record agent.old { counts = counts_after agent.old.counts (P.counts result) } }
-    ensures phase { (lent : LentPhase G.takes G.gives G.finds agent.old.caller.session gate.old token.old
+    ensures { MakesPhase G.is_free G.speaks_for agent.old (counts_after agent.old.counts (P.counts result)) gate.new token.new agent.new
+        ((lent : LentPhase G.takes G.gives G.finds agent.old.caller.session gate.old token.old
         (λ a b. P.makes phase a result b) gate.new token.new)
         × IsCounted (P.counts result) agent.old.caller.session lent.before lent.after
-        × AllRenewed lent.rests.idle }
+        × AllRenewed lent.rests.idle) }
 {
     let mut next = phase;
     for _ in rt.forever() {
@@ -114,8 +113,7 @@ pub fn lend<G: Gate, P: Phase, R: Wait>(
 ///
 /// Conditions: the agent holds the stripe, as the token has taken it; the token speaks for the session.
 fn leave<G: Gate>(gate: &mut G, token: &mut G::Token, agent: &mut Agent, stripe: Box<Stripe>)
-    requires held { agent.old.hands.held ≡ 1 }
-    requires speaks { G.speaks_for token.old agent.old.caller.session }
+    requires held { (agent.old.hands.held ≡ 1) × G.speaks_for token.old agent.old.caller.session }
     requires taken { G.has gate.old token.old stripe.value × IsReached stripe.value }
     ensures agent { agent.new ≡ record agent.old { hands = record agent.old.hands { held = 0 } } }
     ensures left { IsLeft G.gives G.finds G.is_free G.speaks_for gate.old token.old stripe.value gate.new token.new }
@@ -139,8 +137,8 @@ fn lend_once<G: Gate, P: Phase>(
     requires ready { IsReady G.is_free G.speaks_for gate.old token.old agent.old }
     requires fits { FitsGate G.finds (P.needs phase) (P.who phase) gate.old token.old agent.old.caller.session }
     ensures ready { IsReady G.is_free G.speaks_for gate.new token.new agent.new }
-    ensures agent { IfOk result (λ answer. agent.new ≡ record agent.old { counts = counts_after agent.old.counts (P.counts answer) }) }
-    ensures made { IfOk result (λ answer. LentPhase G.takes G.gives G.finds agent.old.caller.session gate.old token.old
+    ensures made { IfOk result (λ answer. (agent.new ≡ record agent.old { counts = counts_after agent.old.counts (P.counts answer) })
+        × LentPhase G.takes G.gives G.finds agent.old.caller.session gate.old token.old
         (λ a b. P.makes phase a answer b) gate.new token.new) }
     ensures back { IfErr result (λ back. (back.0 ≡ phase) × (agent.new ≡ agent.old)
         × IsNotMade G.takes G.gives G.finds G.may_fail (P.due phase) (P.puts_off phase) agent.old.caller.session gate.old token.old gate.new token.new) }
@@ -180,8 +178,8 @@ pub fn try_lend<G: Gate, P: Phase>(
     requires ready { IsReady G.is_free G.speaks_for gate.old token.old agent.old }
     requires fits { FitsGate G.finds (P.needs phase) (P.who phase) gate.old token.old agent.old.caller.session }
     ensures ready { IsReady G.is_free G.speaks_for gate.new token.new agent.new }
-    ensures agent { IfOk result (λ answer. agent.new ≡ record agent.old { counts = counts_after agent.old.counts (P.counts answer) }) }
-    ensures made { IfOk result (λ answer. LentPhase G.takes G.gives G.finds agent.old.caller.session gate.old token.old
+    ensures made { IfOk result (λ answer. (agent.new ≡ record agent.old { counts = counts_after agent.old.counts (P.counts answer) })
+        × LentPhase G.takes G.gives G.finds agent.old.caller.session gate.old token.old
         (λ a b. P.makes phase a answer b) gate.new token.new) }
     ensures back { IfErr result (λ back. (back ≡ phase) × (agent.new ≡ agent.old)
         × IsNotMade G.takes G.gives G.finds G.may_fail (P.due phase) (P.puts_off phase) agent.old.caller.session gate.old token.old gate.new token.new) }

@@ -5,7 +5,7 @@ ghost use Rattle.jc_stripe.specs.declared.begun.Picked.TheVariants.{Answer, Agai
 ghost use Rattle.jc_session.specs.Counting.{counts_after};
 ghost use Rattle.jc_session.specs.declared.counts.Counted.TheVariants.{Answered, Retried};
 ghost use Rattle.jc_engine.specs.Chain.{LentPhase};
-ghost use Rattle.jc_engine.specs.Doors.{IsReady};
+ghost use Rattle.jc_engine.specs.Doors.{IsReady, MakesPhase};
 ghost use Rattle.jc_engine.specs.Calls.{Enters, MayCallAt, counts_entered};
 
 use crate::door::lend;
@@ -46,9 +46,8 @@ pub(crate) fn enter<G: Gate, R: Wait>(
 ) -> Entered
     requires ready { IsReady G.is_free G.speaks_for gate.old token.old agent.old }
     requires may { MayCallAt G.finds key.now gate.old token.old agent.old }
-    ensures ready { IsReady G.is_free G.speaks_for gate.new token.new agent.new }
-    ensures agent { agent.new ≡ record agent.old { counts = counts_entered agent.old.counts result } }
-    ensures enters { Enters G.takes G.gives G.finds agent.old.caller key.now op.now gate.old token.old result gate.new token.new }
+    ensures { MakesPhase G.is_free G.speaks_for agent.old (counts_entered agent.old.counts result) gate.new token.new agent.new
+        (Enters G.takes G.gives G.finds agent.old.caller key.now op.now gate.old token.old result gate.new token.new) }
 {
     is_uniform();
     own_steps();
@@ -84,14 +83,14 @@ fn pick_up<G: Gate, R: Wait>(
 ) -> Option<Reply>
     requires ready { IsReady G.is_free G.speaks_for gate.old token.old agent.old }
     requires who { join.caller.session ≡ agent.old.caller.session }
-    ensures ready { IsReady G.is_free G.speaks_for gate.new token.new agent.new }
-    ensures counts { IfSome result (λ reply. agent.new ≡ record agent.old { counts = counts_after agent.old.counts Answered }) }
-    ensures answer { IfSome result (λ reply. (place : ℕ) × (shared_with : ℕ)
-        × LentPhase G.takes G.gives G.finds agent.old.caller.session gate.old token.old
-        (λ a b. PicksUp a join (Answer reply place shared_with) b) gate.new token.new) }
-    ensures none { IfNone result (agent.new ≡ record agent.old { counts = counts_after agent.old.counts Retried }) }
-    ensures again { IfNone result (LentPhase G.takes G.gives G.finds agent.old.caller.session gate.old token.old
-        (λ a b. PicksUp a join Again b) gate.new token.new) }
+    ensures some { IfSome result (λ reply.
+        MakesPhase G.is_free G.speaks_for agent.old (counts_after agent.old.counts Answered) gate.new token.new agent.new
+        ((place : ℕ) × (shared_with : ℕ) × LentPhase G.takes G.gives G.finds agent.old.caller.session gate.old token.old
+        (λ a b. PicksUp a join (Answer reply place shared_with) b) gate.new token.new)) }
+    ensures none { IfNone result
+        (MakesPhase G.is_free G.speaks_for agent.old (counts_after agent.old.counts Retried) gate.new token.new agent.new
+        (LentPhase G.takes G.gives G.finds agent.old.caller.session gate.old token.old
+        (λ a b. PicksUp a join Again b) gate.new token.new)) }
 {
     match lend(rt, gate, token, agent, PickUp { join, waits: true }) {
         Picked::Answer {

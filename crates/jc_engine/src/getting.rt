@@ -8,7 +8,7 @@ ghost use Rattle.jc_engine.specs.Chain.{LentPhase};
 ghost use Rattle.jc_engine.specs.Needs.{BeginsIfClear, Hits, counted_hit};
 ghost use Rattle.jc_engine.specs.Values.{value_in, value_told};
 ghost use Rattle.jc_engine.specs.Calls.{IsCall, MayCallAt};
-ghost use Rattle.jc_engine.specs.Doors.{IsReady};
+ghost use Rattle.jc_engine.specs.Doors.{IsReady, MakesCall, MakesPhase};
 
 use crate::calling::call;
 use jc_gate::Gate;
@@ -33,10 +33,10 @@ pub fn get<G: Gate, R: Wait>(
 ) -> Result<(), Refusal>
     requires ready { IsReady G.is_free G.speaks_for gate.old token.old agent.old }
     requires may { MayCallAt G.finds key.now gate.old token.old agent.old }
-    ensures ready { IsReady G.is_free G.speaks_for gate.new token.new agent.new }
-    ensures call { (ended : Result Reply Refusal) × IsCall loads load_state writes write_state G.takes G.gives G.finds
+    ensures { MakesCall G.is_free G.speaks_for gate.new token.new agent.new
+        ((ended : Result Reply Refusal) × IsCall loads load_state writes write_state G.takes G.gives G.finds
         agent.old key.now Get gate.old token.old ended agent.new gate.new token.new
-        × (value_in ended ≡ value_told result value.new) }
+        × (value_in ended ≡ value_told result value.new)) }
 {
     is_uniform();
     hit(rt, gate, token, agent, key, value);
@@ -58,10 +58,10 @@ fn get_in_phases<G: Gate, R: Wait>(
 ) -> Result<(), Refusal>
     requires ready { IsReady G.is_free G.speaks_for gate.old token.old agent.old }
     requires may { MayCallAt G.finds key.now gate.old token.old agent.old }
-    ensures ready { IsReady G.is_free G.speaks_for gate.new token.new agent.new }
-    ensures call { (ended : Result Reply Refusal) × IsCall loads load_state writes write_state G.takes G.gives G.finds
+    ensures { MakesCall G.is_free G.speaks_for gate.new token.new agent.new
+        ((ended : Result Reply Refusal) × IsCall loads load_state writes write_state G.takes G.gives G.finds
         agent.old key.now Get gate.old token.old ended agent.new gate.new token.new
-        × (value_in ended ≡ value_told result value.new) }
+        × (value_in ended ≡ value_told result value.new)) }
 {
     let ended = call(rt, gate, token, agent, key, &Op::Get);
     tell_value(&ended, value)
@@ -98,11 +98,9 @@ fn hit<G: Gate, R: Wait>(
 )
     requires ready { IsReady G.is_free G.speaks_for gate.old token.old agent.old }
     requires may { MayCallAt G.finds key.now gate.old token.old agent.old }
-    ensures agent { agent.new
-        ≡ record agent.old { counts = counts_after agent.old.counts (counted_hit found.new) } }
-    ensures ready { IsReady G.is_free G.speaks_for gate.new token.new agent.new }
-    ensures phase { LentPhase G.takes G.gives G.finds agent.old.caller.session gate.old token.old
-        (λ a b. Hits agent.old.caller key.now found.new a b) gate.new token.new }
+    ensures { MakesPhase G.is_free G.speaks_for agent.old (counts_after agent.old.counts (counted_hit found.new)) gate.new token.new agent.new
+        (LentPhase G.takes G.gives G.finds agent.old.caller.session gate.old token.old
+        (λ a b. Hits agent.old.caller key.now found.new a b) gate.new token.new) }
 {
     let mut stripe = agent.take(rt, gate, token);
     hit_on(&mut stripe, agent.caller(), key, found);

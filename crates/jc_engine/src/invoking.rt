@@ -9,7 +9,7 @@ ghost use Rattle.jc_stripe.specs.Tickets.{asks_processor, claim_of};
 ghost use Rattle.jc_session.specs.Boxed.{boxed};
 ghost use Rattle.jc_engine.specs.Asking.{IsProcessed, WritesEffect};
 ghost use Rattle.jc_engine.specs.Calls.{IsInvocation, MayCallAt};
-ghost use Rattle.jc_engine.specs.Doors.{IsReady};
+ghost use Rattle.jc_engine.specs.Doors.{IsReady, MakesCall};
 
 use crate::calling::end;
 use crate::door::lend;
@@ -42,11 +42,11 @@ pub fn invoke<G: Gate, R: Wait>(
     requires ready { IsReady G.is_free G.speaks_for gate.old token.old agent.old }
     requires may { MayCallAt G.finds key.now gate.old token.old agent.old }
     requires through { (a : State) → G.finds gate.old token.old a → a.config.write_through ≡ write_through }
-    ensures ready { IsReady G.is_free G.speaks_for gate.new token.new agent.new }
-    ensures call { IsInvocation loads load_state writes write_state processes process_state
+    ensures { MakesCall G.is_free G.speaks_for gate.new token.new agent.new
+        (IsInvocation loads load_state writes write_state processes process_state
         G.takes G.gives G.finds
         agent.old key.now args.now processor.old gate.old token.old
-        result agent.new processor.new gate.new token.new }
+        result agent.new processor.new gate.new token.new) }
 {
     let first = First {
         caller: agent.caller(),
@@ -88,8 +88,8 @@ fn run<G: Gate, R: Wait>(
     args: &[Value],
 ) -> Processed
     requires ready { IsReady G.is_free G.speaks_for gate.now token.now agent.old }
-    requires unasked { (ticket.old.asked ≡ false) × (ticket.old.writer_asked ≡ false) }
-    requires first { asks_processor ticket.old.reservation.first ≡ true }
+    requires unasked { (ticket.old.asked ≡ false) × (ticket.old.writer_asked ≡ false)
+        × (asks_processor ticket.old.reservation.first ≡ true) }
     requires writer { write_through ≡ true → IsSome agent.old.hands.outside.writer }
     ensures { IsProcessed loads load_state writes write_state processes process_state
         write_through agent.old ticket.old args.now processor.old result.done result.report agent.new ticket.new processor.new }

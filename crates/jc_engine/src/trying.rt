@@ -4,7 +4,7 @@ ghost use Rattle.jc_stripe.specs.State.{State};
 ghost use Rattle.jc_engine.specs.Asking.{own_after};
 ghost use Rattle.jc_engine.specs.Needs.{BeginsIfClear};
 ghost use Rattle.jc_engine.specs.Calls.{IsTried};
-ghost use Rattle.jc_engine.specs.Doors.{IsReady};
+ghost use Rattle.jc_engine.specs.Doors.{IsReady, MakesPhase};
 
 use crate::door::try_lend;
 use crate::first::{First, How};
@@ -30,10 +30,9 @@ pub fn try_call<G: Gate>(
 ) -> Result<Reply, Refusal>
     requires ready { IsReady G.is_free G.speaks_for gate.old token.old agent.old }
     requires begins { (a : State) → G.finds gate.old token.old a → BeginsIfClear agent.old.caller key.now a }
-    ensures ready { IsReady G.is_free G.speaks_for gate.new token.new agent.new }
-    ensures agent { agent.new ≡ record agent.old { counts = record agent.old.counts { own = own_after agent.old.counts.own result } } }
-    ensures tried { IsTried G.takes G.gives G.finds G.may_fail agent.old.caller key.now op.now
-        gate.old token.old result gate.new token.new }
+    ensures { MakesPhase G.is_free G.speaks_for agent.old (record agent.old.counts { own = own_after agent.old.counts.own result }) gate.new token.new agent.new
+        (IsTried G.takes G.gives G.finds G.may_fail agent.old.caller key.now op.now
+        gate.old token.old result gate.new token.new) }
 {
     let first = First {
         caller: agent.caller(),

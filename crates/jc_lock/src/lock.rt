@@ -1,7 +1,6 @@
 //! The lock: one word, and one slot with the stripe.
 ghost use Rattle.std.specs.Prelude.{◌≡◌, ℕ, true, false, [], Some, IfOk, IfSome, IfNone};
 ghost use mathlib.Core.List.{IsPrefix};
-ghost use Rattle.jc_stripe.specs.Reached.{IsReached};
 ghost use Rattle.jc_stripe.specs.Generations.{whole_history};
 ghost use Rattle.jc_lock.specs.Views.{IsTurnBy, first_view, Finds, after_take, after_give, after_split, session_view, after_join};
 
@@ -94,13 +93,10 @@ impl HistLock {
     ///
     /// Conditions: the seat is of this lock, and doesn't hold it.
     pub fn try_take(&self, seat: &mut Seat) -> Option<Box<Stripe>>
-        requires lock { seat.old.0 ≡ self.now }
-        requires free { seat.old.1.holds ≡ false }
-        ensures lock { seat.new.0 ≡ seat.old.0 }
-        ensures taken { IfSome result (λ s. seat.new.1 ≡ after_take seat.old.1 s.value) }
-        ensures found { IfSome result (λ s. Finds seat.old.1 s.value) }
-        ensures reached { IfSome result (λ s. IsReached s.value) }
-        ensures none { IfNone result (seat.new.1 ≡ seat.old.1) }
+        requires { (seat.old.0 ≡ self.now) × (seat.old.1.holds ≡ false) }
+        ensures some { IfSome result
+            (λ s. (seat.new ≡ (seat.old.0, after_take seat.old.1 s.value)) × Finds seat.old.1 s.value) }
+        ensures none { IfNone result (seat.new ≡ seat.old) }
     {
         let token = &mut seat.token;
         if self
@@ -122,12 +118,9 @@ impl HistLock {
     ///
     /// Conditions: the seat is of this lock, and doesn't hold it.
     pub fn take<R: Wait>(&self, rt: &R, seat: &mut Seat) -> Box<Stripe>
-        requires lock { seat.old.0 ≡ self.now }
-        requires free { seat.old.1.holds ≡ false }
-        ensures lock { seat.new.0 ≡ seat.old.0 }
-        ensures taken { seat.new.1 ≡ after_take seat.old.1 result.value }
+        requires { (seat.old.0 ≡ self.now) × (seat.old.1.holds ≡ false) }
+        ensures taken { seat.new ≡ (seat.old.0, after_take seat.old.1 result.value) }
         ensures found { Finds seat.old.1 result.value }
-        ensures reached { IsReached result.value }
     {
         let backoff = Backoff::new();
         for _ in rt.forever() {
@@ -144,11 +137,9 @@ impl HistLock {
     /// Conditions: the seat is of this lock and holds it; the stripe is the one that it took, after at most one phase of the seat's
     /// session, or after a renewal. A seat that is no session's gives it back as it was, or renewed.
     pub fn give(&self, seat: &mut Seat, stripe: Box<Stripe>)
-        requires lock { seat.old.0 ≡ self.now }
-        requires held { seat.old.1.holds ≡ true }
+        requires held { (seat.old.0 ≡ self.now) × (seat.old.1.holds ≡ true) }
         requires phase { IsTurnBy seat.old.1.session seat.old.1.noted stripe.value }
-        ensures lock { seat.new.0 ≡ seat.old.0 }
-        ensures seat { seat.new.1 ≡ after_give seat.old.1 stripe.value }
+        ensures { seat.new ≡ (seat.old.0, after_give seat.old.1 stripe.value) }
     {
         phase_laws::is_uniform();
         phase_laws::renewal();
@@ -166,9 +157,8 @@ impl HistLock {
     pub fn split(&self, seat: &mut Seat) -> Seat
         requires lock { seat.old.0 ≡ self.now }
         requires gives { (session : ℕ) × (seat.old.1.next_session ≡ Some session) }
-        ensures lock { (seat.new.0 ≡ seat.old.0) × (result.0 ≡ self.now) }
-        ensures seat { seat.new.1 ≡ after_split seat.old.1 }
-        ensures session { result.1 ≡ session_view seat.old.1 }
+        ensures seat { seat.new ≡ (seat.old.0, after_split seat.old.1) }
+        ensures session { result ≡ (self.now, session_view seat.old.1) }
     {
         let token = self.table.shared.split_seat::<NewSession>(&mut seat.token);
         Seat { token }
@@ -181,10 +171,8 @@ impl HistLock {
     pub fn join(&self, seat: &mut Seat, other: Seat)
         requires lock { (seat.old.0 ≡ self.now) × (other.0 ≡ self.now) }
         requires free { other.1.holds ≡ false }
-        ensures lock { seat.new.0 ≡ seat.old.0 }
-        ensures seat { seat.new.1 ≡ after_join seat.old.1 other.1 }
-        ensures seen { IsPrefix seat.old.1.front seat.new.1.front }
-        ensures joined { IsPrefix other.1.front seat.new.1.front }
+        ensures seat { seat.new ≡ (seat.old.0, after_join seat.old.1 other.1) }
+        ensures fronts { IsPrefix seat.old.1.front seat.new.1.front × IsPrefix other.1.front seat.new.1.front }
         ensures held { seat.old.1.holds ≡ true → IsPrefix seat.new.1.front (whole_history seat.old.1.noted) }
     {
         let Seat { token } = other;
@@ -200,10 +188,8 @@ impl HistLock {
     pub fn tell(&self, from: &mut Seat, to: &mut Seat)
         requires lock { (from.old.0 ≡ self.now) × (to.old.0 ≡ self.now) }
         ensures from { from.new ≡ from.old }
-        ensures lock { to.new.0 ≡ to.old.0 }
-        ensures to { to.new.1 ≡ after_join to.old.1 from.old.1 }
-        ensures seen { IsPrefix to.old.1.front to.new.1.front }
-        ensures told { IsPrefix from.old.1.front to.new.1.front }
+        ensures to { to.new ≡ (to.old.0, after_join to.old.1 from.old.1) }
+        ensures fronts { IsPrefix to.old.1.front to.new.1.front × IsPrefix from.old.1.front to.new.1.front }
     {
         let token = self.table.shared.split_seat::<FrontNote>(&mut from.token);
         self.join(to, Seat { token });

@@ -44,10 +44,11 @@ impl Agent {
         loader: Option<Box<dyn CacheLoader + Send + Drop>>,
         writer: Option<Box<dyn CacheWriter + Send + Drop>>,
     ) -> Agent
-        ensures caller { result.caller ≡ record { session = session; call = 0 } }
-        ensures counts { result.counts ≡ record { reservations = 0; joins = 0; own = 0 } }
-        ensures held { result.hands.held ≡ 0 }
-        ensures boxes { result.hands.outside ≡ record { loader = loader; writer = writer } }
+        ensures { result ≡ record {
+          caller = record { session = session; call = 0 };
+          counts = record { reservations = 0; joins = 0; own = 0 };
+          hands = record { held = 0; outside = record { loader = loader; writer = writer } };
+        } }
     {
         Agent {
             caller: Caller { session, call: 0 },
@@ -121,8 +122,7 @@ impl Agent {
     ///
     /// Conditions: the agent holds no stripe, and the token has not taken the gate's.
     pub fn try_take<G: Gate>(&mut self, gate: &mut G, token: &mut G::Token) -> Option<Box<Stripe>>
-        requires held { self.old.hands.held ≡ 0 }
-        requires free { G.is_free gate.old token.old }
+        requires { (self.old.hands.held ≡ 0) × G.is_free gate.old token.old }
         ensures some { IfSome result (λ s. Taken G.has G.takes G.finds G.speaks_for
             self.old gate.old token.old s.value self.new gate.new token.new) }
         ensures none { IfNone result (NotTaken G.may_fail
@@ -142,8 +142,7 @@ impl Agent {
         gate: &mut G,
         token: &mut G::Token,
     ) -> Box<Stripe>
-        requires held { self.old.hands.held ≡ 0 }
-        requires free { G.is_free gate.old token.old }
+        requires { (self.old.hands.held ≡ 0) × G.is_free gate.old token.old }
         ensures { Taken G.has G.takes G.finds G.speaks_for
             self.old gate.old token.old result.value self.new gate.new token.new }
     {
@@ -157,8 +156,7 @@ impl Agent {
     /// Conditions: the agent holds one stripe, and the token speaks for its session. This is the stripe that the token has taken, as
     /// it was, or with its generation ended, which may end.
     pub fn give_back<G: Gate>(&mut self, gate: &mut G, token: &mut G::Token, stripe: Box<Stripe>)
-        requires held { self.old.hands.held ≡ 1 }
-        requires speaks { G.speaks_for token.old self.old.caller.session }
+        requires held { (self.old.hands.held ≡ 1) × G.speaks_for token.old self.old.caller.session }
         requires rest { (a : State) × G.has gate.old token.old a × StaysOrRenews a stripe.value }
         ensures { Given G.gives G.finds G.is_free G.speaks_for
             Nothing self.old gate.old token.old stripe.value self.new gate.new token.new }
@@ -178,8 +176,7 @@ impl Agent {
         stripe: Box<Stripe>,
         counted: Counted,
     )
-        requires held { self.old.hands.held ≡ 1 }
-        requires speaks { G.speaks_for token.old self.old.caller.session }
+        requires held { (self.old.hands.held ≡ 1) × G.speaks_for token.old self.old.caller.session }
         requires phase { (a : State) × G.has gate.old token.old a
             × IsCounted counted self.old.caller.session a stripe.value }
         ensures { Given G.gives G.finds G.is_free G.speaks_for
@@ -196,8 +193,7 @@ impl Agent {
     /// taken the gate's.
     pub fn wait_for_change<G: Gate, R: Wait>(&self, _rt: &R, _gate: &G, _token: &G::Token)
         requires reservations { self.now.counts.reservations ≡ 0 }
-        requires held { self.now.hands.held ≡ 0 }
-        requires free { G.is_free _gate.now _token.now }
+        requires free { (self.now.hands.held ≡ 0) × G.is_free _gate.now _token.now }
     {
         let backoff = Backoff::new();
         for _ in 0..PAUSE_STEPS {
@@ -210,8 +206,7 @@ impl Agent {
     ///
     /// Conditions: the agent holds no stripe, and the token has not taken the gate's.
     pub fn pause<G: Gate, R: Wait>(&self, rt: &R, gate: &G, token: &G::Token)
-        requires held { self.now.hands.held ≡ 0 }
-        requires free { G.is_free gate.now token.now }
+        requires { (self.now.hands.held ≡ 0) × G.is_free gate.now token.now }
     {
         if self.counts.reservations == 0 {
             self.wait_for_change(rt, gate, token);

@@ -7,7 +7,7 @@ ghost use Rattle.jc_stripe.specs.State.{IsIdle};
 ghost use Rattle.jc_lock.specs.declared.view.View.{View};
 ghost use Rattle.jc_cache.specs.Caches.{noted_by};
 ghost use Rattle.jc_cache.specs.Closing.{HasFront};
-ghost use Rattle.jc_cache.specs.ClosingInside.{AreAtLocks, AreIdle, HasTaken, HaveTaken, IsFreeSeat, IsRowRefusal, IsTakeRefusal, KeepSeats, KeepsSeat};
+ghost use Rattle.jc_cache.specs.ClosingInside.{AreAtLocks, AreIdle, HasTaken, HaveTaken, IsFreeSeat, IsRowRefusal, IsTakeRefusal, KeepSeats, KeepsSeat, KeepsOwn, OwnsSeats};
 
 use crate::closing::ClosedStripe;
 use crate::session::Session;
@@ -17,8 +17,7 @@ use jc_types::Refusal;
 
 /// Tests that nothing is out at the stripe, and nobody else holds it. It is given back as it was.
 fn test_idle(lock: &HistLock, seat: &mut Seat) -> Result<(), Refusal>
-    requires lock { seat.old.0 ≡ lock.now }
-    requires free { IsFreeSeat seat.old.1 }
+    requires { (seat.old.0 ≡ lock.now) × IsFreeSeat seat.old.1 }
     ensures keeps { KeepsSeat seat.old seat.new }
     ensures free { IsFreeSeat seat.new.1 }
     ensures ok { OnOk result (IsIdle seat.new.1.noted) }
@@ -37,10 +36,8 @@ fn test_idle(lock: &HistLock, seat: &mut Seat) -> Result<(), Refusal>
 
 /// Tests that nothing is out at any stripe, and nobody else holds one. All are given back as they were.
 pub(super) fn test_all_idle(locks: &[HistLock], own: &mut Vec<Seat>) -> Result<(), Refusal>
-    requires locks { map (λ (seat : TableId × View). seat.0) own.old.items ≡ locks.now }
-    requires free { HaveTaken own.old.items [] }
-    ensures keeps { KeepSeats own.old.items own.new.items }
-    ensures free { HaveTaken own.new.items [] }
+    requires { OwnsSeats locks.now own.old.items [] }
+    ensures own { KeepsOwn own.old.items own.new.items [] }
     ensures ok { OnOk result (AreIdle own.new.items) }
     ensures err { IfErr result (λ r. IsRowRefusal r own.new.items) }
 {
@@ -52,8 +49,7 @@ pub(super) fn test_all_idle(locks: &[HistLock], own: &mut Vec<Seat>) -> Result<(
 
 /// The stripe, if nothing is out there and nobody else holds it.
 fn take_idle(lock: &HistLock, seat: &mut Seat) -> Result<ClosedStripe, Refusal>
-    requires lock { seat.old.0 ≡ lock.now }
-    requires free { IsFreeSeat seat.old.1 }
+    requires { (seat.old.0 ≡ lock.now) × IsFreeSeat seat.old.1 }
     ensures keeps { KeepsSeat seat.old seat.new }
     ensures ok { IfOk result (λ s. HasTaken seat.new.1 s) }
     ensures err { IfErr result (λ r. IsFreeSeat seat.new.1 × IsTakeRefusal r seat.new.1.noted) }
@@ -74,8 +70,7 @@ pub(super) fn take_all(
     own: &mut Vec<Seat>,
     stripes: Vec<ClosedStripe>,
 ) -> Result<Vec<ClosedStripe>, Refusal>
-    requires locks { map (λ (seat : TableId × View). seat.0) own.old.items ≡ locks.now }
-    requires free { HaveTaken own.old.items [] }
+    requires own { OwnsSeats locks.now own.old.items [] }
     requires empty { stripes.items ≡ [] }
     requires room { length locks.now ≤ vec_capacity stripes }
     ensures keeps { KeepSeats own.old.items own.new.items }
@@ -98,10 +93,8 @@ pub(super) fn take_all(
 
 /// Gives these stripes back to their locks.
 fn give_all(locks: &[HistLock], own: &mut Vec<Seat>, stripes: Vec<ClosedStripe>)
-    requires locks { map (λ (seat : TableId × View). seat.0) own.old.items ≡ locks.now }
-    requires taken { HaveTaken own.old.items stripes.items }
-    ensures keeps { KeepSeats own.old.items own.new.items }
-    ensures free { HaveTaken own.new.items [] }
+    requires { OwnsSeats locks.now own.old.items stripes.items }
+    ensures own { KeepsOwn own.old.items own.new.items [] }
     ensures noted { noted_by own.new.items ≡ noted_by own.old.items }
 {
     let mut stripes = stripes;
@@ -114,12 +107,10 @@ fn give_all(locks: &[HistLock], own: &mut Vec<Seat>, stripes: Vec<ClosedStripe>)
 
 /// Ends these seats of a session. The own seats, which have taken the stripes, learn what they have seen.
 fn join_seats(locks: &[HistLock], own: &mut Vec<Seat>, stripes: &[ClosedStripe], seats: Vec<Seat>)
-    requires locks { map (λ (seat : TableId × View). seat.0) own.old.items ≡ locks.now }
-    requires taken { HaveTaken own.old.items stripes.now }
+    requires own { OwnsSeats locks.now own.old.items stripes.now }
     requires count { length stripes.now ≡ length locks.now }
     requires seats { AreAtLocks locks.now seats.items }
-    ensures keeps { KeepSeats own.old.items own.new.items }
-    ensures taken { HaveTaken own.new.items stripes.now }
+    ensures own { KeepsOwn own.old.items own.new.items stripes.now }
     ensures front { HasFront stripes.now seats.items }
 {
     let mut seats = seats;
@@ -152,13 +143,11 @@ pub(super) fn join_all(
     sessions: Vec<Session>,
     outside: &mut Vec<Outside>,
 )
-    requires locks { map (λ (seat : TableId × View). seat.0) own.old.items ≡ locks.now }
-    requires taken { HaveTaken own.old.items stripes.now }
+    requires own { OwnsSeats locks.now own.old.items stripes.now }
     requires count { length stripes.now ≡ length locks.now }
     requires sessions { All (λ s. AreAtLocks locks.now s.seats.items × (s.agent.hands.held ≡ 0)) sessions.items }
     requires room { vec_len outside.old + length sessions.items ≤ vec_capacity outside.old }
-    ensures keeps { KeepSeats own.old.items own.new.items }
-    ensures taken { HaveTaken own.new.items stripes.now }
+    ensures own { KeepsOwn own.old.items own.new.items stripes.now }
     ensures fronts { All (λ s. HasFront stripes.now s.seats.items) sessions.items }
     ensures outside { outside.new.items ≡ outside.old.items ++ map (λ s. s.agent.hands.outside) sessions.items }
 {

@@ -3,13 +3,13 @@ use Rattle.jc_bulk.proofs.sweeping.look_at.Goals as goal
 
 pub returns-clause-looks : goal.returns-clause-looks
 returns-clause-looks g c =
-    looks_at c.is_uniform.ensures c.args.cache.now c.args.session.now c.look.new.session c.requires.may.own c.args.number c.args.keys.now.items c.look.new.out.items c.look.ensures.phase
+    looks_at c.is_uniform.ensures c.args.cache.now c.args.session.now c.look.new.session c.requires.may.own c.args.number c.args.keys.now.items c.look.new.out.items c.look.ensures.phase.phase
 
 pub returns-clause-looked : goal.returns-clause-looked
 returns-clause-looked g c =
-    look_told c.is_uniform.ensures c.args.cache.now c.args.session.now c.look.new.session c.requires.may.own c.args.number c.args.keys.now.items c.look.new.out.items c.look.ensures.phase
+    look_told c.is_uniform.ensures c.args.cache.now c.args.session.now c.look.new.session c.requires.may.own c.args.number c.args.keys.now.items c.look.new.out.items c.look.ensures.phase.phase
 
 pub returns-clause-may : goal.returns-clause-may
 returns-clause-may g c =
-    may_still c.args.cache.now c.args.session.now c.look.new.session c.requires.may c.look.ensures.own
-    (looks_at c.is_uniform.ensures c.args.cache.now c.args.session.now c.look.new.session c.requires.may.own c.args.number c.args.keys.now.items c.look.new.out.items c.look.ensures.phase)
+    may_still c.args.cache.now c.args.session.now c.look.new.session c.requires.may c.look.ensures.phase.own
+    (looks_at c.is_uniform.ensures c.args.cache.now c.args.session.now c.look.new.session c.requires.may.own c.args.number c.args.keys.now.items c.look.new.out.items c.look.ensures.phase.phase)

@@ -19,21 +19,20 @@ bounds-locks-i g c = c.loop-i-test.true
 
 pub index_mut-requires : goal.index_mut-requires
 index_mut-requires g c =
-    subst (λ (n : ℕ). c.loop-i.i < n) (sym (c.loop-i.seats.ok.0 ∙ length_locks _ _ (c.loop-i.invariant.keeps.locks ∙ c.requires.seats.0))) c.loop-i-test.true
+    subst (λ (n : ℕ). c.loop-i.i < n) (sym (c.loop-i.seats.ok.0 ∙ length_locks _ _ (c.loop-i.invariant.keeps.locks ∙ c.requires.1.0))) c.loop-i-test.true
 
-pub read_at-requires-clause-held : goal.read_at-requires-clause-held
-read_at-requires-clause-held g c = ap (λ a. a.hands.held) c.loop-i.invariant.agent ∙ c.requires.held
-
-pub read_at-requires-clause-seat : goal.read_at-requires-clause-seat
-read_at-requires-clause-seat g c =
-    let i = c.loop-i.invariant in
-    subst (λ a. IsSessionSeat c.index-locks-i.result a.caller.session c.index_mut.result.now) (sym i.agent) (there_row _ _ _ c.loop-i.i _ _ _ c.requires.seats i.keeps i.rest c.loop-i-test.true c.index_mut.ensures.value c.index-locks-i.is).1
+pub read_at-requires : goal.read_at-requires
+read_at-requires g c =
+    let i = c.loop-i.invariant in (
+      ap (λ a. a.hands.held) i.agent ∙ c.requires.0,
+      subst (λ a. IsSessionSeat c.index-locks-i.result a.caller.session c.index_mut.result.now) (sym i.agent) (there_row _ _ _ c.loop-i.i _ _ _ c.requires.1 i.keeps i.rest c.loop-i-test.true c.index_mut.ensures.value c.index-locks-i.is).1,
+    )
 
 pub loop-i-preserved : goal.loop-i-preserved
 loop-i-preserved g c =
     let i = c.loop-i.invariant in
     let reads = c.read_at.ensures in
-    let at = (there_row _ _ _ c.loop-i.i _ _ _ c.requires.seats i.keeps i.rest c.loop-i-test.true c.index_mut.ensures.value c.index-locks-i.is).0 in
+    let at = (there_row _ _ _ c.loop-i.i _ _ _ c.requires.1 i.keeps i.rest c.loop-i-test.true c.index_mut.ensures.value c.index-locks-i.is).0 in
     record {
       agent = reads.agent ∙ i.agent;
       keeps = row_set _ _ c.loop-i.i _ _ i.keeps at reads.lock reads.reads.on;
@@ -50,9 +49,9 @@ returns-clause-keeps g c = c.loop-i.invariant.keeps
 
 pub returns-clause-reads : goal.returns-clause-reads
 returns-clause-reads g c =
-    read_all c.args.seats.now.items _ c.loop-i.i c.args.locks.now (length_locks _ _ c.requires.seats.0) c.loop-i-test.false c.loop-i.invariant.read
+    read_all c.args.seats.now.items _ c.loop-i.i c.args.locks.now (length_locks _ _ c.requires.1.0) c.loop-i-test.false c.loop-i.invariant.read
 
 pub returns-clause-counted : goal.returns-clause-counted
 returns-clause-counted g c =
-    let long = length_locks _ _ (c.loop-i.invariant.keeps.locks ∙ c.requires.seats.0) in
+    let long = length_locks _ _ (c.loop-i.invariant.keeps.locks ∙ c.requires.1.0) in
     counted_all _ c.loop-i.i _ (subst (λ (n : ℕ). n ≤ c.loop-i.i) (sym long) c.loop-i-test.false) c.loop-i.invariant.counted

@@ -1,17 +1,14 @@
-use Rattle.std.proofs.Common.{◌≡◌, ◌∙◌, ap, subst, sym, Some}
+use Rattle.std.proofs.Common.{◌≡◌, ◌∙◌, ap, subst, sym}
 use Rattle.jc_stripe.specs.State.{State}
 use Rattle.jc_lock.specs.Views.{after_give}
 use Rattle.jc_cache.specs.Fronts.{HasSeen}
 use Rattle.jc_cache.specs.Generations.{IsEndOf}
 use Rattle.jc_cache.proofs.EndedGenerations.{end_of, turn_of, ended_seen}
-use Rattle.jc_cache.proofs.SessionPhases.{agent_same}
+use Rattle.jc_cache.proofs.SessionPhases.{agent_same, holds_one}
 use Rattle.jc_cache.proofs.generations.end_at.Goals as goal
 
 pub give_back-requires-clause-held : goal.give_back-requires-clause-held
-give_back-requires-clause-held g c = ap (λ a. a.hands.held) c.take-stripe.ensures.agent
-
-pub give_back-requires-clause-speaks : goal.give_back-requires-clause-speaks
-give_back-requires-clause-speaks g c = c.take-stripe.ensures.speaks _ c.requires.seat.session_is ∙ ap (λ a. Some a.caller.session) (sym c.take-stripe.ensures.agent)
+give_back-requires-clause-held g c = holds_one c.args.agent.now c.take-stripe.new.self c.take-stripe.new.token c.take-stripe.ensures.agent (c.take-stripe.ensures.speaks _ c.requires.1.session_is)
 
 pub give_back-requires-clause-rest : goal.give_back-requires-clause-rest
 give_back-requires-clause-rest g c =
@@ -22,7 +19,7 @@ give_back-requires-clause-rest g c =
     (found, c.take-stripe.ensures.taken, turn_of c.end_generation-ended.result _ _ found left end)
 
 pub returns-clause-agent : goal.returns-clause-agent
-returns-clause-agent g c = agent_same c.args.agent.now c.take-stripe.new.self c.give_back.new.self c.requires.held c.take-stripe.ensures.agent c.give_back.ensures.agent
+returns-clause-agent g c = agent_same c.args.agent.now c.take-stripe.new.self c.give_back.new.self c.requires.0 c.take-stripe.ensures.agent c.give_back.ensures.agent
 
 pub returns-clause-ended : goal.returns-clause-ended
 returns-clause-ended g c =
@@ -37,5 +34,5 @@ returns-clause-ended g c =
       c.take-stripe.ensures.found.0,
       end,
       is,
-      subst (HasSeen v) (sym is) (ended_seen v found left (_, c.requires.seat.session_is) c.renewal.ensures c.take-stripe.ensures.found.0 (turn_of c.end_generation-ended.result _ _ found left end)),
+      subst (HasSeen v) (sym is) (ended_seen v found left (_, c.requires.1.session_is) c.renewal.ensures c.take-stripe.ensures.found.0 (turn_of c.end_generation-ended.result _ _ found left end)),
     )

@@ -1,21 +1,18 @@
-use Rattle.std.proofs.Common.{◌≡◌, ◌∙◌, ap, inl, refl, subst, sym, Some}
+use Rattle.std.proofs.Common.{◌≡◌, ◌∙◌, ap, inl, refl, subst, sym}
 use mathlib.Core.List.{IsPrefix}
 use Rattle.jc_lock.specs.Views.{after_give}
 use Rattle.jc_cache.proofs.Meetings.{refreshed_seen, joined_seen}
-use Rattle.jc_cache.proofs.SessionPhases.{agent_same}
+use Rattle.jc_cache.proofs.SessionPhases.{agent_same, holds_one}
 use Rattle.jc_cache.proofs.meeting.tell_at.Goals as goal
 
 pub give_back-requires-clause-held : goal.give_back-requires-clause-held
-give_back-requires-clause-held g c = ap (λ a. a.hands.held) c.take-stripe.ensures.agent
-
-pub give_back-requires-clause-speaks : goal.give_back-requires-clause-speaks
-give_back-requires-clause-speaks g c = c.take-stripe.ensures.speaks _ c.requires.teller.session_is ∙ ap (λ a. Some a.caller.session) (sym c.take-stripe.ensures.agent)
+give_back-requires-clause-held g c = holds_one c.args.agent.now c.take-stripe.new.self c.take-stripe.new.token c.take-stripe.ensures.agent (c.take-stripe.ensures.speaks _ c.requires.teller.1.session_is)
 
 pub give_back-requires-clause-rest : goal.give_back-requires-clause-rest
 give_back-requires-clause-rest g c = (c.take-stripe.result.value, c.take-stripe.ensures.taken, inl refl)
 
 pub returns-clause-agent : goal.returns-clause-agent
-returns-clause-agent g c = agent_same c.args.agent.now c.take-stripe.new.self c.give_back.new.self c.requires.held c.take-stripe.ensures.agent c.give_back.ensures.agent
+returns-clause-agent g c = agent_same c.args.agent.now c.take-stripe.new.self c.give_back.new.self c.requires.teller.0 c.take-stripe.ensures.agent c.give_back.ensures.agent
 
 pub returns-clause-told : goal.returns-clause-told
 returns-clause-told g c =
@@ -25,7 +22,7 @@ returns-clause-told g c =
     let is : c.tell.new.from.1 ≡ after_give v state = ap (λ z. z.1) c.tell.ensures.from ∙ given in
     record {
       refreshed = record { found = state; finds = c.take-stripe.ensures.found.0; is = is };
-      teller_on = refreshed_seen v _ state (_, c.requires.teller.session_is) c.take-stripe.ensures.found.0 is;
-      hearer_on = joined_seen c.args.hearer.now.1 c.tell.new.to.1 c.give_back.new.token.1 c.requires.hearer.1.free c.tell.ensures.to c.tell.ensures.seen;
-      told = subst (λ z. IsPrefix z.1.front c.tell.new.to.1.front) (sym c.tell.ensures.from) c.tell.ensures.told;
+      teller_on = refreshed_seen v _ state (_, c.requires.teller.1.session_is) c.take-stripe.ensures.found.0 is;
+      hearer_on = joined_seen c.args.hearer.now.1 c.tell.new.to.1 c.give_back.new.token.1 c.requires.hearer.1.free (ap (λ z. z.1) c.tell.ensures.to) c.tell.ensures.fronts.0;
+      told = subst (λ z. IsPrefix z.1.front c.tell.new.to.1.front) (sym c.tell.ensures.from) c.tell.ensures.fronts.1;
     }

@@ -19,19 +19,18 @@ bounds-locks-i g c = c.loop-i-test.true
 
 pub index_mut-requires : goal.index_mut-requires
 index_mut-requires g c =
-    subst (λ (n : ℕ). c.loop-i.i < n) (sym (c.loop-i.tellers.ok.0 ∙ length_locks _ _ (c.loop-i.invariant.tellers.locks ∙ c.requires.tellers.0))) c.loop-i-test.true
+    subst (λ (n : ℕ). c.loop-i.i < n) (sym (c.loop-i.tellers.ok.0 ∙ length_locks _ _ (c.loop-i.invariant.tellers.locks ∙ c.requires.tellers.1.0))) c.loop-i-test.true
 
 pub index_mut-requires-in-loop-i : goal.index_mut-requires-in-loop-i
 index_mut-requires-in-loop-i g c =
     subst (λ (n : ℕ). c.loop-i.i < n) (sym (c.loop-i.hearers.ok.0 ∙ length_locks _ _ (c.loop-i.invariant.hearers.locks ∙ c.requires.hearers.1.0))) c.loop-i-test.true
 
-pub tell_at-requires-clause-held : goal.tell_at-requires-clause-held
-tell_at-requires-clause-held g c = ap (λ a. a.hands.held) c.loop-i.invariant.agent ∙ c.requires.held
-
 pub tell_at-requires-clause-teller : goal.tell_at-requires-clause-teller
 tell_at-requires-clause-teller g c =
-    let i = c.loop-i.invariant in
-    subst (λ a. IsSessionSeat c.index-locks-i.result a.caller.session c.index_mut.result.now) (sym i.agent) (there_row _ _ _ c.loop-i.i _ _ _ c.requires.tellers i.tellers i.teller_rest c.loop-i-test.true c.index_mut.ensures.value c.index-locks-i.is).1
+    let i = c.loop-i.invariant in (
+      ap (λ a. a.hands.held) i.agent ∙ c.requires.tellers.0,
+      subst (λ a. IsSessionSeat c.index-locks-i.result a.caller.session c.index_mut.result.now) (sym i.agent) (there_row _ _ _ c.loop-i.i _ _ _ c.requires.tellers.1 i.tellers i.teller_rest c.loop-i-test.true c.index_mut.ensures.value c.index-locks-i.is).1,
+    )
 
 pub tell_at-requires-clause-hearer : goal.tell_at-requires-clause-hearer
 tell_at-requires-clause-hearer g c =
@@ -42,7 +41,7 @@ pub loop-i-preserved : goal.loop-i-preserved
 loop-i-preserved g c =
     let i = c.loop-i.invariant in
     let tells = c.tell_at.ensures in
-    let a = (there_row _ _ _ c.loop-i.i _ _ _ c.requires.tellers i.tellers i.teller_rest c.loop-i-test.true c.index_mut.ensures.value c.index-locks-i.is).0 in
+    let a = (there_row _ _ _ c.loop-i.i _ _ _ c.requires.tellers.1 i.tellers i.teller_rest c.loop-i-test.true c.index_mut.ensures.value c.index-locks-i.is).0 in
     let b = (there_row _ _ _ c.loop-i.i _ _ _ c.requires.hearers.1 i.hearers i.hearer_rest c.loop-i-test.true c.index_mut-in-loop-i.ensures.value c.index-locks-i.is).0 in
     record {
       agent = tells.agent ∙ i.agent;
@@ -64,4 +63,4 @@ returns-clause-hearers g c = c.loop-i.invariant.hearers
 
 pub returns-clause-told : goal.returns-clause-told
 returns-clause-told g c =
-    tell_all c.args.tellers.now.items _ _ _ c.loop-i.i c.args.locks.now (length_locks _ _ c.requires.tellers.0) c.loop-i-test.false c.loop-i.invariant.told
+    tell_all c.args.tellers.now.items _ _ _ c.loop-i.i c.args.locks.now (length_locks _ _ c.requires.tellers.1.0) c.loop-i-test.false c.loop-i.invariant.told

@@ -64,27 +64,21 @@ loop-stripe-preserved c =
       rooms = let was = i.rooms in let same = seat.capacity in omega arith;
     }
 
-pub returns-clause-whole : goal.returns-clause-whole
-returns-clause-whole c =
+pub returns : goal.returns
+returns c =
     let at = c.loop-stripe in
     let i = at.invariant in
     let given = c.into_iter-stripe-iterator.ensures.into_iter_gives.0 in
     let empty : into_iter_items at.stripe-iterator ≡ [] = nothing_left _ (sym i.count ∙ c.in-None.ensures.steps.0) in
     let all = sym (append-nil at.yielded) ∙ rw empty at i.all ∙ given in
-    let many = ap length (all ∙ c.requires.opened.2) ∙ opening_len c.requires.opened.0 c.args.config.now c.requires.opened.1 in
-    record {
-      fits = c.requires.fits;
-      few = omega arith;
-      count = sym at.locks.ok.0 ∙ i.long ∙ many;
-      own = i.own;
-      each = new_each c.requires.opened.0 c.args.config.now c.requires.opened.1 c.args.stripes.items at.seats.items c.requires.opened.2 (i.noted ∙ all) i.first;
-    }
-
-pub returns-clause-fronts : goal.returns-clause-fronts
-returns-clause-fronts c =
-    let at = c.loop-stripe in
-    let i = at.invariant in
-    let given = c.into_iter-stripe-iterator.ensures.into_iter_gives.0 in
-    let empty : into_iter_items at.stripe-iterator ≡ [] = nothing_left _ (sym i.count ∙ c.in-None.ensures.steps.0) in
-    let all = sym (append-nil at.yielded) ∙ rw empty at i.all ∙ given in
-    i.fronts ∙ ap (map whole_history) (all ∙ c.requires.opened.2) ∙ opening_histories c.requires.opened.0 c.args.config.now c.requires.opened.1
+    let many = ap length (all ∙ c.requires.opened.2) ∙ opening_len c.requires.opened.0 c.args.config.now c.requires.opened.1 in (
+      record {
+        fits = c.requires.fits;
+        few = omega arith;
+        count = sym at.locks.ok.0 ∙ i.long ∙ many;
+        own = i.own;
+        each = new_each c.requires.opened.0 c.args.config.now c.requires.opened.1 c.args.stripes.items at.seats.items c.requires.opened.2 (i.noted ∙ all) i.first;
+      },
+      i.noted ∙ all,
+      i.fronts ∙ ap (map whole_history) (all ∙ c.requires.opened.2) ∙ opening_histories c.requires.opened.0 c.args.config.now c.requires.opened.1,
+    )

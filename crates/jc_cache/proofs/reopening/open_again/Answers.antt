@@ -10,4 +10,4 @@ returns-in-Ok-open_with-clause-ok c =
     let fits : check c.args.config.now ≡ Ok tt = search rules in
     let once : has_distinct_keys (all_entries c.args.stripes.now) ≡ true = search rules in
     reopened_so c.keeps_or_drops.ensures c.lived.result _ c.args.config.now c.deref.result.now (all_entries c.args.stripes.now) c.in-Ok-open_with.made.0 c.in-Ok-open_with.made.1.items
-    fits once c.lived.ensures (c.deref.ensures.value ∙ c.in-Ok.ensures) c.in-Ok-open_with.ensures.owner c.in-Ok-open_with.ensures.dropped
+    fits once c.lived.ensures (c.deref.ensures.value ∙ c.in-Ok.ensures) c.in-Ok-open_with.ensures.0 c.in-Ok-open_with.ensures.1

@@ -9,12 +9,12 @@ use Rattle.jc_engine.proofs.calling.call.Goals as goal
 
 pub ask_and_end-requires-clause-first : goal.ask_and_end-requires-clause-first
 ask_and_end-requires-clause-first g c =
-    let s = asks_first g.G.Gate.takes g.G.Gate.gives g.G.Gate.finds c.args.agent.now.caller c.args.key.now c.args.op.now c.in-Asks.ticket c.args.gate.now c.args.token.now c.enter.new.gate c.enter.new.token c.in-Asks.ensures.enters in
+    let s = asks_first g.G.Gate.takes g.G.Gate.gives g.G.Gate.finds c.args.agent.now.caller c.args.key.now c.args.op.now c.in-Asks.ticket c.args.gate.now c.args.token.now c.enter.new.gate c.enter.new.token c.in-Asks.ensures.phase in
     asks_one _ _ _ _ _ c.in-Asks.ticket c.requires.op s.first.begins
 
 pub ask_and_end-requires-clause-may : goal.ask_and_end-requires-clause-may
 ask_and_end-requires-clause-may g c =
-    let x = c.in-Asks.ensures.enters in
+    let x = c.in-Asks.ensures.phase in
     let s = asks_first g.G.Gate.takes g.G.Gate.gives g.G.Gate.finds c.args.agent.now.caller c.args.key.now c.args.op.now c.in-Asks.ticket c.args.gate.now c.args.token.now c.enter.new.gate c.enter.new.token x in
     let config = kept_config g.G.Gate.takes g.G.Gate.gives g.G.Gate.finds c.args.agent.now.caller c.args.key.now c.args.op.now c.in-Asks.ticket c.args.gate.now c.args.token.now c.enter.new.gate c.enter.new.token x in
     record {
@@ -25,14 +25,17 @@ ask_and_end-requires-clause-may g c =
           (c.requires.may.writes x.since.first x.since.finds_first (sym (ap (λ c. c.write_through) config) ∙ writes_through x.first.before.config _ _ _ s.first.begins.2 asks));
     }
 
-pub returns-in-Asks-clause-call : goal.returns-in-Asks-clause-call
-returns-in-Asks-clause-call g c =
-    let x = c.in-Asks.ensures.enters in
-    let s = asks_first g.G.Gate.takes g.G.Gate.gives g.G.Gate.finds c.args.agent.now.caller c.args.key.now c.args.op.now c.in-Asks.ticket c.args.gate.now c.args.token.now c.enter.new.gate c.enter.new.token x in
-    let who = of_caller g.G.Gate.takes g.G.Gate.gives g.G.Gate.finds c.args.agent.now.caller c.args.key.now c.args.op.now c.in-Asks.ticket c.args.gate.now c.args.token.now c.enter.new.gate c.enter.new.token x in
-    let d = c.ask_and_end.ensures.ends in
-    rw (← d.replies) (reserved_call _ _ _ _ g.G.Gate.takes g.G.Gate.gives g.G.Gate.finds c.in-Asks.ticket.reservation.caller.session c.args.agent.now c.enter.new.agent d.asked c.ask_and_end.new.agent c.args.key.now c.args.op.now c.args.gate.now c.args.token.now c.in-Asks.ticket c.enter.new.gate c.enter.new.token
-    c.in-Asks.ticket.reservation d.out d.done c.ask_and_end.new.gate c.ask_and_end.new.token
-    x d.phase (ap (λ w. w.session) who.0) refl
-    c.requires.may.reservations c.in-Asks.ensures.agent d.rest d.held d.last
-    d.loader (d.writer _ (λ asks. wanted_is_asked x.first.before.config c.args.op.now _ _ _ d.process s.first.begins.2 asks)) d.types)
+pub returns-in-Asks : goal.returns-in-Asks
+returns-in-Asks g c = record {
+  ready = c.ask_and_end.ensures.ready;
+  call =
+      let x = c.in-Asks.ensures.phase in
+      let s = asks_first g.G.Gate.takes g.G.Gate.gives g.G.Gate.finds c.args.agent.now.caller c.args.key.now c.args.op.now c.in-Asks.ticket c.args.gate.now c.args.token.now c.enter.new.gate c.enter.new.token x in
+      let who = of_caller g.G.Gate.takes g.G.Gate.gives g.G.Gate.finds c.args.agent.now.caller c.args.key.now c.args.op.now c.in-Asks.ticket c.args.gate.now c.args.token.now c.enter.new.gate c.enter.new.token x in
+      let d = c.ask_and_end.ensures.call in
+      rw (← d.replies) (reserved_call _ _ _ _ g.G.Gate.takes g.G.Gate.gives g.G.Gate.finds c.in-Asks.ticket.reservation.caller.session c.args.agent.now c.enter.new.agent d.asked c.ask_and_end.new.agent c.args.key.now c.args.op.now c.args.gate.now c.args.token.now c.in-Asks.ticket c.enter.new.gate c.enter.new.token
+      c.in-Asks.ticket.reservation d.out d.done c.ask_and_end.new.gate c.ask_and_end.new.token
+      x d.phase (ap (λ w. w.session) who.0) refl
+      c.requires.may.reservations c.in-Asks.ensures.agent d.rest d.held d.last
+      d.loader (d.writer _ (λ asks. wanted_is_asked x.first.before.config c.args.op.now _ _ _ d.process s.first.begins.2 asks)) d.types);
+}

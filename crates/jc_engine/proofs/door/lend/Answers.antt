@@ -6,29 +6,32 @@ use Rattle.jc_engine.proofs.Coming.{since_start}
 use Rattle.jc_engine.proofs.Chains.{tries-start, tries-left, tries-since}
 use Rattle.jc_engine.proofs.door.lend.Goals as goal
 
-pub take-stripe-requires-clause-held : goal.take-stripe-requires-clause-held
-take-stripe-requires-clause-held g c = ap (λ a. a.hands.held) c.loop.invariant.0 ∙ c.requires.ready.held
+pub take-stripe-requires : goal.take-stripe-requires
+take-stripe-requires g c = (ap (λ a. a.hands.held) c.loop.invariant.0 ∙ c.requires.ready.held, c.loop.invariant.2.free)
 
-pub take-stripe-requires-clause-free : goal.take-stripe-requires-clause-free
-take-stripe-requires-clause-free g c = c.loop.invariant.2.free
+pub leave-requires-clause-held : goal.leave-requires-clause-held
+leave-requires-clause-held g c = (
+  ap (λ a. a.hands.held) c.take-stripe.ensures.agent,
+  rw (ap (λ a. a.caller.session) c.take-stripe.ensures.agent, ap (λ a. a.caller.session) c.loop.invariant.0)
+      (c.take-stripe.ensures.speaks _ (c.loop.invariant.2.speaks _ c.requires.ready.speaks)),
+)
 
-pub leave-requires-clause-speaks : goal.leave-requires-clause-speaks
-leave-requires-clause-speaks g c =
-    rw (ap (λ a. a.caller.session) c.take-stripe.ensures.agent, ap (λ a. a.caller.session) c.loop.invariant.0)
-    (c.take-stripe.ensures.speaks _ (c.loop.invariant.2.speaks _ c.requires.ready.speaks))
-
-pub leave-requires-in-Err-clause-speaks : goal.leave-requires-in-Err-clause-speaks
-leave-requires-in-Err-clause-speaks g c =
-    rw (ap (λ a. a.caller.session) c.take-stripe.ensures.agent, ap (λ a. a.caller.session) c.loop.invariant.0)
-    (c.take-stripe.ensures.speaks _ (c.loop.invariant.2.speaks _ c.requires.ready.speaks))
+pub leave-requires-in-Err-clause-held : goal.leave-requires-in-Err-clause-held
+leave-requires-in-Err-clause-held g c = (
+  ap (λ a. a.hands.held) c.take-stripe.ensures.agent,
+  rw (ap (λ a. a.caller.session) c.take-stripe.ensures.agent, ap (λ a. a.caller.session) c.loop.invariant.0)
+      (c.take-stripe.ensures.speaks _ (c.loop.invariant.2.speaks _ c.requires.ready.speaks)),
+)
 
 pub make-requires-clause-needs : goal.make-requires-clause-needs
 make-requires-clause-needs g c = rw (c.loop.invariant.1, c.deref_mut.ensures.value) (c.loop.invariant.2.finds_it _ c.take-stripe.ensures.found.0)
 
-pub give-requires-clause-speaks : goal.give-requires-clause-speaks
-give-requires-clause-speaks g c =
-    rw (ap (λ a. a.caller.session) c.take-stripe.ensures.agent, ap (λ a. a.caller.session) c.loop.invariant.0)
-    (c.take-stripe.ensures.speaks _ (c.loop.invariant.2.speaks _ c.requires.ready.speaks))
+pub give-requires-clause-held : goal.give-requires-clause-held
+give-requires-clause-held g c = (
+  ap (λ a. a.hands.held) c.take-stripe.ensures.agent,
+  rw (ap (λ a. a.caller.session) c.take-stripe.ensures.agent, ap (λ a. a.caller.session) c.loop.invariant.0)
+      (c.take-stripe.ensures.speaks _ (c.loop.invariant.2.speaks _ c.requires.ready.speaks)),
+)
 
 pub give-requires-clause-phase : goal.give-requires-clause-phase
 give-requires-clause-phase g c = (
@@ -38,34 +41,32 @@ give-requires-clause-phase g c = (
       c.in-Ok.ensures.made.1,
 )
 
-pub returns-in-Ok-clause-agent : goal.returns-in-Ok-clause-agent
-returns-in-Ok-clause-agent g c = search rules
-
-pub returns-in-Ok-clause-ready : goal.returns-in-Ok-clause-ready
-returns-in-Ok-clause-ready g c = record {
-  held = ap (λ a. a.hands.held) c.give.ensures.agent;
-  free = c.give.ensures.free;
-  speaks = rw (ap (λ a. a.caller.session) c.give.ensures.agent, ap (λ a. a.caller.session) c.take-stripe.ensures.agent, ap (λ a. a.caller.session) c.loop.invariant.0)
-      (c.give.ensures.speaks _ (c.take-stripe.ensures.speaks _ (c.loop.invariant.2.speaks _ c.requires.ready.speaks)));
+pub returns-in-Ok : goal.returns-in-Ok
+returns-in-Ok g c = record {
+  ready = record {
+    held = ap (λ a. a.hands.held) c.give.ensures.agent;
+    free = c.give.ensures.free;
+    speaks = rw (ap (λ a. a.caller.session) c.give.ensures.agent, ap (λ a. a.caller.session) c.take-stripe.ensures.agent, ap (λ a. a.caller.session) c.loop.invariant.0)
+        (c.give.ensures.speaks _ (c.take-stripe.ensures.speaks _ (c.loop.invariant.2.speaks _ c.requires.ready.speaks)));
+  };
+  agent = search rules;
+  phase = (
+    record {
+      gate = c.loop.gate;
+      token = c.loop.token;
+      rests = c.loop.invariant.2.rests;
+      before = c.take-stripe.result.value;
+      after = c.make.new.stripe;
+      since = c.loop.invariant.3 _ c.take-stripe.ensures.found.0;
+      lent = record { gate = c.take-stripe.new.gate; token = c.take-stripe.new.token; took = c.take-stripe.ensures.takes; reached = c.take-stripe.ensures.found.1; gave = c.give.ensures.gives };
+      made = rw (← c.deref_mut.ensures.value, ← c.loop.invariant.1) c.in-Ok.ensures.made.0;
+      one = rw (← c.requires.fits.who_is, ← c.loop.invariant.1, ← c.deref_mut.ensures.value) (phase_of _ _ _ _ c.in-Ok.ensures.made.1);
+      next = λ a f. c.give.ensures.next _ a (c.take-stripe.ensures.speaks _ (c.loop.invariant.2.speaks _ c.requires.ready.speaks)) f;
+    },
+    rw (← c.requires.fits.who_is, ← c.loop.invariant.1, ← c.deref_mut.ensures.value) c.in-Ok.ensures.made.1,
+    c.loop.invariant.2.renewed,
+  );
 }
-
-pub returns-in-Ok-clause-phase : goal.returns-in-Ok-clause-phase
-returns-in-Ok-clause-phase g c = (
-  record {
-    gate = c.loop.gate;
-    token = c.loop.token;
-    rests = c.loop.invariant.2.rests;
-    before = c.take-stripe.result.value;
-    after = c.make.new.stripe;
-    since = c.loop.invariant.3 _ c.take-stripe.ensures.found.0;
-    lent = record { gate = c.take-stripe.new.gate; token = c.take-stripe.new.token; took = c.take-stripe.ensures.takes; reached = c.take-stripe.ensures.found.1; gave = c.give.ensures.gives };
-    made = rw (← c.deref_mut.ensures.value, ← c.loop.invariant.1) c.in-Ok.ensures.made.0;
-    one = rw (← c.requires.fits.who_is, ← c.loop.invariant.1, ← c.deref_mut.ensures.value) (phase_of _ _ _ _ c.in-Ok.ensures.made.1);
-    next = λ a f. c.give.ensures.next _ a (c.take-stripe.ensures.speaks _ (c.loop.invariant.2.speaks _ c.requires.ready.speaks)) f;
-  },
-  rw (← c.requires.fits.who_is, ← c.loop.invariant.1, ← c.deref_mut.ensures.value) c.in-Ok.ensures.made.1,
-  c.loop.invariant.2.renewed,
-)
 
 pub loop-init : goal.loop-init
 loop-init g c = (

@@ -19,18 +19,21 @@ give-requires-clause-phase g c = (
 )
 
 pub returns-in-Ok-clause-made : goal.returns-in-Ok-clause-made
-returns-in-Ok-clause-made g c = record {
-  gate = c.args.gate.now;
-  token = c.args.token.now;
-  rests = rests-start g.G.Gate.takes g.G.Gate.gives g.G.Gate.finds c.args.gate.now c.args.token.now;
-  before = c.in-Some.stripe.value;
-  after = c.make.new.stripe;
-  since = since_start g.G.Gate.finds _ c.args.gate.now c.args.token.now _ c.in-Some.ensures.some.found.0;
-  lent = record { gate = c.try_take.new.gate; token = c.try_take.new.token; took = c.in-Some.ensures.some.takes; reached = c.in-Some.ensures.some.found.1; gave = c.give.ensures.gives };
-  made = rw (← c.deref_mut.ensures.value) c.in-Ok.ensures.made.0;
-  one = rw (← c.requires.fits.who_is, ← c.deref_mut.ensures.value) (phase_of _ _ _ _ c.in-Ok.ensures.made.1);
-  next = λ a f. c.give.ensures.next _ a (c.in-Some.ensures.some.speaks _ c.requires.ready.speaks) f;
-}
+returns-in-Ok-clause-made g c = (
+  search rules,
+  record {
+    gate = c.args.gate.now;
+    token = c.args.token.now;
+    rests = rests-start g.G.Gate.takes g.G.Gate.gives g.G.Gate.finds c.args.gate.now c.args.token.now;
+    before = c.in-Some.stripe.value;
+    after = c.make.new.stripe;
+    since = since_start g.G.Gate.finds _ c.args.gate.now c.args.token.now _ c.in-Some.ensures.some.found.0;
+    lent = record { gate = c.try_take.new.gate; token = c.try_take.new.token; took = c.in-Some.ensures.some.takes; reached = c.in-Some.ensures.some.found.1; gave = c.give.ensures.gives };
+    made = rw (← c.deref_mut.ensures.value) c.in-Ok.ensures.made.0;
+    one = rw (← c.requires.fits.who_is, ← c.deref_mut.ensures.value) (phase_of _ _ _ _ c.in-Ok.ensures.made.1);
+    next = λ a f. c.give.ensures.next _ a (c.in-Some.ensures.some.speaks _ c.requires.ready.speaks) f;
+  },
+)
 
 pub returns-in-None-clause-back : goal.returns-in-None-clause-back
 returns-in-None-clause-back g c = (

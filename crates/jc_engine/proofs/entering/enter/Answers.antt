@@ -26,35 +26,38 @@ lend-requires-clause-fits g c = record {
       (needs_on g.G.Gate.takes g.G.Gate.gives g.G.Gate.finds c.args.agent.now.caller c.args.key.now c.args.op.now c.args.gate.now c.args.token.now c.loop.gate c.loop.token c.loop.invariant.so c.requires.may.begins a found);
 }
 
-pub returns-in-Done-clause-agent : goal.returns-in-Done-clause-agent
-returns-in-Done-clause-agent g c = after_begun c.args.agent.now c.loop.agent c.lend.new.agent Step c.loop.invariant.agent c.in-Done.ensures.agent
+pub returns-in-Done : goal.returns-in-Done
+returns-in-Done g c = record {
+  ready = c.in-Done.ensures.ready;
+  agent = after_begun c.args.agent.now c.loop.agent c.lend.new.agent Step c.loop.invariant.agent c.in-Done.ensures.agent;
+  phase =
+      let x = starts_by g.G.Gate.takes g.G.Gate.gives g.G.Gate.finds c.args.agent.now.caller c.args.key.now c.args.op.now c.loop.agent.caller.session c.caller-caller.result (begun.Done c.in-Done.step) c.loop.gate c.loop.token c.lend.new.gate c.lend.new.token
+      (session_is c.args.agent.now c.loop.agent c.loop.invariant.agent) c.caller-caller.ensures c.in-Done.ensures.phase.0 in
+      enters g.G.Gate.takes g.G.Gate.gives g.G.Gate.finds c.args.agent.now.caller c.args.key.now c.args.op.now c.args.gate.now c.args.token.now c.loop.gate c.loop.token (begun.Done c.in-Done.step) c.lend.new.gate c.lend.new.token (entered.Done c.in-Done.step.reply) c.lend.new.gate c.lend.new.token c.loop.invariant.so x
+      (refl, refl, refl);
+}
 
-pub returns-in-Done-clause-enters : goal.returns-in-Done-clause-enters
-returns-in-Done-clause-enters g c =
-    let x = starts_by g.G.Gate.takes g.G.Gate.gives g.G.Gate.finds c.args.agent.now.caller c.args.key.now c.args.op.now c.loop.agent.caller.session c.caller-caller.result (begun.Done c.in-Done.step) c.loop.gate c.loop.token c.lend.new.gate c.lend.new.token
-    (session_is c.args.agent.now c.loop.agent c.loop.invariant.agent) c.caller-caller.ensures c.in-Done.ensures.phase.0 in
-    enters g.G.Gate.takes g.G.Gate.gives g.G.Gate.finds c.args.agent.now.caller c.args.key.now c.args.op.now c.args.gate.now c.args.token.now c.loop.gate c.loop.token (begun.Done c.in-Done.step) c.lend.new.gate c.lend.new.token (entered.Done c.in-Done.step.reply) c.lend.new.gate c.lend.new.token c.loop.invariant.so x
-    (refl, refl, refl)
+pub returns-in-Refused : goal.returns-in-Refused
+returns-in-Refused g c = record {
+  ready = c.in-Refused.ensures.ready;
+  agent = after_begun c.args.agent.now c.loop.agent c.lend.new.agent Nothing c.loop.invariant.agent c.in-Refused.ensures.agent;
+  phase =
+      let x = starts_by g.G.Gate.takes g.G.Gate.gives g.G.Gate.finds c.args.agent.now.caller c.args.key.now c.args.op.now c.loop.agent.caller.session c.caller-caller.result (begun.Refused c.in-Refused.refusal) c.loop.gate c.loop.token c.lend.new.gate c.lend.new.token
+      (session_is c.args.agent.now c.loop.agent c.loop.invariant.agent) c.caller-caller.ensures c.in-Refused.ensures.phase.0 in
+      enters g.G.Gate.takes g.G.Gate.gives g.G.Gate.finds c.args.agent.now.caller c.args.key.now c.args.op.now c.args.gate.now c.args.token.now c.loop.gate c.loop.token (begun.Refused c.in-Refused.refusal) c.lend.new.gate c.lend.new.token (entered.Refused c.in-Refused.refusal) c.lend.new.gate c.lend.new.token c.loop.invariant.so x
+      (refl, refl, refl);
+}
 
-pub returns-in-Refused-clause-agent : goal.returns-in-Refused-clause-agent
-returns-in-Refused-clause-agent g c = after_begun c.args.agent.now c.loop.agent c.lend.new.agent Nothing c.loop.invariant.agent c.in-Refused.ensures.agent
-
-pub returns-in-Refused-clause-enters : goal.returns-in-Refused-clause-enters
-returns-in-Refused-clause-enters g c =
-    let x = starts_by g.G.Gate.takes g.G.Gate.gives g.G.Gate.finds c.args.agent.now.caller c.args.key.now c.args.op.now c.loop.agent.caller.session c.caller-caller.result (begun.Refused c.in-Refused.refusal) c.loop.gate c.loop.token c.lend.new.gate c.lend.new.token
-    (session_is c.args.agent.now c.loop.agent c.loop.invariant.agent) c.caller-caller.ensures c.in-Refused.ensures.phase.0 in
-    enters g.G.Gate.takes g.G.Gate.gives g.G.Gate.finds c.args.agent.now.caller c.args.key.now c.args.op.now c.args.gate.now c.args.token.now c.loop.gate c.loop.token (begun.Refused c.in-Refused.refusal) c.lend.new.gate c.lend.new.token (entered.Refused c.in-Refused.refusal) c.lend.new.gate c.lend.new.token c.loop.invariant.so x
-    (refl, refl, refl)
-
-pub returns-in-Asks-clause-agent : goal.returns-in-Asks-clause-agent
-returns-in-Asks-clause-agent g c = after_begun c.args.agent.now c.loop.agent c.lend.new.agent Reserved c.loop.invariant.agent c.in-Asks.ensures.agent
-
-pub returns-in-Asks-clause-enters : goal.returns-in-Asks-clause-enters
-returns-in-Asks-clause-enters g c =
-    let x = starts_by g.G.Gate.takes g.G.Gate.gives g.G.Gate.finds c.args.agent.now.caller c.args.key.now c.args.op.now c.loop.agent.caller.session c.caller-caller.result (begun.Asks c.in-Asks.ticket) c.loop.gate c.loop.token c.lend.new.gate c.lend.new.token
-    (session_is c.args.agent.now c.loop.agent c.loop.invariant.agent) c.caller-caller.ensures c.in-Asks.ensures.phase.0 in
-    enters g.G.Gate.takes g.G.Gate.gives g.G.Gate.finds c.args.agent.now.caller c.args.key.now c.args.op.now c.args.gate.now c.args.token.now c.loop.gate c.loop.token (begun.Asks c.in-Asks.ticket) c.lend.new.gate c.lend.new.token (entered.Asks c.in-Asks.ticket) c.lend.new.gate c.lend.new.token c.loop.invariant.so x
-    (refl, refl, refl)
+pub returns-in-Asks : goal.returns-in-Asks
+returns-in-Asks g c = record {
+  ready = c.in-Asks.ensures.ready;
+  agent = after_begun c.args.agent.now c.loop.agent c.lend.new.agent Reserved c.loop.invariant.agent c.in-Asks.ensures.agent;
+  phase =
+      let x = starts_by g.G.Gate.takes g.G.Gate.gives g.G.Gate.finds c.args.agent.now.caller c.args.key.now c.args.op.now c.loop.agent.caller.session c.caller-caller.result (begun.Asks c.in-Asks.ticket) c.loop.gate c.loop.token c.lend.new.gate c.lend.new.token
+      (session_is c.args.agent.now c.loop.agent c.loop.invariant.agent) c.caller-caller.ensures c.in-Asks.ensures.phase.0 in
+      enters g.G.Gate.takes g.G.Gate.gives g.G.Gate.finds c.args.agent.now.caller c.args.key.now c.args.op.now c.args.gate.now c.args.token.now c.loop.gate c.loop.token (begun.Asks c.in-Asks.ticket) c.lend.new.gate c.lend.new.token (entered.Asks c.in-Asks.ticket) c.lend.new.gate c.lend.new.token c.loop.invariant.so x
+      (refl, refl, refl);
+}
 
 pub pick_up-requires-clause-who : goal.pick_up-requires-clause-who
 pick_up-requires-clause-who g c =
@@ -62,27 +65,27 @@ pick_up-requires-clause-who g c =
     ∙ ap (λ (who : Caller). who.session) c.caller-caller.ensures
     ∙ sym (session_joined c.args.agent.now c.loop.agent c.lend.new.agent c.loop.invariant.agent c.in-Joined.ensures.agent)
 
-pub returns-in-Some-pick_up-clause-agent : goal.returns-in-Some-pick_up-clause-agent
-returns-in-Some-pick_up-clause-agent g c =
-    after_answer c.args.agent.now c.loop.agent c.lend.new.agent c.pick_up.new.agent c.requires.may.joins c.loop.invariant.agent c.in-Joined.ensures.agent c.in-Some-pick_up.ensures.counts
-
-pub returns-in-Some-pick_up-clause-enters : goal.returns-in-Some-pick_up-clause-enters
-returns-in-Some-pick_up-clause-enters g c =
-    let x = starts_by g.G.Gate.takes g.G.Gate.gives g.G.Gate.finds c.args.agent.now.caller c.args.key.now c.args.op.now c.loop.agent.caller.session c.caller-caller.result (begun.Joined c.in-Joined.join) c.loop.gate c.loop.token c.lend.new.gate c.lend.new.token
-    (session_is c.args.agent.now c.loop.agent c.loop.invariant.agent) c.caller-caller.ensures c.in-Joined.ensures.phase.0 in
-    let answer = c.in-Some-pick_up.ensures.answer in
-    enters g.G.Gate.takes g.G.Gate.gives g.G.Gate.finds c.args.agent.now.caller c.args.key.now c.args.op.now c.args.gate.now c.args.token.now c.loop.gate c.loop.token (begun.Joined c.in-Joined.join) c.lend.new.gate c.lend.new.token (entered.Done c.in-Some-pick_up.reply) c.pick_up.new.gate c.pick_up.new.token c.loop.invariant.so x
-    (shares g.G.Gate.takes g.G.Gate.gives g.G.Gate.finds c.args.agent.now.caller c.args.key.now c.args.op.now c.in-Joined.join c.loop.gate c.loop.token c.lend.new.gate c.lend.new.token c.lend.new.agent.caller.session c.in-Some-pick_up.reply answer.0 answer.1 c.pick_up.new.gate c.pick_up.new.token x
-    (session_joined c.args.agent.now c.loop.agent c.lend.new.agent c.loop.invariant.agent c.in-Joined.ensures.agent) answer.2)
+pub returns-in-Some-pick_up : goal.returns-in-Some-pick_up
+returns-in-Some-pick_up g c = record {
+  ready = c.in-Some-pick_up.ensures.some.ready;
+  agent = after_answer c.args.agent.now c.loop.agent c.lend.new.agent c.pick_up.new.agent c.requires.may.joins c.loop.invariant.agent c.in-Joined.ensures.agent c.in-Some-pick_up.ensures.some.agent;
+  phase =
+      let x = starts_by g.G.Gate.takes g.G.Gate.gives g.G.Gate.finds c.args.agent.now.caller c.args.key.now c.args.op.now c.loop.agent.caller.session c.caller-caller.result (begun.Joined c.in-Joined.join) c.loop.gate c.loop.token c.lend.new.gate c.lend.new.token
+      (session_is c.args.agent.now c.loop.agent c.loop.invariant.agent) c.caller-caller.ensures c.in-Joined.ensures.phase.0 in
+      let answer = c.in-Some-pick_up.ensures.some.phase in
+      enters g.G.Gate.takes g.G.Gate.gives g.G.Gate.finds c.args.agent.now.caller c.args.key.now c.args.op.now c.args.gate.now c.args.token.now c.loop.gate c.loop.token (begun.Joined c.in-Joined.join) c.lend.new.gate c.lend.new.token (entered.Done c.in-Some-pick_up.reply) c.pick_up.new.gate c.pick_up.new.token c.loop.invariant.so x
+      (shares g.G.Gate.takes g.G.Gate.gives g.G.Gate.finds c.args.agent.now.caller c.args.key.now c.args.op.now c.in-Joined.join c.loop.gate c.loop.token c.lend.new.gate c.lend.new.token c.lend.new.agent.caller.session c.in-Some-pick_up.reply answer.0 answer.1 c.pick_up.new.gate c.pick_up.new.token x
+      (session_joined c.args.agent.now c.loop.agent c.lend.new.agent c.loop.invariant.agent c.in-Joined.ensures.agent) answer.2);
+}
 
 pub loop-preserved : goal.loop-preserved
 loop-preserved g c =
     let x = starts_by g.G.Gate.takes g.G.Gate.gives g.G.Gate.finds c.args.agent.now.caller c.args.key.now c.args.op.now c.loop.agent.caller.session c.caller-caller.result (begun.Joined c.in-Joined.join) c.loop.gate c.loop.token c.lend.new.gate c.lend.new.token
     (session_is c.args.agent.now c.loop.agent c.loop.invariant.agent) c.caller-caller.ensures c.in-Joined.ensures.phase.0 in
     record {
-      agent = after_retry c.args.agent.now c.loop.agent c.lend.new.agent c.pick_up.new.agent c.requires.may.joins c.loop.invariant.agent c.in-Joined.ensures.agent c.in_default.ensures.none;
-      ready = c.pick_up.ensures.ready;
+      agent = after_retry c.args.agent.now c.loop.agent c.lend.new.agent c.pick_up.new.agent c.requires.may.joins c.loop.invariant.agent c.in-Joined.ensures.agent c.in_default.ensures.none.agent;
+      ready = c.in_default.ensures.none.ready;
       so = rounds_on g.G.Gate.takes g.G.Gate.gives g.G.Gate.finds c.args.agent.now.caller c.args.key.now c.args.op.now c.is_uniform.ensures c.own_steps.ensures
           c.args.gate.now c.args.token.now c.loop.gate c.loop.token c.in-Joined.join c.lend.new.gate c.lend.new.token c.pick_up.new.gate c.pick_up.new.token c.loop.invariant.so x c.lend.new.agent.caller.session
-          (session_joined c.args.agent.now c.loop.agent c.lend.new.agent c.loop.invariant.agent c.in-Joined.ensures.agent) c.in_default.ensures.again;
+          (session_joined c.args.agent.now c.loop.agent c.lend.new.agent c.loop.invariant.agent c.in-Joined.ensures.agent) c.in_default.ensures.none.phase;
     }

@@ -9,10 +9,13 @@ use Rattle.jc_engine.specs.Stays.{begins-stays}
 use Rattle.jc_engine.proofs.Later.{rested, since_rest, later_call, hit_told, not_found}
 use Rattle.jc_engine.proofs.getting.get.Goals as goal
 
-pub returns-then-is_some-clause-call : goal.returns-then-is_some-clause-call
-returns-then-is_some-clause-call g c =
-    hit_told _ _ _ _ g.G.Gate.takes g.G.Gate.gives g.G.Gate.finds c.args.agent.now c.hit.new.agent c.args.key.now c.hit.new.found c.args.gate.now c.args.token.now c.hit.new.gate c.hit.new.token
-    (sym c.is_some.ensures ∙ c.if-is_some.true) c.hit.ensures.phase c.hit.ensures.agent c.requires.ready.held
+pub returns-then-is_some : goal.returns-then-is_some
+returns-then-is_some g c = record {
+  ready = c.hit.ensures.ready;
+  call =
+      hit_told _ _ _ _ g.G.Gate.takes g.G.Gate.gives g.G.Gate.finds c.args.agent.now c.hit.new.agent c.args.key.now c.hit.new.found c.args.gate.now c.args.token.now c.hit.new.gate c.hit.new.token
+      (sym c.is_some.ensures ∙ c.if-is_some.true) c.hit.ensures.phase c.hit.ensures.agent c.requires.ready.held;
+}
 
 pub get_in_phases-requires-clause-may : goal.get_in_phases-requires-clause-may
 get_in_phases-requires-clause-may g c =
@@ -31,19 +34,22 @@ get_in_phases-requires-clause-may g c =
           (c.requires.may.writes (since a finds).first (since a finds).finds_first (sym (ap (λ k. k.write_through) (since a finds).after.same.config) ∙ through));
     }
 
-pub returns-clause-call : goal.returns-clause-call
-returns-clause-call g c =
-    let old = c.args.agent.now in
-    let none : c.hit.new.found ≡ None = not_found _ (sym c.is_some.ensures ∙ c.if-is_some.false) in
-    let x : LentPhase g.G.Gate.takes g.G.Gate.gives g.G.Gate.finds old.caller.session c.args.gate.now c.args.token.now (λ a b. Hits old.caller c.args.key.now None a b) c.hit.new.gate c.hit.new.token =
-    subst (λ (o : Option Bytes). LentPhase g.G.Gate.takes g.G.Gate.gives g.G.Gate.finds old.caller.session c.args.gate.now c.args.token.now (λ a b. Hits old.caller c.args.key.now o a b) c.hit.new.gate c.hit.new.token) none c.hit.ensures.phase in
-    let r = c.get_in_phases.ensures.call in (
-      r.0,
-      later_call _ _ _ _ g.G.Gate.takes g.G.Gate.gives g.G.Gate.finds old c.hit.new.agent c.get_in_phases.new.agent c.args.key.now Get c.args.gate.now c.args.token.now c.hit.new.gate c.hit.new.token
-          r.0 c.get_in_phases.new.gate c.get_in_phases.new.token
-          (c.hit.ensures.agent ∙ ap (λ (o : Option Bytes). record old { counts = counts_after old.counts (counted_hit o) }) none)
-          (rested g.G.Gate.takes g.G.Gate.gives g.G.Gate.finds old.caller.session c.args.gate.now c.args.token.now c.hit.new.gate c.hit.new.token x)
-          (since_rest g.G.Gate.takes g.G.Gate.gives g.G.Gate.finds c.is_uniform.ensures old.caller.session c.args.gate.now c.args.token.now c.hit.new.gate c.hit.new.token x)
-          r.1,
-      r.2,
-    )
+pub returns : goal.returns
+returns g c = record {
+  ready = c.get_in_phases.ensures.ready;
+  call =
+      let old = c.args.agent.now in
+      let none : c.hit.new.found ≡ None = not_found _ (sym c.is_some.ensures ∙ c.if-is_some.false) in
+      let x : LentPhase g.G.Gate.takes g.G.Gate.gives g.G.Gate.finds old.caller.session c.args.gate.now c.args.token.now (λ a b. Hits old.caller c.args.key.now None a b) c.hit.new.gate c.hit.new.token =
+      subst (λ (o : Option Bytes). LentPhase g.G.Gate.takes g.G.Gate.gives g.G.Gate.finds old.caller.session c.args.gate.now c.args.token.now (λ a b. Hits old.caller c.args.key.now o a b) c.hit.new.gate c.hit.new.token) none c.hit.ensures.phase in
+      let r = c.get_in_phases.ensures.call in (
+        r.0,
+        later_call _ _ _ _ g.G.Gate.takes g.G.Gate.gives g.G.Gate.finds old c.hit.new.agent c.get_in_phases.new.agent c.args.key.now Get c.args.gate.now c.args.token.now c.hit.new.gate c.hit.new.token
+            r.0 c.get_in_phases.new.gate c.get_in_phases.new.token
+            (c.hit.ensures.agent ∙ ap (λ (o : Option Bytes). record old { counts = counts_after old.counts (counted_hit o) }) none)
+            (rested g.G.Gate.takes g.G.Gate.gives g.G.Gate.finds old.caller.session c.args.gate.now c.args.token.now c.hit.new.gate c.hit.new.token x)
+            (since_rest g.G.Gate.takes g.G.Gate.gives g.G.Gate.finds c.is_uniform.ensures old.caller.session c.args.gate.now c.args.token.now c.hit.new.gate c.hit.new.token x)
+            r.1,
+        r.2,
+      );
+}

@@ -1,4 +1,4 @@
-use Rattle.std.proofs.Common.{◌≡◌, ◌∙◌, ap}
+use Rattle.std.proofs.Common.{rules, ◌≡◌, ◌∙◌, ap}
 use Rattle.jc_session.proofs.CallerLemmas.{phase_of}
 use Rattle.jc_engine.proofs.Coming.{since_start}
 use Rattle.jc_engine.proofs.Chains.{rests-start}
@@ -11,18 +11,22 @@ give-requires-clause-phase g c = (
   rw (c.counted_hit.ensures, ← c.caller.ensures, ← c.deref_mut.ensures.value) c.hit_on.ensures.counted,
 )
 
-pub returns-clause-phase : goal.returns-clause-phase
-returns-clause-phase g c =
+pub returns : goal.returns
+returns g c =
     let who : c.caller.result ≡ c.args.agent.now.caller = c.caller.ensures ∙ ap (λ a. a.caller) c.take-stripe.ensures.agent in
     record {
-      gate = c.args.gate.now;
-      token = c.args.token.now;
-      rests = rests-start g.G.Gate.takes g.G.Gate.gives g.G.Gate.finds c.args.gate.now c.args.token.now;
-      before = c.take-stripe.result.value;
-      after = c.hit_on.new.stripe;
-      since = since_start g.G.Gate.finds _ c.args.gate.now c.args.token.now _ c.take-stripe.ensures.found.0;
-      lent = record { gate = c.take-stripe.new.gate; token = c.take-stripe.new.token; took = c.take-stripe.ensures.takes; reached = c.take-stripe.ensures.found.1; gave = c.give.ensures.gives };
-      made = rw (← who, ← c.deref_mut.ensures.value) c.hit_on.ensures.made;
-      one = rw (← who, ← c.deref_mut.ensures.value) (phase_of _ _ _ _ c.hit_on.ensures.counted);
-      next = λ a f. c.give.ensures.next _ a (c.take-stripe.ensures.speaks _ c.requires.ready.speaks) f;
+      ready = search rules;
+      agent = search rules;
+      phase = record {
+        gate = c.args.gate.now;
+        token = c.args.token.now;
+        rests = rests-start g.G.Gate.takes g.G.Gate.gives g.G.Gate.finds c.args.gate.now c.args.token.now;
+        before = c.take-stripe.result.value;
+        after = c.hit_on.new.stripe;
+        since = since_start g.G.Gate.finds _ c.args.gate.now c.args.token.now _ c.take-stripe.ensures.found.0;
+        lent = record { gate = c.take-stripe.new.gate; token = c.take-stripe.new.token; took = c.take-stripe.ensures.takes; reached = c.take-stripe.ensures.found.1; gave = c.give.ensures.gives };
+        made = rw (← who, ← c.deref_mut.ensures.value) c.hit_on.ensures.made;
+        one = rw (← who, ← c.deref_mut.ensures.value) (phase_of _ _ _ _ c.hit_on.ensures.counted);
+        next = λ a f. c.give.ensures.next _ a (c.take-stripe.ensures.speaks _ c.requires.ready.speaks) f;
+      };
     }

@@ -22,13 +22,9 @@ lend-requires-clause-fits g c = record {
 
 pub run-processed-requires-clause-unasked : goal.run-processed-requires-clause-unasked
 run-processed-requires-clause-unasked g c =
-    let claim = c.in-Asks.ensures.phase.0.made.first.begins.4 in
-    (ap (λ (t : TicketClaim). t.asked) claim, ap (λ (t : TicketClaim). t.writer_asked) claim)
-
-pub run-processed-requires-clause-first : goal.run-processed-requires-clause-first
-run-processed-requires-clause-first g c =
     let lent = c.in-Asks.ensures.phase.0 in
-    runs_processor lent.before lent.after c.caller.result c.args.key.now c.in-Asks.ticket lent.made.first.begins
+    let claim = lent.made.first.begins.4 in
+    (ap (λ (t : TicketClaim). t.asked) claim, ap (λ (t : TicketClaim). t.writer_asked) claim, runs_processor lent.before lent.after c.caller.result c.args.key.now c.in-Asks.ticket lent.made.first.begins)
 
 pub run-processed-requires-clause-writer : goal.run-processed-requires-clause-writer
 run-processed-requires-clause-writer g c = λ through.
@@ -74,33 +70,39 @@ unreachable-requires-in-Joined g c =
     let lent = c.in-Joined.ensures.phase.0 in
     no_join lent.before lent.after c.caller.result c.args.key.now c.in-Joined._join lent.made.first.begins
 
-pub returns-in-Refused-clause-call : goal.returns-in-Refused-clause-call
-returns-in-Refused-clause-call g c =
-    let h = starts_by g.G.Gate.takes g.G.Gate.gives g.G.Gate.finds c.args.agent.now.caller c.args.key.now Invoke c.args.agent.now.caller.session c.caller.result (begun.Refused c.in-Refused.refusal)
-    c.args.gate.now c.args.token.now c.lend.new.gate c.lend.new.token refl c.caller.ensures c.in-Refused.ensures.phase.0 in
-    let x = at_once g.G.Gate.takes g.G.Gate.gives g.G.Gate.finds c.args.agent.now.caller c.args.key.now Invoke c.args.gate.now c.args.token.now (begun.Refused c.in-Refused.refusal) (entered.Refused c.in-Refused.refusal)
-    c.lend.new.gate c.lend.new.token h (refl, refl, refl) in
-    record {
-      call = refused_call _ _ _ _ g.G.Gate.takes g.G.Gate.gives g.G.Gate.finds c.args.agent.now c.lend.new.agent c.args.key.now Invoke c.args.gate.now c.args.token.now c.in-Refused.refusal c.lend.new.gate c.lend.new.token
-          x c.in-Refused.ensures.agent c.requires.ready.held;
-      run = refl;
-      type = refl;
-    }
+pub returns-in-Refused : goal.returns-in-Refused
+returns-in-Refused g c = record {
+  ready = c.lend.ensures.ready;
+  call =
+      let h = starts_by g.G.Gate.takes g.G.Gate.gives g.G.Gate.finds c.args.agent.now.caller c.args.key.now Invoke c.args.agent.now.caller.session c.caller.result (begun.Refused c.in-Refused.refusal)
+      c.args.gate.now c.args.token.now c.lend.new.gate c.lend.new.token refl c.caller.ensures c.in-Refused.ensures.phase.0 in
+      let x = at_once g.G.Gate.takes g.G.Gate.gives g.G.Gate.finds c.args.agent.now.caller c.args.key.now Invoke c.args.gate.now c.args.token.now (begun.Refused c.in-Refused.refusal) (entered.Refused c.in-Refused.refusal)
+      c.lend.new.gate c.lend.new.token h (refl, refl, refl) in
+      record {
+        call = refused_call _ _ _ _ g.G.Gate.takes g.G.Gate.gives g.G.Gate.finds c.args.agent.now c.lend.new.agent c.args.key.now Invoke c.args.gate.now c.args.token.now c.in-Refused.refusal c.lend.new.gate c.lend.new.token
+            x c.in-Refused.ensures.agent c.requires.ready.held;
+        run = refl;
+        type = refl;
+      };
+}
 
-pub returns-in-Asks-clause-call : goal.returns-in-Asks-clause-call
-returns-in-Asks-clause-call g c =
-    let h = starts_by g.G.Gate.takes g.G.Gate.gives g.G.Gate.finds c.args.agent.now.caller c.args.key.now Invoke c.args.agent.now.caller.session c.caller.result (begun.Asks c.in-Asks.ticket)
-    c.args.gate.now c.args.token.now c.lend.new.gate c.lend.new.token refl c.caller.ensures c.in-Asks.ensures.phase.0 in
-    let x = at_once g.G.Gate.takes g.G.Gate.gives g.G.Gate.finds c.args.agent.now.caller c.args.key.now Invoke c.args.gate.now c.args.token.now (begun.Asks c.in-Asks.ticket) (entered.Asks c.in-Asks.ticket)
-    c.lend.new.gate c.lend.new.token h (refl, refl, refl) in
-    let d = c.run-processed.ensures in
-    record {
-      call = reserved_call _ _ _ _ g.G.Gate.takes g.G.Gate.gives g.G.Gate.finds c.run-processed.new.agent.caller.session c.args.agent.now c.lend.new.agent c.run-processed.new.agent c.end-step.new.agent c.args.key.now Invoke c.args.gate.now c.args.token.now c.in-Asks.ticket
-          c.lend.new.gate c.lend.new.token c.run-processed.new.ticket.reservation (out_of (Processed c.run-processed.result.done c.run-processed.result.report)) c.end-step.result c.end-step.new.gate c.end-step.new.token x c.end-step.ensures.phase
-          (session_asked c.args.agent.now c.lend.new.agent c.run-processed.new.agent _ c.in-Asks.ensures.agent d.rest) d.reservation
-          c.requires.may.reservations c.in-Asks.ensures.agent d.rest d.held c.end-step.ensures.agent
-          d.loader (rw (ap (λ c. c.write_through) h.since.after.same.config, c.requires.through h.since.first h.since.finds_first) d.writer) d.types;
-      run = ran (λ b. (goal.EntryProcessor-dyn g (b.vtable, b.value)).processes b.value) (λ b. (goal.EntryProcessor-dyn g (b.vtable, b.value)).process_state b.value) h.before c.args.key.now c.in-Asks.ticket.reservation.key c.args.args.now c.in-Asks.ticket.reservation.first _ _ c.args.processor.now c.run-processed.new.processor
-          h.made.first.begins.2 (ap (λ (t : TicketClaim). t.reservation.key) h.made.first.begins.4) d.given d.run;
-      type = d.type;
-    }
+pub returns-in-Asks : goal.returns-in-Asks
+returns-in-Asks g c = record {
+  ready = c.end-step.ensures.ready;
+  call =
+      let h = starts_by g.G.Gate.takes g.G.Gate.gives g.G.Gate.finds c.args.agent.now.caller c.args.key.now Invoke c.args.agent.now.caller.session c.caller.result (begun.Asks c.in-Asks.ticket)
+      c.args.gate.now c.args.token.now c.lend.new.gate c.lend.new.token refl c.caller.ensures c.in-Asks.ensures.phase.0 in
+      let x = at_once g.G.Gate.takes g.G.Gate.gives g.G.Gate.finds c.args.agent.now.caller c.args.key.now Invoke c.args.gate.now c.args.token.now (begun.Asks c.in-Asks.ticket) (entered.Asks c.in-Asks.ticket)
+      c.lend.new.gate c.lend.new.token h (refl, refl, refl) in
+      let d = c.run-processed.ensures in
+      record {
+        call = reserved_call _ _ _ _ g.G.Gate.takes g.G.Gate.gives g.G.Gate.finds c.run-processed.new.agent.caller.session c.args.agent.now c.lend.new.agent c.run-processed.new.agent c.end-step.new.agent c.args.key.now Invoke c.args.gate.now c.args.token.now c.in-Asks.ticket
+            c.lend.new.gate c.lend.new.token c.run-processed.new.ticket.reservation (out_of (Processed c.run-processed.result.done c.run-processed.result.report)) c.end-step.result c.end-step.new.gate c.end-step.new.token x c.end-step.ensures.phase
+            (session_asked c.args.agent.now c.lend.new.agent c.run-processed.new.agent _ c.in-Asks.ensures.agent d.rest) d.reservation
+            c.requires.may.reservations c.in-Asks.ensures.agent d.rest d.held c.end-step.ensures.agent
+            d.loader (rw (ap (λ c. c.write_through) h.since.after.same.config, c.requires.through h.since.first h.since.finds_first) d.writer) d.types;
+        run = ran (λ b. (goal.EntryProcessor-dyn g (b.vtable, b.value)).processes b.value) (λ b. (goal.EntryProcessor-dyn g (b.vtable, b.value)).process_state b.value) h.before c.args.key.now c.in-Asks.ticket.reservation.key c.args.args.now c.in-Asks.ticket.reservation.first _ _ c.args.processor.now c.run-processed.new.processor
+            h.made.first.begins.2 (ap (λ (t : TicketClaim). t.reservation.key) h.made.first.begins.4) d.given d.run;
+        type = d.type;
+      };
+}

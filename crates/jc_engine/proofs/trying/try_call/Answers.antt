@@ -19,55 +19,58 @@ try_lend-requires-clause-fits g c = record {
 
 pub unreachable-requires : goal.unreachable-requires
 unreachable-requires g c =
-    let made = c.in-Ok.ensures.made in
+    let made = c.in-Ok.ensures.made.1 in
     no_ticket made.before made.after c.caller.result c.args.key.now c.args.op.now c.in-Asks._ticket (made.made.alone refl)
     (subst (λ (b : Begun). Begins made.before c.caller.result c.args.key.now c.args.op.now b made.after) c.in-Asks.is made.made.first.begins)
 
 pub unreachable-requires-in-Joined : goal.unreachable-requires-in-Joined
 unreachable-requires-in-Joined g c =
-    let made = c.in-Ok.ensures.made in
+    let made = c.in-Ok.ensures.made.1 in
     no_share made.before made.after c.caller.result c.args.key.now c.args.op.now c.in-Joined._join (made.made.alone refl)
     (subst (λ (b : Begun). Begins made.before c.caller.result c.args.key.now c.args.op.now b made.after) c.in-Joined.is made.made.first.begins)
 
-pub returns-in-Done-clause-agent : goal.returns-in-Done-clause-agent
-returns-in-Done-clause-agent g c =
-    c.in-Ok.ensures.agent
-    ∙ ap (λ (b : Begun). record c.args.agent.now { counts = counts_after c.args.agent.now.counts (counted_begun b) }) c.in-Done.is
+pub returns-in-Done : goal.returns-in-Done
+returns-in-Done g c = record {
+  ready = c.try_lend.ensures.ready;
+  agent =
+      c.in-Ok.ensures.made.0
+      ∙ ap (λ (b : Begun). record c.args.agent.now { counts = counts_after c.args.agent.now.counts (counted_begun b) }) c.in-Done.is;
+  phase = (
+    c.in-Done.step,
+    refl,
+    lent-map g.G.Gate.takes g.G.Gate.gives g.G.Gate.finds _ _ _ _ _ _ _ (λ a b tried. rw (← c.caller.ensures, ← c.in-Done.is) tried) c.in-Ok.ensures.made.1,
+  );
+}
 
-pub returns-in-Done-clause-tried : goal.returns-in-Done-clause-tried
-returns-in-Done-clause-tried g c = (
-  c.in-Done.step,
-  refl,
-  lent-map g.G.Gate.takes g.G.Gate.gives g.G.Gate.finds _ _ _ _ _ _ _ (λ a b tried. rw (← c.caller.ensures, ← c.in-Done.is) tried) c.in-Ok.ensures.made,
-)
-
-pub returns-in-Refused-clause-agent : goal.returns-in-Refused-clause-agent
-returns-in-Refused-clause-agent g c =
-    c.in-Ok.ensures.agent
-    ∙ ap (λ (b : Begun). record c.args.agent.now { counts = counts_after c.args.agent.now.counts (counted_begun b) }) c.in-Refused.is
-
-pub returns-in-Refused-clause-tried : goal.returns-in-Refused-clause-tried
-returns-in-Refused-clause-tried g c = inl (lent-map g.G.Gate.takes g.G.Gate.gives g.G.Gate.finds _ _ _ _ _ _ _ (λ a b tried. rw (← c.caller.ensures, ← c.in-Refused.is) tried) c.in-Ok.ensures.made)
-
-pub returns-in-Err-clause-agent : goal.returns-in-Err-clause-agent
-returns-in-Err-clause-agent g c = c.in-Err.ensures.back.1
+pub returns-in-Refused : goal.returns-in-Refused
+returns-in-Refused g c = record {
+  ready = c.try_lend.ensures.ready;
+  agent =
+      c.in-Ok.ensures.made.0
+      ∙ ap (λ (b : Begun). record c.args.agent.now { counts = counts_after c.args.agent.now.counts (counted_begun b) }) c.in-Refused.is;
+  phase = inl (lent-map g.G.Gate.takes g.G.Gate.gives g.G.Gate.finds _ _ _ _ _ _ _ (λ a b tried. rw (← c.caller.ensures, ← c.in-Refused.is) tried) c.in-Ok.ensures.made.1);
+}
 
 not_so : (b : Bool) → (b ≡ true → ⊥) → b ≡ false
 not_so true never = absurd (never refl)
 not_so false never = refl
 
-pub returns-in-Err-clause-tried : goal.returns-in-Err-clause-tried
-returns-in-Err-clause-tried g c =
-    let missed = c.in-Err.ensures.back.2 in
-    inr (
-      refl,
-      record {
-        rests = missed.rests;
-        each = each_is _ _ missed.rests.idle
-            (λ a why. subst (λ (who : Caller). can_start Alone a who c.args.key.now c.args.op.now ≡ false) c.caller.ensures
-            (⊎_elim (λ never. not_so _ never) (λ put_off. absurd (true≢false (sym put_off.put_off))) why))
-            missed.each;
-        renewed = missed.renewed;
-        none = missed.none;
-      },
-    )
+pub returns-in-Err : goal.returns-in-Err
+returns-in-Err g c = record {
+  ready = c.try_lend.ensures.ready;
+  agent = c.in-Err.ensures.back.1;
+  phase =
+      let missed = c.in-Err.ensures.back.2 in
+      inr (
+        refl,
+        record {
+          rests = missed.rests;
+          each = each_is _ _ missed.rests.idle
+              (λ a why. subst (λ (who : Caller). can_start Alone a who c.args.key.now c.args.op.now ≡ false) c.caller.ensures
+              (⊎_elim (λ never. not_so _ never) (λ put_off. absurd (true≢false (sym put_off.put_off))) why))
+              missed.each;
+          renewed = missed.renewed;
+          none = missed.none;
+        },
+      );
+}

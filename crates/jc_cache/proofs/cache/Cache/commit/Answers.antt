@@ -14,10 +14,10 @@ phase_at-requires-clause-stripe g c = number_near c.args.self.now c.self.inside.
 
 pub phase_at-requires-clause-needs : goal.phase_at-requires-clause-needs
 phase_at-requires-clause-needs g c a found =
-    commit_needs c.args.self.now c.args.session.now c.args.ticket (g.A.Answer.answered c.args.answer) c.stripe_of-at.result found.0 a c.requires.own c.requires.answered c.requires.reported found.1 found.2
+    commit_needs c.args.self.now c.args.session.now c.args.ticket (g.A.Answer.answered c.args.answer) c.stripe_of-at.result found.0 a c.requires.caller.own c.requires.answered c.requires.reported found.1 found.2
 
-pub returns-clause-phase : goal.returns-clause-phase
-returns-clause-phase g c =
-    phase_map _ c.stripe_of-at.result c.args.session.now _ _ _ _
+pub returns : goal.returns
+returns g c =
+    phase_map c.args.self.now _ c.stripe_of-at.result c.args.session.now _ _ _ _
     (at_key c.args.self.now _ c.reservation.result.now.key _ (ap (λ (z : CacheState). z.config) c.self.view_is) c.stripe_of-at.ensures ∙ ap (λ (r : Reservation). stripe_of r.key c.args.self.now.config.stripes) c.reservation.ensures)
-    (λ a b m. m) c.phase_at.ensures.phase
+    (λ a b m. m) c.phase_at.ensures

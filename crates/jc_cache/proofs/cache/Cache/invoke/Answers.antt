@@ -1,6 +1,6 @@
 use Rattle.std.proofs.Common.{◌≡◌, subst, ℕ, ◌<◌, ◌∙◌, ap, refl, sym, Some, slice_get}
 use Rattle.jc_cache.specs.Caches.{CacheState}
-use Rattle.jc_cache.proofs.WholeCalls.{some_stripe, lock_near, seat_near, at_key, seat_at, free_at, speaks_at, may_begin, writes_as, invoked, writer_there}
+use Rattle.jc_cache.proofs.WholeCalls.{some_stripe, lock_near, seat_near, at_key, seat_at, free_at, ready_next, may_call, writes_as, invoked}
 use Rattle.jc_cache.proofs.cache.Cache.invoke.Goals as goal
 
 pub stripe_of-at-requires : goal.stripe_of-at-requires
@@ -23,44 +23,23 @@ invoke-requires-clause-through g c a finds =
 
 pub invoke-requires-clause-ready : goal.invoke-requires-clause-ready
 invoke-requires-clause-ready g c =
-    let same : c.self.inside.config ≡ c.args.self.now.config = ap (λ (z : CacheState). z.config) c.self.view_is in
     let there : slice_get c.args.session.now.seats.items c.stripe_of-at.result ≡ Some c.index_mut-seat.result.now =
-    seat_at c.args.self.now c.args.session.now _ c.args.key.now _ _ c.requires.may.own c.self.invariant.fits same c.stripe_of-at.ensures c.index_mut-seat.ensures.value in
-    record {
-      held = ap (λ a. a.hands.held) c.next_call.ensures.call ∙ c.requires.may.own.held;
-      free = free_at c.args.self.now c.args.session.now c.self.inside.locks.items c.stripe_of-at.result c.index_mut-seat.result.now c.index.result.now c.requires.may.own (ap (λ (z : CacheState). z.locks) c.self.view_is) there c.index.ensures;
-      speaks = speaks_at c.args.self.now c.args.session.now c.next_call.new.self c.stripe_of-at.result c.index_mut-seat.result.now c.requires.may.own c.next_call.ensures.call there;
-    }
+    seat_at c.args.self.now c.args.session.now _ c.args.key.now _ _ c.requires.may.own c.self.invariant.fits (ap (λ (z : CacheState). z.config) c.self.view_is) c.stripe_of-at.ensures c.index_mut-seat.ensures.value in
+    ready_next c.args.self.now c.args.session.now c.next_call.new.self c.stripe_of-at.result c.index_mut-seat.result.now c.requires.may.own c.next_call.ensures.call there
+    (free_at c.args.self.now c.args.session.now c.self.inside.locks.items c.stripe_of-at.result c.index_mut-seat.result.now c.index.result.now c.requires.may.own (ap (λ (z : CacheState). z.locks) c.self.view_is) there c.index.ensures)
 
 pub invoke-requires-clause-may : goal.invoke-requires-clause-may
 invoke-requires-clause-may g c =
-    let same : c.self.inside.config ≡ c.args.self.now.config = ap (λ (z : CacheState). z.config) c.self.view_is in
     let there : slice_get c.args.session.now.seats.items c.stripe_of-at.result ≡ Some c.index_mut-seat.result.now =
-    seat_at c.args.self.now c.args.session.now _ c.args.key.now _ _ c.requires.may.own c.self.invariant.fits same c.stripe_of-at.ensures c.index_mut-seat.ensures.value in
-    record {
-      reservations = ap (λ a. a.counts.reservations) c.next_call.ensures.call ∙ c.requires.may.reservations;
-      joins = ap (λ a. a.counts.joins) c.next_call.ensures.call ∙ c.requires.may.joins;
-      begins = λ a finds. may_begin c.laws.ensures.numbers c.args.self.now c.args.session.now c.next_call.new.self c.stripe_of-at.result _ _ a c.requires.may c.next_call.ensures.call there finds;
-      writes = λ a finds on. writer_there c.args.self.now c.args.session.now c.next_call.new.self c.stripe_of-at.result _ a c.requires.may c.next_call.ensures.call there finds on;
-    }
+    seat_at c.args.self.now c.args.session.now _ c.args.key.now _ _ c.requires.may.own c.self.invariant.fits (ap (λ (z : CacheState). z.config) c.self.view_is) c.stripe_of-at.ensures c.index_mut-seat.ensures.value in
+    may_call c.laws.ensures.numbers c.args.self.now c.args.session.now c.next_call.new.self c.stripe_of-at.result _ c.index_mut-seat.result.now c.args.key.now c.requires.may c.next_call.ensures.call there
 
-pub returns-clause-may : goal.returns-clause-may
-returns-clause-may g c =
+pub returns : goal.returns
+returns g c =
     let same : c.self.inside.config ≡ c.args.self.now.config = ap (λ (z : CacheState). z.config) c.self.view_is in
     let there : slice_get c.args.session.now.seats.items c.stripe_of-at.result ≡ Some c.index_mut-seat.result.now =
     seat_at c.args.self.now c.args.session.now _ c.args.key.now _ _ c.requires.may.own c.self.invariant.fits same c.stripe_of-at.ensures c.index_mut-seat.ensures.value in
-    (invoked _ _ _ _ c.laws.ensures.uniform c.laws.ensures.steps c.laws.ensures.behind c.laws.ensures.numbers _ _ c.args.self.now c.args.session.now _ c.next_call.new.self c.args.key.now c.args.args.now
+    let made = invoked _ _ _ _ c.laws.ensures.uniform c.laws.ensures.steps c.laws.ensures.behind c.laws.ensures.numbers _ _ c.args.self.now c.args.session.now _ c.next_call.new.self c.args.key.now c.args.args.now
     c.args.processor.now c.invoke.new.processor c.stripe_of-at.result c.invoke.result _ c.index_mut-seat.result.now c.invoke.new.gate c.invoke.new.token c.requires.may c.next_call.ensures.call
-    (at_key c.args.self.now _ c.args.key.now _ same c.stripe_of-at.ensures) there refl c.invoke.ensures.call).1
-
-pub returns-clause-call : goal.returns-clause-call
-returns-clause-call g c =
-    let same : c.self.inside.config ≡ c.args.self.now.config = ap (λ (z : CacheState). z.config) c.self.view_is in
-    let there : slice_get c.args.session.now.seats.items c.stripe_of-at.result ≡ Some c.index_mut-seat.result.now =
-    seat_at c.args.self.now c.args.session.now _ c.args.key.now _ _ c.requires.may.own c.self.invariant.fits same c.stripe_of-at.ensures c.index_mut-seat.ensures.value in (
-      c.invoke.result,
-      (invoked _ _ _ _ c.laws.ensures.uniform c.laws.ensures.steps c.laws.ensures.behind c.laws.ensures.numbers _ _ c.args.self.now c.args.session.now _ c.next_call.new.self c.args.key.now c.args.args.now
-          c.args.processor.now c.invoke.new.processor c.stripe_of-at.result c.invoke.result _ c.index_mut-seat.result.now c.invoke.new.gate c.invoke.new.token c.requires.may c.next_call.ensures.call
-          (at_key c.args.self.now _ c.args.key.now _ same c.stripe_of-at.ensures) there refl c.invoke.ensures.call).0,
-      c.value_of.ensures,
-    )
+    (at_key c.args.self.now _ c.args.key.now _ same c.stripe_of-at.ensures) there refl c.invoke.ensures.call in
+    record { may = made.may; call = (c.invoke.result, made.call, c.value_of.ensures) }

@@ -13,10 +13,11 @@ tell_each-requires-clause-hearers g c =
       ),
     )
 
-pub returns-clause-teller : goal.returns-clause-teller
-returns-clause-teller g c =
-    teller_may c.args.self.now _ _ _ _ c.requires.teller c.requires.hearer c.tell_each.ensures.agent c.tell_each.ensures.tellers c.tell_each.ensures.hearers c.tell_each.ensures.told
-
-pub returns-clause-hearer : goal.returns-clause-hearer
-returns-clause-hearer g c =
-    hearer_may c.args.self.now _ _ _ _ c.requires.teller c.requires.hearer refl c.tell_each.ensures.tellers c.tell_each.ensures.hearers c.tell_each.ensures.told
+pub returns : goal.returns
+returns g c =
+    let tells = c.tell_each.ensures in
+    record {
+      teller = teller_may c.args.self.now _ _ _ _ c.requires.teller c.requires.hearer tells.agent tells.tellers tells.hearers tells.told;
+      hearer = hearer_may c.args.self.now _ _ _ _ c.requires.teller c.requires.hearer refl tells.tellers tells.hearers tells.told;
+      met = record { each = tells.told; teller_stays = tells.agent; hearer_stays = refl };
+    }

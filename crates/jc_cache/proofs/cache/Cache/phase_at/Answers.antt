@@ -1,7 +1,7 @@
 use Rattle.std.proofs.Common.{ap, refl}
 use Rattle.jc_stripe.specs.State.{State}
 use Rattle.jc_cache.specs.Caches.{CacheState}
-use Rattle.jc_cache.proofs.WholeCalls.{free_at}
+use Rattle.jc_cache.proofs.WholeCalls.{free_at, ready}
 use Rattle.jc_cache.proofs.SessionPhases.{number_at, phase_left}
 use Rattle.jc_cache.proofs.cache.Cache.phase_at.Goals as goal
 
@@ -9,11 +9,8 @@ pub lend-requires-clause-ready : goal.lend-requires-clause-ready
 lend-requires-clause-ready g c =
     let t = c.index_mut-seat.result.now in
     let there = number_at c.args.self.now c.args.session.now c.args.number t c.requires.own c.requires.stripe c.index_mut-seat.ensures.value in
-    record {
-      held = c.requires.own.held;
-      free = free_at c.args.self.now c.args.session.now c.self.inside.locks.items c.args.number t c.index.result.now c.requires.own (ap (λ (z : CacheState). z.locks) c.self.view_is) there c.index.ensures;
-      speaks = (c.requires.own.seats c.args.number t there).of_session;
-    }
+    ready c.args.self.now c.args.session.now c.args.number t c.requires.own there
+    (free_at c.args.self.now c.args.session.now c.self.inside.locks.items c.args.number t c.index.result.now c.requires.own (ap (λ (z : CacheState). z.locks) c.self.view_is) there c.index.ensures)
 
 pub lend-requires-clause-fits : goal.lend-requires-clause-fits
 lend-requires-clause-fits g c =
@@ -21,18 +18,10 @@ lend-requires-clause-fits g c =
     let there = number_at c.args.self.now c.args.session.now c.args.number t c.requires.own c.requires.stripe c.index_mut-seat.ensures.value in
     record { who_is = c.requires.who; needs_it = λ a finds. c.requires.needs a (t, there, finds) }
 
-pub returns-clause-own : goal.returns-clause-own
-returns-clause-own g c =
+pub returns : goal.returns
+returns g c =
     let t = c.index_mut-seat.result.now in
     let there = number_at c.args.self.now c.args.session.now c.args.number t c.requires.own c.requires.stripe c.index_mut-seat.ensures.value in
     let makes : State → State → Type 0 = λ a b. g.P.Phase.makes c.args.phase a c.lend.result b in
-    (phase_left c.is_uniform.ensures c.own_steps.ensures c.args.self.now c.args.session.now _ c.args.number (g.P.Phase.counts c.lend.result) makes _ t c.lend.new.gate c.lend.new.token
-    c.requires.own there refl c.lend.ensures.agent c.lend.ensures.phase.0 c.lend.ensures.phase.1).1
-
-pub returns-clause-phase : goal.returns-clause-phase
-returns-clause-phase g c =
-    let t = c.index_mut-seat.result.now in
-    let there = number_at c.args.self.now c.args.session.now c.args.number t c.requires.own c.requires.stripe c.index_mut-seat.ensures.value in
-    let makes : State → State → Type 0 = λ a b. g.P.Phase.makes c.args.phase a c.lend.result b in
-    (phase_left c.is_uniform.ensures c.own_steps.ensures c.args.self.now c.args.session.now _ c.args.number (g.P.Phase.counts c.lend.result) makes _ t c.lend.new.gate c.lend.new.token
-    c.requires.own there refl c.lend.ensures.agent c.lend.ensures.phase.0 c.lend.ensures.phase.1).0
+    phase_left c.is_uniform.ensures c.own_steps.ensures c.args.self.now c.args.session.now _ c.args.number (g.P.Phase.counts c.lend.result) makes _ t c.lend.new.gate c.lend.new.token
+    c.requires.own there refl c.lend.ensures.agent c.lend.ensures.phase.0 c.lend.ensures.phase.1

@@ -20,8 +20,8 @@ phase_at-requires-clause-needs g c a found =
     start_needs c.args.self.now c.args.session.now c.caller.result c.args.key.now c.stripe_of-at.result found.0 a c.requires.own c.requires.may c.caller.ensures
     (at_key c.args.self.now _ c.args.key.now _ (ap (λ (z : CacheState). z.config) c.self.view_is) c.stripe_of-at.ensures) found.1 found.2
 
-pub returns-clause-phase : goal.returns-clause-phase
-returns-clause-phase g c =
-    phase_map _ c.stripe_of-at.result c.args.session.now _ _ _ _ (at_key c.args.self.now _ c.args.key.now _ (ap (λ (z : CacheState). z.config) c.self.view_is) c.stripe_of-at.ensures)
+pub returns : goal.returns
+returns g c =
+    phase_map c.args.self.now _ c.stripe_of-at.result c.args.session.now _ _ _ _ (at_key c.args.self.now _ c.args.key.now _ (ap (λ (z : CacheState). z.config) c.self.view_is) c.stripe_of-at.ensures)
     (λ a b m. subst (λ (w : Caller). StartsAt w c.args.key.now c.args.op.now c.phase_at.result a b) c.caller.ensures m.first)
-    c.phase_at.ensures.phase
+    c.phase_at.ensures

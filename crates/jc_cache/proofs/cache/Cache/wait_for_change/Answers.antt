@@ -19,4 +19,4 @@ wait_for_change-requires-clause-free g c =
     let same = ap (λ (z : CacheState). z.config) c.self.view_is in
     let there : slice_get c.args.session.now.seats.items c.stripe_of-at.result ≡ Some c.index-2.result.now =
     seat_at c.args.self.now c.args.session.now _ c.args.key.now _ _ c.requires.own c.self.invariant.fits same c.stripe_of-at.ensures c.index-2.ensures in
-    free_at c.args.self.now c.args.session.now c.self.inside.locks.items c.stripe_of-at.result c.index-2.result.now c.index.result.now c.requires.own (ap (λ (z : CacheState). z.locks) c.self.view_is) there c.index.ensures
+    (c.requires.own.held, free_at c.args.self.now c.args.session.now c.self.inside.locks.items c.stripe_of-at.result c.index-2.result.now c.index.result.now c.requires.own (ap (λ (z : CacheState). z.locks) c.self.view_is) there c.index.ensures)

@@ -1,4 +1,4 @@
-use Rattle.std.proofs.Common.{◌∙◌, ◌<◌, ℕ, refl, sym, subst, rules}
+use Rattle.std.proofs.Common.{ap, ◌∙◌, ◌<◌, ℕ, refl, sym, subst, rules}
 use Rattle.jc_cache.proofs.ClosingSeats.{keep_all, keep_set, none_phase, given_back, near_row, give_near, give_there, give_step}
 use Rattle.jc_cache.proofs.Noted.{noted_set}
 use Rattle.jc_cache.proofs.closing.own_seats.give_all.Goals as goal
@@ -19,13 +19,10 @@ index_mut-requires c =
     let near = give_near _ _ _ _ _ _ c.len-i.result c.requires.locks c.loop-closed.invariant.keeps c.loop-closed.invariant.taken c.in-Some.ensures.items (c.len-i.ensures ∙ c.pop.new.self.ok.0) in
     subst (λ (n : ℕ). c.len-i.result < n) (sym c.loop-closed.own.ok.0) (near_row _ _ _ c.len-i.result c.requires.locks c.loop-closed.invariant.keeps near)
 
-pub give-requires-clause-lock : goal.give-requires-clause-lock
-give-requires-clause-lock c =
-    (give_there _ _ _ _ _ _ c.len-i.result _ _ c.requires.locks c.loop-closed.invariant.keeps c.loop-closed.invariant.taken c.in-Some.ensures.items (c.len-i.ensures ∙ c.pop.new.self.ok.0) c.index_mut.ensures.value c.index-locks-i.is).1
-
 pub give-requires-clause-held : goal.give-requires-clause-held
 give-requires-clause-held c =
-    (give_there _ _ _ _ _ _ c.len-i.result _ _ c.requires.locks c.loop-closed.invariant.keeps c.loop-closed.invariant.taken c.in-Some.ensures.items (c.len-i.ensures ∙ c.pop.new.self.ok.0) c.index_mut.ensures.value c.index-locks-i.is).2.holds
+    let there = give_there _ _ _ _ _ _ c.len-i.result _ _ c.requires.locks c.loop-closed.invariant.keeps c.loop-closed.invariant.taken c.in-Some.ensures.items (c.len-i.ensures ∙ c.pop.new.self.ok.0) c.index_mut.ensures.value c.index-locks-i.is in
+    (there.1, there.2.holds)
 
 pub give-requires-clause-phase : goal.give-requires-clause-phase
 give-requires-clause-phase c =
@@ -35,7 +32,7 @@ give-requires-clause-phase c =
 pub loop-closed-preserved : goal.loop-closed-preserved
 loop-closed-preserved c =
     let there = give_there _ _ _ _ _ _ c.len-i.result _ _ c.requires.locks c.loop-closed.invariant.keeps c.loop-closed.invariant.taken c.in-Some.ensures.items (c.len-i.ensures ∙ c.pop.new.self.ok.0) c.index_mut.ensures.value c.index-locks-i.is in
-    let given = given_back _ _ _ _ there.2 c.closed.view_is c.give.ensures.lock c.give.ensures.seat in
+    let given = given_back _ _ _ _ there.2 c.closed.view_is (ap (λ z. z.0) c.give.ensures) (ap (λ z. z.1) c.give.ensures) in
     record {
       keeps = keep_set _ _ c.len-i.result _ _ c.loop-closed.invariant.keeps there.0 given.0;
       taken = give_step _ _ _ _ c.len-i.result _ c.loop-closed.invariant.taken c.in-Some.ensures.items (c.len-i.ensures ∙ c.pop.new.self.ok.0) given.1;

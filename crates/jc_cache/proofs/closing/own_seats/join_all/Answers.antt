@@ -14,14 +14,14 @@ loop-session-init g c =
       all = refl;
       count = search rules;
       keeps = keep_all _;
-      taken = c.requires.taken;
+      taken = c.requires.own.taken;
       fronts = All-nil _;
       outside = sym (append-nil _);
       room = let all = ap length given.0 in let room = c.requires.room in omega arith;
     }
 
-pub join_seats-requires-clause-locks : goal.join_seats-requires-clause-locks
-join_seats-requires-clause-locks g c = keep_locks _ _ c.loop-session.invariant.keeps ∙ c.requires.locks
+pub join_seats-requires-clause-own : goal.join_seats-requires-clause-own
+join_seats-requires-clause-own g c = record { locks = keep_locks _ _ c.loop-session.invariant.keeps ∙ c.requires.own.locks; taken = c.loop-session.invariant.taken }
 
 pub loop-session-preserved : goal.loop-session-preserved
 loop-session-preserved g c =
@@ -33,8 +33,8 @@ loop-session-preserved g c =
     record {
       all = append_assoc at.yielded (x ∷ []) _ ∙ rw (← steps) at.invariant.all;
       count = let was = at.invariant.count in let gone = c.in-Some.ensures.steps.1 in let short = ap length steps in omega arith;
-      keeps = keep_on _ _ _ at.invariant.keeps c.join_seats.ensures.keeps;
-      taken = c.join_seats.ensures.taken;
+      keeps = keep_on _ _ _ at.invariant.keeps c.join_seats.ensures.own.keeps;
+      taken = c.join_seats.ensures.own.taken;
       fronts = All-push (λ s. HasFront c.args.stripes.now s.seats.items) at.yielded x at.invariant.fronts
           (subst (λ (seats : List (TableId × View)). HasFront c.args.stripes.now seats) brought.seats c.join_seats.ensures.front);
       outside = brought_push _ _ _ _ at.yielded x _ pushed.items at.invariant.outside brought.outside;

@@ -6,24 +6,17 @@ use Rattle.jc_cache.proofs.Noted.{idle_set, row_refusal}
 use Rattle.jc_cache.proofs.closing.own_seats.test_all_idle.Goals as goal
 
 pub loop-i-init : goal.loop-i-init
-loop-i-init c = record { keeps = keep_all _; free = c.requires.free; idle = λ k seat near there. absurd (omega arith) }
+loop-i-init c = record { keeps = keep_all _; free = c.requires.taken; idle = λ k seat near there. absurd (omega arith) }
 
-pub test_idle-requires-clause-lock : goal.test_idle-requires-clause-lock
-test_idle-requires-clause-lock c =
-    (own_there _ _ _ c.loop-i.i _ _ c.requires.locks c.loop-i.invariant.keeps c.loop-i-test.true c.index_mut.ensures.value c.index-locks-i.is).1
+pub test_idle-requires : goal.test_idle-requires
+test_idle-requires c =
+    let there = own_there _ _ _ c.loop-i.i _ _ c.requires.locks c.loop-i.invariant.keeps c.loop-i-test.true c.index_mut.ensures.value c.index-locks-i.is in
+    (there.1, free_at _ c.loop-i.i _ c.loop-i.invariant.free there.0)
 
-pub test_idle-requires-clause-free : goal.test_idle-requires-clause-free
-test_idle-requires-clause-free c =
+pub returns-in_err-test_idle-clause-own : goal.returns-in_err-test_idle-clause-own
+returns-in_err-test_idle-clause-own c =
     let at = own_there _ _ _ c.loop-i.i _ _ c.requires.locks c.loop-i.invariant.keeps c.loop-i-test.true c.index_mut.ensures.value c.index-locks-i.is in
-    free_at _ c.loop-i.i _ c.loop-i.invariant.free at.0
-
-pub returns-in_err-test_idle-clause-keeps : goal.returns-in_err-test_idle-clause-keeps
-returns-in_err-test_idle-clause-keeps c =
-    let at = own_there _ _ _ c.loop-i.i _ _ c.requires.locks c.loop-i.invariant.keeps c.loop-i-test.true c.index_mut.ensures.value c.index-locks-i.is in
-    keep_set _ _ c.loop-i.i _ _ c.loop-i.invariant.keeps at.0 c.test_idle.ensures.keeps
-
-pub returns-in_err-test_idle-clause-free : goal.returns-in_err-test_idle-clause-free
-returns-in_err-test_idle-clause-free c = free_set _ c.loop-i.i _ c.loop-i.invariant.free c.test_idle.ensures.free
+    record { keeps = keep_set _ _ c.loop-i.i _ _ c.loop-i.invariant.keeps at.0 c.test_idle.ensures.keeps; taken = free_set _ c.loop-i.i _ c.loop-i.invariant.free c.test_idle.ensures.free }
 
 pub returns-in_err-test_idle-clause-err : goal.returns-in_err-test_idle-clause-err
 returns-in_err-test_idle-clause-err c =

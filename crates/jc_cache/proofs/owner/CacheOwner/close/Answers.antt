@@ -1,6 +1,6 @@
-use Rattle.std.proofs.Common.{refl}
+use Rattle.std.proofs.Common.{refl, rules}
 use Rattle.jc_cache.proofs.ClosedCache.{as_it_was}
 use Rattle.jc_cache.proofs.owner.CacheOwner.close.Goals as goal
 
-pub returns-clause-back : goal.returns-clause-back
-returns-clause-back g c = (as_it_was _, refl)
+pub returns-clause-err : goal.returns-clause-err
+returns-clause-err g c = record { why = search rules; back = (as_it_was _, refl) }

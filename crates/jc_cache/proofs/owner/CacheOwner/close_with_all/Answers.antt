@@ -1,15 +1,15 @@
-use Rattle.std.proofs.Common.{◌∙◌, refl, sym, ap, length}
+use Rattle.std.proofs.Common.{◌∙◌, refl, sym, ap, length, rules}
 use Rattle.jc_cache.specs.Caches.{OwnerState}
 use Rattle.jc_cache.proofs.Rows.{length_locks}
 use Rattle.jc_cache.proofs.ClosingSeats.{keep_on, keep_locks, keep_length}
 use Rattle.jc_cache.proofs.ClosedCache.{all_free, whole_again, closed, back, why}
 use Rattle.jc_cache.proofs.owner.CacheOwner.close_with_all.Goals as goal
 
-pub take_stripes-requires-clause-free : goal.take_stripes-requires-clause-free
-take_stripes-requires-clause-free g c = all_free _ _ _ _ c.self.invariant
+pub take_stripes-requires : goal.take_stripes-requires
+take_stripes-requires g c = record { locks = search rules; taken = all_free _ _ _ _ c.self.invariant }
 
-pub join_all-requires-clause-locks : goal.join_all-requires-clause-locks
-join_all-requires-clause-locks g c = keep_locks _ _ c.take_stripes.ensures.keeps ∙ c.self.invariant.own ∙ sym c.locks-in-Ok.ensures.locks
+pub join_all-requires-clause-own : goal.join_all-requires-clause-own
+join_all-requires-clause-own g c = record { locks = keep_locks _ _ c.take_stripes.ensures.keeps ∙ c.self.invariant.own ∙ sym c.locks-in-Ok.ensures.locks; taken = search rules }
 
 pub join_all-requires-clause-count : goal.join_all-requires-clause-count
 join_all-requires-clause-count g c =
@@ -19,18 +19,21 @@ join_all-requires-clause-count g c =
 pub invariant_of-result : goal.invariant_of-result
 invariant_of-result g c = whole_again _ _ _ _ _ c.self.invariant c.take_stripes.ensures.keeps c.in-Err.ensures.err.0
 
-pub returns-in-Ok-clause-closed : goal.returns-in-Ok-clause-closed
-returns-in-Ok-clause-closed g c =
+pub returns-in-Ok-clause-ok : goal.returns-in-Ok-clause-ok
+returns-in-Ok-clause-ok g c =
     let stripes = c.deref.ensures.value in
     let all = c.requires.all ∙ sym (ap (λ (owner : OwnerState). owner.given) c.self.view_is) in
-    rw (← c.self.view_is) (closed _ _ _ _ _ c.is_legal.ensures c.self.invariant refl (keep_on _ _ _ c.take_stripes.ensures.keeps c.join_all.ensures.keeps)
-    (rw (← stripes) c.join_all.ensures.taken) (c.in-Ok.ensures.ok.1 ∙ sym (keep_length _ _ c.join_all.ensures.keeps)) all (rw (← stripes) c.join_all.ensures.fronts))
+    record {
+      closed = rw (← c.self.view_is) (closed _ _ _ _ _ c.is_legal.ensures c.self.invariant refl (keep_on _ _ _ c.take_stripes.ensures.keeps c.join_all.ensures.own.keeps)
+          (rw (← stripes) c.join_all.ensures.own.taken) (c.in-Ok.ensures.ok.1 ∙ sym (keep_length _ _ c.join_all.ensures.own.keeps)) all (rw (← stripes) c.join_all.ensures.fronts));
+      outside = search rules;
+      legal = refl;
+    }
 
-pub returns-in-Err-clause-why : goal.returns-in-Err-clause-why
-returns-in-Err-clause-why g c =
+pub returns-in-Err-clause-err : goal.returns-in-Err-clause-err
+returns-in-Err-clause-err g c =
     let all = c.requires.all ∙ sym (ap (λ (owner : OwnerState). owner.given) c.self.view_is) in
-    rw (← c.self.view_is) (why _ _ _ _ c.take_stripes.new.own.items all refl c.in-Err.ensures.err.1)
-
-pub returns-in-Err-clause-back : goal.returns-in-Err-clause-back
-returns-in-Err-clause-back g c =
-    rw (← c.self.view_is) (back _ _ c.self.inside.seats.items c.take_stripes.new.own.items refl refl refl refl refl refl c.take_stripes.ensures.keeps, refl)
+    record {
+      why = rw (← c.self.view_is) (why _ _ _ _ c.take_stripes.new.own.items all refl c.in-Err.ensures.err.1);
+      back = rw (← c.self.view_is) (back _ _ c.self.inside.seats.items c.take_stripes.new.own.items refl refl refl refl refl refl c.take_stripes.ensures.keeps, refl);
+    }

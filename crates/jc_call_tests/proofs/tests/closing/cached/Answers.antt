@@ -9,4 +9,4 @@ look-requires-clause-own g c =
 
 pub returns : goal.returns
 returns g c =
-    set_place c.args.sessions.now.items (λ s. IsOf c.args.cache.now s) 0 _ c.look.ensures.own c.requires
+    set_place c.args.sessions.now.items (λ s. IsOf c.args.cache.now s) 0 _ c.look.ensures.phase.own c.requires

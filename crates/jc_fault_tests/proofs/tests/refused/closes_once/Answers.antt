@@ -7,5 +7,5 @@ close-requires g c = all_of _ _ (the_only _ _ (λ s. MayCall c.args.owner.cache 
 
 pub closes_again-requires : goal.closes_again-requires
 closes_again-requires g c =
-    handed_back _ _ (λ k s. IsOf k s) _ _ c.in-Err.ensures.back.0.cache c.in-Err.ensures.back.1
+    handed_back _ _ (λ k s. IsOf k s) _ _ c.in-Err.ensures.err.back.0.cache c.in-Err.ensures.err.back.1
     (all_of _ _ (the_only _ _ (λ s. MayCall c.args.owner.cache s) c.only-sessions.ensures c.requires))

@@ -6,4 +6,4 @@ use Rattle.jc_fault_tests.proofs.tests.stage.enter.Goals as goal
 
 pub returns : goal.returns
 returns g c =
-    one_more c.args.sessions.now.items _ _ (λ k s. MayCall k s) _ _ (ap (λ (o : OwnerState). o.cache) c.in-Ok.ensures.owner) c.push.ensures c.requires c.in-Ok.ensures.may
+    one_more c.args.sessions.now.items _ _ (λ k s. MayCall k s) _ _ (ap (λ (o : OwnerState). o.cache) c.in-Ok.ensures.ok.owner) c.push.ensures c.requires c.in-Ok.ensures.ok.may

@@ -5,7 +5,7 @@ pub give-requires : goal.give-requires
 give-requires g c = (
   c.args.self.now.caller.session,
   c.requires.rest.0,
-  inl c.requires.speaks,
+  inl c.requires.held.1,
   c.requires.rest.1,
   ⊎_elim (λ same. inl (inl same)) (λ renews. inr renews) c.requires.rest.2,
 )

@@ -10,10 +10,10 @@ close-requires g c =
 
 pub reopened-requires-clause-last : goal.reopened-requires-clause-last
 reopened-requires-clause-last g c =
-    subst (λ (cache : CacheState). MayCall cache c.in-Some.last) (sym c.in-Err.ensures.back.0.cache)
+    subst (λ (cache : CacheState). MayCall cache c.in-Some.last) (sym c.in-Err.ensures.err.back.0.cache)
     (last_one _ _ c.in-Some.last (λ s. MayCall c.args.self.owner.cache s) c.in-Some.ensures.items c.requires).1
 
 pub reopened-requires-clause-others : goal.reopened-requires-clause-others
 reopened-requires-clause-others g c =
-    handed_back _ _ (λ k s. MayCall k s) _ _ c.in-Err.ensures.back.0.cache c.in-Err.ensures.back.1
+    handed_back _ _ (λ k s. MayCall k s) _ _ c.in-Err.ensures.err.back.0.cache c.in-Err.ensures.err.back.1
     (last_one _ _ c.in-Some.last (λ s. MayCall c.args.self.owner.cache s) c.in-Some.ensures.items c.requires).0
