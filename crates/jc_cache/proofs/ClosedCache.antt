@@ -1,8 +1,9 @@
 -- From the cache's own seats to the cache, before it is closed and afterwards.
 --     all_free       a cache's own seats have taken nothing
 --     whole_again    a cache whose own seats are those that they were, and have taken nothing
---     closed         a cache all of whose stripes were taken, and whose sessions were joined
---     as_it_was, back, why    an owner who is handed back, and why
+--     ended          a cache all of whose stripes were taken
+--     closed         the same, and whose sessions were joined
+--     as_it_was, back, why_ended, why    an owner who is handed back, and why
 use Rattle.std.proofs.Common.{◌≡◌, ◌⊎◌, ⊎_elim, inl, inr, ◌∙◌, ◌<◌, ℕ, suc, List, [], ◌∷◌, length, Some, refl, sym, ap, subst, subst₂}
 use Rattle.std.proofs.lemmas.Option.{slice_get_within, get_or_from_slice_get}
 use Rattle.std.specs.FinMap.{from_entries}
@@ -21,7 +22,7 @@ use Rattle.jc_lock.proofs.CallerLemmas.{prefix-refl, same_itself}
 use Rattle.jc_cache.specs.declared.session.Session.{Session}
 use Rattle.jc_cache.specs.Caches.{OwnerState, noted_by, fronts_of}
 use Rattle.jc_cache.specs.CacheInside.{IsOwnSeat, IsWhole}
-use Rattle.jc_cache.specs.Closing.{HasFront, IsClosed, IsClosedAt, IsCloseRefusal, IsHandedBack}
+use Rattle.jc_cache.specs.Closing.{AreClosed, HasFront, IsClosed, IsClosedAt, IsCloseRefusal, IsEndRefusal, IsHandedBack}
 use Rattle.jc_cache.specs.ClosingInside.{KeepsSeat, KeepSeats, AreIdle, IsFreeSeat, IsRowRefusal, HasTaken, HaveTaken}
 use Rattle.jc_cache.proofs.Rows.{Seated, length_locks, seat_there}
 use Rattle.jc_cache.proofs.Noted.{noted_there, handed_back, idle_noted}
@@ -72,10 +73,9 @@ closed_at config i given x y state legal own keeps taken =
       leaves = subst (λ (c : Config). IsHistory c (from_entries state.opening) state.history state.cache) shape taken.reached.legal;
     }
 
-pub closed : {I J : Type 0} {D : I → Type 0} {E : J → Type 0} (owner : OwnerState) (own seats : List Seated) (stripes : List State) (sessions : List (Session I J D E)) → ReachedIsLegal
-    → IsWhole owner.cache.config owner.given owner.cache.locks own → owner.noted ≡ noted_by own → KeepSeats own seats → HaveTaken seats stripes → length stripes ≡ length seats → length sessions ≡ owner.given
-    → All (λ (s : Session I J D E). HasFront stripes s.seats.items) sessions → IsClosed owner sessions stripes
-closed {I} {J} {D} {E} owner own seats stripes sessions legal whole noted keeps taken count all fronts = record {
+pub ended : (owner : OwnerState) (own seats : List Seated) (stripes : List State) → ReachedIsLegal
+    → IsWhole owner.cache.config owner.given owner.cache.locks own → owner.noted ≡ noted_by own → KeepSeats own seats → HaveTaken seats stripes → length stripes ≡ length seats → AreClosed owner stripes
+ended owner own seats stripes legal whole noted keeps taken count = record {
   count = count ∙ length_locks seats owner.cache.locks (keep_locks own seats keeps ∙ whole.own) ∙ whole.count;
   each = λ i state at.
       let y = seat_there seats i (subst (λ (n : ℕ). i < n) count (slice_get_within stripes i state at)) in
@@ -84,6 +84,13 @@ closed {I} {J} {D} {E} owner own seats stripes sessions legal whole noted keeps 
         ap (λ (states : List State). slice_get states i) noted ∙ noted_there own i x.0 x.1,
         closed_at owner.cache.config i owner.given x.0 y.0 state legal (whole.each i x.0 x.1) x.2 (taken_at seats stripes i y.0 state taken y.1 at),
       );
+}
+
+pub closed : {I J : Type 0} {D : I → Type 0} {E : J → Type 0} (owner : OwnerState) (own seats : List Seated) (stripes : List State) (sessions : List (Session I J D E)) → ReachedIsLegal
+    → IsWhole owner.cache.config owner.given owner.cache.locks own → owner.noted ≡ noted_by own → KeepSeats own seats → HaveTaken seats stripes → length stripes ≡ length seats → length sessions ≡ owner.given
+    → All (λ (s : Session I J D E). HasFront stripes s.seats.items) sessions → IsClosed owner sessions stripes
+closed {I} {J} {D} {E} owner own seats stripes sessions legal whole noted keeps taken count all fronts = record {
+  stripes_are = ended owner own seats stripes legal whole noted keeps taken count;
   all = all;
   fronts = λ n session at.
       subst (λ (s : Session I J D E). HasFront stripes s.seats.items) (get_or_from_slice_get sessions n session session at) (fronts n session (slice_get_within sessions n session at));
@@ -111,16 +118,17 @@ back owner left old new cache given noted fronts noted' fronts' keeps =
       fronts = subst₂ (AllZip IsPrefix) (sym fronts) (sym fronts') both.1;
     }
 
+pub why_ended : (states : List State) (refusal : Refusal) (own : List Seated) → states ≡ noted_by own
+    → IsRowRefusal refusal own ⊎ ((refusal ≡ OutOfMemory) × AreIdle own) → IsEndRefusal refusal states
+why_ended states refusal own noted by =
+    ⊎_elim
+    (λ row. ⊎_elim
+    (λ out. inl (out.0, (out.1.0, out.1.1, ap (λ (all : List State). slice_get all out.1.0) noted ∙ out.1.2, out.1.3)))
+    (λ busy. inr (inr busy))
+    row)
+    (λ memory. inr (inl (memory.0, λ i state at. idle_noted own memory.1 i state (ap (λ (all : List State). slice_get all i) (sym noted) ∙ at))))
+    by
+
 pub why : (owner left : OwnerState) (handed_in : ℕ) (refusal : Refusal) (own : List Seated) → handed_in ≡ owner.given → left.noted ≡ noted_by own
     → IsRowRefusal refusal own ⊎ ((refusal ≡ OutOfMemory) × AreIdle own) → IsCloseRefusal owner handed_in refusal left
-why owner left handed_in refusal own all noted by =
-    inr (
-      all,
-      ⊎_elim
-          (λ row. ⊎_elim
-          (λ out. inl (out.0, (out.1.0, out.1.1, ap (λ (states : List State). slice_get states out.1.0) noted ∙ out.1.2, out.1.3)))
-          (λ busy. inr (inr busy))
-          row)
-          (λ memory. inr (inl (memory.0, λ i state at. idle_noted own memory.1 i state (ap (λ (states : List State). slice_get states i) (sym noted) ∙ at))))
-          by,
-    )
+why owner left handed_in refusal own all noted by = inr (all, why_ended left.noted refusal own noted by)

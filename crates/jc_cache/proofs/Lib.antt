@@ -15,3 +15,4 @@ pub mod Skipped
 pub mod Readings
 pub mod EndedGenerations
 pub mod Increments
+pub mod Enlisted

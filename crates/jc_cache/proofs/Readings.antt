@@ -3,6 +3,7 @@
 --     take_set                          the first seats of a row, with the next one replaced
 --     events_snoc                       the events of stripes with one more
 --     counted_next, counted_all         what the first stripes count, with one more, and what all count
+--     stripes_next, stripes_all         the same of the states of stripes
 --     read_may                          a session that has read may call as before
 use Rattle.std.proofs.Common.{◌≡◌, ◌+◌, ◌<◌, ◌≤◌, ℕ, zero, suc, Some, List, [], ◌∷◌, ◌++◌, length, set, take, slice_get, refl, sym, ap, subst, subst₂, ◌∙◌, le_refl, add-one, arith, append_assoc, append-nil}
 use Rattle.std.proofs.lemmas.Option.{same_Some, slice_get_within}
@@ -78,6 +79,31 @@ counted_next laws ys n y z total one more at was is both =
 
 pub counted_all : (ys : List Seated) (n : ℕ) (total : Statistics) → length ys ≤ n → total ≡ statistics_of (all_events (noted_by (take n ys))) → total ≡ statistics_of (all_events (noted_by ys))
 counted_all ys n total le is = is ∙ ap (λ (l : List Seated). statistics_of (all_events (noted_by l))) (take_whole ys n le)
+
+take_next : (states : List State) (n : ℕ) (state : State) → slice_get states n ≡ Some state → take (suc n) states ≡ take n states ++ state ∷ []
+take_next [] n state at = cc
+take_next (x ∷ states) zero state at = ap (λ (s : State). s ∷ []) (same_Some x state at)
+take_next (x ∷ states) (suc n) state at = ap (λ (l : List State). x ∷ l) (take_next states n state at)
+
+take_states : (states : List State) (n : ℕ) → length states ≤ n → take n states ≡ states
+take_states [] zero le = refl
+take_states [] (suc n) le = refl
+take_states (x ∷ states) zero le = absurd (omega arith)
+take_states (x ∷ states) (suc n) le = ap (λ (l : List State). x ∷ l) (take_states states n (omega arith))
+
+pub stripes_next : StatisticsLaws → (states : List State) (n : ℕ) (state : State) (total one more : Statistics) → slice_get states n ≡ Some state
+    → total ≡ statistics_of (all_events (take n states)) → one ≡ statistics_of (whole_history state) → more ≡ together total one
+    → more ≡ statistics_of (all_events (take (n + 1) states))
+stripes_next laws states n state total one more at was is both =
+    both
+    ∙ (λ k. together (was k) (is k))
+    ∙ sym (laws.append (all_events (take n states)) (whole_history state))
+    ∙ ap statistics_of (sym (events_snoc (take n states) state))
+    ∙ ap (λ (l : List State). statistics_of (all_events l)) (sym (take_next states n state at))
+    ∙ ap (λ (m : ℕ). statistics_of (all_events (take m states))) (sym (add-one n))
+
+pub stripes_all : (states : List State) (n : ℕ) (total : Statistics) → length states ≤ n → total ≡ statistics_of (all_events (take n states)) → total ≡ statistics_of (all_events states)
+stripes_all states n total le is = is ∙ ap (λ (l : List State). statistics_of (all_events l)) (take_states states n le)
 
 -- 3. The session.
 

@@ -1,4 +1,5 @@
 pub mod Caches
+pub mod Clients
 pub mod Fronts
 pub mod Sessions
 pub mod Calls

@@ -12,7 +12,7 @@ ghost use Rattle.jc_stripe.specs.Generations.{whole_history};
 ghost use Rattle.jc_stripe.specs.OrderOfUse.{by_use};
 ghost use Rattle.jc_stripe.specs.Reached.{IsReached};
 ghost use Rattle.jc_stripe.specs.Reopening.{shares_key};
-ghost use Rattle.jc_cache.specs.Closing.{HasClosed, HasNotClosed};
+ghost use Rattle.jc_cache.specs.Closing.{HasClosed, HasEnded, HasNotClosed, HasNotEnded};
 ghost use Rattle.jc_cache.specs.ClosingInside.{AreIdle, HaveTaken, IsRowRefusal, KeepSeats, OwnsSeats};
 ghost use Rattle.jc_cache.specs.Sessions.{IsOf};
 
@@ -159,6 +159,40 @@ impl CacheOwner {
             owner: self,
             sessions,
         })
+    }
+
+    /// Ends the cache without its sessions, which may be gone: as [`CacheOwner::close`] does, but their loaders and writers don't come
+    /// back, and nothing is said of what the sessions have seen. It is for who had clients of the cache, and doesn't ask for their
+    /// sessions.
+    ///
+    /// It is refused, and hands the owner back, if a reservation or an answer that was not picked up is out (`StillReserved`), and if an
+    /// allocation failed (`OutOfMemory`), tested in this order; or as `Busy`, see there. It never waits.
+    pub fn end(self, alloc: Global) -> Result<Closed, CloseFault>
+        ensures ok { IfOk result (λ c. HasEnded self c.stripes.items c.outside.items c.legal) }
+        ensures err { IfErr result (λ f. HasNotEnded self f.refusal f.owner f.sessions.items) }
+    {
+        is_legal();
+        let CacheOwner {
+            cache,
+            given,
+            mut seats,
+        } = self;
+        match take_stripes(alloc, cache.locks(), &mut seats, 0) {
+            Ok((stripes, outside)) => Ok(Closed {
+                stripes,
+                outside,
+                legal: true,
+            }),
+            Err(refusal) => Err(CloseFault {
+                refusal,
+                owner: CacheOwner {
+                    cache,
+                    given,
+                    seats,
+                },
+                sessions: Vec::new(alloc),
+            }),
+        }
     }
 
     /// Ends the cache as [`CacheOwner::close`] does, with all sessions that were given out.

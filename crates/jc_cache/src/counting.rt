@@ -8,6 +8,7 @@ ghost use Rattle.jc_cache.specs.Meeting.{IsSessionSeat, AreSessionSeats, KeepRow
 ghost use Rattle.jc_cache.specs.Sessions.{Completes, MayCall};
 
 use crate::cache::Cache;
+use crate::closing::{Closed, ClosedStripe};
 use crate::session::Session;
 use jc_lock::{HistLock, Seat};
 use jc_model::Statistics;
@@ -32,6 +33,27 @@ impl Cache {
     {
         read_each(rt, &self.locks, &mut session.agent, &mut session.seats)
     }
+}
+
+impl Closed {
+    /// What the steps of all sessions have counted, in all generations (JSR 107, "Statistics"). It reads no event.
+    pub fn statistics(&self) -> Statistics
+        ensures { result ≡ statistics_of (all_events self.now.stripes.items) }
+    {
+        count_each(&self.stripes)
+    }
+}
+
+/// What these stripes count, all together.
+fn count_each(stripes: &[ClosedStripe]) -> Statistics
+    ensures { result ≡ statistics_of (all_events stripes.now) }
+{
+    statistics_laws();
+    let mut total = Statistics::new();
+    for i in 0..stripes.len() {
+        total = total.together(&stripes[i].statistics());
+    }
+    total
 }
 
 /// Reads at each of these locks what its stripe counts, and counts it all together.

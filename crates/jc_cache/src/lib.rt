@@ -8,20 +8,25 @@
 
 mod cache;
 mod calls;
+mod client;
 mod closing;
 mod counting;
+mod enlisting;
 mod generations;
 mod meeting;
 mod owner;
 mod phase_calls;
 mod reopening;
+mod serving;
 mod session;
 mod skipping;
 mod trying;
 
 pub use cache::Cache;
 pub use calls::value_of;
+pub use client::Client;
 pub use closing::{CloseFault, Closed, ClosedStripe};
+pub use enlisting::sessions_of;
 pub use jc_model::{Event, Op, Reply, Statistics};
 pub use jc_mutentry::{EntryProcessor, MutableEntry};
 pub use jc_outside::{Answers, CacheLoader, CacheWriter, Outside};
@@ -32,4 +37,5 @@ pub use jc_stripe::{
 pub use jc_types::{Config, Key, Refusal, Value};
 pub use owner::CacheOwner;
 pub use reopening::{ReopenFault, Reopened};
+pub use serving::serve;
 pub use session::Session;

@@ -1,0 +1,46 @@
+-- Sessions that are given out one after another.
+--     given_none    none was
+--     given_next    one more was
+--     drained       what a loop has gone through is all, if nothing is left
+use Rattle.std.proofs.Common.{◌≡◌, ◌∙◌, ◌+◌, ◌++◌, ℕ, List, [], ◌∷◌, length, refl, sym, ap, subst, length-append, append-nil, arith}
+use Rattle.std.proofs.lemmas.List.{map-append}
+use Rattle.std.proofs.lemmas.List.Elements.{All-nil, All-push}
+use Rattle.std.specs.List.{All}
+use Rattle.jc_outside.specs.declared.hands.Outside.{Outside}
+use Rattle.jc_cache.specs.declared.session.Session.{Session}
+use Rattle.jc_cache.specs.Caches.{OwnerState}
+use Rattle.jc_cache.specs.Clients.{AreGivenOut}
+use Rattle.jc_cache.specs.Sessions.{BeginsAt, IsGivenOut, MayCall}
+
+pub given_none : {I J : Type 0} {D : I → Type 0} {E : J → Type 0} (owner : OwnerState) → AreGivenOut {I = I} {J = J} {D = D} {E = E} owner owner [] []
+given_none owner = record {
+  owner = (let e : owner.given ≡ owner.given + 0 = omega arith in ap (λ (n : ℕ). record owner { given = n }) e);
+  boxes = refl;
+  fresh = All-nil _;
+  may = All-nil _;
+}
+
+pub given_next : {I J : Type 0} {D : I → Type 0} {E : J → Type 0} (from mid left : OwnerState) (outside : List (Outside I J D E)) (sessions : List (Session I J D E)) (one : Outside I J D E) (session : Session I J D E)
+    → AreGivenOut from mid outside sessions → IsGivenOut mid left one session → AreGivenOut from left (outside ++ one ∷ []) (sessions ++ session ∷ [])
+given_next {I} {J} {D} {E} from mid left outside sessions one session are is = record {
+  owner =
+      let long = length-append sessions (session ∷ []) in
+      let e : from.given + length sessions + 1 ≡ from.given + length (sessions ++ session ∷ []) = omega arith in
+      is.owner ∙ ap (λ (o : OwnerState). record o { given = o.given + 1 }) are.owner ∙ ap (λ (n : ℕ). record from { given = n }) e;
+  boxes =
+      map-append (λ (s : Session I J D E). s.agent.hands.outside) sessions (session ∷ [])
+      ∙ ap (λ (l : List (Outside I J D E)). l ++ session.agent.hands.outside ∷ []) are.boxes
+      ∙ ap (λ (o : Outside I J D E). outside ++ o ∷ []) is.boxes;
+  fresh = All-push (λ (s : Session I J D E). (s.agent.counts.own ≡ 0) × BeginsAt from s) sessions session are.fresh (
+    is.none,
+    record {
+      noted = is.begins.noted ∙ ap (λ (o : OwnerState). o.noted) are.owner;
+      fronts = is.begins.fronts ∙ ap (λ (o : OwnerState). o.fronts) are.owner;
+    },
+  );
+  may = All-push (λ (s : Session I J D E). MayCall left.cache s) sessions session (subst (λ cache. All (λ (s : Session I J D E). MayCall cache s) sessions) (sym (ap (λ (o : OwnerState). o.cache) is.owner)) are.may) is.may;
+}
+
+pub drained : {X : Type 0} (yielded rest all : List X) → yielded ++ rest ≡ all → length rest ≡ 0 → yielded ≡ all
+drained yielded [] all is none = sym (append-nil yielded) ∙ is
+drained yielded (x ∷ rest) all is none = absurd (omega arith)
