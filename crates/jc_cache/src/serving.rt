@@ -4,38 +4,57 @@ use crate::closing::Closed;
 use crate::owner::CacheOwner;
 use jc_outside::Outside;
 use jc_types::{Config, Refusal};
-use std::alloc::Global;
-use std::marker::Sync;
+use std::alloc::{AllocError, Global};
+use std::marker::{Send, Sync};
 use std::sync::Wait;
 use std::thread::{self, Threads};
 
-/// What a service does with each client of its cache.
-pub trait Service<R: Wait> {
-    /// The work of one client, which it does on a thread of its own. What it returns is told to who runs the service.
-    fn work(&self, rt: &R, client: &mut Client<'_>) -> Result<(), Refusal>
+/// What a service does with each client of its cache. An implementation states nothing.
+pub trait Service<R: Wait, X> {
+    /// The work of one client, on a thread of its own. Which one it is, its session's number says (`client.caller().session`). What is
+    /// returned comes back to who has the service [served](serve).
+    fn work(&self, rt: &R, client: &mut Client<'_>) -> X
         requires { Unit {0} };
 }
 
 /// Has this client do its work.
-fn work_by<R: Wait, S: Service<R>>(rt: &R, service: &S, client: Client<'_>) -> Result<(), Refusal>
+fn work_by<R: Wait, X, S: Service<R, X>>(rt: &R, service: &S, client: Client<'_>) -> X
     requires { Unit {0} }
 {
     let mut client = client;
     service.work(rt, &mut client)
 }
 
+/// Has each of these clients do its work, on a thread of its own if one can be made. An `Err` says that an allocation failed.
+fn work_all<R: Threads + Wait + Sync, X: Send + Drop, S: Service<R, X> + Sync>(
+    rt: &R,
+    service: &S,
+    clients: Vec<Client<'_>>,
+) -> Result<Vec<X>, AllocError>
+    requires { Unit {0} }
+{
+    thread::map_vec(
+        rt,
+        clients,
+        &|client: Client<'_>| -> X { work_by(rt, service, client) },
+    )
+}
+
 /// A service whole: a cache of this shape is opened, which lives on; each of these brings a session; a client for each session does its
-/// work, each on a thread of its own; and then the cache is ended. What each client returned comes back in the order of the sessions,
-/// beside the closed cache, which says what was counted.
+/// work, each on a thread of its own if one can be made; and when all have ended, so does the cache. What each client has returned comes
+/// back in the order of the sessions, beside the closed cache, which says what was counted.
 ///
-/// It is refused as by [`CacheOwner::living`], [`CacheOwner::enlist_all`] and [`CacheOwner::end`].
-pub fn serve<R: Threads + Wait + Sync, S: Service<R> + Sync>(
+/// It is refused as by [`CacheOwner::living`], [`CacheOwner::enlist_all`] and [`CacheOwner::end`], and as `OutOfMemory` if what the
+/// clients return finds no room; then some of them may not have worked.
+///
+/// It may wait, as long as the clients' work does.
+pub fn serve<R: Threads + Wait + Sync, X: Send + Drop, S: Service<R, X> + Sync>(
     rt: &R,
     alloc: Global,
     config: &Config,
     outside: Vec<Outside>,
     service: &S,
-) -> Result<(Closed, Vec<Result<(), Refusal>>), Refusal>
+) -> Result<(Closed, Vec<X>), Refusal>
     requires { Unit {0} }
 {
     let mut owner = CacheOwner::living(alloc, config)?;
@@ -43,15 +62,11 @@ pub fn serve<R: Threads + Wait + Sync, S: Service<R> + Sync>(
     let Ok(clients) = owner.clients(alloc, sessions) else {
         return Err(Refusal::OutOfMemory);
     };
-    let Ok(outcomes) = thread::map_vec(
-        rt,
-        clients,
-        &|client: Client<'_>| -> Result<(), Refusal> { work_by(rt, service, client) },
-    ) else {
+    let Ok(returned) = work_all(rt, service, clients) else {
         return Err(Refusal::OutOfMemory);
     };
     match owner.end(alloc) {
-        Ok(closed) => Ok((closed, outcomes)),
+        Ok(closed) => Ok((closed, returned)),
         Err(fault) => Err(fault.refusal),
     }
 }
