@@ -1,8 +1,7 @@
 -- Sessions that are given out one after another.
 --     given_none    none was
 --     given_next    one more was
---     drained       what a loop has gone through is all, if nothing is left
-use Rattle.std.proofs.Common.{◌≡◌, ◌∙◌, ◌+◌, ◌++◌, ℕ, List, [], ◌∷◌, length, refl, sym, ap, subst, length-append, append-nil, arith}
+use Rattle.std.proofs.Common.{◌≡◌, ◌∙◌, ◌+◌, ◌++◌, ℕ, List, [], ◌∷◌, length, refl, sym, ap, subst, length-append, arith}
 use Rattle.std.proofs.lemmas.List.{map-append}
 use Rattle.std.proofs.lemmas.List.Elements.{All-nil, All-push}
 use Rattle.std.specs.List.{All}
@@ -40,7 +39,3 @@ given_next {I} {J} {D} {E} from mid left outside sessions one session are is = r
   );
   may = All-push (λ (s : Session I J D E). MayCall left.cache s) sessions session (subst (λ cache. All (λ (s : Session I J D E). MayCall cache s) sessions) (sym (ap (λ (o : OwnerState). o.cache) is.owner)) are.may) is.may;
 }
-
-pub drained : {X : Type 0} (yielded rest all : List X) → yielded ++ rest ≡ all → length rest ≡ 0 → yielded ≡ all
-drained yielded [] all is none = sym (append-nil yielded) ∙ is
-drained yielded (x ∷ rest) all is none = absurd (omega arith)

@@ -1,8 +1,7 @@
 //! Sessions and clients, a list at a time.
 ghost use Rattle.std.specs.Prelude.{◌≡◌, All, IfOk, map};
-ghost use Rattle.jc_cache.specs.Caches.{CacheState};
 ghost use Rattle.jc_cache.specs.Clients.{AreGivenOut};
-ghost use Rattle.jc_cache.specs.Sessions.{MayCall};
+ghost use Rattle.jc_cache.specs.Sessions.{IsOf, MayCall};
 
 use crate::client::Client;
 use crate::owner::CacheOwner;
@@ -46,8 +45,8 @@ impl CacheOwner {
         sessions: Vec<Session>,
     ) -> Result<Vec<Client<'a>>, AllocError>
         requires { All (λ s. MayCall self.now.cache s) sessions.items }
-        ensures { IfOk result (λ clients. (map (λ c. c.session) clients.items ≡ sessions.items)
-            × All (λ c. c.cache.now ≡ self.now.cache) clients.items) }
+        ensures sessions { IfOk result (λ r. map (λ c. c.session) r.items ≡ sessions.items) }
+        ensures cache { IfOk result (λ r. All (λ c. c.cache.now ≡ self.now.cache) r.items) }
     {
         let cache = self.cache();
         let mut clients = Vec::with_capacity(alloc, sessions.len())?;
@@ -56,18 +55,26 @@ impl CacheOwner {
         }
         Ok(clients)
     }
-}
 
-/// The sessions of these clients, in their order: a cache is closed with all of its sessions. An `Err` says that an allocation failed;
-/// then the clients are dropped.
-pub fn sessions_of(alloc: Global, clients: Vec<Client<'_>>) -> Result<Vec<Session>, AllocError>
-    ensures sessions { IfOk result (λ sessions. sessions.items ≡ map (λ c. c.session) clients.entry.items) }
-    ensures may { (cache : CacheState) → All (λ c. c.cache.now ≡ cache) clients.entry.items
-        → IfOk result (λ sessions. All (λ s. MayCall cache s) sessions.items) }
-{
-    let mut sessions = Vec::with_capacity(alloc, clients.len())?;
-    for client in clients {
-        sessions.push_reserved(client.into_session());
+    /// The sessions of these clients, in their order: a cache is [closed](CacheOwner::close) with all of its sessions. An `Err` says that
+    /// an allocation failed; then the clients are dropped.
+    ///
+    /// Condition: the clients are of the owner's cache. A function of a user's own that is lent a client says so by
+    /// `ensures { client.new.cache ≡ client.old.cache }`.
+    pub fn sessions_of(
+        &self,
+        alloc: Global,
+        clients: Vec<Client<'_>>,
+    ) -> Result<Vec<Session>, AllocError>
+        requires { All (λ c. c.cache.now ≡ self.now.cache) clients.items }
+        ensures sessions { IfOk result (λ r. r.items ≡ map (λ c. c.session) clients.entry.items) }
+        ensures own { IfOk result (λ r. All (λ s. IsOf self.entry.now.cache s) r.items) }
+        ensures may { IfOk result (λ r. All (λ s. MayCall self.entry.now.cache s) r.items) }
+    {
+        let mut sessions = Vec::with_capacity(alloc, clients.len())?;
+        for client in clients {
+            sessions.push_reserved(client.into_session());
+        }
+        Ok(sessions)
     }
-    Ok(sessions)
 }

@@ -26,7 +26,6 @@ pub use cache::Cache;
 pub use calls::value_of;
 pub use client::Client;
 pub use closing::{CloseFault, Closed, ClosedStripe};
-pub use enlisting::sessions_of;
 pub use jc_model::{Event, Op, Reply, Statistics};
 pub use jc_mutentry::{EntryProcessor, MutableEntry};
 pub use jc_outside::{Answers, CacheLoader, CacheWriter, Outside};

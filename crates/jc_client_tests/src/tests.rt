@@ -1,6 +1,5 @@
 use jc_cache::{
-    CacheOwner, Client, Config, EntryProcessor, Event, Key, Outside, Refusal, Service, Value,
-    serve, sessions_of,
+    CacheOwner, Client, Config, EntryProcessor, Event, Key, Outside, Refusal, Service, Value, serve,
 };
 use jc_store::Increment;
 use std::alloc::Global;
@@ -194,7 +193,7 @@ fn closes(rt: HostRuntime) {
     let outside = nothing(&rt, alloc, 3);
     let sessions = owner.enlist_all(alloc, outside).expect(&rt, "sessions");
     let clients = owner.clients(alloc, sessions).expect(&rt, "clients");
-    let sessions = sessions_of(alloc, clients).expect(&rt, "memory");
+    let sessions = owner.sessions_of(alloc, clients).expect(&rt, "memory");
     match owner.close(alloc, sessions) {
         Ok(closed) => is(&rt, closed.outside.len(), 3),
         Err(fault) => panic!(&rt; "{}", fault.refusal),
