@@ -1,22 +1,16 @@
-//! A tour: a store, a cache before it that threads share, a guide who makes one call after another, and workers on threads of
-//! their own.
+//! A tour: a store, a cache before it that threads share, and clients of the cache. One is a guide's, who makes one call after another;
+//! the others are of workers, each on a thread of its own.
 #![tactic(auto)]
-
-ghost use Rattle.std.specs.Prelude.{IfOk, All};
-ghost use Rattle.jc_cache.specs.Sessions.{IsOf, MayCall};
 
 mod ending;
 mod visiting;
 mod working;
 
-use jc_cache::{
-    Cache, CacheLoader, CacheOwner, CacheWriter, Config, EntryProcessor, Key, Session, Value,
-};
-use jc_store::{Increment, SharedCounts, SharedStore, Store};
+use jc_cache::{CacheLoader, CacheOwner, CacheWriter, Client, Config, Key, Outside, Value};
+use jc_store::{SharedCounts, SharedStore, Store};
 use std::alloc::Global;
 use std::sync::Wait;
 use std::thread::Threads;
-use working::{Boxes, Worker};
 
 /// The shape of the cache: no entry is evicted, and no history is full.
 const CONFIG: Config = Config {
@@ -35,8 +29,8 @@ fn main(rt: HostRuntime) -> anyhow::Result<()> {
     let store = stocked(alloc)?;
     let counts = SharedCounts::new(alloc)?;
 
-    // Each worker has a loader and a writer of its own. The calls of all loaders and writers are counted together.
-    let mut boxes = Vec::new(alloc);
+    // Each session has a loader and a writer of its own. The calls of all loaders and writers are counted together.
+    let mut outside = Vec::new(alloc);
     for _ in &NAMES {
         let loader: Box<dyn CacheLoader + Send + Drop> = Box::new(
             alloc,
@@ -46,14 +40,12 @@ fn main(rt: HostRuntime) -> anyhow::Result<()> {
             alloc,
             counts.counting(rt, store.writer(rt)?)?,
         )?;
-        let increment: Box<dyn EntryProcessor + Send + Drop> = Box::new(alloc, Increment)?;
-        boxes.push(Boxes {
-            loader,
-            writer,
-            increment,
+        outside.push(Outside {
+            loader: Some(loader),
+            writer: Some(writer),
         })?;
     }
-    tour(&rt, alloc, &store, &counts, boxes)
+    tour(&rt, alloc, &store, &counts, outside)
 }
 
 /// The store of record, with two entries.
@@ -65,38 +57,32 @@ fn stocked(alloc: Global) -> anyhow::Result<SharedStore> {
     Ok(SharedStore::new(alloc, Store::of(alloc, &entries)?)?)
 }
 
-/// A cache is opened, all call it, and then it is closed.
+/// A cache is opened, all call it, and then it is ended.
 fn tour<R: Print + Threads + Wait + Sync>(
     rt: &R,
     alloc: Global,
     store: &SharedStore,
     counts: &SharedCounts,
-    boxes: Vec<Boxes>,
+    outside: Vec<Outside>,
 ) -> anyhow::Result<()> {
     let mut owner = CacheOwner::new(alloc, &CONFIG)?;
-    let workers = working::enlist_all(alloc, &mut owner, &NAMES, boxes)?;
-    let sessions = call_all(rt, alloc, store, counts, owner.cache(), workers)?;
-    ending::close(rt, alloc, owner, sessions)
+    let sessions = owner.enlist_all(alloc, outside)?;
+    let clients = owner.clients(alloc, sessions)?;
+    call_all(rt, alloc, clients)?;
+    ending::show(rt, alloc, store, counts)?;
+    ending::end(rt, alloc, owner)
 }
 
-/// The guide calls the cache, and then all others do, side by side. It gives the sessions of all.
+/// The guide calls the cache, and then all others do, side by side.
 fn call_all<R: Print + Threads + Wait + Sync>(
     rt: &R,
     alloc: Global,
-    store: &SharedStore,
-    counts: &SharedCounts,
-    cache: &Cache,
-    workers: Vec<Worker>,
-) -> anyhow::Result<Vec<Session>>
-    requires { All (λ w. MayCall cache.now w.session) workers.items }
-    ensures { IfOk result (λ sessions. All (λ s. IsOf cache.now s) sessions.items) }
-{
-    let mut workers = workers;
-    let Some(mut guide) = workers.pop() else {
-        return Ok(Vec::new(alloc));
-    };
-    visiting::visit(rt, cache, &mut guide)?;
-    working::work_all(rt, cache, workers.as_mut_slice())?;
-    ending::show(rt, alloc, store, counts, &workers)?;
-    ending::sessions_of(alloc, cache, guide, workers)
+    clients: Vec<Client<'_>>,
+) -> anyhow::Result<()> {
+    let mut clients = clients;
+    if let Some(guide) = clients.pop() {
+        visiting::visit(rt, alloc, guide)?;
+    }
+    let steps = working::work_all(rt, alloc, clients)?;
+    ending::show_steps(rt, &NAMES, &steps)
 }

@@ -1,43 +1,30 @@
-//! The calls of one key, one after another, by one session.
+//! The calls of one key, one after another, by one client.
 //!
-//! Each function has as a condition that the session may call the cache, as each call has, and hands it on.
-ghost use Rattle.jc_cache.specs.Sessions.{MayCall};
-
-use crate::working::Worker;
-use jc_cache::{Cache, EntryProcessor, Key, Session, Value};
+//! Functions that are lent a client have an empty condition: with it they are proved for whatever loader and writer the client has.
+use jc_cache::{Client, EntryProcessor, Key, Value};
+use jc_store::Increment;
+use std::alloc::Global;
 use std::sync::Wait;
 
-/// Some calls of each kind.
-pub fn visit(rt: &(impl Print + Wait), cache: &Cache, guide: &mut Worker) -> anyhow::Result<()>
-    requires { MayCall cache.now guide.old.session }
-    ensures { MayCall cache.now guide.new.session }
-{
-    let Worker {
-        session,
-        increment,
-        ..
-    } = guide;
+/// Some calls of each kind, by the guide.
+pub fn visit(rt: &(impl Print + Wait), alloc: Global, guide: Client<'_>) -> anyhow::Result<()> {
+    let mut client = guide;
+    let mut increment: Box<dyn EntryProcessor + Send + Drop> = Box::new(alloc, Increment)?;
     let (apple, pear, two) = (Key::new(b"apple")?, Key::new(b"pear")?, Value::new(b"2")?);
-    read(rt, cache, session, &apple)?;
-    change(rt, cache, session, &apple, &pear, &two)?;
-    count(rt, cache, session, &apple, &pear, increment)?;
-    try_both(rt, cache, session, &apple, &two)?;
-    println!(rt; "the guide has made {} steps", session.own())?;
+    read(rt, &mut client, &apple)?;
+    change(rt, &mut client, &apple, &pear, &two)?;
+    count(rt, &mut client, &apple, &pear, &mut increment)?;
+    try_both(rt, &mut client, &apple, &two)?;
+    println!(rt; "the guide has made {} steps", client.own())?;
     Ok(())
 }
 
 /// The first call has the key loaded, the second one finds its entry.
-fn read(
-    rt: &(impl Print + Wait),
-    cache: &Cache,
-    session: &mut Session,
-    apple: &Key,
-) -> anyhow::Result<()>
-    requires { MayCall cache.now session.old }
-    ensures { MayCall cache.now session.new }
+fn read(rt: &(impl Print + Wait), client: &mut Client<'_>, apple: &Key) -> anyhow::Result<()>
+    requires { Unit {0} }
 {
-    let first = cache.get(rt, session, apple)?;
-    let again = cache.get(rt, session, apple)?;
+    let first = client.get(rt, apple)?;
+    let again = client.get(rt, apple)?;
     println!(rt; "get apple: {first:?}, and again: {again:?}")?;
     Ok(())
 }
@@ -45,18 +32,16 @@ fn read(
 /// What these calls change is written, or deleted in the store, before the cache changes.
 fn change(
     rt: &(impl Print + Wait),
-    cache: &Cache,
-    session: &mut Session,
+    client: &mut Client<'_>,
     apple: &Key,
     pear: &Key,
     two: &Value,
 ) -> anyhow::Result<()>
-    requires { MayCall cache.now session.old }
-    ensures { MayCall cache.now session.new }
+    requires { Unit {0} }
 {
-    cache.put(rt, session, pear, two)?;
-    let removed = cache.remove(rt, session, apple)?;
-    let replaced = cache.replace(rt, session, apple, two)?;
+    client.put(rt, pear, two)?;
+    let removed = client.remove(rt, apple)?;
+    let replaced = client.replace(rt, apple, two)?;
     println!(rt; "put pear, remove apple: {removed}, replace apple: {replaced}")?;
     Ok(())
 }
@@ -64,17 +49,15 @@ fn change(
 /// An entry processor counts, once with an entry and once without.
 fn count(
     rt: &(impl Print + Wait),
-    cache: &Cache,
-    session: &mut Session,
+    client: &mut Client<'_>,
     apple: &Key,
     pear: &Key,
     increment: &mut Box<dyn EntryProcessor + Send + Drop>,
 ) -> anyhow::Result<()>
-    requires { MayCall cache.now session.old }
-    ensures { MayCall cache.now session.new }
+    requires { Unit {0} }
 {
-    let three = cache.invoke(rt, session, pear, increment, &[])?;
-    let one = cache.invoke(rt, session, apple, increment, &[])?;
+    let three = client.invoke(rt, pear, increment, &[])?;
+    let one = client.invoke(rt, apple, increment, &[])?;
     println!(rt; "increment pear: {three:?}, and apple: {one:?}")?;
     Ok(())
 }
@@ -82,16 +65,14 @@ fn count(
 /// These calls wait for nobody: what is cached can be got so, and what has to be written is refused.
 fn try_both(
     rt: &impl Print,
-    cache: &Cache,
-    session: &mut Session,
+    client: &mut Client<'_>,
     apple: &Key,
     two: &Value,
 ) -> anyhow::Result<()>
-    requires { MayCall cache.now session.old }
-    ensures { MayCall cache.now session.new }
+    requires { Unit {0} }
 {
-    let cached = cache.try_get(session, apple)?;
-    let put = cache.try_put(session, apple, two);
+    let cached = client.try_get(apple)?;
+    let put = client.try_put(apple, two);
     println!(rt; "without waiting, get apple: {cached:?}, put apple: {put:?}")?;
     Ok(())
 }
