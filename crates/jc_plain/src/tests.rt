@@ -15,6 +15,7 @@ mod noting;
 mod updates;
 mod writes;
 
+use jc_model::LoadAnswer;
 use jc_types::{Key, Value};
 use std::fmt::Debug;
 use std::process::Abort;
@@ -30,4 +31,15 @@ fn key(rt: &impl Abort, byte: u8) -> Key {
 
 fn value(rt: &impl Abort, byte: u8) -> Value {
     Value::new(&[byte]).ok().expect(rt, "a value")
+}
+
+/// What a loader has answered, as a byte: ` ` if it wasn't asked, `-` if nothing is there, a capital letter that is the code of its
+/// failure, or else the value.
+fn load_answer(rt: &impl Abort, byte: u8) -> LoadAnswer {
+    match byte {
+        b' ' => LoadAnswer::NotAsked,
+        b'-' => LoadAnswer::Nothing,
+        _ if byte.is_ascii_uppercase() => LoadAnswer::Failed(u32::from(byte)),
+        _ => LoadAnswer::Found(value(rt, byte)),
+    }
 }

@@ -2,9 +2,8 @@
 ghost use Rattle.std.specs.Prelude.{◌≡◌};
 
 use super::letters::Letters;
-use super::{is, key, value};
+use super::{is, key, load_answer};
 use crate::{Load, Loading};
-use jc_model::LoadAnswer;
 use jc_outside::{
     Answers, Ask, CacheLoader, Hands, LoadBatch, LoadDone, Outside, call_loader, call_loader_all,
 };
@@ -112,24 +111,18 @@ fn ask(key: Key) -> Asked
 }
 
 /// Asks for one key.
-fn load<R: Abort + Wait>(rt: &R, hands: &mut Hands<Outside>, byte: u8, want: LoadAnswer)
+fn load<R: Abort + Wait>(rt: &R, hands: &mut Hands<Outside>, byte: u8, want: u8)
     requires { hands.old.held ≡ 0 }
     ensures { hands.new.held ≡ 0 }
 {
-    let ask = ask(key(rt, byte));
-    is(rt, "load", call_loader(rt, hands, ask).into_answer(), want);
+    let answer = call_loader(rt, hands, ask(key(rt, byte))).into_answer();
+    is(rt, "load", answer, load_answer(rt, want));
 }
 
-/// These are the answers, of which the last one is that of the second ask.
-fn were_loaded(rt: &impl Abort, done: Vec<LoadDone<Asked>>, want: [LoadAnswer; 2]) {
-    let mut done = done;
-    let [first, second] = want;
-    let last = done.pop().expect(rt, "two done values");
-    is(rt, "second", last.into_answer(), second);
-    let one = done.pop().expect(rt, "one done value");
-    is(rt, "first", one.into_answer(), first);
-    assert!(rt; done.is_empty());
-    done.destroy_empty();
+/// The last done value has this answer.
+fn was_loaded(rt: &impl Abort, done: &mut Vec<LoadDone<Asked>>, want: u8) {
+    let last = done.pop().expect(rt, "a done value");
+    is(rt, "load all", last.into_answer(), load_answer(rt, want));
 }
 
 /// Asks for two keys in one call.
@@ -138,7 +131,7 @@ fn load_two<R: Abort + Wait>(
     alloc: Global,
     hands: &mut Hands<Outside>,
     text: [u8; 2],
-    want: [LoadAnswer; 2],
+    want: [u8; 2],
 )
     requires { hands.old.held ≡ 0 }
     ensures { hands.new.held ≡ 0 }
@@ -153,52 +146,37 @@ fn load_two<R: Abort + Wait>(
     asks.push_reserved(ask(b));
     batch.insert(b);
     call_loader_all(rt, hands, asks, batch, &mut done);
-    were_loaded(rt, done, want);
+    let [before, last] = want;
+    was_loaded(rt, &mut done, last);
+    was_loaded(rt, &mut done, before);
+    assert!(rt; done.is_empty());
+    done.destroy_empty();
 }
 
 #[test]
 fn a_cache_calls_what_was_wrapped(rt: HostRuntime) {
-    let loader =
-        boxed!(rt, Box<dyn CacheLoader + Send + Drop>, Loading { loader: Letters { calls: 0 } });
+    let letters = Loading {
+        loader: Letters { calls: 0 },
+    };
+    let loader = boxed!(rt, Box<dyn CacheLoader + Send + Drop>, letters);
     let mut hands = Hands::new(Outside {
         loader: Some(loader),
         writer: None,
     });
-    let (a, b) = (
-        LoadAnswer::Found(value(&rt, b'a')),
-        LoadAnswer::Found(value(&rt, b'b')),
-    );
-    load(&rt, &mut hands, b'a', a);
-    load(&rt, &mut hands, b'-', LoadAnswer::Nothing);
-    load(&rt, &mut hands, b'B', LoadAnswer::Failed(66));
-    load_two(&rt, rt.alloc(), &mut hands, *b"ab", [a, b]);
-    load_two(
-        &rt,
-        rt.alloc(),
-        &mut hands,
-        *b"-a",
-        [LoadAnswer::Nothing, a],
-    );
-    load_two(
-        &rt,
-        rt.alloc(),
-        &mut hands,
-        *b"aB",
-        [LoadAnswer::Failed(66); 2],
-    );
+    load(&rt, &mut hands, b'a', b'a');
+    load(&rt, &mut hands, b'-', b'-');
+    load(&rt, &mut hands, b'B', b'B');
+    load_two(&rt, rt.alloc(), &mut hands, *b"-a", *b"-a");
+    load_two(&rt, rt.alloc(), &mut hands, *b"aB", *b"BB");
 }
 
 #[test]
 fn a_cache_calls_a_query_of_its_own(rt: HostRuntime) {
-    let loader = boxed!(rt, Box<dyn CacheLoader + Send + Drop>, Loading { loader: Query });
+    let query = Loading { loader: Query };
+    let loader = boxed!(rt, Box<dyn CacheLoader + Send + Drop>, query);
     let mut hands = Hands::new(Outside {
         loader: Some(loader),
         writer: None,
     });
-    let (a, b) = (
-        LoadAnswer::Found(value(&rt, b'a')),
-        LoadAnswer::Found(value(&rt, b'B')),
-    );
-    load(&rt, &mut hands, b'a', LoadAnswer::Failed(1));
-    load_two(&rt, rt.alloc(), &mut hands, *b"aB", [a, b]);
+    load_two(&rt, rt.alloc(), &mut hands, *b"ab", *b"ab");
 }

@@ -2,9 +2,9 @@
 ghost use Rattle.std.specs.Prelude.{◌≡◌};
 
 use super::letters::Letters;
-use super::{is, key, value};
+use super::{is, key, load_answer, value};
 use crate::{Loading, Update, Updating};
-use jc_model::{Effect, LoadAnswer, ProcessAnswer};
+use jc_model::{Effect, ProcessAnswer};
 use jc_mutentry::{AskProcess, EntryProcessor, run_processor};
 use jc_outside::{Ask, CacheLoader, Hands, Outside};
 use jc_types::{Key, Value};
@@ -130,15 +130,6 @@ fn maybe(rt: &impl Abort, byte: u8) -> Option<Value> {
         b'-' => None,
         b'0' => Some(Value::new(&[]).ok().expect(rt, "an empty value")),
         _ => Some(value(rt, byte)),
-    }
-}
-
-fn load_answer(rt: &impl Abort, byte: u8) -> LoadAnswer {
-    match byte {
-        b' ' => LoadAnswer::NotAsked,
-        b'-' => LoadAnswer::Nothing,
-        _ if byte.is_ascii_uppercase() => LoadAnswer::Failed(u32::from(byte)),
-        _ => LoadAnswer::Found(value(rt, byte)),
     }
 }
 

@@ -149,23 +149,29 @@ impl AskWrite for Asked {
     }
 }
 
-/// Asks for one change.
+/// Asks to write a value, or to delete, which fails with this code or doesn't fail.
 fn change<R: Abort + Wait>(
     rt: &R,
     hands: &mut Hands<Outside>,
     byte: u8,
-    change: Change,
-    want: WriteAnswer,
+    is_write: bool,
+    code: Option<u32>,
 )
     requires held { hands.old.held ≡ 0 }
     requires writer { IsSome hands.old.outside.writer }
     ensures held { hands.new.held ≡ 0 }
     ensures writer { IsSome hands.new.outside.writer }
 {
+    let change = if is_write {
+        Change::Write(value(rt, b'1'))
+    } else {
+        Change::Delete
+    };
     let ask = Asked {
         key: key(rt, byte),
         change,
     };
+    let want = code.map_or(WriteAnswer::Done, WriteAnswer::Failed);
     is(
         rt,
         "change",
@@ -176,23 +182,18 @@ fn change<R: Abort + Wait>(
 
 #[test]
 fn a_cache_calls_what_was_wrapped(rt: HostRuntime) {
-    let writer =
-        boxed!(rt, Box<dyn CacheWriter + Send + Drop>, Writing { writer: Letters { calls: 0 } });
+    let letters = Writing {
+        writer: Letters { calls: 0 },
+    };
+    let writer = boxed!(rt, Box<dyn CacheWriter + Send + Drop>, letters);
     let mut hands = Hands::new(Outside {
         loader: None,
         writer: Some(writer),
     });
-    let write = Change::Write(value(&rt, b'1'));
-    change(&rt, &mut hands, b'a', write, WriteAnswer::Done);
-    change(&rt, &mut hands, b'B', write, WriteAnswer::Failed(66));
-    change(&rt, &mut hands, b'a', Change::Delete, WriteAnswer::Done);
-    change(
-        &rt,
-        &mut hands,
-        b'B',
-        Change::Delete,
-        WriteAnswer::Failed(66),
-    );
+    change(&rt, &mut hands, b'a', true, None);
+    change(&rt, &mut hands, b'B', true, Some(66));
+    change(&rt, &mut hands, b'a', false, None);
+    change(&rt, &mut hands, b'B', false, Some(66));
 }
 
 /// Changes many keys by a writer, which leaves this.
