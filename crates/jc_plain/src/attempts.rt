@@ -23,11 +23,13 @@ pub(crate) fn attempt_entries<F: FnMut(&Key, &Value) -> Result<(), u32>>(
     ensures ok { IsOk result ↔ (index_map_len entries.new ≡ 0) }
     ensures left { RetainsPairs (FailsAtEntry F.FnMut) attempt entries.old.entries entries.new.entries }
 {
+    // The code of the last failure. It is read only if there was one.
     let mut last = 0;
     entries.retain(
         |key: &Key, value: &mut Value| -> bool
             requires { (state : F) (key : _) (value : _) → F.pre state key value }
-            ensures { FailsAtEntry F.FnMut attempt.entry key.now value.old result value.new attempt.exit }
+            ensures { FailsAtEntry F.FnMut attempt.entry
+                key.now value.old result value.new attempt.exit }
         {
             match attempt(key, value) {
                 Ok(()) => false,
@@ -59,6 +61,7 @@ pub(crate) fn attempt_keys<F: FnMut(&Key) -> Result<(), u32>>(
     ensures ok { IsOk result ↔ (index_set_len keys.new ≡ 0) }
     ensures left { IsFiltered (FailsAt F.FnMut) attempt keys.old.keys keys.new.keys }
 {
+    // The code of the last failure. It is read only if there was one.
     let mut last = 0;
     keys.retain(
         |key: &Key| -> bool

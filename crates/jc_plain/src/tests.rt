@@ -33,11 +33,11 @@ fn value(rt: &impl Abort, byte: u8) -> Value {
     Value::new(&[byte]).ok().expect(rt, "a value")
 }
 
-/// What a loader has answered, as a byte: ` ` if it wasn't asked, `-` if nothing is there, a capital letter that is the code of its
+/// What a loader has answered, as a byte: `.` if it wasn't asked, `-` if nothing is there, a capital letter that is the code of its
 /// failure, or else the value.
 fn load_answer(rt: &impl Abort, byte: u8) -> LoadAnswer {
     match byte {
-        b' ' => LoadAnswer::NotAsked,
+        b'.' => LoadAnswer::NotAsked,
         b'-' => LoadAnswer::Nothing,
         _ if byte.is_ascii_uppercase() => LoadAnswer::Failed(u32::from(byte)),
         _ => LoadAnswer::Found(value(rt, byte)),

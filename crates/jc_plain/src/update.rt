@@ -10,12 +10,12 @@ use jc_types::{Key, Value};
 pub trait Update {
     /// Changes the value at a key in its place, and returns what the call answers: a value, or none. `args` are those of the call.
     ///
-    /// `value` is the entry's value, or none if there is no entry. What it is afterwards decides:
+    /// `value` is the entry's value, or what was loaded for a missing entry, or none. What it is afterwards decides:
     ///
     /// | Before | After | The entry |
     /// |---|---|---|
-    /// | none | none | stays missing, and nobody is asked |
-    /// | a value | the same value | stays as it is. It isn't written, also if it was assigned |
+    /// | none | none | stays missing. The writer isn't asked |
+    /// | a value | the same value | stays as it is. It isn't written, and counts as no put, also if it was assigned |
     /// | none, or a value | another value | gets that value; with write-through on it is written first (`setValue`) |
     /// | a value | none | is removed; with write-through on it is deleted in the store first (`remove`) |
     ///
@@ -31,9 +31,9 @@ pub trait Update {
 
 /// The entry processor of a call that updates by `U`.
 ///
-/// It gets the value first, always: with read-through on a missing entry is loaded, and what was loaded is cached if the update
-/// keeps it. If that load fails, the update isn't made, and the call fails with `LoaderFailed`. Then it lets `U` change the value,
-/// and sets or removes it if it has changed. It may wait, as long as the loader and `U` do.
+/// It gets the value first, always: with read-through on a missing entry is loaded. If that load fails, the update isn't made, and
+/// the call fails with `LoaderFailed`. Then it lets `U` change the value, and sets or removes it if it has changed; if it hasn't,
+/// what was loaded is cached. It may wait, as long as the loader and `U` do.
 ///
 /// It states nothing of what `U` does. Whoever wants to state more implements [`jc_mutentry::EntryProcessor`].
 #[derive(Drop)]

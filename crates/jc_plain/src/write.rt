@@ -26,8 +26,8 @@ pub trait Write {
     /// are left, in their order. It is `Ok` exactly if nothing is left; an `Err` is the last failure.
     ///
     /// A store that writes many entries in one transaction has a body of its own here. The cache goes by what it leaves, whatever
-    /// it returns: an entry that is left wasn't written, and each other one was. So a transaction that fails leaves all, and one
-    /// that is committed ends with `entries.clear()`.
+    /// it returns: each entry that is left failed, with the code, or with 0 after an `Ok`; each other one was written. So a
+    /// transaction that fails leaves all, and one that is committed ends with `entries.clear()`.
     fn write_all(&mut self, entries: &mut IndexMap<Key, Value>) -> Result<(), u32> {
         attempt_entries(entries, |key: &Key, value: &Value| self.write(key, value))
     }

@@ -54,7 +54,7 @@ fn loads_as(rt: &impl Abort, alloc: Global, row: &Row) {
     let (text, code, want, calls) = row;
     let keys = keys(rt, alloc, text);
     let mut answers = Answers::new(alloc, &keys).expect(rt, "memory");
-    let mut letters = Letters { calls: 0 };
+    let mut letters = Letters::new();
     let returned = letters.load_all(&keys, &mut answers);
     is(rt, text, returned.err(), code.map(u32::from));
     is(rt, text, letters.calls, *calls);
@@ -156,7 +156,7 @@ fn load_two<R: Abort + Wait>(
 #[test]
 fn a_cache_calls_what_was_wrapped(rt: HostRuntime) {
     let letters = Loading {
-        loader: Letters { calls: 0 },
+        loader: Letters::new(),
     };
     let loader = boxed!(rt, Box<dyn CacheLoader + Send + Drop>, letters);
     let mut hands = Hands::new(Outside {

@@ -12,15 +12,15 @@ use std::alloc::Global;
 use std::process::Abort;
 use std::sync::Wait;
 
-/// Does what the first argument says: `set` the second argument, `remove`, `fail` with what the second argument has for a code,
-/// after a change, or nothing. It returns the value that it was given.
+/// Does what the first argument says: `set` the second argument or none, set the `key`, `remove`, `fail` with the code `9` after a change, or
+/// nothing. It returns the value that it was given.
 #[derive(Drop)]
 struct Edit;
 
 impl Update for Edit {
     fn update(
         &mut self,
-        _key: &Key,
+        key: &Key,
         value: &mut Option<Value>,
         args: &[Value],
     ) -> Result<Option<Value>, u32> {
@@ -30,10 +30,11 @@ impl Update for Edit {
         };
         match word.bytes() {
             b"set" => *value = operand.copied(),
+            b"key" => *value = Value::new(key.bytes()).ok(),
             b"remove" => *value = None,
             b"fail" => {
                 *value = None;
-                return Err(9);
+                return Err(u32::from(b'9'));
             }
             _ => {}
         }
@@ -41,50 +42,49 @@ impl Update for Edit {
     }
 }
 
-/// What a run is given, and what it is to come to. A value is one byte, `0` is the empty value, and `-` stands for none.
+/// A run: the key and the value of its entry, the arguments, and what comes of it: what the loader has answered, the net effect,
+/// and what the processor returns.
 ///
-/// - the key, which is also what the loader has there, if it is a small letter; at a capital letter the loader fails with it;
-/// - the value of the entry;
-/// - the arguments, with a space between two of them;
-/// - what the loader answered, ` ` if it wasn't asked;
-/// - the net effect: `=` to keep the entry, `-` to remove it, else the value to set; `!` if the processor failed;
-/// - what the processor returned, or the code of its failure.
-type Row = (u8, u8, &'static str, u8, u8, u8);
+/// A value is one byte, where `0` is the empty value and `-` none. The loader has each small letter as its own value, and fails at
+/// each capital one; `.` says that it wasn't asked. The net effect is `=` to keep the entry, `-` to remove it, the value to set, or
+/// `!` if the processor fails, with the code of the last byte.
+type Row = (&'static str, &'static str, &'static str);
 
 // With read-through: the loader may be asked if there is no entry.
 const ROWS: &[Row] = &[
-    (b'a', b'1', "keep", b' ', b'=', b'1'),
-    (b'a', b'1', "", b' ', b'=', b'1'),
-    (b'a', b'1', "set 2", b' ', b'2', b'1'),
-    (b'a', b'1', "set 1", b' ', b'=', b'1'),
-    (b'a', b'1', "set 0", b' ', b'0', b'1'),
-    (b'a', b'0', "set 0", b' ', b'=', b'0'),
-    (b'a', b'1', "set", b' ', b'-', b'1'),
-    (b'a', b'1', "remove", b' ', b'-', b'1'),
-    (b'a', b'0', "remove", b' ', b'-', b'0'),
-    (b'a', b'1', "fail", b' ', b'!', 9),
-    (b'B', b'1', "set 2", b' ', b'2', b'1'),
-    (b'-', b'-', "keep", b'-', b'=', b'-'),
-    (b'-', b'-', "set 2", b'-', b'2', b'-'),
-    (b'-', b'-', "set 0", b'-', b'0', b'-'),
-    (b'-', b'-', "remove", b'-', b'=', b'-'),
-    (b'-', b'-', "fail", b'-', b'!', 9),
-    (b'a', b'-', "keep", b'a', b'=', b'a'),
-    (b'a', b'-', "set 2", b'a', b'2', b'a'),
-    (b'a', b'-', "set a", b'a', b'=', b'a'),
-    (b'a', b'-', "remove", b'a', b'-', b'a'),
-    (b'a', b'-', "fail", b'a', b'!', 9),
-    (b'B', b'-', "set 2", b'B', b'!', b'B'),
-    (b'B', b'-', "fail", b'B', b'!', b'B'),
+    ("a1", "keep", ".=1"),
+    ("a1", "", ".=1"),
+    ("a1", "set 2", ".21"),
+    ("a1", "set 1", ".=1"),
+    ("a1", "set 0", ".01"),
+    ("a0", "set 0", ".=0"),
+    ("a1", "set", ".-1"),
+    ("a1", "key", ".a1"),
+    ("a1", "remove", ".-1"),
+    ("a0", "remove", ".-0"),
+    ("a1", "fail", ".!9"),
+    ("B1", "set 2", ".21"),
+    ("--", "keep", "-=-"),
+    ("--", "set 2", "-2-"),
+    ("--", "set 0", "-0-"),
+    ("--", "remove", "-=-"),
+    ("--", "fail", "-!9"),
+    ("a-", "keep", "a=a"),
+    ("a-", "set 2", "a2a"),
+    ("a-", "set a", "a=a"),
+    ("a-", "remove", "a-a"),
+    ("a-", "fail", "a!9"),
+    ("B-", "set 2", "B!B"),
+    ("B-", "fail", "B!B"),
 ];
 
 // Without read-through nobody is asked.
 const ALONE: &[Row] = &[
-    (b'a', b'-', "keep", b' ', b'=', b'-'),
-    (b'a', b'-', "set 2", b' ', b'2', b'-'),
-    (b'a', b'-', "remove", b' ', b'=', b'-'),
-    (b'B', b'-', "set 2", b' ', b'2', b'-'),
-    (b'B', b'1', "remove", b' ', b'-', b'1'),
+    ("a-", "keep", ".=-"),
+    ("a-", "set 2", ".2-"),
+    ("a-", "remove", ".=-"),
+    ("B-", "set 2", ".2-"),
+    ("B1", "remove", ".-1"),
 ];
 
 /// What a processor is asked.
@@ -165,6 +165,18 @@ fn args(rt: &impl Abort, alloc: Global, text: &str) -> Vec<Value> {
     args
 }
 
+/// What is asked at an entry. The loader may be asked with read-through, if there is no entry.
+fn ask_at(rt: &impl Abort, entry: &str, read_through: bool) -> Asked {
+    let &[name, initial] = entry.as_bytes() else {
+        panic!(rt; "a key and a value: {entry}");
+    };
+    Asked {
+        key: key(rt, name),
+        initial: maybe(rt, initial),
+        may_load: read_through && initial == b'-',
+    }
+}
+
 /// Runs the processor once.
 fn runs<R: Abort + Wait>(
     rt: &R,
@@ -177,16 +189,15 @@ fn runs<R: Abort + Wait>(
     requires { hands.old.held ≡ 0 }
     ensures { hands.new.held ≡ 0 }
 {
-    let (name, initial, words, loads, does, returns) = row;
-    let ask = Asked {
-        key: key(rt, *name),
-        initial: maybe(rt, *initial),
-        may_load: read_through && *initial == b'-',
+    let (entry, words, want) = row;
+    let &[loads, does, returns] = want.as_bytes() else {
+        panic!(rt; "three bytes: {want}");
     };
+    let ask = ask_at(rt, entry, read_through);
     let done = run_processor(rt, hands, processor, ask, &args(rt, alloc, words));
     let (load, process) = done.into_answers();
-    is(rt, words, load, load_answer(rt, *loads));
-    is(rt, words, process, process_answer(rt, *does, *returns));
+    is(rt, words, load, load_answer(rt, loads));
+    is(rt, words, process, process_answer(rt, does, returns));
 }
 
 /// Runs the processor once for each row.
@@ -208,8 +219,7 @@ fn runs_all<R: Abort + Wait>(
 
 #[test]
 fn sets_or_removes_what_has_changed(rt: HostRuntime) {
-    let loader =
-        boxed!(rt, Box<dyn CacheLoader + Send + Drop>, Loading { loader: Letters { calls: 0 } });
+    let loader = boxed!(rt, Box<dyn CacheLoader + Send + Drop>, Loading { loader: Letters::new() });
     let mut processor =
         boxed!(rt, Box<dyn EntryProcessor + Send + Drop>, Updating { processor: Edit });
     let mut hands = Hands::new(Outside {
@@ -228,6 +238,6 @@ fn finds_nothing_without_a_loader(rt: HostRuntime) {
         loader: None,
         writer: None,
     });
-    let set = (b'a', b'-', "set 2", b'-', b'2', b'-');
-    runs(&rt, rt.alloc(), &mut hands, &mut processor, &set, true);
+    let row = ("a-", "set 2", "-2-");
+    runs(&rt, rt.alloc(), &mut hands, &mut processor, &row, true);
 }

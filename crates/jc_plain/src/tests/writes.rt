@@ -63,22 +63,34 @@ fn keys_are(rt: &impl Abort, keys: &IndexSet<Key>, text: &str) {
     }
 }
 
+/// The value of the last of these entries, which is the last one to be written, whatever failed before.
+fn last_of(rt: &impl Abort, text: &str) -> Option<Value> {
+    let byte = text.as_bytes().last().copied()?;
+    Some(value(rt, byte))
+}
+
+/// The code with which a delete fails at a capital letter.
+fn small(byte: u8) -> u32 {
+    u32::from(byte.to_ascii_lowercase())
+}
+
 fn writes_as(rt: &impl Abort, alloc: Global, row: &Row) {
     let (text, code, left) = row;
     let mut entries = entries(rt, alloc, text);
-    let mut letters = Letters { calls: 0 };
+    let mut letters = Letters::new();
     let returned = letters.write_all(&mut entries);
     is(rt, text, returned.err(), code.map(u32::from));
     is(rt, text, letters.calls as usize, text.len());
+    is(rt, text, letters.last, last_of(rt, text));
     entries_are(rt, &entries, left);
 }
 
 fn deletes_as(rt: &impl Abort, alloc: Global, row: &Row) {
     let (text, code, left) = row;
     let mut keys = keys(rt, alloc, text);
-    let mut letters = Letters { calls: 0 };
+    let mut letters = Letters::new();
     let returned = letters.delete_all(&mut keys);
-    is(rt, text, returned.err(), code.map(u32::from));
+    is(rt, text, returned.err(), code.map(small));
     is(rt, text, letters.calls as usize, text.len());
     keys_are(rt, &keys, left);
 }
@@ -183,7 +195,7 @@ fn change<R: Abort + Wait>(
 #[test]
 fn a_cache_calls_what_was_wrapped(rt: HostRuntime) {
     let letters = Writing {
-        writer: Letters { calls: 0 },
+        writer: Letters::new(),
     };
     let writer = boxed!(rt, Box<dyn CacheWriter + Send + Drop>, letters);
     let mut hands = Hands::new(Outside {
@@ -193,7 +205,7 @@ fn a_cache_calls_what_was_wrapped(rt: HostRuntime) {
     change(&rt, &mut hands, b'a', true, None);
     change(&rt, &mut hands, b'B', true, Some(66));
     change(&rt, &mut hands, b'a', false, None);
-    change(&rt, &mut hands, b'B', false, Some(66));
+    change(&rt, &mut hands, b'B', false, Some(98));
 }
 
 /// Changes many keys by a writer, which leaves this.
@@ -216,7 +228,7 @@ fn leaves_keys(rt: &impl Abort, alloc: Global, writer: &mut dyn CacheWriter, row
         rt,
         text,
         writer.delete_all(&mut keys).err(),
-        code.map(u32::from),
+        code.map(small),
     );
     keys_are(rt, &keys, left);
 }
@@ -224,7 +236,7 @@ fn leaves_keys(rt: &impl Abort, alloc: Global, writer: &mut dyn CacheWriter, row
 #[test]
 fn a_cache_sees_what_is_left(rt: HostRuntime) {
     let mut letters = Writing {
-        writer: Letters { calls: 0 },
+        writer: Letters::new(),
     };
     leaves(&rt, rt.alloc(), &mut letters, &("aBc", Some(b'B'), "B"));
     leaves_keys(&rt, rt.alloc(), &mut letters, &("ABc", Some(b'B'), "AB"));
