@@ -1,8 +1,8 @@
 //! Loaders, writers and entry processors of which their author states nothing (JSR 107, "Integration" and "Entry Processors").
 //!
 //! [`Load`], [`Write`] and [`Update`] have plain methods alone. A wrapper makes of each what a cache calls: [`Loading`] a
-//! [`jc_outside::CacheLoader`], [`Writing`] a [`jc_outside::CacheWriter`], [`Updating`] a [`jc_mutentry::EntryProcessor`]. A program
-//! puts the wrapper into a box in its `main`, and hands the box to a session or to a call:
+//! [`jc_outside::CacheLoader`], [`Writing`] a [`jc_outside::CacheWriter`], [`Updating`] a [`jc_mutentry::EntryProcessor`]. A
+//! program puts the wrapper into a box in its `main`, and hands the box to a session or to a call:
 //!
 //! ```rust,ignore
 //! let loader: Box<dyn CacheLoader + Send + Drop> = Box::new(alloc, Loading { loader: rows })?;

@@ -12,8 +12,8 @@ use std::alloc::Global;
 use std::process::Abort;
 use std::sync::Wait;
 
-/// Does what the first argument says: `set` the second argument or none, set the `key`, `remove`, `fail` with the code `9` after a change, or
-/// nothing. It returns the value that it was given.
+/// Does what the first argument says: `set` the second argument or none, set the `key`, `remove`, `fail` with the code `9` after a
+/// change, or nothing. It returns the value that it was given.
 #[derive(Drop)]
 struct Edit;
 
