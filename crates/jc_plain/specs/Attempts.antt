@@ -1,0 +1,16 @@
+-- Attempts at the members of a collection, each a call of one closure that may fail.
+--     FailsAt         an attempt at this key was made, and this says whether it failed
+--     FailsAtEntry    an attempt at this entry was made, and this says whether it failed; its value stays
+use Rattle.std.specs.Prelude.{◌≡◌, ℕ, Bool, Result, is_err}
+use denote.Ref.{Bor}
+use Rattle.std.specs.Fn.{Mut, CalledAt, CalledAtTwo}
+use Rattle.jc_model.specs.Cache.{Bytes}
+
+abbrev pub FailsAt : {F : Type 0} → Mut F (Bor Bytes × Unit {0}) (Result (Unit {0}) ℕ) → F → Bytes → Bool → F → Type 0
+FailsAt calls before key failed after =
+    (outcome : Result (Unit {0}) ℕ) × CalledAt calls before key outcome after × (failed ≡ is_err outcome)
+
+abbrev pub FailsAtEntry : {F : Type 0} → Mut F (Bor Bytes × (Bor Bytes × Unit {0})) (Result (Unit {0}) ℕ)
+    → F → Bytes → Bytes → Bool → Bytes → F → Type 0
+FailsAtEntry calls before key value failed left after =
+    (outcome : Result (Unit {0}) ℕ) × CalledAtTwo calls before key value outcome after × (failed ≡ is_err outcome) × (left ≡ value)

@@ -1,0 +1,45 @@
+//! Each default method and each wrapper, on the normal path, at its limits and with its errors; and each wrapper in its box, as a
+//! cache calls it.
+
+/// An object in a box. Only a test itself can make it.
+macro_rules! boxed {
+    ($rt:expr, $kind:ty, $inner:expr) => {{
+        let inner: $kind = Box::new($rt.alloc(), $inner).ok().expect(&$rt, "memory");
+        inner
+    }};
+}
+
+mod letters;
+mod loads;
+mod noting;
+mod updates;
+mod writes;
+
+use jc_model::LoadAnswer;
+use jc_types::{Key, Value};
+use std::fmt::Debug;
+use std::process::Abort;
+
+/// Asserts a value.
+fn is<T: Copy + Debug + PartialEq>(rt: &impl Abort, at: &str, found: T, want: T) {
+    assert_eq!(rt; found, want, "{at}");
+}
+
+fn key(rt: &impl Abort, byte: u8) -> Key {
+    Key::new(&[byte]).ok().expect(rt, "a key")
+}
+
+fn value(rt: &impl Abort, byte: u8) -> Value {
+    Value::new(&[byte]).ok().expect(rt, "a value")
+}
+
+/// What a loader has answered, as a byte: `.` if it wasn't asked, `-` if nothing is there, a capital letter that is the code of its
+/// failure, or else the value.
+fn load_answer(rt: &impl Abort, byte: u8) -> LoadAnswer {
+    match byte {
+        b'.' => LoadAnswer::NotAsked,
+        b'-' => LoadAnswer::Nothing,
+        _ if byte.is_ascii_uppercase() => LoadAnswer::Failed(u32::from(byte)),
+        _ => LoadAnswer::Found(value(rt, byte)),
+    }
+}

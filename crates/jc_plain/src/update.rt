@@ -1,0 +1,76 @@
+//! Entry processors.
+use jc_mutentry::{EntryProcessor, MutableEntry};
+use jc_outside::CacheLoader;
+use jc_types::{Key, Value};
+
+/// Changes the value of an entry (`javax.cache.processor.EntryProcessor`; JSR 107, "Entry Processors").
+///
+/// It sees the value alone, and neither the entry nor the loader. A processor that must not load, or that writes a value which is
+/// there already, implements [`jc_mutentry::EntryProcessor`].
+pub trait Update {
+    /// Changes the value at a key in its place, and returns what the call answers: a value, or none. `args` are those of the call.
+    ///
+    /// `value` is the entry's value, or what was loaded for a missing entry, or none. What it is afterwards decides:
+    ///
+    /// | Before | After | The entry |
+    /// |---|---|---|
+    /// | none | none | stays missing. The writer isn't asked |
+    /// | a value | the same value | stays as it is. It isn't written, and counts as no put, also if it was assigned |
+    /// | none, or a value | another value | gets that value; with write-through on it is written first (`setValue`) |
+    /// | a value | none | is removed; with write-through on it is deleted in the store first (`remove`) |
+    ///
+    /// An `Err` has a code of the author's own: the call fails with `ProcessorFailed` of that code, and neither the entry nor the
+    /// store changes.
+    fn update(
+        &mut self,
+        key: &Key,
+        value: &mut Option<Value>,
+        args: &[Value],
+    ) -> Result<Option<Value>, u32>;
+}
+
+/// The entry processor of a call that updates by `U`.
+///
+/// It gets the value first, always: with read-through on a missing entry is loaded. If that load fails, the update isn't made, and
+/// the call fails with `LoaderFailed`. Then it lets `U` change the value, and sets or removes it if it has changed; if it hasn't,
+/// what was loaded is cached. It may wait, as long as the loader and `U` do.
+///
+/// It states nothing of what `U` does. Whoever wants to state more implements [`jc_mutentry::EntryProcessor`].
+#[derive(Drop)]
+pub struct Updating<U: Update + Drop> {
+    /// Who changes the value.
+    pub processor: U,
+}
+
+impl<U: Update + Drop> EntryProcessor for Updating<U> {
+    ghost use Rattle.std.specs.Prelude.{[]};
+
+    ghost process_state = { λ p. [] };
+
+    ghost processes = { λ p key args calls answers answer after. Unit {0} };
+
+    fn process(
+        &mut self,
+        entry: &mut MutableEntry,
+        loader: &mut dyn CacheLoader,
+        args: &[Value],
+    ) -> Result<Option<Value>, u32> {
+        let old = entry.get_value(loader)?;
+        let key = *entry.key();
+        let mut value = old;
+        let answer = self.processor.update(&key, &mut value, args)?;
+        if value == old {
+            return Ok(answer);
+        }
+        match value {
+            Some(new) => {
+                entry.set_value(&new);
+                Ok(answer)
+            }
+            None => {
+                entry.remove();
+                Ok(answer)
+            }
+        }
+    }
+}
