@@ -3,8 +3,9 @@
 --     failure_there    a key that failed, at its place
 --     failures_more    the failures, by one key more
 --     none_failed      and if it hasn't failed
---     noted_round      the cause after a round: the first of what failed before it, in it, and in its call outside
+--     noted_round      the cause after the call outside of a round: the first of what failed before the round, in it, and in that call
 --     noted_on         the cause after one round more
+--     noted_picked     the cause after the pick-ups of a round, which follow its call outside
 use Rattle.std.proofs.Common.{◌≡◌, ◌<◌, ◌+◌, ◌++◌, ◌⊎◌, inl, inr, ℕ, zero, suc, List, [], ◌∷◌, append-nil, length, get_or, take, Option, None, Some, Result, slice_get, refl, sym, ap, ◌∙◌, subst, arith}
 use Rattle.std.proofs.lemmas.List.{take_more}
 use Rattle.std.proofs.lemmas.List.Elements.{filter_map-append}
@@ -111,3 +112,9 @@ noted_on (Some x) d ps qs rs more stay one two = subst (λ e. IsCauseIn e (failu
     by : IsAmong (failures ps) x ⊎ IsAmong rs x → IsAmong (failures qs ++ (rs ++ more)) x
     by (inl h) = among_more (failures qs) (rs ++ more) x (failures_stay ps qs x stay h)
     by (inr h) = among_after (failures qs) (rs ++ more) x (among_more rs more x h)
+
+pub noted_picked : (c0 c3 c4 : Option Refusal) (ps qs : List Progress) (more : List Refusal) → StayEnded ps qs → IsNoted c0 (failures ps ++ more) c3 → IsNoted c3 (failures qs) c4 → IsNoted c0 (failures qs ++ more) c4
+noted_picked (Some n) c3 c4 ps qs more stay one two = subst (λ c. IsNoted c (failures qs) c4) one two
+noted_picked None c3 c4 ps qs more stay one two =
+    subst (λ (rs : List Refusal). IsCauseIn c4 (failures qs ++ rs)) (append-nil more)
+    (noted_on c3 c4 ps qs more [] stay one (subst (λ (rs : List Refusal). IsNoted c3 rs c4) (sym (append-nil (failures qs))) two))

@@ -86,7 +86,8 @@ fn writer_fault(returned: Result<(), u32>) -> Option<Refusal>
 }
 
 /// One round of a call that has nothing out: each key that can is begun, and what follows of them. The first fault or refusal of the
-/// call is noted as soon as it is met.
+/// call is noted as soon as it is met: those of first phases, then those of the call's own loader or writer, and only then those of
+/// loads that keys have joined.
 pub(crate) fn run_round<R: Wait>(
     rt: &R,
     cache: &Cache,
@@ -130,6 +131,7 @@ pub(crate) fn run_round<R: Wait>(
     note_first(cause, progress);
     let fault = end_calls(rt, cache, session, targets, progress, calls);
     note_fault(cause, fault);
+    note_first(cause, progress);
     pick_round(rt, cache, session, targets, progress, joins);
     note_first(cause, progress);
 }

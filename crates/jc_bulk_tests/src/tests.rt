@@ -17,6 +17,7 @@ mod lines;
 mod outside;
 mod pieces;
 mod play;
+mod processors;
 mod random;
 mod results;
 mod scene;

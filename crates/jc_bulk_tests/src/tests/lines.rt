@@ -9,13 +9,14 @@
 ghost use Rattle.jc_cache.specs.Sessions.{MayCall};
 
 use super::outside::Outside;
+use super::processors::processor_of;
 use super::random::call_often;
 use super::results::{ended, got, invoked};
 use super::words::{first_word, key, keys_of, many, pairs_of, value};
 use super::*;
+use indexmap::IndexSet;
 use jc_bulk::{BulkFault, clear, get_all, load_keys, put_all, remove_all, remove_every};
 use jc_invoke::invoke_all;
-use jc_store::Increment;
 
 /// Makes a call that has no result but its faults.
 fn called<R: Abort + Wait>(
@@ -65,9 +66,22 @@ fn called_at_key<R: Abort + Wait>(
         .expect(rt, "a get")
 }
 
-/// A processor that counts in its entry.
-pub fn increment(rt: &impl Abort, alloc: Global) -> Processor {
-    Box::new(alloc, Increment).ok().expect(rt, "memory")
+/// Runs the processor of a word on these keys. It is to return this.
+fn invoke_each<R: Abort + Wait>(
+    rt: &R,
+    alloc: Global,
+    cache: &Cache,
+    session: &mut Session,
+    word: &str,
+    keys: &IndexSet<Key>,
+    wanted: &str,
+)
+    requires { MayCall cache.now session.old }
+    ensures { MayCall cache.now session.new }
+{
+    let mut processor = processor_of(rt, alloc, word);
+    let results = invoke_all(alloc, rt, cache, session, keys, &mut processor, &[]);
+    invoked(rt, results, wanted);
 }
 
 /// Makes the call that a line says. It is to return what the line says.
@@ -95,11 +109,13 @@ fn call<R: Abort + Wait>(rt: &R, alloc: Global, cache: &Cache, session: &mut Ses
             let keys = many(rt, alloc, words);
             got(rt, get_all(alloc, rt, cache, session, &keys), wanted);
         }
-        "invokeall" => {
+        "invokeall" | "changeall" | "idleall" | "failall" => {
             let keys = keys_of(rt, alloc, words);
-            let mut processor = increment(rt, alloc);
-            let results = invoke_all(alloc, rt, cache, session, &keys, &mut processor, &[]);
-            invoked(rt, results, wanted);
+            invoke_each(rt, alloc, cache, session, word, &keys, wanted);
+        }
+        "invokemany" => {
+            let keys = many(rt, alloc, words);
+            invoke_each(rt, alloc, cache, session, word, &keys, wanted);
         }
         _ => ended(rt, called(rt, alloc, cache, session, word, words), wanted),
     }

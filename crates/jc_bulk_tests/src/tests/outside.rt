@@ -5,8 +5,8 @@ use super::unreliable::{Failures, Manner, Unreliable};
 use super::*;
 use jc_outside::CompletionListener;
 use jc_store::{
-    Counting, ScheduledWriter, SharedCounts, SharedStore, Store, StoreLoader, StoreWriter,
-    WriteFault,
+    Counting, LoadFault, ScheduledLoader, ScheduledWriter, SharedCounts, SharedStore, Store,
+    StoreLoader, StoreWriter, WriteFault,
 };
 use std::sync::Arc;
 use std::sync::atomic::AtomicU64;
@@ -41,9 +41,6 @@ impl CompletionListener for Listening {
     }
 }
 
-/// How many sessions may have loaders and writers.
-const MOST: usize = 4;
-
 /// A store with some entries, the counts of its loaders' and writers' calls, and the failures of each session's loader and writer.
 #[derive(Drop)]
 pub struct Outside {
@@ -67,7 +64,7 @@ impl Outside {
             store: SharedStore::new(alloc, store).expect(rt, "memory"),
             signals: Signals::new(alloc).expect(rt, "memory"),
             counts: SharedCounts::new(alloc).expect(rt, "memory"),
-            failures: no_failures(rt, alloc),
+            failures: Failures::of_each(rt, alloc),
             told: Arc::new(alloc, told).ok().expect(rt, "memory"),
         }
     }
@@ -94,14 +91,17 @@ impl Outside {
         Unreliable::new(rt, manner, &self.signals, self.failures(rt, place), inner)
     }
 
-    /// A loader from the store, which counts its calls.
+    /// A loader from the store, which counts its calls, and gives the scene's answers, too.
     pub fn loader<R: Abort + Wait + Drop + Copy>(
         &self,
         rt: R,
+        alloc: Global,
         scene: &Scene,
         place: usize,
-    ) -> Unreliable<Counting<StoreLoader<R>, R>> {
+    ) -> Unreliable<Counting<ScheduledLoader<StoreLoader<R>>, R>> {
         let loader = self.store.loader(rt).expect(&rt, "memory");
+        let (call, fault) = answers_of(&rt, alloc, scene.fault);
+        let loader = ScheduledLoader::new(loader, call, fault);
         let loader = self.counts.counting(rt, loader).expect(&rt, "memory");
         self.acting(&rt, scene.every, scene.loaders_wait, place, loader)
     }
@@ -206,12 +206,12 @@ fn fault_of(rt: &impl Abort, alloc: Global, text: &str) -> (u64, WriteFault) {
     (call.parse().ok().unwrap_or(0), fault)
 }
 
-/// No failures yet, of each session.
-fn no_failures(rt: &impl Abort, alloc: Global) -> Vec<Failures> {
-    let mut failures = Vec::new(alloc);
-    for _ in 0..MOST {
-        let none = Failures::new(alloc).expect(rt, "memory");
-        failures.push(none).ok().expect(rt, "memory");
+/// The answers that a text tells after `answers`, which a loader gives at its first call, and at which call it gives them, if at any.
+fn answers_of(rt: &impl Abort, alloc: Global, text: &str) -> (u64, LoadFault) {
+    let (word, pairs) = words::first_word(text);
+    if word == "answers" {
+        (1, LoadFault::AlsoAnswers(pairs_in(rt, alloc, pairs)))
+    } else {
+        (0, LoadFault::AlsoAnswers(Vec::new(alloc)))
     }
-    failures
 }

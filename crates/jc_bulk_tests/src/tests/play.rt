@@ -6,27 +6,33 @@ use super::closing::are_so;
 use super::outside::Outside;
 use super::random::{LIVING, RELIABLE, UNRELIABLE};
 use super::scene::{Scene, scene_of};
-use super::side_by_side::{GIVEN_UP, JOINED, LOADED, MET, RESERVED, by_phases};
+use super::side_by_side::{
+    FAILED_FIRST, GIVEN_UP, HANDED_ON, JOINED, LOADED, MET, RESERVED, by_phases,
+};
 use super::stage::Stage;
 use super::whole::{
-    LEFT_IN_PART, LEFT_NORMALLY, LEFT_NOTHING, MANY, MANY_LIVING, NEARLY_FULL, PROCESSED_IN_PART,
-    TOUR,
+    ANSWERED_TWICE, LEFT_IN_PART, LEFT_NORMALLY, LEFT_NOTHING, MANY, MANY_LIVING, NEARLY_FULL,
+    PROCESSED, PROCESSED_IN_PART, TOUR,
 };
 use super::*;
 use jc_cache::ClosedStripe;
 use std::thread::Threads;
 
-const SCENES: [&str; 16] = [
+const SCENES: [&str; 20] = [
     TOUR,
     LEFT_IN_PART,
     LEFT_NOTHING,
     LEFT_NORMALLY,
     NEARLY_FULL,
+    PROCESSED,
     PROCESSED_IN_PART,
+    ANSWERED_TWICE,
     MANY,
     MANY_LIVING,
     LOADED,
     JOINED,
+    FAILED_FIRST,
+    HANDED_ON,
     MET,
     RESERVED,
     GIVEN_UP,
@@ -68,7 +74,7 @@ fn plays_each_scene(rt: HostRuntime) {
         let outside = Outside::of(&rt, alloc, scene.before);
         let mut stage = Stage::new(&rt, alloc, &scene.shape, scene.lives);
         'entering: for place in 0..scene.sessions {
-            let loader = boxed!(rt, Loader, outside.loader(rt, &scene, place));
+            let loader = boxed!(rt, Loader, outside.loader(rt, alloc, &scene, place));
             let writer = boxed!(rt, Writer, outside.writer(rt, alloc, &scene, place));
             stage.enter(&rt, alloc, loader, writer);
         }

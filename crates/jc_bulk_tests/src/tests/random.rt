@@ -3,9 +3,9 @@
 ghost use Rattle.std.specs.Prelude.{◌<◌};
 ghost use Rattle.jc_cache.specs.Sessions.{MayCall};
 
-use super::lines::increment;
 use super::outside::Outside;
-use super::unreliable::{DOWN, Failures, Keys};
+use super::processors::increment;
+use super::unreliable::{Failures, Keys, is_failure_code};
 use super::*;
 use indexmap::{IndexMap, IndexSet};
 use jc_bulk::{BulkFault, clear, get_all, load_keys, put_all, remove_all, remove_every};
@@ -86,6 +86,33 @@ fn found_of(found: &IndexMap<Key, Value>) -> Keys {
     set
 }
 
+/// What a session's loader and writer have failed at since its last call, and their code.
+#[derive(Clone, Copy)]
+struct OwnFaults {
+    keys: Keys,
+    code: u32,
+}
+
+impl OwnFaults {
+    fn of(failures: &Failures) -> OwnFaults {
+        OwnFaults {
+            keys: failures.take(),
+            code: failures.code(),
+        }
+    }
+
+    /// Whether a key has failed in a load: with the code of its session's own loader if that one has failed there, and else with
+    /// another one's, whose load it has joined.
+    fn explains(self, key: &Key, why: Refusal) -> bool {
+        match why {
+            Refusal::LoaderFailed(code) => {
+                is_failure_code(code) && (code == self.code) == self.keys.has(key)
+            }
+            _ => false,
+        }
+    }
+}
+
 /// The keys that failed, each with this.
 fn failed_of(rt: &impl Abort, failed: &IndexMap<Key, Refusal>, want: Refusal) -> Keys {
     let mut set = Keys::NONE;
@@ -96,9 +123,19 @@ fn failed_of(rt: &impl Abort, failed: &IndexMap<Key, Refusal>, want: Refusal) ->
     set
 }
 
+/// The keys that failed, each in a load.
+fn unloaded_of(rt: &impl Abort, failed: &IndexMap<Key, Refusal>, faults: OwnFaults) -> Keys {
+    let mut set = Keys::NONE;
+    for (key, why) in failed {
+        assert!(rt; faults.explains(key, *why));
+        set = set.with(key);
+    }
+    set
+}
+
 /// The call failed at exactly those keys which the writer has left.
-fn is_written(rt: &impl Abort, returned: Result<(), BulkFault>, left: Keys) {
-    let down = Refusal::WriterFailed(DOWN);
+fn is_written(rt: &impl Abort, returned: Result<(), BulkFault>, faults: OwnFaults) {
+    let down = Refusal::WriterFailed(faults.code);
     let failed = match returned {
         Ok(()) => Keys::NONE,
         Err(fault) => {
@@ -106,26 +143,40 @@ fn is_written(rt: &impl Abort, returned: Result<(), BulkFault>, left: Keys) {
             failed_of(rt, &fault.failed, down)
         }
     };
-    is(rt, failed, left);
+    is(rt, failed, faults.keys);
+}
+
+/// Whether one of the keys that failed did so with this.
+fn has_failed_with(failed: &IndexMap<Key, Refusal>, cause: Refusal) -> bool {
+    for (_key, why) in failed {
+        if *why == cause {
+            return true;
+        }
+    }
+    false
 }
 
 /// A call that loads failed at the keys for which its own loader has failed, and at none that it doesn't name. At others it may have
 /// joined a load that failed.
-fn is_loaded(rt: &impl Abort, fault: &BulkFault, keys: Keys, down_at: Keys) -> Keys {
-    let down = Refusal::LoaderFailed(DOWN);
-    is(rt, fault.cause, down);
-    let failed = failed_of(rt, &fault.failed, down);
-    assert!(rt; down_at.are_among(failed));
+fn is_loaded(rt: &impl Abort, fault: &BulkFault, keys: Keys, faults: OwnFaults) -> Keys {
+    assert!(rt; has_failed_with(&fault.failed, fault.cause));
+    let failed = unloaded_of(rt, &fault.failed, faults);
+    assert!(rt; faults.keys.are_among(failed));
     assert!(rt; failed.are_among(keys));
     failed
 }
 
 /// The same of a call that may have failed.
-fn is_loaded_or_well(rt: &impl Abort, returned: Result<(), BulkFault>, keys: Keys, down_at: Keys) {
+fn is_loaded_or_well(
+    rt: &impl Abort,
+    returned: Result<(), BulkFault>,
+    keys: Keys,
+    faults: OwnFaults,
+) {
     match returned {
-        Ok(()) => assert!(rt; down_at.are_among(Keys::NONE)),
+        Ok(()) => assert!(rt; faults.keys.are_among(Keys::NONE)),
         Err(fault) => {
-            let _failed = is_loaded(rt, &fault, keys, down_at);
+            let _failed = is_loaded(rt, &fault, keys, faults);
         }
     }
 }
@@ -144,7 +195,7 @@ fn put_some<R: Abort + Wait>(
     let entries = drawn_entries(rt, alloc, random);
     let own = session.own();
     let returned = put_all(alloc, rt, cache, session, &entries);
-    is_written(rt, returned, failures.take());
+    is_written(rt, returned, OwnFaults::of(failures));
     is(rt, session.own().wrapping_sub(own), entries.len() as u64);
 }
 
@@ -162,7 +213,7 @@ fn remove_some<R: Abort + Wait>(
     let keys = drawn_keys(rt, alloc, random);
     let own = session.own();
     let returned = remove_all(alloc, rt, cache, session, &keys);
-    is_written(rt, returned, failures.take());
+    is_written(rt, returned, OwnFaults::of(failures));
     is(rt, session.own().wrapping_sub(own), keys.len() as u64);
 }
 
@@ -171,20 +222,20 @@ fn is_got(
     rt: &impl Abort,
     returned: Result<IndexMap<Key, Value>, BulkFault>,
     keys: Keys,
-    down_at: Keys,
+    faults: OwnFaults,
 ) {
     match returned {
         Ok(found) => {
-            assert!(rt; down_at.are_among(Keys::NONE));
+            assert!(rt; faults.keys.are_among(Keys::NONE));
             assert!(rt; found_of(&found).are_among(keys));
         }
-        Err(fault) => are_apart(rt, &fault, keys, down_at),
+        Err(fault) => are_apart(rt, &fault, keys, faults),
     }
 }
 
 /// The same of a call that failed.
-fn are_apart(rt: &impl Abort, fault: &BulkFault, keys: Keys, down_at: Keys) {
-    let failed = is_loaded(rt, fault, keys, down_at);
+fn are_apart(rt: &impl Abort, fault: &BulkFault, keys: Keys, faults: OwnFaults) {
+    let failed = is_loaded(rt, fault, keys, faults);
     let found = found_of(&fault.found);
     assert!(rt; found.are_among(keys));
     assert!(rt; found.are_apart_from(failed));
@@ -204,7 +255,7 @@ fn get_some<R: Abort + Wait>(
     let keys = drawn_keys(rt, alloc, random);
     let own = session.own();
     let returned = get_all(alloc, rt, cache, session, &keys);
-    is_got(rt, returned, set_of(&keys), failures.take());
+    is_got(rt, returned, set_of(&keys), OwnFaults::of(failures));
     is(rt, session.own().wrapping_sub(own), keys.len() as u64);
 }
 
@@ -223,16 +274,16 @@ fn load_some<R: Abort + Wait>(
     let replace = random.below(2) == 0;
     let own = session.own();
     let returned = load_keys(alloc, rt, cache, session, &keys, replace);
-    is_loaded_or_well(rt, returned, set_of(&keys), failures.take());
+    is_loaded_or_well(rt, returned, set_of(&keys), OwnFaults::of(failures));
     is(rt, session.own().wrapping_sub(own), keys.len() as u64);
 }
 
-/// The keys whose results are faults of the loader or the writer.
-fn down_in(rt: &impl Abort, results: &IndexMap<Key, Result<Value, Refusal>>) -> Keys {
+/// The keys whose results are faults of the loader or the writer, with this code.
+fn down_in(rt: &impl Abort, results: &IndexMap<Key, Result<Value, Refusal>>, code: u32) -> Keys {
     let mut set = Keys::NONE;
     for (key, one) in results {
         if let Err(why) = one {
-            assert!(rt; *why == Refusal::LoaderFailed(DOWN) || *why == Refusal::WriterFailed(DOWN));
+            assert!(rt; *why == Refusal::LoaderFailed(code) || *why == Refusal::WriterFailed(code));
             set = set.with(key);
         }
     }
@@ -243,11 +294,11 @@ fn down_in(rt: &impl Abort, results: &IndexMap<Key, Result<Value, Refusal>>) -> 
 fn is_invoked(
     rt: &impl Abort,
     returned: Result<IndexMap<Key, Result<Value, Refusal>>, Refusal>,
-    down_at: Keys,
+    faults: OwnFaults,
     count: usize,
 ) {
     let results = returned.ok().expect(rt, "results");
-    is(rt, down_in(rt, &results), down_at);
+    is(rt, down_in(rt, &results, faults.code), faults.keys);
     is(rt, results.len(), count);
 }
 
@@ -266,7 +317,7 @@ fn invoke_some<R: Abort + Wait>(
     let mut processor = increment(rt, alloc);
     let own = session.own();
     let returned = invoke_all(alloc, rt, cache, session, &keys, &mut processor, &[]);
-    is_invoked(rt, returned, failures.take(), keys.len());
+    is_invoked(rt, returned, OwnFaults::of(failures), keys.len());
     is(rt, session.own().wrapping_sub(own), keys.len() as u64);
 }
 
@@ -287,7 +338,7 @@ fn sweep<R: Abort + Wait>(
     } else {
         remove_every(alloc, rt, cache, session)
     };
-    is_written(rt, returned, failures.take());
+    is_written(rt, returned, OwnFaults::of(failures));
 }
 
 /// Makes a random call.

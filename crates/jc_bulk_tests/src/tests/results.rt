@@ -70,7 +70,7 @@ pub fn invoked(
     wanted: &str,
 ) {
     match returned {
-        Ok(results) => has_results(rt, &results, wanted),
+        Ok(results) => has_results(rt, &results, wanted.trim_start_matches('-')),
         Err(why) => is(rt, why, refusal(rt, wanted)),
     }
 }

@@ -40,6 +40,37 @@ beside get a = 1 | await;getall a b = a=1 b=2;own 2
 counts 1 1 0 0 0 0
 ";
 
+/// A `get_all` joins a load of another thread's session, and its own loader fails first. Both fail: what it met first is what its own
+/// loader has failed with, although the key of the other one comes before.
+pub const FAILED_FIRST: &str = "\
+open 1 4 100
+before a=1 b=2
+sessions 2 loaders every 1
+fault none
+end stripes 3;shared 1
+beside getall a = LoaderFailed 5: a LoaderFailed 5 | await;getall a b = LoaderFailed 7: a LoaderFailed 5, b LoaderFailed 7;own 2
+counts 0 0 0 0 0 0
+stored a=1 b=2
+";
+
+/// A session has been told what another one did, and goes on with it. A meeting is no step, and asks nobody.
+pub const HANDED_ON: &str = "\
+open 2 4 100 off
+before
+sessions 2
+fault none
+end stripes 2 b=2, 2 a=1;counts 0 0 0 0 0 0
+put a 1 = -
+put b 2 = -
+own 2
+meet
+own 2
+s2 own 0
+s2 getall a b = a=1 b=2
+s2 own 2
+own 2
+";
+
 /// Two sessions, each on a thread of its own, meet between: one thread's session goes on where another thread's has left off.
 pub const MET: &str = "\
 open 2 8 100

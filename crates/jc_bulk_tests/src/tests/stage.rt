@@ -6,6 +6,7 @@
 //!     meet                        the first session tells the last one what it has seen
 //!     beside get a = 1 | own 0    what each session does, on a thread of its own, with `;` between its lines
 ghost use Rattle.std.specs.Prelude.{◌≡◌, ◌++◌, ◌∷◌, [], All};
+ghost use Rattle.jc_cache.specs.Meeting.{TellEach};
 ghost use Rattle.jc_cache.specs.Sessions.{MayCall};
 
 use super::closing::closed;
@@ -74,6 +75,21 @@ fn load<R: Abort + Wait + Threads + Sync>(
     ended(rt, loaded, wanted);
 }
 
+/// A session tells another one what it has seen. No run shows what that is good for: each call looks at the stripe itself, and finds
+/// the same without it. The check shows it: without a meeting nothing is told.
+fn hold_meeting<R: Abort + Wait>(rt: &R, cache: &Cache, teller: &mut Session, hearer: &mut Session)
+    requires teller { MayCall cache.now teller.old }
+    requires hearer { MayCall cache.now hearer.old }
+    ensures teller { MayCall cache.now teller.new }
+    ensures hearer { MayCall cache.now hearer.new }
+    ensures told { TellEach teller.old.seats.items hearer.old.seats.items
+        teller.new.seats.items hearer.new.seats.items }
+{
+    let own = (teller.own(), hearer.own());
+    cache.meet(rt, teller, hearer);
+    is(rt, (teller.own(), hearer.own()), own);
+}
+
 /// The first session tells the last one what it has seen.
 fn tell_last<R: Abort + Wait>(rt: &R, cache: &Cache, sessions: &mut Vec<Session>)
     requires { All (MayCall cache.now) sessions.old.items }
@@ -83,7 +99,7 @@ fn tell_last<R: Abort + Wait>(rt: &R, cache: &Cache, sessions: &mut Vec<Session>
         panic!(rt; "no session");
     };
     assert!(rt; 0 < sessions.len(), "one session alone");
-    cache.meet(rt, &mut sessions[0], &mut last);
+    hold_meeting(rt, cache, &mut sessions[0], &mut last);
     push(rt, sessions, last);
 }
 

@@ -8,8 +8,13 @@ use std::sync::Arc;
 use std::sync::atomic::AtomicU64;
 use std::sync::atomic::Ordering::SeqCst;
 
-/// The code of a loader or a writer that fails.
-pub const DOWN: u32 = 7;
+/// The codes of loaders and writers that fail, each of a session.
+const CODES: [u32; 4] = [5, 7, 9, 11];
+
+/// Whether a session's loader and writer fail with this code.
+pub fn is_failure_code(code: u32) -> bool {
+    CODES.contains(&code)
+}
 
 /// The code of one that has waited in vain.
 const GAVE_UP: u32 = 99;
@@ -37,6 +42,11 @@ impl Keys {
         Keys(self.0 | Keys::one(key).0)
     }
 
+    /// Whether a key is among these.
+    pub fn has(self, key: &Key) -> bool {
+        Keys::one(key).are_among(self)
+    }
+
     /// Whether all of these keys are among others.
     pub fn are_among(self, others: Keys) -> bool {
         self.0 & others.0 == self.0
@@ -48,16 +58,28 @@ impl Keys {
     }
 }
 
-/// The keys for which a session's loader and writer have failed.
+/// The keys for which a session's loader and writer have failed, and the code with which they do.
 #[derive(Drop)]
 pub struct Failures {
     keys: Arc<AtomicU64>,
+    code: u32,
 }
 
 impl Failures {
-    pub fn new(alloc: Global) -> Result<Failures, AllocError> {
+    /// No failures yet, of each session.
+    pub fn of_each(rt: &impl Abort, alloc: Global) -> Vec<Failures> {
+        let mut all = Vec::new(alloc);
+        for code in CODES {
+            let none = Failures::new(alloc, code).expect(rt, "memory");
+            all.push(none).ok().expect(rt, "memory");
+        }
+        all
+    }
+
+    fn new(alloc: Global, code: u32) -> Result<Failures, AllocError> {
         Ok(Failures {
             keys: Arc::new(alloc, AtomicU64::new(0))?,
+            code,
         })
     }
 
@@ -65,7 +87,13 @@ impl Failures {
     fn share(&self, rt: &impl Abort) -> Failures {
         Failures {
             keys: Arc::try_clone(&self.keys).expect(rt, "memory"),
+            code: self.code,
         }
+    }
+
+    /// The code with which the loader and the writer fail.
+    pub fn code(&self) -> u32 {
+        self.code
     }
 
     /// The call failed for this key, too.
@@ -127,7 +155,7 @@ impl<T> Unreliable<T> {
         }
         self.calls = self.calls.wrapping_add(1);
         if self.manner.every > 0 && self.calls % self.manner.every == 0 {
-            return Some(DOWN);
+            return Some(self.failures.code);
         }
         None
     }

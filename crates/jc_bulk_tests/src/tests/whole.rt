@@ -98,6 +98,46 @@ getall a b = a=2
 counts 1 1 1 1 0 0
 ";
 
+/// Processors that return none, that fail after they have set a value, and that set and remove: the values that are set are one batch
+/// of the writer, and the keys that are removed are another one. None of them loads. The results are in the order of the keys.
+pub const PROCESSED: &str = "\
+open 1 16 4096
+before a=1 c=3
+sessions 1
+fault none
+end stripes 7 a=7 b=7
+idleall a b = -
+counts 0 0 0 0 0 0
+own 2
+failall b a = b ProcessorFailed 3, a ProcessorFailed 3
+counts 0 0 0 0 0 0
+stored a=1 c=3
+own 4
+changeall b c a = b 7, c 7, a 7
+counts 0 0 0 1 0 1
+stored a=7 b=7
+own 7
+invokemany 1025 = TooManyKeys
+counts 0 0 0 1 0 1
+stored a=7 b=7
+own 7
+";
+
+/// The loader answers for a key that wasn't asked, and three times for one that was: 3, which the store has, then 8, and 7 at last.
+pub const ANSWERED_TWICE: &str = "\
+open 1 16 4096
+before a=1 c=3
+sessions 1
+fault answers z=9 c=8 c=7
+end stripes 4 c=7 a=1
+getall a c = a=1 c=7
+get c = 7
+counts 0 1 0 0 0 0
+get z = -
+stored a=1 c=3
+own 4
+";
+
 /// The most keys of a call, all of one stripe, are got in rounds of 64; one more is too many.
 pub const MANY: &str = "\
 open 1 16 4096

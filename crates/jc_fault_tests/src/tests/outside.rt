@@ -1,7 +1,7 @@
 //! A store, and what its loaders and writers have failed at.
 use super::calls::Ended;
 use super::noted::{Log, Noted, Watched};
-use super::trial::{Fault, LOADER_DOWN, Trial};
+use super::trial::{Fault, LAST, Trial, load_code};
 use super::words::{Line, pairs_of};
 use super::*;
 use indexmap::{IndexMap, IndexSet};
@@ -40,7 +40,7 @@ impl Outside {
         who: usize,
     ) -> Watched<ScheduledLoader<StoreLoader<R>>, R> {
         let loader = self.store.loader(rt).expect(&rt, "memory");
-        let fault = self.trial.load_fault(&rt, alloc);
+        let fault = self.trial.load_fault(&rt, alloc, who);
         let loader = ScheduledLoader::new(loader, self.trial.load_call(), fault);
         self.log(&rt, who).watching(rt, alloc, loader)
     }
@@ -68,13 +68,48 @@ impl Outside {
         ended: &Ended,
     ) {
         let noted = self.log(rt, who).take(rt, alloc);
-        let may_join = self.logs.len() > 1;
         if line.word != "invokeall" {
-            has_cause(rt, ended.cause, noted.cause, may_join);
+            self.has_cause(rt, who, ended, noted.cause);
         }
         fails_where_noted(rt, &noted.failed, &ended.failed);
-        was_noted(rt, &ended.failed, &noted.failed, may_join);
+        self.was_noted(rt, who, &ended.failed, &noted.failed);
         are_in_order(rt, &ended.failed, &line.keys);
+    }
+
+    /// Whether a session has met this in a load that it has joined: another session's loader has failed, with its own code.
+    fn is_of_joined_load(&self, who: usize, why: Refusal) -> bool {
+        for other in 0..self.logs.len() {
+            if other != who && why == Refusal::LoaderFailed(load_code(other)) {
+                return true;
+            }
+        }
+        false
+    }
+
+    /// The cause is the first fault that was noted, or it was met in a load that was joined, where a key has failed with it.
+    fn has_cause(&self, rt: &impl Abort, who: usize, ended: &Ended, noted: Option<Refusal>) {
+        if let Some(cause) = ended.cause {
+            if self.is_of_joined_load(who, cause) {
+                assert!(rt; has_failed_with(&ended.failed, cause));
+                return;
+            }
+        }
+        is(rt, ended.cause, noted);
+    }
+
+    /// Each key that has failed was noted, or its load was joined.
+    fn was_noted(
+        &self,
+        rt: &impl Abort,
+        who: usize,
+        failed: &IndexMap<Key, Refusal>,
+        noted: &IndexMap<Key, Refusal>,
+    ) {
+        for (key, why) in failed {
+            if !self.is_of_joined_load(who, *why) {
+                is(rt, noted.get(key).copied(), Some(*why));
+            }
+        }
     }
 
     /// A call of all sessions together has ended so.
@@ -93,8 +128,7 @@ impl Outside {
         }
         is(rt, ended.failed.len(), failures);
         are_in_order(rt, &ended.failed, keys);
-        let down = Some(Refusal::LoaderFailed(LOADER_DOWN));
-        is(rt, ended.cause, if failures > 0 { down } else { None });
+        is(rt, ended.cause, first_of(&ended.failed));
     }
 
     /// Whether a loader or a writer was called so often that it has had its fault.
@@ -115,13 +149,11 @@ impl Outside {
         }
     }
 
-    /// Each of these entries is that of the store. Of two answers the last one counts.
+    /// Each of these entries is that of the store, or the last one of three answers.
     pub fn has_all<R: Abort + Wait>(&self, rt: &R, entries: &[(Key, Value)]) {
         for (key, value) in entries {
             match self.trial.fault {
-                Fault::AlsoAnswers if key.bytes() == b"c".as_slice() => {
-                    is(rt, value.bytes(), b"3".as_slice());
-                },
+                Fault::AlsoAnswers if key.bytes() == b"c".as_slice() && value.bytes() == LAST => {}
                 _ => is(rt, self.store.read(rt, key), Some(*value)),
             }
         }
@@ -136,13 +168,19 @@ fn logs(rt: &impl Abort, alloc: Global, sessions: usize) -> Vec<Log> {
     logs
 }
 
-/// The refusal of a key whose load another session has made, and that one's loader has failed.
-const JOINED: Refusal = Refusal::LoaderFailed(LOADER_DOWN);
+/// What the first of these keys has failed with.
+fn first_of(failed: &IndexMap<Key, Refusal>) -> Option<Refusal> {
+    failed.get_index(0).map(|(_key, why)| *why)
+}
 
-fn has_cause(rt: &impl Abort, cause: Option<Refusal>, noted: Option<Refusal>, may_join: bool) {
-    if !(may_join && cause == Some(JOINED)) {
-        is(rt, cause, noted);
+/// Whether one of these keys has failed with this.
+fn has_failed_with(failed: &IndexMap<Key, Refusal>, cause: Refusal) -> bool {
+    for (_key, why) in failed {
+        if *why == cause {
+            return true;
+        }
     }
+    false
 }
 
 /// Each key that was noted has failed.
@@ -153,20 +191,6 @@ fn fails_where_noted(
 ) {
     for (key, why) in noted {
         is(rt, failed.get(key).copied(), Some(*why));
-    }
-}
-
-/// Each key that has failed was noted, or its load was joined.
-fn was_noted(
-    rt: &impl Abort,
-    failed: &IndexMap<Key, Refusal>,
-    noted: &IndexMap<Key, Refusal>,
-    may_join: bool,
-) {
-    for (key, why) in failed {
-        if !(may_join && *why == JOINED) {
-            is(rt, noted.get(key).copied(), Some(*why));
-        }
     }
 }
 

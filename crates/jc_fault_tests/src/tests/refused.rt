@@ -3,12 +3,13 @@
 //! Nothing here refuses an allocation. `examples/library_allocations` does, one in each run, and reads what is printed: before each
 //! call a line `> CALL KEYS`, after it a line `=`, and then a line `< END`. While all memory is there, each call ends in `done`.
 ghost use Rattle.std.specs.Prelude.{◌≡◌, ◌∷◌, [], All};
+ghost use Rattle.jc_cache.specs.Meeting.{TellEach};
 ghost use Rattle.jc_cache.specs.Sessions.{IsOf, MayCall};
 
 use super::calls::Ended;
 use super::listening::Hearing;
 use super::scenes::{State, Way, loader, played, say, state_of, writer};
-use super::stage::push;
+use super::stage::{Brought, bring, entered, push};
 use super::words::Line;
 use super::*;
 use jc_cache::{CloseFault, Closed, Event, SessionFault};
@@ -67,18 +68,19 @@ k21=1 k22=1 k23=1 k24=1 k25=1 k26=1 k27=1 k28=1 k29=1 k30=1 k31=1 k32=1 k33=1 k3
 k42=1 k43=1 k44=1 k45=1 k46=1 k47=1 k48=1 k49=1 k50=1 k51=1 k52=1 k53=1 k54=1 k55=1 k56=1 k57=1 k58=1 k59=1 k60=1 k61=1 k62=1 \
 k63=1 k64=1 k65=1 k66=1 k67=1 k68=1 k69=1";
 
-/// Whether an entry was lost for lack of memory.
-fn has_lost_an_entry(events: &[Event]) -> bool {
+/// How many entries were lost for lack of memory.
+fn lost_entries(events: &[Event]) -> u64 {
+    let mut lost = 0u64;
     for event in events {
         if let Event::Evict {
             cause: Cause::Memory,
             ..
         } = event
         {
-            return true;
+            lost = lost.saturating_add(1);
         }
     }
-    false
+    lost
 }
 
 /// How many keys were refused for lack of memory.
@@ -119,7 +121,7 @@ fn end_of(
     }
     is(rt, left.own, with_all.own);
     assert!(rt;
-        has_lost_an_entry(&left.events),
+        lost_entries(&left.events) > 0,
         "an entry may be lost, and no more"
     );
     "done, an entry is not kept"
@@ -361,82 +363,129 @@ fn opens_again(rt: HostRuntime) {
 /// Keys of two pieces: c, d and more are missing.
 const PIECES: &str = "a b c d e f g h i j k l m n o p q r s t";
 
-/// Loads keys of two pieces by one session, after a put, and says how that has ended. A piece that finds no memory has its keys
-/// refused, and the others are loaded.
+/// What each of so many sessions brings.
+fn brought(rt: &impl Abort, alloc: Global, count: usize) -> Vec<Brought> {
+    let mut all = Vec::new(alloc);
+    for _ in 0..count {
+        bring(rt, &mut all, loader(rt, alloc), writer(rt, alloc));
+    }
+    all
+}
+
+/// Loads keys of two pieces by all sessions together. The listener is told once.
 fn loads<R: Abort + Wait + Threads + Sync + Print>(
     rt: &R,
     alloc: Global,
     cache: &Cache,
     sessions: &mut Vec<Session>,
-)
+) -> Ended
     requires { All (MayCall cache.now) sessions.old.items }
+    ensures { All (MayCall cache.now) sessions.new.items }
 {
-    assert!(rt; sessions.len() > 0, "no session");
+    let count = sessions.len();
+    assert!(rt; count > 0, "no session");
     let line = Line::new(rt, alloc, "loadall", PIECES);
     let hearing = Hearing::new(rt, alloc);
     let mut listener = hearing.listener(rt, alloc);
-    say(rt, "> loadall 20");
+    say_loads(rt, count);
     let all = sessions.as_mut_slice();
     let loaded = load_all(alloc, rt, cache, all, &line.keys, false, &mut listener);
     say(rt, "=");
     let ended = Ended::of(alloc, loaded);
     hearing.told_once(rt, ended.cause.is_none());
-    say_end(rt, loaded_end(rt, &ended, sessions));
+    ended
 }
 
-/// How a `loadAll` of 20 keys has ended. Each key that isn't refused is a step of a session.
-fn loaded_end(rt: &impl Abort, ended: &Ended, sessions: &[Session]) -> &'static str {
+fn say_loads(rt: &(impl Abort + Print), sessions: usize) {
+    println!(rt; "> loadall 20 by {sessions}")
+        .ok()
+        .expect(rt, "output");
+}
+
+/// How many steps sessions have made.
+fn own_of(sessions: &[Session]) -> u64 {
     let mut own = 0u64;
     for session in sessions {
         own = own.saturating_add(session.own());
     }
+    own
+}
+
+/// How a `loadAll` of 20 keys has ended. Each key that isn't refused is a step of a session, which is in the history, and an entry,
+/// unless that was lost for lack of memory. Nothing else is there: so one that is refused whole leaves the cache empty.
+fn loaded_end(rt: &impl Abort, ended: &Ended, left: &State) -> &'static str {
+    let lost = lost_entries(&left.events);
+    let steps = (left.events.len() as u64).saturating_sub(lost);
+    let entries = (left.entries.len() as u64).saturating_add(lost);
+    is(rt, (steps, entries), (left.own, left.own));
     if ended.cause.is_none() {
-        is(rt, own, 20);
+        is(rt, left.own, 20);
         return "done";
     }
     is(rt, ended.cause, Some(Refusal::OutOfMemory));
     if ended.failed.is_empty() {
-        is(rt, own, 0);
+        is(rt, (left.own, left.events.len()), (0, 0));
         return "refused whole";
     }
-    is(rt, own.saturating_add(refused_keys(ended)), 20);
+    is(rt, left.own.saturating_add(refused_keys(ended)), 20);
     "some keys refused"
 }
 
-/// A `loadAll` by one session.
-fn loads_by_one<R: Abort + Wait + Threads + Sync + Print>(
-    rt: &R,
-    alloc: Global,
-    owner: CacheOwner,
-    session: Session,
-)
-    requires { MayCall owner.cache session }
-{
-    let mut sessions = Vec::new(alloc);
-    push(rt, &mut sessions, session);
-    loads(rt, alloc, owner.cache(), &mut sessions);
+/// A `loadAll` by so many sessions, in two pieces, and what it leaves. A piece that finds no memory has its keys refused, and the
+/// others are loaded.
+fn loads_by<R: Abort + Wait + Threads + Sync + Print>(rt: &R, alloc: Global, count: usize) {
+    let mut owner = CacheOwner::new(alloc, &SHAPE).ok().expect(rt, "memory");
+    let brought = brought(rt, alloc, count);
+    let mut sessions = entered(rt, alloc, &mut owner, brought);
+    let ended = loads(rt, alloc, owner.cache(), &mut sessions);
+    let own = own_of(&sessions);
+    let closed = owner.close(alloc, sessions).ok().expect(rt, "memory");
+    let left = state_of(rt, alloc, &closed, own);
+    say_end(rt, loaded_end(rt, &ended, &left));
 }
 
-/// A `loadAll` in two pieces: a piece that finds no memory has its keys refused.
 #[test]
-fn loads_in_pieces(rt: HostRuntime) {
-    let alloc = rt.alloc();
-    let mut owner = CacheOwner::new(alloc, &SHAPE).ok().expect(&rt, "memory");
-    let (loader, writer) = (loader(&rt, alloc), writer(&rt, alloc));
-    match owner.session(alloc, Some(loader), Some(writer)) {
-        Ok(session) => loads_by_one(&rt, alloc, owner, session),
-        Err(_fault) => panic!(rt; "memory"),
-    }
+fn loads_by_one(rt: HostRuntime) {
+    loads_by(&rt, rt.alloc(), 1);
 }
 
-/// Lets two sessions meet.
+#[test]
+fn loads_by_three(rt: HostRuntime) {
+    loads_by(&rt, rt.alloc(), 3);
+}
+
+/// Two sessions meet, of which the first has put `a`. Both make no step by it, and the entry stays. That the hearer knows then what the
+/// teller knows is what the check sees here, and no run: each call looks at the stripe itself.
 fn meet<R: Abort + Wait + Print>(rt: &R, cache: &Cache, teller: &mut Session, hearer: &mut Session)
     requires teller { MayCall cache.now teller.old }
     requires hearer { MayCall cache.now hearer.old }
+    ensures teller { MayCall cache.now teller.new }
+    ensures hearer { MayCall cache.now hearer.new }
+    ensures told { TellEach teller.old.seats.items hearer.old.seats.items
+        teller.new.seats.items hearer.new.seats.items }
 {
     say(rt, "> meet");
     cache.meet(rt, teller, hearer);
     say(rt, "=");
+}
+
+/// A session puts `a`, meets another one, and that one gets it: one step each.
+fn puts_and_meets<R: Abort + Wait + Print>(
+    rt: &R,
+    cache: &Cache,
+    teller: &mut Session,
+    hearer: &mut Session,
+)
+    requires teller { MayCall cache.now teller.old }
+    requires hearer { MayCall cache.now hearer.old }
+{
+    puts(rt, cache, teller);
+    meet(rt, cache, teller, hearer);
+    is(rt, (teller.own(), hearer.own()), (1, 0));
+    let a = words::key(rt, "a");
+    let found = cache.get(rt, hearer, &a);
+    is(rt, found, Ok(Some(words::value(rt, "1"))));
+    is(rt, (teller.own(), hearer.own()), (1, 1));
     say_end(rt, "done");
 }
 
@@ -451,5 +500,5 @@ fn meets(rt: HostRuntime) {
     ) else {
         panic!(rt; "memory");
     };
-    meet(&rt, owner.cache(), &mut teller, &mut hearer);
+    puts_and_meets(&rt, owner.cache(), &mut teller, &mut hearer);
 }

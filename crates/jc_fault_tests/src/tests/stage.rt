@@ -71,7 +71,7 @@ fn enter(
 }
 
 /// A session for each of those that bring a loader and a writer.
-fn entered(
+pub fn entered(
     rt: &impl Abort,
     alloc: Global,
     owner: &mut CacheOwner,

@@ -3,19 +3,27 @@ use super::words::{list_of, pairs_of};
 use super::*;
 use jc_store::{LoadFault, WriteFault};
 
-/// The code of a loader that fails.
-pub const LOADER_DOWN: u32 = 6;
+/// The code of the first session's loader, if it fails. The other sessions' have those that follow.
+const LOADER_DOWN: u32 = 6;
+
+/// The code of the loader of the session at this place below 32, if it fails.
+pub fn load_code(who: usize) -> u32 {
+    LOADER_DOWN.saturating_add((who % 32) as u32)
+}
 
 /// A fault of a loader or of a writer.
 #[derive(Clone, Copy)]
 pub enum Fault {
     /// The loader fails.
     Fails,
-    /// The loader also answers for z, which isn't asked, and twice more for c: at last with what the store has at first.
+    /// The loader also answers for z, which isn't asked, and twice more for c: with 8, and at last with [`LAST`]. The store has 3.
     AlsoAnswers,
     /// The writer leaves these keys, adds z=9, and fails with this code, if any.
     Leaves(&'static str, Option<u32>),
 }
+
+/// The last of three answers for c.
+pub const LAST: &[u8] = b"7";
 
 /// All faults that are tried.
 pub const FAULTS: [Fault; 6] = [
@@ -56,10 +64,11 @@ impl Trial {
         if self.is_of_loader() { 0 } else { self.call }
     }
 
-    pub fn load_fault(&self, rt: &impl Abort, alloc: Global) -> LoadFault {
+    /// The fault of the loader of the session at this place.
+    pub fn load_fault(&self, rt: &impl Abort, alloc: Global, who: usize) -> LoadFault {
         match self.fault {
-            Fault::AlsoAnswers => LoadFault::AlsoAnswers(pairs_of(rt, alloc, "z=9 c=8 c=3")),
-            Fault::Fails | Fault::Leaves(_, _) => LoadFault::Fails(LOADER_DOWN),
+            Fault::AlsoAnswers => LoadFault::AlsoAnswers(pairs_of(rt, alloc, "z=9 c=8 c=7")),
+            Fault::Fails | Fault::Leaves(_, _) => LoadFault::Fails(load_code(who)),
         }
     }
 

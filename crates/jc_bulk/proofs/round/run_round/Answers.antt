@@ -4,11 +4,10 @@ use Rattle.jc_bulk.specs.Rounds.{faults_in}
 use Rattle.jc_bulk.specs.SoFar.{AreHeldBack, HasFewJoins, IsUnderway}
 use Rattle.jc_bulk.specs.Targets.{ops_of}
 use Rattle.jc_bulk.proofs.Asked.{asked_stay, types_on, types_same}
-use Rattle.jc_bulk.proofs.Failures.{noted_round}
+use Rattle.jc_bulk.proofs.Failures.{noted_picked, noted_round}
 use Rattle.jc_bulk.proofs.Held.{goes_both}
 use Rattle.jc_bulk.proofs.Later.{calls_same, settled_all}
 use Rattle.jc_bulk.proofs.OneRound.{round_starts}
-use Rattle.jc_bulk.proofs.Underway.{stay_on}
 use Rattle.jc_bulk.proofs.round.run_round.Goals as goal
 
 pub start_round-requires-clause-distinct : goal.start_round-requires-clause-distinct
@@ -100,8 +99,10 @@ returns-clause-underway g c caller rounds first u a =
           c.start_round.new.session.agent.hands.outside.loader c.end_calls-fault.new.session.agent.hands.outside.loader c.args.session.now.agent.hands.outside.loader c.pick_round.new.session.agent.hands.outside.loader c.start_round.new.session.agent.hands.outside.writer c.end_calls-fault.new.session.agent.hands.outside.writer c.args.session.now.agent.hands.outside.writer c.pick_round.new.session.agent.hands.outside.writer e.0
           (sym (ap (λ x. x.hands.outside.loader) c.start_round.ensures.agent)) (sym (ap (λ x. x.hands.outside.writer) c.start_round.ensures.agent))
           (ap (λ x. x.hands.outside.loader) c.pick_round.ensures.agent) (ap (λ x. x.hands.outside.writer) c.pick_round.ensures.agent) e.2,
-      noted_round c.args.cause.now c.note_first.new.cause c.note_fault.new.cause c.note_first-2.new.cause c.end_calls-fault.result c.start_round.new.progress c.pick_round.new.progress (faults_in e.0)
-          (stay_on _ _ _ c.end_calls-fault.ensures.goes.stay c.pick_round.ensures.goes.stay) c.note_first.ensures c.note_fault.ensures c.note_first-2.ensures e.3,
+      noted_picked c.args.cause.now c.note_first-2.new.cause c.note_first-3.new.cause c.end_calls-fault.new.progress c.pick_round.new.progress (faults_in e.0) c.pick_round.ensures.goes.stay
+          (noted_round c.args.cause.now c.note_first.new.cause c.note_fault.new.cause c.note_first-2.new.cause c.end_calls-fault.result c.start_round.new.progress c.end_calls-fault.new.progress (faults_in e.0)
+          c.end_calls-fault.ensures.goes.stay c.note_first.ensures c.note_fault.ensures c.note_first-2.ensures e.3)
+          c.note_first-3.ensures,
       asked_stay c.args.cache.now.config (ops_of c.args.targets.now) (rounds ++ e.0) c.end_calls-fault.new.progress c.pick_round.new.progress c.pick_round.ensures.goes.stay e.4,
       c.pick_round.ensures.underway caller (rounds ++ e.0) first e.6,
       round_starts c.args.cache.now caller c.args.targets.now rounds first c.args.session.now c.start_round.new.session c.args.progress.now c.start_round.new.progress c.pick_round.new.progress c.args.calls c.start_round.new.calls c.start_round.new.joins.items
