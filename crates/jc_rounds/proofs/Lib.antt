@@ -1,0 +1,16 @@
+pub mod CallSteps
+pub mod SeatPhases
+pub mod KeyPhases
+pub mod KeyCalls
+pub mod Out
+pub mod SoFar
+pub mod Underway
+pub mod Asked
+pub mod Held
+pub mod TargetOps
+pub mod Places
+pub mod KeyEnds
+pub mod Failures
+pub mod OnCall
+pub mod Answering
+pub mod Loops

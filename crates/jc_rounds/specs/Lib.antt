@@ -1,0 +1,13 @@
+pub mod Recorded
+pub mod Seats
+pub mod Rounds
+pub mod Targets
+pub mod KeyProgress
+pub mod Ends
+pub mod Keys
+pub mod KeyPhases
+pub mod SoFar
+pub mod Asking
+pub mod Starting
+pub mod Answers
+pub mod Underway
