@@ -14,3 +14,5 @@ pub mod Failures
 pub mod OnCall
 pub mod Answering
 pub mod Loops
+pub mod Started
+pub mod Whole

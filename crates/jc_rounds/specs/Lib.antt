@@ -11,3 +11,4 @@ pub mod Asking
 pub mod Starting
 pub mod Answers
 pub mod Underway
+pub mod Running
