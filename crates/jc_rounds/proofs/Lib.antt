@@ -16,3 +16,4 @@ pub mod Answering
 pub mod Loops
 pub mod Started
 pub mod Whole
+pub mod OutsideCalls

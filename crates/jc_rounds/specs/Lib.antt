@@ -10,5 +10,6 @@ pub mod SoFar
 pub mod Asking
 pub mod Starting
 pub mod Answers
+pub mod OutsideCalls
 pub mod Underway
 pub mod Running

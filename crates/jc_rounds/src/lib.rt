@@ -12,12 +12,16 @@ mod answers;
 mod bulk_call;
 mod committing;
 mod key;
+mod load_call;
 mod picking;
 mod progress;
 mod starting;
 mod targets;
+mod write_call;
 
 pub use answers::{Answers, change_after};
 pub use bulk_call::{BulkCall, Rooms};
+pub use load_call::LoadCall;
 pub use progress::Progress;
 pub use targets::Targets;
+pub use write_call::WriteCall;
