@@ -17,3 +17,4 @@ pub mod Loops
 pub mod Started
 pub mod Whole
 pub mod OutsideCalls
+pub mod CallerLemmas

@@ -2,7 +2,8 @@
 --     held_less              keys that were put off in each round, of fewer keys
 --     none_run               before the first round
 --     run_more               one round more
-use Rattle.std.proofs.Common.{◌≡◌, ◌⊎◌, inl, inr, ◌≤◌, ◌++◌, ℕ, List, [], ◌∷◌, append-nil, length, slice_get, true, true≢false, Some, refl, sym, ap, ◌∙◌, subst}
+--     started_since          the same, since an earlier view
+use Rattle.std.proofs.Common.{◌≡◌, ◌⊎◌, ⊎_elim, inl, inr, ◌≤◌, ◌++◌, ℕ, List, [], ◌∷◌, append-nil, length, slice_get, true, true≢false, Some, refl, sym, ap, ◌∙◌, subst, arith}
 use Rattle.std.proofs.lemmas.List.Concat.{flat_map-append}
 use Rattle.std.proofs.lemmas.List.Folds.{list_any-append}
 use Rattle.std.specs.List.{IsAmong}
@@ -27,7 +28,10 @@ use Rattle.jc_rounds.specs.SoFar.{AreHeldBack, GoesOn}
 use Rattle.jc_rounds.specs.Starting.{EachStartsAll, HasStartedAll, IsFull, RoundEnd, calls_of, seats_after}
 use Rattle.jc_rounds.specs.Targets.{ops_of}
 use Rattle.jc_rounds.specs.Underway.{IsBetween, Past}
+use Rattle.jc_types.specs.Stripes.{stripe_of}
+use Rattle.jc_rounds.specs.Seats.{HasGrown, view_at}
 use Rattle.jc_rounds.proofs.Asked.{or_other, place_among}
+use Rattle.jc_rounds.proofs.Held.{held_since}
 
 either_asked : (xs ys : List Round) (key : Bytes) → is_among (asked_in (xs ++ ys)) key ≡ true → (is_among (asked_in xs) key ≡ true) ⊎ (is_among (asked_in ys) key ≡ true)
 either_asked xs ys key is =
@@ -99,3 +103,24 @@ module _ {I J : Type 0} {D : I → Type 0} {E : J → Type 0} where
     where
       ops_same : (call later : BulkCall) → later.targets ≡ call.targets → ops_of call.targets.now ≡ ops_of later.targets.now
       ops_same call later same = ap (λ t. ops_of t.now) (sym same)
+
+-- the same, since an earlier view
+starts_since : (caller : Caller) (stripes : ℕ) (targets : List (Bytes × Op)) (old mid : List Seated) (es : List RoundEnd) → ((i : ℕ) → HasGrown (view_at old i) (view_at mid i)) → EachStartsAll caller stripes targets mid es → EachStartsAll caller stripes targets old es
+starts_since caller stripes targets old mid [] grown each = tt
+starts_since caller stripes targets old mid (e ∷ es) grown each = (
+  each.0,
+  λ key op among asked. ⊎_elim (λ full. inl full) (λ back. inr (held_since caller (view_of stripes old key) (view_of stripes mid key) (view_of stripes e.seats key) key op (grown (stripe_of key stripes)) back)) (each.1 key op among asked),
+  each.2,
+)
+
+pub started_since : (caller : Caller) (stripes : ℕ) (targets : List (Bytes × Op)) (old mid new : List Seated) (rounds : List Round) → ((i : ℕ) → HasGrown (view_at old i) (view_at mid i)) → HasStartedAll caller stripes targets mid new rounds → HasStartedAll caller stripes targets old new rounds
+started_since caller stripes targets old mid new rounds grown has = by has.ends has.calls_are has.seats_are has.each
+  where
+    by : (es : List RoundEnd) → calls_of es ≡ rounds → seats_after mid es ≡ new → EachStartsAll caller stripes targets mid es → HasStartedAll caller stripes targets old new rounds
+    by [] calls seats each = record {
+      ends = record { calls = []; seats = new } ∷ [];
+      calls_are = calls;
+      seats_are = refl;
+      each = (omega arith, (λ key op among asked. absurd (true≢false (sym asked))), tt);
+    }
+    by (e ∷ es) calls seats each = record { ends = e ∷ es; calls_are = calls; seats_are = seats; each = starts_since caller stripes targets old mid (e ∷ es) grown each }

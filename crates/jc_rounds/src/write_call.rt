@@ -66,6 +66,16 @@ impl WriteCall {
         }
     }
 
+    /// Whether it deletes.
+    pub fn is_delete(&self) -> bool
+        ensures { result ≡ self.now.deletes }
+    {
+        match self.batch {
+            Batch::Writes(_) => false,
+            Batch::Deletes(_) => true,
+        }
+    }
+
     /// Adds an ask, after those that are there. It takes no memory.
     ///
     /// Conditions: there is room; the ask's change is of the kind that is asked for here; its key isn't that of any of them.
