@@ -41,8 +41,9 @@ impl<'a> BulkCall<'a> {
     /// Condition: the memory is for as many keys, in the cache's number of stripes.
     pub fn new(targets: &'a Targets<'a>, rooms: Rooms) -> Self
         requires { (stripes : ℕ) × AreRooms (length (ops_of targets.now)) stripes rooms }
-        ensures { (stripes : ℕ) → AreRooms (length (ops_of targets.now)) stripes rooms
+        ensures new { (stripes : ℕ) → AreRooms (length (ops_of targets.now)) stripes rooms
             → IsNew targets.now stripes result }
+        ensures most { result.most ≡ rooms.most }
     {
         let Rooms {
             progress,
