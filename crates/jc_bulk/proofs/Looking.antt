@@ -39,16 +39,19 @@ use Rattle.jc_cache.specs.Calls.{next_call}
 use Rattle.jc_cache.specs.PhaseCalls.{PhaseAt}
 use Rattle.jc_cache.specs.Sessions.{IsOf, MayCall}
 use Rattle.jc_cache.specs.declared.session.Session.{Session}
-use Rattle.jc_bulk.specs.declared.progress.Progress.TheVariants.{Ended}
-use Rattle.jc_bulk.specs.Bulk.{FailsInPart, HasLooked, IsCarriedOut, IsLookedAt, IsOutOfMemory, IsSweepRefused, OnlyLooks, Succeeds, WasNearFull}
-use Rattle.jc_bulk.specs.Ends.{KeyEnd}
-use Rattle.jc_bulk.specs.Keys.{HasEnded}
-use Rattle.jc_bulk.specs.Recorded.{former_steps}
-use Rattle.jc_bulk.specs.Rounds.{Round}
-use Rattle.jc_bulk.specs.Seats.{HasGrown, view_at, view_of}
-use Rattle.jc_bulk.proofs.CarriedOut.{all_early}
-use Rattle.jc_bulk.proofs.SeatPhases.{Seated, front_found, grown_itself, grown_on, grown_phase, seen_own, view_set, view_there}
-use Rattle.jc_bulk.proofs.SoFar.{at_since}
+use Rattle.jc_rounds.specs.declared.progress.Progress.TheVariants.{Ended}
+use Rattle.jc_session.specs.Boxed.{boxed}
+use Rattle.jc_session.specs.declared.agent.Agent.{Agent}
+use Rattle.jc_engine.specs.Asking.{KeepsTypes}
+use Rattle.jc_bulk.specs.Outside.{CallsInRounds}
+use Rattle.jc_bulk.specs.Bulk.{FailsInPart, HasLooked, IsBulkCall, IsLookedAt, IsOutOfMemory, IsSweepRefused, OnlyLooks, Succeeds}
+use Rattle.jc_rounds.specs.Running.{IsCarriedOut, WasNearFull}
+use Rattle.jc_rounds.specs.Ends.{KeyEnd}
+use Rattle.jc_rounds.specs.Keys.{HasEnded}
+use Rattle.jc_rounds.specs.Recorded.{former_steps}
+use Rattle.jc_rounds.specs.Rounds.{Round}
+use Rattle.jc_rounds.specs.Seats.{HasGrown, view_at, view_of}
+use Rattle.jc_rounds.proofs.CallerLemmas.{Seated, all_early, at_since, front_found, grown_itself, grown_on, grown_phase, seen_own, started_since, view_set, view_there}
 
 -- 1. Keys of one stripe, behind those of lower stripes.
 
@@ -237,22 +240,21 @@ full_since caller u v w grown was =
     record { seen = was.seen; reached = was.reached; same = was.same; since = prefix-trans u.front v.front (whole_history was.seen) grown.front was.since; later = was.later; full = was.full }
 
 module _ {I J : Type 0} {D : I → Type 0} {E : J → Type 0} (loads_all : LoadAllRelation ((i : I) × D i)) (load_state : (i : I) × D i → List ℕ) (writes_all : WriteAllRelation ((j : J) × E j)) (deletes_all : DeleteAllRelation ((j : J) × E j)) (write_state : (j : J) × E j → List ℕ) where
-  pub since_looked : (cache : CacheState) (old mid new : Session I J D E) (targets : List (Bytes × Op)) (ends : List KeyEnd) (rounds : List Round) → OnlyLooks old mid
-      → IsCarriedOut loads_all load_state writes_all deletes_all write_state cache mid targets ends rounds new → IsCarriedOut loads_all load_state writes_all deletes_all write_state cache old targets ends rounds new
-  since_looked cache old mid new targets ends rounds looks carried =
+  -- what a call is carried out for is so since before the looks
+  carried_since : (cache : CacheState) (old mid new : Session I J D E) (targets : List (Bytes × Op)) (ends : List KeyEnd) (rounds : List Round) → OnlyLooks old mid → IsCarriedOut cache mid targets ends rounds new → IsCarriedOut cache old targets ends rounds new
+  carried_since cache old mid new targets ends rounds looks carried =
       let caller = (next_call old).agent.caller in
       let n = cache.config.stripes in
       let from : Session I J D E = record old { seats = mid.seats } in
       let same : mid ≡ from = λ i. record mid { agent = looks.agent i } in
-      let c : IsCarriedOut loads_all load_state writes_all deletes_all write_state cache from targets ends rounds new =
-      subst (λ s. IsCarriedOut loads_all load_state writes_all deletes_all write_state cache s targets ends rounds new) same carried in
+      let c : IsCarriedOut cache from targets ends rounds new = subst (λ s. IsCarriedOut cache s targets ends rounds new) same carried in
       record {
         targets_are = c.targets_are;
         grown = λ i. grown_on (view_at old.seats.items i) (view_at mid.seats.items i) (view_at new.seats.items i) (looks.grown i) (c.grown i);
         each = All-weaker
-            (λ (e : KeyEnd). HasEnded caller rounds (view_of n mid.seats.items e.key) (view_of n new.seats.items e.key) e.key e.op e.ended)
-            (λ (e : KeyEnd). HasEnded caller rounds (view_of n old.seats.items e.key) (view_of n new.seats.items e.key) e.key e.op e.ended)
-            (λ e ended. at_since caller rounds (view_of n old.seats.items e.key) (view_of n mid.seats.items e.key) (view_of n new.seats.items e.key) e.key e.op (Ended e.ended) (looks.grown (stripe_of e.key n)) ended)
+            (λ (e : KeyEnd). HasEnded cache.config caller rounds (view_of n mid.seats.items e.key) (view_of n new.seats.items e.key) e.key e.op e.ended)
+            (λ (e : KeyEnd). HasEnded cache.config caller rounds (view_of n old.seats.items e.key) (view_of n new.seats.items e.key) e.key e.op e.ended)
+            (λ e ended. at_since cache.config caller rounds (view_of n old.seats.items e.key) (view_of n mid.seats.items e.key) (view_of n new.seats.items e.key) e.key e.op (Ended e.ended) (looks.grown (stripe_of e.key n)) ended)
             ends c.each;
         refused = All-weaker
             (λ (e : KeyEnd). e.ended ≡ Err HistoryFull → WasNearFull caller (view_of n mid.seats.items e.key) (view_of n new.seats.items e.key))
@@ -262,10 +264,17 @@ module _ {I J : Type 0} {D : I → Type 0} {E : J → Type 0} (loads_all : LoadA
         others = c.others;
         former = λ i. c.former i ∙ ap (former_steps caller) (looks.own i);
         asked = c.asked;
-        calls = c.calls;
-        types = c.types;
+        started = started_since caller n targets old.seats.items mid.seats.items new.seats.items rounds looks.grown c.started;
         left = c.left;
       }
+
+  pub since_looked : (cache : CacheState) (old mid new : Session I J D E) (targets : List (Bytes × Op)) (ends : List KeyEnd) (rounds : List Round) → OnlyLooks old mid
+      → IsBulkCall loads_all load_state writes_all deletes_all write_state cache mid targets ends rounds new → IsBulkCall loads_all load_state writes_all deletes_all write_state cache old targets ends rounds new
+  since_looked cache old mid new targets ends rounds looks c = record {
+    carried = carried_since cache old mid new targets ends rounds looks c.carried;
+    calls = subst (λ (a : Agent I J D E). CallsInRounds (boxed loads_all) (boxed load_state) (boxed writes_all) (boxed deletes_all) (boxed write_state) a.hands.outside.loader a.hands.outside.writer rounds new.agent.hands.outside.loader new.agent.hands.outside.writer) looks.agent c.calls;
+    types = subst (λ (a : Agent I J D E). KeepsTypes a new.agent) looks.agent c.types;
+  }
 
   pub sweep_ok : (cache : CacheState) (old mid new : Session I J D E) (ops : List Bytes → List (Bytes × Op)) (list keys : List Bytes) → OnlyLooks old mid → HasLooked cache.config.stripes old.seats.items mid.seats.items keys → list ≡ keys
       → Succeeds loads_all load_state writes_all deletes_all write_state cache mid (ops list) new
@@ -273,7 +282,7 @@ module _ {I J : Type 0} {D : I → Type 0} {E : J → Type 0} (loads_all : LoadA
   sweep_ok cache old mid new ops list keys looks looked is r =
       let c = since_looked cache old mid new (ops list) r.0 r.1 looks r.2 in (
         keys,
-        looked_on cache.config.stripes old.seats.items mid.seats.items new.seats.items keys r.2.grown looked,
+        looked_on cache.config.stripes old.seats.items mid.seats.items new.seats.items keys r.2.carried.grown looked,
         subst (λ ks. Succeeds loads_all load_state writes_all deletes_all write_state cache old (ops ks) new) is (r.0, r.1, c, r.3),
       )
 
@@ -287,7 +296,7 @@ module _ {I J : Type 0} {D : I → Type 0} {E : J → Type 0} (loads_all : LoadA
       let c = since_looked cache old mid new (ops list) f.0 f.1 looks f.2 in
       inl (
         keys,
-        looked_on cache.config.stripes old.seats.items mid.seats.items new.seats.items keys f.2.grown looked,
+        looked_on cache.config.stripes old.seats.items mid.seats.items new.seats.items keys f.2.carried.grown looked,
         subst (λ ks. FailsInPart loads_all load_state writes_all deletes_all write_state cache old (ops ks) cause failed new) is (f.0, f.1, c, f.3, f.4),
         r.1,
       )

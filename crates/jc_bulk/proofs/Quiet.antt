@@ -17,14 +17,16 @@ use Rattle.jc_batch.specs.declared.batch.Batch.{Batch}
 use Rattle.jc_batch.specs.declared.batch.Batch.TheVariants.{Writes, Deletes}
 use Rattle.jc_outside.specs.CallingAll.{LoadAllRelation, WriteAllRelation, DeleteAllRelation}
 use Rattle.jc_stripe.specs.Refusals.{first_asked, writer_for}
-use Rattle.jc_stripe.specs.Tickets.{asks_loader, change_asked}
+use Rattle.jc_stripe.specs.Tickets.{asks_loader, asks_processor, change_asked}
 use Rattle.jc_stripe.specs.declared.ticket.First.TheVariants.{Nobody}
 use Rattle.jc_session.specs.Boxed.{boxed}
 use Rattle.jc_cache.specs.Caches.{CacheState}
 use Rattle.jc_cache.specs.declared.session.Session.{Session}
-use Rattle.jc_bulk.specs.Bulk.{AsksEachOnce, AsksFor, FailsInPart, IsCarriedOut, IsOutOfMemory, OnlyLooks, Succeeds}
-use Rattle.jc_bulk.specs.Ends.{KeyEnd}
-use Rattle.jc_bulk.specs.Rounds.{CallsInRounds, LoadAll, Round, WriteAll, keys_asked}
+use Rattle.jc_bulk.specs.Bulk.{FailsInPart, IsBulkCall, IsOutOfMemory, OnlyLooks, Succeeds}
+use Rattle.jc_rounds.specs.Asking.{AsksEachOnce, AsksFor}
+use Rattle.jc_rounds.specs.Ends.{KeyEnd}
+use Rattle.jc_rounds.specs.Rounds.{IsShown, KeyRun, LoadAll, ProcessAll, Round, WriteAll, keys_asked}
+use Rattle.jc_bulk.specs.Outside.{CallsInRounds}
 use Rattle.jc_bulk.specs.Targets.{clear_ops}
 
 pub either_way : {T E X : Type 0} (r : Result T E) → IfOk r (λ v. X) → IfErr r (λ e. X) → X
@@ -73,9 +75,17 @@ module _ (config : Config) (keys : List Bytes) where
   none_in_batch (Writes batch) all some = none_written batch.items all some
   none_in_batch (Deletes batch) all some = none_deleted batch.items all some
 
+  none_run : (runs : List KeyRun) → All (λ (run : KeyRun). (op : Op) × (entry : Option Bytes) × IsAmong (clear_ops keys) (run.key, op) × (asks_processor (first_asked config op entry) ≡ true) × IsShown (first_asked config op entry) run) runs
+      → (map (λ (run : KeyRun). run.key) runs ≡ [] → ⊥) → ⊥
+  none_run [] all some = some refl
+  none_run (run ∷ runs) all some =
+      let h = All-head (λ (x : KeyRun). (op : Op) × (entry : Option Bytes) × IsAmong (clear_ops keys) (x.key, op) × (asks_processor (first_asked config op entry) ≡ true) × IsShown (first_asked config op entry) x) run runs all in
+      true≢false (sym h.3 ∙ ap asks_processor (asked_first run.key h.0 h.1 h.2))
+
   none_asked : (r : Round) → AsksFor config (clear_ops keys) r → (keys_asked r ≡ [] → ⊥) → ⊥
   none_asked (LoadAll r) asks some = none_loaded r.keys asks some
   none_asked (WriteAll r) asks some = none_in_batch r.batch asks some
+  none_asked (ProcessAll r) asks some = none_run r.runs asks some
 
   pub none_outside : (rounds : List Round) → AsksEachOnce config (clear_ops keys) rounds → rounds ≡ []
   none_outside [] asked = refl
@@ -86,11 +96,11 @@ module _ (config : Config) (keys : List Bytes) where
 
 module _ {I J : Type 0} {D : I → Type 0} {E : J → Type 0} (loads_all : LoadAllRelation ((i : I) × D i)) (load_state : (i : I) × D i → List ℕ) (writes_all : WriteAllRelation ((j : J) × E j)) (deletes_all : DeleteAllRelation ((j : J) × E j)) (write_state : (j : J) × E j → List ℕ) where
   quiet : (cache : CacheState) (old mid new : Session I J D E) (keys : List Bytes) (ends : List KeyEnd) (rounds : List Round) → OnlyLooks old mid
-      → IsCarriedOut loads_all load_state writes_all deletes_all write_state cache mid (clear_ops keys) ends rounds new → new.agent.hands.outside ≡ old.agent.hands.outside
+      → IsBulkCall loads_all load_state writes_all deletes_all write_state cache mid (clear_ops keys) ends rounds new → new.agent.hands.outside ≡ old.agent.hands.outside
   quiet cache old mid new keys ends rounds looks carried =
       let calls =
       subst (λ rs. CallsInRounds (boxed loads_all) (boxed load_state) (boxed writes_all) (boxed deletes_all) (boxed write_state) mid.agent.hands.outside.loader mid.agent.hands.outside.writer rs new.agent.hands.outside.loader new.agent.hands.outside.writer)
-      (none_outside cache.config keys rounds carried.asked) carried.calls in
+      (none_outside cache.config keys rounds carried.carried.asked) carried.calls in
       let same : new.agent.hands.outside ≡ mid.agent.hands.outside = λ i. record new.agent.hands.outside { loader = calls.0 i; writer = calls.1 i } in
       same ∙ ap (λ a. a.hands.outside) looks.agent
 

@@ -1,13 +1,5 @@
-pub mod Recorded
-pub mod Seats
-pub mod Rounds
-pub mod KeyProgress
-pub mod Keys
-pub mod SoFar
-pub mod Calls
-pub mod CallsInside
+pub mod Outside
 pub mod Targets
-pub mod Ends
 pub mod Bulk
-pub mod Starting
+pub mod RoundsRun
 pub mod Carrying

@@ -1,123 +1,65 @@
-//! A call with many keys, as a whole: its memory, and how it is carried out.
-ghost use Rattle.std.specs.Prelude.{◌≡◌, ◌==◌, ◌≤◌, ◌<◌, ◌+◌, ◌*◌, ◌++◌, ◌⊎◌, List, [], length, false, option_map, vec_capacity, None, Some, IfOk, IfErr};
+//! A bulk call as a whole: its memory, and how it is carried out.
+ghost use Rattle.std.specs.Prelude.{◌≡◌, ◌==◌, ◌≤◌, ◌<◌, ◌+◌, ◌++◌, ◌⊎◌, [], length, false, option_map, None, Some, IfOk, IfErr};
 ghost use Rattle.std.specs.List.{IsDistinct, cons_option, list_any};
 ghost use Rattle.std.specs.Map.{keys_of};
 ghost use Rattle.std.specs.Cmp.Lexicographic.{pointwise};
 ghost use Rattle.indexmap.specs.IndexMap.{spare};
-ghost use Rattle.jc_types.specs.declared.limits.TheConstants.{JOINERS_MAX, RESERVATIONS_MAX};
 ghost use Rattle.jc_cache.specs.Sessions.{MayCall};
-ghost use Rattle.jc_bulk.specs.Bulk.{FailsInPart, IsOutOfMemory, Succeeds};
-ghost use Rattle.jc_bulk.specs.Calls.{no_calls};
-ghost use Rattle.jc_bulk.specs.Carrying.{EndsSo, IsRoomOf};
-ghost use Rattle.jc_bulk.specs.Ends.{failed_entries, key_ends};
-ghost use Rattle.jc_bulk.specs.KeyProgress.{all_waiting, failure_at};
-ghost use Rattle.jc_bulk.specs.Targets.{kind_for, ops_of};
+ghost use Rattle.jc_rounds.specs.Ends.{failed_entries, key_ends};
+ghost use Rattle.jc_rounds.specs.KeyProgress.{failure_at};
+ghost use Rattle.jc_rounds.specs.Targets.{ops_of};
+ghost use Rattle.jc_bulk.specs.Bulk.{EndsSo, FailsInPart, IsOutOfMemory, Succeeds};
+ghost use Rattle.jc_bulk.specs.Carrying.{IsRoomOf};
+ghost use Rattle.jc_bulk.specs.RoundsRun.{KeysAskAs};
 
-use crate::calls::Calls;
 use crate::fault::BulkFault;
-use crate::progress::Progress;
-use crate::results::{all_waiting, insert_if_failed};
+use crate::outside::{Kind, OutsideCall};
 use crate::rounds::run_rounds;
-use crate::targets::Targets;
 use indexmap::IndexMap;
+use jc_batch::insert_new;
 use jc_cache::{Cache, Session};
 use jc_model::Reply;
-use jc_stripe::Join;
-use jc_types::{JOINERS_MAX, Key, RESERVATIONS_MAX, Refusal, Value};
+use jc_rounds::{BulkCall, Progress, Rooms, Targets};
+use jc_types::{Key, Refusal, Value};
 use std::alloc::{AllocError, Global};
 use std::sync::Wait;
 
-/// What a call takes in memory before its first phase: how far each key is, and room for those that fail and for what a round may
-/// have out. It can't be dropped.
+/// What a call takes in memory before its first phase. It can't be dropped.
 pub(crate) struct Room {
-    /// How far each key is.
-    pub(crate) progress: Vec<Progress>,
+    /// The memory of its rounds.
+    rooms: Rooms,
     /// The keys that failed: none yet.
-    pub(crate) failed: IndexMap<Key, Refusal>,
-    /// The calls of the first round: none yet.
-    pub(crate) calls: Calls,
-    /// How many calls a round may have out.
-    pub(crate) most: usize,
-    /// The joins of a round: none yet.
-    pub(crate) joins: Vec<Join>,
+    failed: IndexMap<Key, Refusal>,
+    /// What the first round asks outside with.
+    outside: OutsideCall,
 }
 
 impl Room {
-    /// Room for these keys, in a cache of so many stripes. An `Err` says that an allocation failed.
+    ghost use Rattle.std.specs.Prelude.{IfOk};
+    ghost use Rattle.jc_bulk.specs.Carrying.{IsRoomOf};
+
+    /// Room for so many keys, in a cache of so many stripes. An `Err` says that an allocation failed.
     pub(crate) fn new(
         alloc: Global,
-        targets: &Targets<'_>,
+        kind: Kind,
+        keys: usize,
         stripes: usize,
     ) -> Result<Room, AllocError>
-        ensures { IfOk result (λ room. IsRoomOf (kind_for targets.now) (ops_of targets.now) room) }
+        ensures { IfOk result (λ room. IsRoomOf kind keys stripes room) }
     {
-        let keys = targets.len();
-        let (progress, failed) = room_for_keys(alloc, keys)?;
-        let most = most_calls(keys, stripes);
-        let (calls, joins) = room_for_round(alloc, targets, most, most_joins(keys, stripes))?;
-        Ok(Room {
-            progress,
-            failed,
-            calls,
-            most,
-            joins,
-        })
-    }
-}
-
-/// How far so many keys are before the first round, and room for those that fail. An `Err` says that an allocation failed.
-fn room_for_keys(
-    alloc: Global,
-    keys: usize,
-) -> Result<(Vec<Progress>, IndexMap<Key, Refusal>), AllocError>
-    ensures progress { IfOk result (λ r. r.0.items ≡ all_waiting keys) }
-    ensures failed { IfOk result (λ r. (r.1.entries ≡ []) × (keys ≤ spare r.1)) }
-{
-    let progress = all_waiting(alloc, keys)?;
-    let failed = IndexMap::with_capacity(alloc, keys)?;
-    Ok((progress, failed))
-}
-
-/// No calls and no joins, with room for so many of a round. An `Err` says that an allocation failed.
-fn room_for_round(
-    alloc: Global,
-    targets: &Targets<'_>,
-    most: usize,
-    most_joins: usize,
-) -> Result<(Calls, Vec<Join>), AllocError>
-    ensures calls { IfOk result (λ r. r.0 ≡ no_calls (kind_for targets.now) most) }
-    ensures joins { IfOk result (λ r. (r.1.items ≡ []) × (most_joins ≤ vec_capacity r.1)) }
-{
-    let calls = targets.no_calls(alloc, most)?;
-    match Vec::with_capacity(alloc, most_joins) {
-        Ok(joins) => Ok((calls, joins)),
-        Err(failed) => {
-            calls.end();
-            Err(failed)
+        let failed = IndexMap::with_capacity(alloc, keys)?;
+        let rooms = Rooms::new(alloc, keys, stripes)?;
+        match kind.call(alloc, rooms.most()) {
+            Ok(outside) => Ok(Room {
+                rooms,
+                failed,
+                outside,
+            }),
+            Err(error) => {
+                rooms.end();
+                Err(error)
+            }
         }
-    }
-}
-
-/// How many reservations a round may have out, of so many keys: there is room for each key, or for one more than all stripes may have,
-/// so that no key is kept waiting for want of room.
-fn most_calls(keys: usize, stripes: usize) -> usize
-    ensures { (result ≡ keys) ⊎ (RESERVATIONS_MAX * stripes < result) }
-{
-    if keys / RESERVATIONS_MAX <= stripes {
-        keys
-    } else {
-        RESERVATIONS_MAX * stripes + 1
-    }
-}
-
-/// How many joins a round may have out, by the same.
-fn most_joins(keys: usize, stripes: usize) -> usize
-    ensures { (result ≡ keys) ⊎ (JOINERS_MAX * stripes < result) }
-{
-    if keys / JOINERS_MAX <= stripes {
-        keys
-    } else {
-        JOINERS_MAX * stripes + 1
     }
 }
 
@@ -143,36 +85,25 @@ pub(crate) fn carry_out<R: Wait>(
 ) -> CallEnd
     requires may { MayCall cache.now session.old }
     requires distinct { IsDistinct (pointwise ◌==◌) (keys_of (ops_of targets.now)) }
-    requires room { IsRoomOf (kind_for targets.now) (ops_of targets.now) room }
+    requires room { IsRoomOf room.outside.kind (length (ops_of targets.now)) cache.now.config.stripes room
+        × KeysAskAs room.outside.kind (ops_of targets.now) }
     ensures may { MayCall cache.now session.new }
     ensures carried { EndsSo loads_all load_state writes_all deletes_all write_state cache.now session.old
         (ops_of targets.now) (key_ends (ops_of targets.now) result.progress.items) result.cause session.new }
-    ensures failed { result.failed.entries ≡ failed_entries (key_ends (ops_of targets.now) result.progress.items) }
-    ensures whole { length result.progress.items ≡ length (ops_of targets.now) }
+    ensures failed { (result.failed.entries ≡ failed_entries (key_ends (ops_of targets.now) result.progress.items))
+        × (length result.progress.items ≡ length (ops_of targets.now)) }
 {
     let _types: Option<&(Reply, Value)> = None;
     let Room {
-        progress,
+        rooms,
         failed,
-        calls,
-        most,
-        joins,
+        outside,
     } = room;
-    let mut progress = progress;
     let mut failed = failed;
-    let mut joins = joins;
-    let cause = begin_and_run(
-        alloc,
-        rt,
-        cache,
-        session,
-        targets,
-        progress.as_mut_slice(),
-        calls,
-        most,
-        &mut joins,
-    );
-    joins.destroy_empty();
+    let mut call = BulkCall::new(targets, rooms);
+    session.next_call();
+    run_rounds(alloc, rt, cache, session, &mut call, outside);
+    let (progress, cause) = call.end();
     add_failed(targets, progress.as_slice(), &mut failed);
     CallEnd {
         cause,
@@ -181,43 +112,11 @@ pub(crate) fn carry_out<R: Wait>(
     }
 }
 
-/// Begins the session's next call, and runs its rounds: `progress` says how each key ended. It returns the first fault or refusal that
-/// the call has met, if it met one.
-fn begin_and_run<R: Wait>(
-    alloc: Global,
-    rt: &R,
-    cache: &Cache,
-    session: &mut Session,
-    targets: &Targets<'_>,
-    progress: &mut [Progress],
-    calls: Calls,
-    most: usize,
-    joins: &mut Vec<Join>,
-) -> Option<Refusal>
-    requires may { MayCall cache.now session.old }
-    requires distinct { IsDistinct (pointwise ◌==◌) (keys_of (ops_of targets.now)) }
-    requires new { progress.old ≡ all_waiting (length (ops_of targets.now)) }
-    requires calls { calls ≡ no_calls (kind_for targets.now) most }
-    requires none { joins.old.items ≡ [] }
-    ensures may { MayCall cache.now session.new }
-    ensures none { joins.new.items ≡ [] }
-    ensures carried { EndsSo loads_all load_state writes_all deletes_all write_state cache.now session.old
-        (ops_of targets.now) (key_ends (ops_of targets.now) progress.new) result session.new }
-    ensures whole { length progress.new ≡ length (ops_of targets.now) }
-{
-    let _types: Option<&(Reply, Value)> = None;
-    session.next_call();
-    run_rounds(
-        alloc, rt, cache, session, targets, progress, calls, most, joins,
-    )
-}
-
 /// Adds each key that failed, with its fault or its refusal, in the order of the keys. It takes no memory.
 fn add_failed(targets: &Targets<'_>, progress: &[Progress], failed: &mut IndexMap<Key, Refusal>)
     requires distinct { IsDistinct (pointwise ◌==◌) (keys_of (ops_of targets.now)) }
     requires many { length progress.now ≡ length (ops_of targets.now) }
-    requires empty { failed.old.entries ≡ [] }
-    requires room { length (ops_of targets.now) ≤ spare failed.old }
+    requires empty { (failed.old.entries ≡ []) × (length (ops_of targets.now) ≤ spare failed.old) }
     ensures { failed.new.entries ≡ failed_entries (key_ends (ops_of targets.now) progress.now) }
 {
     for place in 0..progress.len() {
@@ -233,9 +132,8 @@ fn add_failure(key: &Key, progress: &Progress, failed: &mut IndexMap<Key, Refusa
         ++ cons_option (option_map (λ refusal. (key.now, refusal)) (failure_at progress.now)) [] }
     ensures room { spare failed.old ≤ spare failed.new + 1 }
 {
-    match progress {
-        Progress::Waiting | Progress::Reserved | Progress::Joined => {}
-        Progress::Ended(ended) => insert_if_failed(failed, key, ended),
+    if let Some(refusal) = progress.failure() {
+        insert_new(failed, key, refusal);
     }
 }
 
@@ -246,9 +144,10 @@ pub(crate) fn call_all<R: Wait>(
     cache: &Cache,
     session: &mut Session,
     targets: &Targets<'_>,
+    kind: Kind,
 ) -> Result<(), BulkFault>
     requires may { MayCall cache.now session.old }
-    requires distinct { IsDistinct (pointwise ◌==◌) (keys_of (ops_of targets.now)) }
+    requires keys { IsDistinct (pointwise ◌==◌) (keys_of (ops_of targets.now)) × KeysAskAs kind (ops_of targets.now) }
     ensures may { MayCall cache.now session.new }
     ensures ok { IfOk result (λ done. Succeeds loads_all load_state writes_all deletes_all write_state
         cache.now session.old (ops_of targets.now) session.new) }
@@ -258,7 +157,7 @@ pub(crate) fn call_all<R: Wait>(
         ⊎ IsOutOfMemory session.old fault.cause fault.failed.entries fault.found.entries session.new) }
 {
     let _types: Option<&(Reply, Value)> = None;
-    match Room::new(alloc, targets, cache.config().stripes) {
+    match Room::new(alloc, kind, targets.len(), cache.config().stripes) {
         Err(_failed) => Err(BulkFault::of_whole_call(alloc, Refusal::OutOfMemory)),
         Ok(room) => {
             let outcome = carry_out(alloc, rt, cache, session, targets, room);

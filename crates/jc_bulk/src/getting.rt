@@ -8,17 +8,20 @@ ghost use Rattle.jc_types.specs.declared.limits.TheConstants.{BULK_KEYS_MAX};
 ghost use Rattle.jc_cache.specs.Sessions.{MayCall};
 ghost use Rattle.jc_bulk.specs.Bulk.{FailsToGet, GetsAll, IsRefusedWhole};
 ghost use Rattle.jc_bulk.specs.Carrying.{IsRoomOf};
-ghost use Rattle.jc_bulk.specs.Ends.{found_entries, key_ends, value_at};
-ghost use Rattle.jc_bulk.specs.Targets.{get_ops, kind_for, ops_of};
+ghost use Rattle.jc_bulk.specs.declared.outside.Kind.TheVariants.{Load};
+ghost use Rattle.jc_rounds.specs.Ends.{found_entries, key_ends, value_at};
+ghost use Rattle.jc_rounds.specs.Targets.{ops_of};
+ghost use Rattle.jc_bulk.specs.RoundsRun.{KeysAskAs};
+ghost use Rattle.jc_bulk.specs.Targets.{get_ops};
 
 use crate::carrying::{CallEnd, Room, carry_out};
 use crate::fault::BulkFault;
-use crate::progress::Progress;
-use crate::targets::Targets;
+use crate::outside::Kind;
 use indexmap::{IndexMap, IndexSet};
 use jc_batch::insert_new;
 use jc_cache::{Cache, Session};
-use jc_model::Reply;
+use jc_model::{Op, Reply};
+use jc_rounds::{Progress, Targets};
 use jc_types::{BULK_KEYS_MAX, Key, Refusal, Value};
 use std::alloc::{AllocError, Global};
 use std::sync::Wait;
@@ -62,24 +65,25 @@ pub fn get_all<R: Wait>(
     if keys.len() > BULK_KEYS_MAX {
         return Err(BulkFault::of_whole_call(alloc, Refusal::TooManyKeys));
     }
-    let targets = Targets::Gets(keys.as_slice());
-    match get_room(alloc, &targets, cache.config().stripes) {
+    let targets = Targets::Each(keys.as_slice(), Op::Get);
+    match get_room(alloc, keys.len(), cache.config().stripes) {
         Err(_failed) => Err(BulkFault::of_whole_call(alloc, Refusal::OutOfMemory)),
         Ok((room, found)) => get_keys(alloc, rt, cache, session, &targets, room, found),
     }
 }
 
-/// What a call that gets takes in memory before its first phase, in a cache of so many stripes: room for the call, and for the values.
+/// What a call that gets so many keys takes in memory before its first phase, in a cache of so many stripes: room for the call, and for
+/// the values.
 fn get_room(
     alloc: Global,
-    targets: &Targets<'_>,
+    keys: usize,
     stripes: usize,
 ) -> Result<(Room, IndexMap<Key, Value>), AllocError>
-    ensures room { IfOk result (λ r. IsRoomOf (kind_for targets.now) (ops_of targets.now) r.0) }
-    ensures found { IfOk result (λ r. (r.1.entries ≡ []) × (length (ops_of targets.now) ≤ spare r.1)) }
+    ensures room { IfOk result (λ r. IsRoomOf Load keys stripes r.0) }
+    ensures found { IfOk result (λ r. (r.1.entries ≡ []) × (keys ≤ spare r.1)) }
 {
-    let found = IndexMap::with_capacity(alloc, targets.len())?;
-    let room = Room::new(alloc, targets, stripes)?;
+    let found = IndexMap::with_capacity(alloc, keys)?;
+    let room = Room::new(alloc, Kind::Load, keys, stripes)?;
     Ok((room, found))
 }
 
@@ -95,7 +99,8 @@ fn get_keys<R: Wait>(
 ) -> Result<IndexMap<Key, Value>, BulkFault>
     requires may { MayCall cache.now session.old }
     requires distinct { IsDistinct (pointwise ◌==◌) (keys_of (ops_of targets.now)) }
-    requires room { IsRoomOf (kind_for targets.now) (ops_of targets.now) room }
+    requires room { IsRoomOf room.outside.kind (length (ops_of targets.now)) cache.now.config.stripes room
+        × KeysAskAs room.outside.kind (ops_of targets.now) }
     requires found { (found.entries ≡ []) × (length (ops_of targets.now) ≤ spare found) }
     ensures may { MayCall cache.now session.new }
     ensures ok { IfOk result (λ found. GetsAll loads_all load_state writes_all deletes_all write_state

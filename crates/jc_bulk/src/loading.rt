@@ -7,9 +7,11 @@ ghost use Rattle.jc_bulk.specs.Targets.{load_ops};
 
 use crate::carrying::call_all;
 use crate::fault::BulkFault;
-use crate::targets::Targets;
+use crate::outside::Kind;
 use indexmap::IndexSet;
 use jc_cache::{Cache, Session};
+use jc_model::Op;
+use jc_rounds::Targets;
 use jc_types::{BULK_KEYS_MAX, Key, Refusal};
 use std::alloc::Global;
 use std::sync::Wait;
@@ -48,6 +50,6 @@ pub fn load_keys<R: Wait>(
     if keys.len() > BULK_KEYS_MAX {
         return Err(BulkFault::of_whole_call(alloc, Refusal::TooManyKeys));
     }
-    let targets = Targets::Loads(keys.as_slice(), replace);
-    call_all(alloc, rt, cache, session, &targets)
+    let targets = Targets::Each(keys.as_slice(), Op::LoadAll { replace });
+    call_all(alloc, rt, cache, session, &targets, Kind::Load)
 }

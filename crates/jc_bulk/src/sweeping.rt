@@ -6,13 +6,15 @@ ghost use Rattle.jc_types.specs.Stripes.{stripe_of};
 ghost use Rattle.jc_model.specs.Cache.{Bytes};
 ghost use Rattle.jc_cache.specs.Sessions.{MayCall};
 ghost use Rattle.jc_bulk.specs.Bulk.{FailsInPart, HasLooked, IsLookedAt, IsSweepRefused, OnlyLooks, Succeeds};
-ghost use Rattle.jc_bulk.specs.Seats.{view_at};
+ghost use Rattle.jc_rounds.specs.Seats.{view_at};
 ghost use Rattle.jc_bulk.specs.Targets.{clear_ops, remove_ops};
 
 use crate::carrying::call_all;
 use crate::fault::BulkFault;
-use crate::targets::Targets;
+use crate::outside::Kind;
 use jc_cache::{Cache, Session};
+use jc_model::Op;
+use jc_rounds::Targets;
 use jc_stripe::phase_laws::is_uniform;
 use jc_types::{Key, Refusal};
 use std::alloc::{AllocError, Global};
@@ -52,8 +54,8 @@ pub fn remove_every<R: Wait>(
     match look_at_all(alloc, rt, cache, session) {
         Err(_failed) => Err(BulkFault::of_whole_call(alloc, Refusal::OutOfMemory)),
         Ok(keys) => {
-            let targets = Targets::Removes(keys.as_slice());
-            call_all(alloc, rt, cache, session, &targets)
+            let targets = Targets::Each(keys.as_slice(), Op::Remove);
+            call_all(alloc, rt, cache, session, &targets, Kind::Delete)
         }
     }
 }
@@ -89,7 +91,10 @@ pub fn clear<R: Wait>(
 {
     match look_at_all(alloc, rt, cache, session) {
         Err(_failed) => Err(BulkFault::of_whole_call(alloc, Refusal::OutOfMemory)),
-        Ok(keys) => call_all(alloc, rt, cache, session, &Targets::Clears(keys.as_slice())),
+        Ok(keys) => {
+            let targets = Targets::Each(keys.as_slice(), Op::Clear);
+            call_all(alloc, rt, cache, session, &targets, Kind::Load)
+        }
     }
 }
 

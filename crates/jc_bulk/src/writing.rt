@@ -3,13 +3,16 @@ ghost use Rattle.std.specs.Prelude.{◌≡◌, ◌≤◌, ◌⊎◌, [], length,
 ghost use Rattle.jc_types.specs.declared.limits.TheConstants.{BULK_KEYS_MAX};
 ghost use Rattle.jc_cache.specs.Sessions.{MayCall};
 ghost use Rattle.jc_bulk.specs.Bulk.{FailsInPart, IsRefusedWhole, Succeeds};
-ghost use Rattle.jc_bulk.specs.Targets.{put_ops, remove_ops};
+ghost use Rattle.jc_rounds.specs.Targets.{put_ops};
+ghost use Rattle.jc_bulk.specs.Targets.{remove_ops};
 
 use crate::carrying::call_all;
 use crate::fault::BulkFault;
-use crate::targets::Targets;
+use crate::outside::Kind;
 use indexmap::{IndexMap, IndexSet};
 use jc_cache::{Cache, Session};
+use jc_model::Op;
+use jc_rounds::Targets;
 use jc_types::{BULK_KEYS_MAX, Key, Refusal, Value};
 use std::alloc::Global;
 use std::sync::Wait;
@@ -55,7 +58,7 @@ pub fn put_all<R: Wait>(
     if entries.len() > BULK_KEYS_MAX {
         return Err(BulkFault::of_whole_call(alloc, Refusal::TooManyKeys));
     }
-    call_all(alloc, rt, cache, session, &Targets::Puts(entries))
+    call_all(alloc, rt, cache, session, &Targets::Puts(entries), Kind::Write)
 }
 
 /// Removes many keys, as the session's next call (JSR 107, `javax.cache.Cache.removeAll`). Each key is removed on its own, and the
@@ -86,6 +89,6 @@ pub fn remove_all<R: Wait>(
     if keys.len() > BULK_KEYS_MAX {
         return Err(BulkFault::of_whole_call(alloc, Refusal::TooManyKeys));
     }
-    let targets = Targets::Removes(keys.as_slice());
-    call_all(alloc, rt, cache, session, &targets)
+    let targets = Targets::Each(keys.as_slice(), Op::Remove);
+    call_all(alloc, rt, cache, session, &targets, Kind::Delete)
 }

@@ -16,9 +16,9 @@ use Rattle.jc_cache.specs.Caches.{CacheState}
 use Rattle.jc_cache.specs.declared.session.Session.{Session}
 use Rattle.jc_bulk.specs.declared.fault.BulkFault.{BulkFault}
 use Rattle.jc_bulk.specs.Bulk.{FailsInPart, IsRefusedWhole, Succeeds}
-use Rattle.jc_bulk.specs.Ends.{KeyEnd, failed_entries, key_ops}
-use Rattle.jc_bulk.specs.KeyProgress.{refusal_in}
-use Rattle.jc_bulk.specs.Rounds.{LoadAll, Round, WriteAll, fault_of, faults_in, round_fault}
+use Rattle.jc_rounds.specs.Ends.{KeyEnd, failed_entries, key_ops}
+use Rattle.jc_rounds.specs.KeyProgress.{refusal_in}
+use Rattle.jc_rounds.specs.Rounds.{LoadAll, ProcessAll, Round, WriteAll, fault_of, faults_in, round_fault}
 use Rattle.jc_bulk.specs.Targets.{load_ops}
 use Rattle.jc_loadall.specs.declared.limits.TheConstants.{PIECE_KEYS}
 use Rattle.jc_loadall.specs.declared.notes.PieceResult.{PieceResult}
@@ -113,6 +113,7 @@ code_only (Err code) is = let same : WriterFailed code ≡ OutOfMemory = cc in c
 no_memory_fault : (rounds : List Round) → IsAmong (faults_in rounds) OutOfMemory → ⊥
 no_memory_fault [] h = omega (arith, h.1.0)
 no_memory_fault (LoadAll r ∷ rounds) h = no_memory_fault rounds h
+no_memory_fault (ProcessAll r ∷ rounds) h = no_memory_fault rounds h
 no_memory_fault (WriteAll r ∷ rounds) h = ⊎_elim (code_only r.returned) (no_memory_fault rounds) (among_cons (round_fault (WriteAll r)) (faults_in rounds) OutOfMemory h)
 
 -- 3. How a piece ended.
@@ -148,7 +149,7 @@ module _ {I J : Type 0} {D : I → Type 0} {E : J → Type 0}
   )
     where
       ended : map (λ (e : KeyEnd). e.key) h.0 ≡ keys
-      ended = keys_ended replace h.0 keys h.2.targets_are
+      ended = keys_ended replace h.0 keys h.2.carried.targets_are
 
   refused : (fault : BulkFault) (result : PieceResult) → IsResultOf fault result
       → IsRefusedWhole old (length keys) fault.cause fault.failed.entries fault.found.entries new → Ends result

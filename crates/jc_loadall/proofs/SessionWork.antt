@@ -16,7 +16,7 @@ use Rattle.jc_outside.specs.CallingAll.{LoadAllRelation, WriteAllRelation, Delet
 use Rattle.jc_cache.specs.Caches.{CacheState}
 use Rattle.jc_cache.specs.Sessions.{MayCall}
 use Rattle.jc_cache.specs.declared.session.Session.{Session}
-use Rattle.jc_bulk.specs.Ends.{failed_entries}
+use Rattle.jc_rounds.specs.Ends.{failed_entries}
 use Rattle.jc_bulk.specs.Targets.{load_ops}
 use Rattle.jc_pool.specs.Shares.{LeadsTo, once_below, times}
 use Rattle.jc_loadall.specs.declared.notes.PieceResult.{PieceResult}

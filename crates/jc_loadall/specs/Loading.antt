@@ -2,7 +2,6 @@
 --     PieceEnd        how a piece ended: how each of its keys did, in their order, and the fault or refusal that its call met first, if it
 --                     met one
 --     out_of_memory   the keys of a piece whose call was refused whole, since an allocation failed
---     IsCause         there is a cause exactly if these were met, and it is one of them
 --     LoadsPiece      a session's next call, which loads the keys of a piece: it is carried out, or refused whole, and nothing changes
 --     all_ends        how the keys of the first so many pieces ended, in the order of the keys
 --     first_cause     the cause of the first of so many pieces that has one
@@ -12,7 +11,7 @@
 --     FailsInPieces   the same, with the cause of the first piece that has one, and each key that ended in a fault or a refusal
 use Rattle.std.specs.Prelude.{◌≡◌, ◌<◌, ◌⊎◌, ◌++◌, ℕ, zero, suc, List, [], length, map, Bool, Option, None, Some, Err, slice_index_or}
 use Rattle.std.specs.Option.{option_or}
-use Rattle.std.specs.List.{IsAmong, concat}
+use Rattle.std.specs.List.{concat}
 use Rattle.jc_types.specs.declared.refusal.Refusal.{Refusal}
 use Rattle.jc_types.specs.declared.refusal.Refusal.TheVariants.{OutOfMemory}
 use Rattle.jc_model.specs.Cache.{Bytes}
@@ -20,9 +19,10 @@ use Rattle.jc_model.specs.declared.event.Op.{Op}
 use Rattle.jc_outside.specs.CallingAll.{LoadAllRelation, WriteAllRelation, DeleteAllRelation}
 use Rattle.jc_cache.specs.Caches.{CacheState}
 use Rattle.jc_cache.specs.declared.session.Session.{Session}
-use Rattle.jc_bulk.specs.Bulk.{IsCarriedOut, causes_of}
-use Rattle.jc_bulk.specs.Ends.{KeyEnd, failed_entries}
-use Rattle.jc_bulk.specs.Rounds.{Round}
+use Rattle.jc_bulk.specs.Bulk.{IsBulkCall, causes_of}
+use Rattle.jc_rounds.specs.Ends.{KeyEnd, failed_entries}
+use Rattle.jc_rounds.specs.KeyProgress.{IsCauseIn}
+use Rattle.jc_rounds.specs.Rounds.{Round}
 use Rattle.jc_bulk.specs.Targets.{load_ops}
 use Rattle.jc_pool.specs.Shares.{LeadsTo, once_below, times}
 use Rattle.jc_loadall.specs.Pieces.{piece_at, piece_count}
@@ -35,10 +35,6 @@ pub record PieceEnd : Type 0 where
 
 abbrev pub out_of_memory : List (Bytes × Op) → List KeyEnd
 out_of_memory targets = map (λ (t : Bytes × Op). record { key = t.0; op = t.1; ended = Err OutOfMemory }) targets
-
-abbrev pub IsCause : List Refusal → Option Refusal → Type 0
-IsCause causes None = causes ≡ []
-IsCause causes (Some cause) = IsAmong causes cause
 
 -- 2. All pieces.
 
@@ -57,8 +53,8 @@ module _ {I J : Type 0} {D : I → Type 0} {E : J → Type 0}
   -- `old` and `new` are the session before and after
   abbrev pub LoadsPiece : List (Bytes × Op) → PieceEnd → Session I J D E → Session I J D E → Type 0
   LoadsPiece targets end old new =
-      ((rounds : List Round) × IsCarriedOut loads_all load_state writes_all deletes_all write_state cache old targets end.ends rounds new
-      × IsCause (causes_of end.ends rounds) end.cause)
+      ((rounds : List Round) × IsBulkCall loads_all load_state writes_all deletes_all write_state cache old targets end.ends rounds new
+      × IsCauseIn end.cause (causes_of end.ends rounds))
       ⊎ ((end.cause ≡ Some OutOfMemory) × (end.ends ≡ out_of_memory targets) × (new ≡ old))
 
   -- `old` and `new` are the sessions before and after

@@ -20,7 +20,7 @@ use Rattle.jc_types.specs.declared.refusal.Refusal.TheVariants.{OutOfMemory}
 use Rattle.jc_model.specs.Batches.{is_among}
 use Rattle.jc_model.specs.Cache.{Bytes}
 use Rattle.jc_bulk.specs.declared.fault.BulkFault.{BulkFault}
-use Rattle.jc_bulk.specs.Ends.{failed_entries}
+use Rattle.jc_rounds.specs.Ends.{failed_entries}
 use Rattle.jc_loadall.specs.declared.notes.Note.{Note}
 use Rattle.jc_loadall.specs.declared.notes.PieceResult.{PieceResult}
 use Rattle.jc_loadall.specs.declared.notes.PieceResult.TheVariants.{Loaded, Failed, Refused}

@@ -1,7 +1,7 @@
 use Rattle.std.proofs.Common.{◌∙◌, arith}
-use Rattle.jc_bulk.specs.KeyProgress.{failure_at, refusal_in}
-use Rattle.jc_bulk.specs.Targets.{ops_of}
-use Rattle.jc_bulk.proofs.KeyEnds.{entries_more, entries_new, entries_whole, told_failed}
+use Rattle.jc_rounds.specs.KeyProgress.{failure_at, refusal_in}
+use Rattle.jc_rounds.specs.Targets.{ops_of}
+use Rattle.jc_rounds.proofs.CallerLemmas.{entries_more, entries_new, entries_whole, told_failed}
 use Rattle.jc_bulk.proofs.carrying.add_failed.Goals as goal
 
 pub add_failure-requires-clause-new : goal.add_failure-requires-clause-new

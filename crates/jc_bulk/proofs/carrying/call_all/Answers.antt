@@ -1,6 +1,6 @@
 use Rattle.std.proofs.Common.{inl, ◌∙◌}
-use Rattle.jc_bulk.specs.Ends.{key_ends}
-use Rattle.jc_bulk.specs.Targets.{ops_of}
+use Rattle.jc_rounds.specs.Ends.{key_ends}
+use Rattle.jc_rounds.specs.Targets.{ops_of}
 use Rattle.jc_bulk.proofs.CarriedOut.{end_err, end_ok}
 use Rattle.jc_bulk.proofs.Returning.{then_err, then_ok}
 use Rattle.jc_bulk.proofs.carrying.call_all.Goals as goal
@@ -19,7 +19,7 @@ returns-in-Ok-clause-err g c =
     let outcome = c.carry_out-outcome in
     then_err c.without_values.result
     (λ fault e. inl (
-      end_err _ _ _ _ _ c.args.cache.now c.args.session.now outcome.new.session ops (key_ends ops outcome.result.progress.items) outcome.result.cause fault.cause _ e.0 (e.1 ∙ outcome.ensures.failed) outcome.ensures.carried,
+      end_err _ _ _ _ _ c.args.cache.now c.args.session.now outcome.new.session ops (key_ends ops outcome.result.progress.items) outcome.result.cause fault.cause _ e.0 (e.1 ∙ outcome.ensures.failed.0) outcome.ensures.carried,
       e.2,
     ))
     c.without_values.ensures.err

@@ -1,7 +1,7 @@
 use Rattle.std.proofs.Common.{◌∙◌, arith}
-use Rattle.jc_bulk.specs.Ends.{reply_value, value_at}
-use Rattle.jc_bulk.specs.Targets.{ops_of}
-use Rattle.jc_bulk.proofs.KeyEnds.{entries_more, entries_new, entries_whole, told_found}
+use Rattle.jc_rounds.specs.Ends.{reply_value, value_at}
+use Rattle.jc_rounds.specs.Targets.{ops_of}
+use Rattle.jc_rounds.proofs.CallerLemmas.{entries_more, entries_new, entries_whole, told_found}
 use Rattle.jc_bulk.proofs.getting.add_found.Goals as goal
 
 pub add_value-requires-clause-new : goal.add_value-requires-clause-new

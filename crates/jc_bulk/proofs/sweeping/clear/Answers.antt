@@ -1,15 +1,21 @@
-use Rattle.std.proofs.Common.{◌==◌, sym, ◌∙◌, subst}
+use Rattle.std.proofs.Common.{◌==◌, inr, refl, sym, ◌∙◌, subst}
 use Rattle.std.specs.List.{IsDistinct}
 use Rattle.std.specs.Cmp.Lexicographic.{pointwise}
+use Rattle.jc_model.specs.declared.event.Op.TheVariants.{Clear}
+use Rattle.jc_rounds.proofs.CallerLemmas.{same_keys}
+use Rattle.jc_bulk.specs.declared.outside.Kind.TheVariants.{Load}
 use Rattle.jc_bulk.specs.Targets.{clear_ops}
+use Rattle.jc_bulk.proofs.Filling.{same_asks}
 use Rattle.jc_bulk.proofs.Looking.{sweep_err, sweep_ok}
 use Rattle.jc_bulk.proofs.Quiet.{either_way, quiet_err, quiet_ok}
-use Rattle.jc_bulk.proofs.Returning.{cleared_keys, then_err, then_ok}
+use Rattle.jc_bulk.proofs.Returning.{then_err, then_ok}
 use Rattle.jc_bulk.proofs.sweeping.clear.Goals as goal
 
-pub call_all-requires-clause-distinct : goal.call_all-requires-clause-distinct
-call_all-requires-clause-distinct g c =
-    subst (IsDistinct (pointwise ◌==◌)) (sym (cleared_keys c.as_slice.result.now ∙ c.as_slice.ensures.value)) c.in-Ok.ensures.distinct
+pub call_all-requires-clause-keys : goal.call_all-requires-clause-keys
+call_all-requires-clause-keys g c = (
+  subst (IsDistinct (pointwise ◌==◌)) (sym (same_keys Clear c.as_slice.result.now ∙ c.as_slice.ensures.value)) c.in-Ok.ensures.distinct,
+  same_asks Load Clear c.as_slice.result.now (inr (inr refl)),
+)
 
 pub returns-in-Ok-clause-ok : goal.returns-in-Ok-clause-ok
 returns-in-Ok-clause-ok g c =

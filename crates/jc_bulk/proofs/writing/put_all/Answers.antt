@@ -1,13 +1,14 @@
 use Rattle.std.proofs.Common.{◌==◌, refl, sym, subst, arith}
 use Rattle.std.specs.List.{IsDistinct}
 use Rattle.std.specs.Cmp.Lexicographic.{pointwise}
-use Rattle.jc_bulk.specs.Targets.{put_ops}
+use Rattle.jc_rounds.specs.Targets.{put_ops}
 use Rattle.jc_bulk.proofs.CarriedOut.{few_fail, succeeds_of}
+use Rattle.jc_bulk.proofs.Filling.{puts_ask}
 use Rattle.jc_bulk.proofs.Returning.{put_keys, then_err, then_ok}
 use Rattle.jc_bulk.proofs.writing.put_all.Goals as goal
 
-pub call_all-requires-clause-distinct : goal.call_all-requires-clause-distinct
-call_all-requires-clause-distinct g c = subst (IsDistinct (pointwise ◌==◌)) (sym (put_keys c.args.entries.now.entries)) c.len.ensures.unique
+pub call_all-requires-clause-keys : goal.call_all-requires-clause-keys
+call_all-requires-clause-keys g c = (subst (IsDistinct (pointwise ◌==◌)) (sym (put_keys c.args.entries.now.entries)) c.len.ensures.unique, puts_ask c.args.entries.now.entries)
 
 pub returns-clause-ok : goal.returns-clause-ok
 returns-clause-ok g c =

@@ -1,0 +1,221 @@
+-- The tickets of a round, as they ask in one call, and what is answered.
+--     asked_ticket     a ticket that has asked
+--     asks_of          what these tickets ask for
+--     next_ticket      the next ticket is as it was
+--     tickets_next, asks_next    once it has asked
+--     fits_next        what it asks for is of the call's kind
+--     new_next         its key is that of none before it
+--     whole_tickets    once all have asked
+--     answered_loads, answered_writes    what the loader or the writer has answered
+use Rattle.std.proofs.Common.{◌≡◌, ◌==◌, ◌||◌, ◌<◌, ◌≤◌, ◌+◌, ◌++◌, ℕ, zero, suc, List, [], ◌∷◌, length, map, set, take, drop, get_or, reverse, slice_get, Bool, true, false, Option, None, Some, option_map, Result, Ok, refl, sym, ap, ◌∙◌, subst, arith}
+use Rattle.std.proofs.lemmas.Cmp.{nat_list_eq_equiv}
+use Rattle.std.proofs.lemmas.List.{map-append, take_all, take_more}
+use Rattle.std.specs.Global.{Vec}
+use Rattle.std.specs.List.{AllByRecursion, IsDistinct}
+use Rattle.std.specs.Cmp.Lexicographic.{pointwise}
+use Rattle.jc_types.specs.declared.config.Config.{Config}
+use Rattle.jc_types.specs.declared.refusal.Refusal.{Refusal}
+use Rattle.jc_model.specs.Batches.{is_among}
+use Rattle.jc_model.specs.Cache.{Bytes}
+use Rattle.jc_model.specs.declared.event.Change.{Change}
+use Rattle.jc_model.specs.declared.event.WriteAnswer.{WriteAnswer}
+use Rattle.jc_batch.specs.Changes.{changes_of}
+use Rattle.jc_batch.specs.declared.batch.Batch.{Batch}
+use Rattle.jc_batch.proofs.CallerLemmas.{not_before}
+use Rattle.jc_outside.specs.CallingAll.{LoadAllRelation, LoadsAllOnce, WriteAllRelation, DeleteAllRelation, WritesAllOnce, loads_done, writes_done}
+use Rattle.jc_outside.specs.Done.{LoadResult, WriteResult}
+use Rattle.jc_session.specs.Boxed.{boxed}
+use Rattle.jc_stripe.specs.declared.ticket.First.{First}
+use Rattle.jc_stripe.specs.declared.ticket.First.TheVariants.{Nobody, Loader, Writer, Processor}
+use Rattle.jc_stripe.specs.declared.ticket.Reservation.{Reservation}
+use Rattle.jc_stripe.specs.Tickets.{Claim, TicketClaim, asks_loader, asks_writer, change_asked, claim_of}
+use Rattle.jc_cache.specs.declared.session.Session.{Session}
+use Rattle.jc_rounds.specs.declared.answers.Answers.{Answers}
+use Rattle.jc_rounds.specs.declared.answers.Answers.TheVariants.{Loads, Writes}
+use Rattle.jc_rounds.specs.Answers.{AreAnswers, IsToBeAnswered, is_change_of, key_of}
+use Rattle.jc_rounds.specs.Asking.{reserved_keys}
+use Rattle.jc_rounds.specs.OutsideCalls.{LoadCallAsked, WriteCallAsked, WritesBatch, asked_keys, is_delete, wanted}
+use Rattle.jc_rounds.specs.Rounds.{LoadAll, Round, WriteAll, WriteRound, fault_of, keys_asked}
+use Rattle.jc_rounds.specs.Underway.{reserved_by}
+use Rattle.jc_bulk.specs.declared.outside.Kind.{Kind}
+use Rattle.jc_bulk.specs.declared.outside.Kind.TheVariants.{Load, Write, Delete}
+use Rattle.jc_bulk.specs.Outside.{Answered, IsAskedOf, fits, fits_first, kind_of, wanted_changes}
+use Rattle.jc_bulk.proofs.Filling.{firsts}
+
+-- 1. Lists.
+
+next_item : {A : Type 0} (f : A → A) (xs : List A) (i : ℕ) (d : A) → get_or (map f (take i xs) ++ drop i xs) i d ≡ get_or xs i d
+next_item f [] zero d = refl
+next_item f [] (suc i) d = refl
+next_item f (x ∷ xs) zero d = refl
+next_item f (x ∷ xs) (suc i) d = next_item f xs i d
+
+set_next : {A : Type 0} (f : A → A) (xs : List A) (i : ℕ) (d : A) → i < length xs → set (map f (take i xs) ++ drop i xs) i (f (get_or xs i d)) ≡ map f (take (suc i) xs) ++ drop (suc i) xs
+set_next f [] i d near = absurd (omega (arith, near))
+set_next f (x ∷ xs) zero d near = refl
+set_next f (x ∷ xs) (suc i) d near = ap (λ ys. f x ∷ ys) (set_next f xs i d (omega (arith, near)))
+
+whole_items : {A : Type 0} (f : A → A) (xs : List A) (i : ℕ) → length xs ≤ i → map f (take i xs) ++ drop i xs ≡ map f xs
+whole_items f [] zero all = refl
+whole_items f [] (suc i) all = refl
+whole_items f (x ∷ xs) zero all = absurd (omega (arith, all))
+whole_items f (x ∷ xs) (suc i) all = ap (λ ys. f x ∷ ys) (whole_items f xs i (omega (arith, all)))
+
+all_at : {A : Type 0} (P : A → Type 0) (xs : List A) (i : ℕ) (d : A) → i < length xs → AllByRecursion P xs → P (get_or xs i d)
+all_at P [] i d near all = absurd (omega (arith, near))
+all_at P (x ∷ xs) zero d near all = all.0
+all_at P (x ∷ xs) (suc i) d near all = all_at P xs i d (omega (arith, near)) all.1
+
+slot : {A B : Type 0} (f : A → B) (xs : List A) (i : ℕ) (d : A) → i < length xs → slice_get (map f xs) i ≡ Some (f (get_or xs i d))
+slot f [] i d near = absurd (omega (arith, near))
+slot f (x ∷ xs) zero d near = refl
+slot f (x ∷ xs) (suc i) d near = slot f xs i d (omega (arith, near))
+
+-- 2. Tickets.
+
+abbrev pub asked_ticket : TicketClaim → TicketClaim
+asked_ticket ticket = record ticket { asked = true }
+
+abbrev pub ask_of : TicketClaim → Claim
+ask_of ticket = claim_of ticket.reservation
+
+abbrev pub asks_of : List TicketClaim → List Claim
+asks_of tickets = map ask_of tickets
+
+pub next_ticket : (ts : List TicketClaim) (i : ℕ) (d : TicketClaim) → get_or (map asked_ticket (take i ts) ++ drop i ts) i d ≡ get_or ts i d
+next_ticket ts i d = next_item asked_ticket ts i d
+
+pub tickets_next : (ts : List TicketClaim) (i : ℕ) (d : TicketClaim) → i < length ts → set (map asked_ticket (take i ts) ++ drop i ts) i (asked_ticket (get_or ts i d)) ≡ map asked_ticket (take (i + 1) ts) ++ drop (i + 1) ts
+tickets_next ts i d near =
+    let next : suc i ≡ i + 1 = omega arith in
+    set_next asked_ticket ts i d near ∙ ap (λ n. map asked_ticket (take n ts) ++ drop n ts) next
+
+pub asks_next : (ts : List TicketClaim) (i : ℕ) (d : TicketClaim) → i < length ts → asks_of (take i ts) ++ ask_of (get_or ts i d) ∷ [] ≡ asks_of (take (i + 1) ts)
+asks_next ts i d near = sym (ap asks_of (take_more ts i d near) ∙ map-append ask_of (take i ts) (get_or ts i d ∷ []))
+
+pub unasked_next : (ts : List TicketClaim) (i : ℕ) (d : TicketClaim) → i < length ts → AllByRecursion (λ (t : TicketClaim). t.asked ≡ false) ts → (get_or ts i d).asked ≡ false
+unasked_next ts i d near all = all_at (λ (t : TicketClaim). t.asked ≡ false) ts i d near all
+
+fits_by : (kind : Kind) (first : First) → fits_first kind first ≡ true → fits kind (change_asked first)
+fits_by Load first is = tt
+fits_by Write first is = is
+fits_by Delete first is = is
+
+pub fits_next : (kind : Kind) (ts : List TicketClaim) (i : ℕ) (d : TicketClaim) → i < length ts → AllByRecursion (λ (t : TicketClaim). fits_first kind t.reservation.first ≡ true) ts → fits kind (ask_of (get_or ts i d)).change
+fits_next kind ts i d near all = fits_by kind (get_or ts i d).reservation.first (all_at (λ (t : TicketClaim). fits_first kind t.reservation.first ≡ true) ts i d near all)
+
+keys_before : (ts : List TicketClaim) (i : ℕ) → asked_keys (asks_of (take i ts)) ≡ take i (reserved_keys (map reserved_by ts))
+keys_before [] zero = refl
+keys_before [] (suc i) = refl
+keys_before (t ∷ ts) zero = refl
+keys_before (t ∷ ts) (suc i) = ap (λ ks. t.reservation.key ∷ ks) (keys_before ts i)
+
+ticket_key : (ts : List TicketClaim) (i : ℕ) (d : TicketClaim) → i < length ts → slice_get (reserved_keys (map reserved_by ts)) i ≡ Some (get_or ts i d).reservation.key
+ticket_key [] i d near = absurd (omega (arith, near))
+ticket_key (t ∷ ts) zero d near = refl
+ticket_key (t ∷ ts) (suc i) d near = ticket_key ts i d (omega (arith, near))
+
+pub new_next : (ts : List TicketClaim) (i : ℕ) (d : TicketClaim) → i < length ts → IsDistinct (pointwise ◌==◌) (reserved_keys (map reserved_by ts)) → is_among (asked_keys (asks_of (take i ts))) (get_or ts i d).reservation.key ≡ false
+new_next ts i d near distinct =
+    let key = (get_or ts i d).reservation.key in
+    ap (λ ks. is_among ks key) (keys_before ts i) ∙ not_before (reserved_keys (map reserved_by ts)) i key distinct (ticket_key ts i d near)
+
+same_calls : (ts : List TicketClaim) → map reserved_by (map asked_ticket ts) ≡ map reserved_by ts
+same_calls [] = refl
+same_calls (t ∷ ts) = ap (λ rs. t.reservation ∷ rs) (same_calls ts)
+
+pub whole_tickets : (ts : List TicketClaim) (i : ℕ) (now : List TicketClaim) → length ts ≤ i → now ≡ map asked_ticket (take i ts) ++ drop i ts → map reserved_by now ≡ map reserved_by ts
+whole_tickets ts i now all is = ap (map reserved_by) (is ∙ whole_items asked_ticket ts i all) ∙ same_calls ts
+
+pub whole_asks : (ts : List TicketClaim) (i : ℕ) (asks : List Claim) → length ts ≤ i → asks ≡ asks_of (take i ts) → asks ≡ asks_of ts
+whole_asks ts i asks all is = is ∙ ap asks_of (take_all i ts all)
+
+-- 3. Answers.
+
+asks_keys : (ts : List TicketClaim) → asked_keys (asks_of ts) ≡ reserved_keys (map reserved_by ts)
+asks_keys [] = refl
+asks_keys (t ∷ ts) = ap (λ ks. t.reservation.key ∷ ks) (asks_keys ts)
+
+claims_are : (ts : List TicketClaim) → asks_of ts ≡ map claim_of (map reserved_by ts)
+claims_are [] = refl
+claims_are (t ∷ ts) = ap (λ cs. claim_of t.reservation ∷ cs) (claims_are ts)
+
+wanted_are : (ts : List TicketClaim) → wanted (asks_of ts) ≡ wanted_changes (map reserved_by ts)
+wanted_are [] = refl
+wanted_are (t ∷ ts) = ap (λ cs. (t.reservation.key, change_asked t.reservation.first) ∷ cs) (wanted_are ts)
+
+or_true : (b : Bool) → (b || true) ≡ true
+or_true true = refl
+or_true false = refl
+
+to_be : (asks : First → Bool) (round : Round) (keys : List Bytes) (ts : List TicketClaim) → AllByRecursion (λ (t : TicketClaim). asks t.reservation.first ≡ true) ts
+    → keys_asked round ≡ keys → ((key : Bytes) → is_among (reserved_keys (map reserved_by ts)) key ≡ true → is_among keys key ≡ true) → AllByRecursion (IsToBeAnswered asks round) (map reserved_by ts)
+to_be asks round keys [] all are among = tt
+to_be asks round keys (t ∷ ts) all are among = (
+  (all.0, ap (λ ks. is_among ks t.reservation.key) are ∙ among t.reservation.key (ap (λ b. b || is_among (reserved_keys (map reserved_by ts)) t.reservation.key) (nat_list_eq_equiv.refl t.reservation.key))),
+  to_be asks round keys ts all.1 are (λ key is. among key (ap (λ b. pointwise ◌==◌ key t.reservation.key || b) is ∙ or_true (pointwise ◌==◌ key t.reservation.key))),
+)
+
+writes_first : (deletes : Bool) (first : First) → fits_first (kind_of deletes) first ≡ true → asks_writer first ≡ true
+writes_first false Nobody h = cc
+writes_first false Loader h = cc
+writes_first false (Writer change) h = refl
+writes_first false (Processor entry loads) h = cc
+writes_first true Nobody h = cc
+writes_first true Loader h = cc
+writes_first true (Writer change) h = refl
+writes_first true (Processor entry loads) h = cc
+
+all_write : (deletes : Bool) (ts : List TicketClaim) → AllByRecursion (λ (t : TicketClaim). fits_first (kind_of deletes) t.reservation.first ≡ true) ts → AllByRecursion (λ (t : TicketClaim). asks_writer t.reservation.first ≡ true) ts
+all_write deletes [] all = tt
+all_write deletes (t ∷ ts) all = (writes_first deletes t.reservation.first all.0, all_write deletes ts all.1)
+
+module _ {I J : Type 0} {D : I → Type 0} {E : J → Type 0} (loads_all : LoadAllRelation ((i : I) × D i)) (load_state : (i : I) × D i → List ℕ) (writes_all : WriteAllRelation ((j : J) × E j)) (deletes_all : DeleteAllRelation ((j : J) × E j)) (write_state : (j : J) × E j → List ℕ) where
+  pub answered_loads : (old new : Session I J D E) (kind : Kind) (ts : List TicketClaim) (asks : List Claim) (done : Vec (LoadResult Claim)) → kind ≡ Load → asks ≡ asks_of ts
+      → AllByRecursion (λ (t : TicketClaim). fits_first kind t.reservation.first ≡ true) ts → LoadCallAsked loads_all load_state old asks done.items new
+      → Answered loads_all load_state writes_all deletes_all write_state old kind ts (Loads done) None new
+  answered_loads old new kind ts asks done is are all a =
+      let calls = map reserved_by ts in
+      let keys : asked_keys asks ≡ reserved_keys calls = ap asked_keys are ∙ asks_keys ts in
+      subst (λ k. Answered loads_all load_state writes_all deletes_all write_state old k ts (Loads done) None new) (sym is) (record {
+        round = LoadAll (record { keys = reserved_keys calls; said = a.said });
+        asked = refl;
+        fault_is = refl;
+        calls = (subst (λ ks. LoadsAllOnce (boxed loads_all) (boxed load_state) old.agent.hands.outside.loader ks a.said new.agent.hands.outside.loader) keys a.loads, a.writer);
+        answered = λ config. (
+          a.done_are ∙ ap (loads_done key_of a.said) (are ∙ claims_are ts),
+          to_be asks_loader (LoadAll (record { keys = reserved_keys calls; said = a.said })) (reserved_keys calls) ts (subst (λ k. AllByRecursion (λ (t : TicketClaim). fits_first k t.reservation.first ≡ true) ts) is all) refl (λ key among. among),
+        );
+        types = (a.loader_type, ap (λ w. option_map (λ b. b.vtable) w) a.writer);
+      })
+
+  batch_of : (deletes : Bool) (ts : List TicketClaim) (old new : Session I J D E) (returned : Result (Unit {0}) ℕ) (said : Bytes → WriteAnswer) → (ts ≡ [] → ⊥)
+      → WritesBatch (boxed writes_all) (boxed deletes_all) (boxed write_state) deletes (wanted (asks_of ts)) old.agent.hands.outside.writer returned said new.agent.hands.outside.writer
+      → (batch : Batch) × (is_delete batch ≡ deletes) × (changes_of batch ≡ wanted_changes (map reserved_by ts)) × WritesAllOnce (boxed writes_all) (boxed deletes_all) (boxed write_state) old.agent.hands.outside.writer batch returned said new.agent.hands.outside.writer
+  batch_of deletes [] old new returned said some writes = absurd (some refl)
+  batch_of deletes (t ∷ ts) old new returned said some writes = (writes.0, writes.1, writes.2 ∙ wanted_are (t ∷ ts), writes.3)
+
+  asked_of : (deletes : Bool) (calls : List Reservation) (r : WriteRound) → is_delete r.batch ≡ deletes → changes_of r.batch ≡ wanted_changes calls → IsAskedOf (kind_of deletes) calls (WriteAll r)
+  asked_of false calls r kind are = (kind, are)
+  asked_of true calls r kind are = (kind, are)
+
+  pub answered_writes : (old new : Session I J D E) (deletes : Bool) (kind : Kind) (ts : List TicketClaim) (asks : List Claim) (returned : Result (Unit {0}) ℕ) (done : Vec (WriteResult Claim)) (fault : Option Refusal) → kind ≡ kind_of deletes
+      → asks ≡ asks_of ts → (ts ≡ [] → ⊥) → AllByRecursion (λ (t : TicketClaim). fits_first kind t.reservation.first ≡ true) ts → fault ≡ fault_of returned → WriteCallAsked writes_all deletes_all write_state old deletes asks returned done.items new
+      → Answered loads_all load_state writes_all deletes_all write_state old kind ts (Writes done) fault new
+  answered_writes old new deletes kind ts asks returned done fault is are some all fault_is a =
+      let calls = map reserved_by ts in
+      let b = batch_of deletes ts old new returned a.said some
+          (subst (λ xs. WritesBatch (boxed writes_all) (boxed deletes_all) (boxed write_state) deletes (wanted xs) old.agent.hands.outside.writer returned a.said new.agent.hands.outside.writer) are a.writes) in
+      let r : WriteRound = record { batch = b.0; returned = returned; said = a.said } in
+      subst (λ k. Answered loads_all load_state writes_all deletes_all write_state old k ts (Writes done) fault new) (sym is) (record {
+        round = WriteAll r;
+        asked = asked_of deletes calls r b.1 b.2;
+        fault_is = fault_is;
+        calls = (b.3, a.loader);
+        answered = λ config. (
+          a.done_are ∙ ap (writes_done key_of a.said) (are ∙ claims_are ts),
+          to_be asks_writer (WriteAll r) (reserved_keys calls) ts (all_write deletes ts (subst (λ k. AllByRecursion (λ (t : TicketClaim). fits_first k t.reservation.first ≡ true) ts) is all))
+          (ap (map (λ (c : Bytes × Option Change). c.0)) b.2 ∙ firsts calls) (λ key among. among),
+        );
+        types = (ap (λ l. option_map (λ b. b.vtable) l) a.loader, a.writer_type);
+      })

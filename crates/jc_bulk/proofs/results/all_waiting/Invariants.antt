@@ -1,9 +1,0 @@
-use Rattle.std.proofs.Common.{◌≡◌, ◌≤◌, vec_capacity}
-use Rattle.jc_bulk.specs.KeyProgress.{all_waiting}
-use Rattle.jc_bulk.proofs.results.all_waiting.Given as goal
-
-abbrev pub invariant-loop-place : goal.invariant-loop-place
-invariant-loop-place l = record {
-  items : l.progress.items ≡ all_waiting l.place;
-  room : l.keys ≤ vec_capacity l.progress;
-}

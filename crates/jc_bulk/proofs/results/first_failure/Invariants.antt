@@ -1,7 +1,0 @@
-use Rattle.std.proofs.Common.{◌≡◌, [], take}
-use Rattle.jc_bulk.specs.KeyProgress.{failures}
-use Rattle.jc_bulk.proofs.results.first_failure.Given as goal
-
--- none of the keys before this one has failed
-abbrev pub invariant-loop-one : goal.invariant-loop-one
-invariant-loop-one l = failures (take l.one-index l.progress) ≡ []

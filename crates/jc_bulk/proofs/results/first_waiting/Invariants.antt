@@ -1,7 +1,0 @@
-use Rattle.std.proofs.Common.{◌<◌, ℕ}
-use Rattle.jc_bulk.specs.KeyProgress.{StillWaits}
-use Rattle.jc_bulk.proofs.results.first_waiting.Given as goal
-
--- no key before this place waits
-abbrev pub invariant-loop-place : goal.invariant-loop-place
-invariant-loop-place l = (earlier : ℕ) → earlier < l.place → StillWaits l.progress earlier → ⊥

@@ -1,0 +1,43 @@
+-- The rounds of a bulk call.
+--     KeysAskAs   calls of this kind ask outside for each operation of the call, if it asks at all
+--     IsReady     what a round asks outside with: nothing is asked for yet, it is of the call's kind, and there is room for all keys that a
+--                 round may reserve
+--     RunsOn      rounds of a call, which have asked this outside: the call goes on, and the loader and the writer were called for exactly
+--                 these rounds
+use Rattle.std.specs.Prelude.{◌≡◌, ◌≤◌, ℕ, List, [], Some, slice_get}
+use Rattle.jc_model.specs.Cache.{Bytes}
+use Rattle.jc_model.specs.declared.event.Op.{Op}
+use Rattle.jc_outside.specs.CallingAll.{LoadAllRelation, WriteAllRelation, DeleteAllRelation}
+use Rattle.jc_session.specs.Boxed.{boxed}
+use Rattle.jc_engine.specs.Asking.{KeepsTypes}
+use Rattle.jc_cache.specs.Caches.{CacheState}
+use Rattle.jc_cache.specs.declared.session.Session.{Session}
+use Rattle.jc_rounds.specs.declared.bulk_call.BulkCall.{BulkCall}
+use Rattle.jc_rounds.specs.Rounds.{Round}
+use Rattle.jc_rounds.specs.Running.{HasRun, with_rounds}
+use Rattle.jc_rounds.specs.Targets.{ops_of}
+use Rattle.jc_rounds.specs.Underway.{Past}
+use Rattle.jc_bulk.specs.declared.outside.Kind.{Kind}
+use Rattle.jc_bulk.specs.Outside.{AsksAs, CallsInRounds, OutsideState}
+
+abbrev pub KeysAskAs : Kind → List (Bytes × Op) → Type 0
+KeysAskAs kind targets = (place : ℕ) (key : Bytes) (op : Op) → slice_get targets place ≡ Some (key, op) → AsksAs kind op
+
+pub record IsReady (call : BulkCall) (outside : OutsideState) : Type 0 where
+  pub none : outside.items ≡ []
+  pub kind : KeysAskAs outside.kind (ops_of call.targets.now)
+  pub room : call.most ≤ outside.room
+
+pub record RunsOn
+    {I J : Type 0} {D : I → Type 0} {E : J → Type 0}
+    (loads_all : LoadAllRelation ((i : I) × D i)) (load_state : (i : I) × D i → List ℕ)
+    (writes_all : WriteAllRelation ((j : J) × E j)) (deletes_all : DeleteAllRelation ((j : J) × E j)) (write_state : (j : J) × E j → List ℕ)
+    (cache : CacheState) (past : Past) (old : Session I J D E) (call : BulkCall) (new : Session I J D E) (later : BulkCall) : Type 0 where
+  pub rounds : List Round
+  pub run : HasRun cache (with_rounds past rounds) new later
+  pub calls : CallsInRounds (boxed loads_all) (boxed load_state) (boxed writes_all) (boxed deletes_all) (boxed write_state)
+      old.agent.hands.outside.loader old.agent.hands.outside.writer rounds new.agent.hands.outside.loader new.agent.hands.outside.writer
+  pub types : KeepsTypes old.agent new.agent
+  pub agent : new.agent ≡ record old.agent { counts = new.agent.counts; hands = new.agent.hands }
+  pub targets : later.targets ≡ call.targets
+  pub most : later.most ≡ call.most

@@ -1,0 +1,152 @@
+//! What a bulk call asks outside, in one call for all keys that a round has reserved.
+ghost use Rattle.std.specs.Prelude.{◌≡◌, ◌≤◌, ◌+◌, ◌-◌, ◌<◌, ◌++◌, ◌∷◌, [], false, length, map, vec_capacity, IfOk, IfSome, IsSome};
+ghost use Rattle.jc_model.specs.Batches.{is_among};
+ghost use Rattle.jc_cache.specs.Sessions.{HasAsked, HoldsNothing};
+ghost use Rattle.jc_rounds.specs.OutsideCalls.{asked_keys};
+ghost use Rattle.jc_rounds.specs.Rounds.{fault_of};
+ghost use Rattle.jc_bulk.specs.Outside.{Answered, HasOneToAsk, IsFilled, MayFill, fits, no_asks, with_ask};
+
+use jc_cache::Session;
+use jc_rounds::{Answers, LoadCall, WriteCall};
+use jc_stripe::{Ask, Ticket};
+use jc_types::Refusal;
+use std::alloc::{AllocError, Global};
+use std::marker::Model;
+use std::sync::Wait;
+
+/// Whom a bulk call asks, and for what.
+#[derive(Clone, Copy)]
+pub(crate) enum Kind {
+    /// The loader.
+    Load,
+    /// The writer, for values.
+    Write,
+    /// The writer, for deletes.
+    Delete,
+}
+
+/// One call of the loader or the writer, with what it is to ask for and all the memory that this takes. It can't be dropped.
+pub(crate) struct OutsideCall {
+    of: CallOf,
+}
+
+/// Who is called.
+enum CallOf {
+    /// The loader.
+    Loads(LoadCall),
+    /// The writer.
+    Writes(WriteCall),
+}
+
+impl Model for OutsideCall {
+    ghost use Rattle.jc_bulk.specs.Outside.{OutsideState, items_in, kind_in, room_in};
+
+    ghost Value = { OutsideState };
+
+    ghost view = { λ c. record { kind = kind_in c.of; items = items_in c.of; room = room_in c.of } };
+}
+
+impl Kind {
+    ghost use Rattle.std.specs.Prelude.{IfOk};
+    ghost use Rattle.jc_bulk.specs.Outside.{no_asks};
+
+    /// A call of this kind that asks for nothing yet, with room for `n` keys. An `Err` says that an allocation failed.
+    pub(crate) fn call(self, alloc: Global, n: usize) -> Result<OutsideCall, AllocError>
+        ensures { IfOk result (λ call. call ≡ no_asks self n) }
+    {
+        let of = match self {
+            Kind::Load => CallOf::Loads(LoadCall::new(alloc, n)?),
+            Kind::Write => CallOf::Writes(WriteCall::writes(alloc, n)?),
+            Kind::Delete => CallOf::Writes(WriteCall::deletes(alloc, n)?),
+        };
+        Ok(OutsideCall { of })
+    }
+}
+
+impl OutsideCall {
+    /// Whom it asks, and for what.
+    pub(crate) fn kind(&self) -> Kind
+        ensures { result ≡ self.now.kind }
+    {
+        match &self.of {
+            CallOf::Loads(_) => Kind::Load,
+            CallOf::Writes(call) => {
+                if call.is_delete() {
+                    Kind::Delete
+                } else {
+                    Kind::Write
+                }
+            }
+        }
+    }
+
+    /// Adds an ask, after those that are there. It takes no memory.
+    ///
+    /// Conditions: there is room; the ask is of this kind; its key isn't that of any of them.
+    fn push(&mut self, ask: Ask)
+        requires room { 0 < self.old.room }
+        requires kind { fits self.old.kind ask.change }
+        requires new { is_among (asked_keys self.old.items) ask.reservation.key ≡ false }
+        ensures { self.new ≡ with_ask self.old ask }
+    {
+        match &mut self.of {
+            CallOf::Loads(call) => call.push(ask),
+            CallOf::Writes(call) => call.push(ask),
+        }
+    }
+
+    /// Asks the session's loader or writer once, for all of these tickets. It returns what was answered, and the fault that the writer
+    /// returned, if it failed.
+    ///
+    /// It may wait, as long as the loader or the writer does. It takes no memory of its own.
+    ///
+    /// Conditions: the session holds no stripe; there are tickets, none of which has asked, all of this kind and of keys that differ, and
+    /// there is room for them; if they write or delete, the session has a writer.
+    pub(crate) fn ask_for<R: Wait>(
+        self,
+        rt: &R,
+        session: &mut Session,
+        tickets: &mut Vec<Ticket>,
+    ) -> (Answers, Option<Refusal>)
+        requires nothing { HoldsNothing session.old }
+        requires fill { MayFill self tickets.old.items }
+        requires writer { HasOneToAsk self.kind session.old.agent.hands.outside.writer }
+        ensures tickets { IsFilled tickets.old tickets.new }
+        ensures asked { HasAsked session.old session.new (Answered loads_all load_state writes_all deletes_all write_state
+            session.old self.kind tickets.old.items result.0 result.1 session.new) }
+    {
+        let mut call = self;
+        for place in 0..tickets.len() {
+            call.push(tickets[place].ask());
+        }
+        let OutsideCall { of } = call;
+        match of {
+            CallOf::Loads(call) => (Answers::Loads(call.ask(rt, session)), None),
+            CallOf::Writes(call) => {
+                let (done, returned) = call.ask(rt, session);
+                (Answers::Writes(done), writer_fault(returned))
+            }
+        }
+    }
+
+    /// Ends a call that asks for nothing: nobody is asked.
+    pub(crate) fn end(self)
+        requires { self.items ≡ [] }
+    {
+        let OutsideCall { of } = self;
+        match of {
+            CallOf::Loads(call) => call.end(),
+            CallOf::Writes(call) => call.end(),
+        }
+    }
+}
+
+/// The fault that a call of the writer has returned, if it failed.
+fn writer_fault(returned: Result<(), u32>) -> Option<Refusal>
+    ensures { result ≡ fault_of returned }
+{
+    match returned {
+        Ok(()) => None,
+        Err(code) => Some(Refusal::WriterFailed(code)),
+    }
+}

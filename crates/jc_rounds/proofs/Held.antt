@@ -1,0 +1,206 @@
+-- Keys that a round leaves waiting: each was put off, or there was no room for it.
+--     goes_itself, goes_both, goes_set     what has ended stays so, every front grows, and no other key is held back than was before
+--     held_since, held_later               what is said of a key that was held back, from an earlier view on, and up to a later one
+--     kept_held                            what a first phase leaves held back
+--     set_there                            the key at a place that was set
+--     held_at                              what a first phase says of the key at its place
+--     held_next                            one key more has had its first phase
+--     held_after                           phases that leave no other key held back
+--     not_held                             a settled key that doesn't wait isn't held back
+--     fewer_out                            if some key isn't such, fewer are out than there are keys
+--     full_by                              there is no room: the round is full
+use Rattle.std.proofs.Common.{◌≡◌, ◌==◌, ◌⊎◌, ⊎_elim, inl, inr, ◌<◌, ◌≤◌, ◌+◌, ℕ, zero, suc, List, [], ◌∷◌, length, set, slice_get, Bool, true, false, true≢false, MatchBool, if◌then◌else◌, Some, Result, Err, refl, sym, ap, ◌∙◌, subst, arith}
+use Rattle.std.proofs.lemmas.Bool.Decides.{nat_tests}
+use Rattle.std.proofs.lemmas.List.{length-append}
+use Rattle.std.proofs.lemmas.Option.{same_Some}
+use Rattle.std.specs.List.{IsAmong}
+use Rattle.jc_types.specs.Stripes.{stripe_of}
+use Rattle.jc_types.specs.Refusals.{is_put_off}
+use Rattle.jc_types.specs.declared.caller.Caller.{Caller}
+use Rattle.jc_types.specs.declared.config.Config.{Config}
+use Rattle.jc_types.specs.declared.refusal.Refusal.{Refusal}
+use Rattle.jc_model.specs.Cache.{Bytes}
+use Rattle.jc_model.specs.declared.event.Op.{Op}
+use Rattle.jc_model.specs.declared.event.Op.TheVariants.{Get}
+use Rattle.jc_model.specs.declared.event.Reply.{Reply}
+use Rattle.jc_stripe.specs.Tickets.{JoinClaim}
+use Rattle.jc_stripe.specs.declared.begun.Begun.{Begun}
+use Rattle.jc_stripe.specs.declared.begun.Begun.TheVariants as begun
+use Rattle.jc_stripe.specs.declared.ticket.Reservation.{Reservation}
+use Rattle.jc_stripe.specs.Generations.{whole_history}
+use Rattle.jc_lock.specs.declared.view.View.{View}
+use Rattle.jc_lock.proofs.CallerLemmas.{prefix-trans, same_on}
+use Rattle.jc_rounds.specs.declared.progress.Progress.{Progress}
+use Rattle.jc_rounds.specs.declared.progress.Progress.TheVariants.{Waiting, Reserved, Joined, Ended}
+use Rattle.jc_rounds.specs.KeyProgress.{is_held_back, is_joined, is_settled, is_waiting}
+use Rattle.jc_rounds.specs.Keys.{HasBegun, HasJoined, IsHeldBack, IsJoinFor}
+use Rattle.jc_rounds.specs.Seats.{HasGrown, view_at, view_of}
+use Rattle.jc_rounds.specs.SoFar.{AreHeldBack, AreIn, GoesOn, IsHeldAt, IsKept}
+use Rattle.jc_rounds.specs.Starting.{IsFull, IsRoomFor}
+use Rattle.jc_rounds.specs.Keys.{IsTicketFor}
+use Rattle.jc_rounds.specs.KeyProgress.{is_reserved}
+use Rattle.jc_types.specs.declared.limits.TheConstants.{JOINERS_MAX, RESERVATIONS_MAX}
+use Rattle.jc_stripe.specs.Tickets.{TicketClaim}
+use Rattle.jc_rounds.proofs.Asked.{among_there, in_head}
+use Rattle.jc_rounds.proofs.Out.{is_no}
+use Rattle.jc_rounds.proofs.SeatPhases.{Seated, grown_itself, grown_on}
+use Rattle.jc_rounds.proofs.SoFar.{refused_later, refused_since}
+use Rattle.jc_rounds.proofs.Underway.{below_or, set_get, stay_itself, stay_on, stay_set}
+
+-- 1. All keys.
+
+pub goes_itself : (seats : List Seated) (ps : List Progress) → GoesOn seats seats ps ps
+goes_itself seats ps = record { stay = stay_itself ps; grown = λ i. grown_itself (view_at seats i); held = λ place p at is. (p, at, is) }
+
+pub goes_both : (a b c : List Seated) (ps qs rs : List Progress) → GoesOn a b ps qs → GoesOn b c qs rs → GoesOn a c ps rs
+goes_both a b c ps qs rs one two = record {
+  stay = stay_on ps qs rs one.stay two.stay;
+  grown = λ i. grown_on (view_at a i) (view_at b i) (view_at c i) (one.grown i) (two.grown i);
+  held = λ place p at is. let q = two.held place p at is in one.held place q.0 q.1 q.2;
+}
+
+pub goes_set : (a b : List Seated) (ps : List Progress) (i : ℕ) (q p : Progress) → ((j : ℕ) → HasGrown (view_at a j) (view_at b j)) → slice_get ps i ≡ Some q → ((e : Result Reply Refusal) → q ≡ Ended e → ⊥)
+    → (is_held_back p ≡ true → is_held_back q ≡ true) → GoesOn a b ps (set ps i p)
+goes_set a b ps i q p grown at unended keeps = record {
+  stay = stay_set ps i q p at unended;
+  grown = grown;
+  held = λ place r there is. ⊎_elim (λ t. (q, ap (slice_get ps) t.0 ∙ at, keeps (ap is_held_back (sym t.1) ∙ is))) (λ t. (r, t.1, is)) (set_get ps i place p r there);
+}
+
+-- 2. One key.
+
+joined_later : (u v w : View) (key : Bytes) (op : Op) → HasGrown v w → HasJoined u v key op → HasJoined u w key op
+joined_later u v w key op grown was = record {
+  seen = was.seen;
+  reached = was.reached;
+  since = was.since;
+  later = prefix-trans (whole_history was.seen) v.front w.front was.later grown.front;
+  same = same_on was.seen v.noted w.noted was.same grown.same;
+  load = was.load;
+  why = was.why;
+}
+
+joined_since : (u v w : View) (key : Bytes) (op : Op) → HasGrown u v → HasJoined v w key op → HasJoined u w key op
+joined_since u v w key op grown was = record {
+  seen = was.seen;
+  reached = was.reached;
+  since = prefix-trans u.front v.front (whole_history was.seen) grown.front was.since;
+  later = was.later;
+  same = was.same;
+  load = was.load;
+  why = was.why;
+}
+
+pub held_later : (caller : Caller) (u v w : View) (key : Bytes) (op : Op) → HasGrown v w → IsHeldBack caller u v key op → IsHeldBack caller u w key op
+held_later caller u v w key op grown (inl was) = inl (was.0, was.1, refused_later caller u v w key op was.0 grown was.2)
+held_later caller u v w key op grown (inr was) = inr (joined_later u v w key op grown was)
+
+pub held_since : (caller : Caller) (u v w : View) (key : Bytes) (op : Op) → HasGrown u v → IsHeldBack caller v w key op → IsHeldBack caller u w key op
+held_since caller u v w key op grown (inl was) = inl (was.0, was.1, refused_since caller u v w key op was.0 grown was.2)
+held_since caller u v w key op grown (inr was) = inr (joined_since u v w key op grown was)
+
+refused_held : (refusal : Refusal) (b : Bool) (p : Progress) → p ≡ (if b then Waiting else Ended (Err refusal)) → is_held_back p ≡ true → b ≡ true
+refused_held refusal true p is held = refl
+refused_held refusal false p is held = absurd (true≢false (sym held ∙ ap is_held_back is))
+
+pub kept_held : (caller : Caller) (config : Config) (v w : View) (key : Bytes) (op : Op) (b : Begun) (p : Progress) (ts ts' : List TicketClaim) (joins joins' : List JoinClaim) → HasBegun caller config v w key op b → IsKept b p ts ts' joins joins'
+    → is_held_back p ≡ true → IsHeldBack caller v w key op
+kept_held caller config v w key op (begun.Done done) p ts ts' joins joins' has kept held = absurd (true≢false (sym held ∙ ap is_held_back kept.0))
+kept_held caller config v w key op (begun.Refused refusal) p ts ts' joins joins' has kept held = inl (refusal, refused_held refusal (is_put_off refusal) p kept.0 held, has.3)
+kept_held caller config v w key op (begun.Asks ticket) p ts ts' joins joins' has kept held = absurd (true≢false (sym held ∙ ap is_held_back kept.0))
+kept_held caller config v w key op (begun.Joined join) p ts ts' joins joins' has kept held = inr has.2
+
+pub not_held : (p : Progress) → is_waiting p ≡ false → is_settled p ≡ true → is_held_back p ≡ true → ⊥
+not_held Waiting w s h = cc
+not_held Reserved w s h = cc
+not_held Joined w s h = cc
+not_held (Ended e) w s h = cc
+
+-- 3. Keys one after the other.
+
+pub set_there : (ps : List Progress) (place : ℕ) (p : Progress) → place < length ps → slice_get (set ps place p) place ≡ Some p
+set_there [] place p near = absurd (omega arith)
+set_there (q ∷ ps) zero p near = refl
+set_there (q ∷ ps) (suc place) p near = set_there ps place p (omega arith)
+
+-- what a first phase says of the key at its place
+pub held_at : (caller : Caller) (stripes : ℕ) (targets : List (Bytes × Op)) (a b : List Seated) (ps : List Progress) (place : ℕ) (target : Bytes × Op) (q : Progress) → slice_get targets place ≡ Some target → slice_get ps place ≡ Some q
+    → (is_held_back q ≡ true → IsHeldBack caller (view_of stripes a target.0) (view_of stripes b target.0) target.0 target.1) → IsHeldAt ⊥ place caller stripes targets a b ps
+held_at caller stripes targets a b ps place target q there at held key op p is here back =
+    let same : target ≡ (key, op) = same_Some target (key, op) (sym there ∙ is) in
+    inr (subst (λ (u : Bytes × Op). IsHeldBack caller (view_of stripes a u.0) (view_of stripes b u.0) u.0 u.1) same (held (ap is_held_back (same_Some q p (sym at ∙ here)) ∙ back)))
+
+pub held_next : (full full' : Type 0) (end : ℕ) (caller : Caller) (stripes : ℕ) (targets : List (Bytes × Op)) (a b c : List Seated) (os ps qs : List Progress) → (full → full') → GoesOn a b os ps → GoesOn b c ps qs
+    → AreHeldBack full end caller stripes targets a b ps → IsHeldAt full' end caller stripes targets b c qs → AreHeldBack full' (end + 1) caller stripes targets a c qs
+held_next full full' end caller stripes targets a b c os ps qs fuller one two held here place less key op p there at is = by (below_or place end less)
+  where
+    grown : HasGrown (view_of stripes a key) (view_of stripes b key)
+    grown = one.grown (stripe_of key stripes)
+
+    by : (place ≡ end) ⊎ (place < end) → full' ⊎ IsHeldBack caller (view_of stripes a key) (view_of stripes c key) key op
+    by (inl same) =
+        ⊎_elim (λ f. inl f) (λ back. inr (held_since caller (view_of stripes a key) (view_of stripes b key) (view_of stripes c key) key op grown back))
+        (here key op p (ap (slice_get targets) (sym same) ∙ there) (ap (slice_get qs) (sym same) ∙ at) is)
+    by (inr below) =
+        let q = two.held place p at is in
+        ⊎_elim (λ f. inl (fuller f)) (λ back. inr (held_later caller (view_of stripes a key) (view_of stripes b key) (view_of stripes c key) key op (two.grown (stripe_of key stripes)) back))
+        (held place below key op q.0 there q.1 q.2)
+
+pub held_after : (full full' : Type 0) (end : ℕ) (caller : Caller) (stripes : ℕ) (targets : List (Bytes × Op)) (a b c : List Seated) (ps qs : List Progress) → (full → full') → GoesOn b c ps qs
+    → AreHeldBack full end caller stripes targets a b ps → AreHeldBack full' end caller stripes targets a c qs
+held_after full full' end caller stripes targets a b c ps qs fuller goes held place less key op p there at is =
+    let q = goes.held place p at is in
+    ⊎_elim (λ f. inl (fuller f)) (λ back. inr (held_later caller (view_of stripes a key) (view_of stripes b key) (view_of stripes c key) key op (goes.grown (stripe_of key stripes)) back))
+    (held place less key op q.0 there q.1 q.2)
+
+-- 4. Room.
+
+module _ {X : Type 0} (has : Progress → Bool) (fits : Bytes → Op → X → Type 0) where
+  at_most : (ts : List (Bytes × Op)) (ps : List Progress) (xs : List X) → AreIn has fits ts ps xs → length xs ≤ length ts
+  at_most [] ps xs are = let n = ap length are in omega arith
+  at_most (t ∷ ts) [] xs are = let n = ap length are in omega arith
+  at_most (t ∷ ts) (p ∷ ps) [] are = omega arith
+  at_most (t ∷ ts) (p ∷ ps) (x ∷ xs) are = by (has p) are (λ rest. at_most ts ps xs rest) (λ rest. at_most ts ps (x ∷ xs) rest)
+    where
+      by : (b : Bool) → MatchBool b (fits t.0 t.1 x × AreIn has fits ts ps xs) (AreIn has fits ts ps (x ∷ xs)) → (AreIn has fits ts ps xs → length xs ≤ length ts) → (AreIn has fits ts ps (x ∷ xs) → length (x ∷ xs) ≤ length ts)
+          → length (x ∷ xs) ≤ length (t ∷ ts)
+      by true here f h = let n = f here.1 in omega arith
+      by false rest f h = let n = h rest in omega arith
+
+  pub fewer_out : (ts : List (Bytes × Op)) (ps : List Progress) (xs : List X) (i : ℕ) (p : Progress) → length ps ≡ length ts → slice_get ps i ≡ Some p → has p ≡ false → AreIn has fits ts ps xs → length xs < length ts
+  fewer_out [] [] xs i p many at isnt are = cc
+  fewer_out [] (q ∷ ps) xs i p many at isnt are = absurd (omega arith)
+  fewer_out (t ∷ ts) [] xs i p many at isnt are = cc
+  fewer_out (t ∷ ts) (q ∷ ps) [] i p many at isnt are = omega arith
+  fewer_out (t ∷ ts) (q ∷ ps) (x ∷ xs) zero p many at isnt are =
+      let n = at_most ts ps (x ∷ xs) (is_no (has q) _ _ (ap has (same_Some q p at) ∙ isnt) are) in omega arith
+  fewer_out (t ∷ ts) (q ∷ ps) (x ∷ xs) (suc i) p many at isnt are = by (has q) are (λ rest. fewer_out ts ps xs i p (omega arith) at isnt rest) (λ rest. fewer_out ts ps (x ∷ xs) i p (omega arith) at isnt rest)
+    where
+      by : (b : Bool) → MatchBool b (fits t.0 t.1 x × AreIn has fits ts ps xs) (AreIn has fits ts ps (x ∷ xs)) → (AreIn has fits ts ps xs → length xs < length ts) → (AreIn has fits ts ps (x ∷ xs) → length (x ∷ xs) < length ts)
+          → length (x ∷ xs) < length (t ∷ ts)
+      by true here f h = let n = f here.1 in omega arith
+      by false rest f h = let n = h rest in omega arith
+
+-- no room: the key at this place waits, so it is neither reserved nor has it joined a load
+pub full_by : (caller : Caller) (config : Config) (before : Bytes → View) (stripes : ℕ) (ts : List (Bytes × Op)) (ps : List Progress) (calls : List Reservation) (joins : List JoinClaim) (most room place asked : ℕ) → length ps ≡ length ts → slice_get ps place ≡ Some Waiting
+    → AreIn is_reserved (IsTicketFor caller config) ts ps calls → AreIn is_joined (λ key op join. IsJoinFor caller (before key) key op join) ts ps joins → IsRoomFor RESERVATIONS_MAX (length ts) stripes most → IsRoomFor JOINERS_MAX (length ts) stripes room
+    → asked ≡ length calls → (most ≤ asked) ⊎ (room ≤ length joins) → IsFull stripes ts asked
+full_by caller config before stripes ts ps calls joins most room place asked many waits are joined most_is room_is same full = by full most_is room_is
+  where
+    fewer : length calls < length ts
+    fewer = fewer_out is_reserved (IsTicketFor caller config) ts ps calls place Waiting many waits refl are
+
+    fewer_joined : length joins < length ts
+    fewer_joined = fewer_out is_joined (λ key op join. IsJoinFor caller (before key) key op join) ts ps joins place Waiting many waits refl joined
+
+    a_get : (js : List JoinClaim) → AreIn is_joined (λ key op join. IsJoinFor caller (before key) key op join) ts ps js → 0 < length js → (key : Bytes) × IsAmong ts (key, Get)
+    a_get [] are some = absurd (omega arith)
+    a_get (j ∷ js) are some =
+        let head = in_head is_joined (λ key op join. IsJoinFor caller (before key) key op join) ts ps j js are in
+        (head.1, among_there ts head.0 (head.1, Get) (head.3 ∙ ap (λ o. Some (head.1, o)) head.4.op_is))
+
+    by : (most ≤ asked) ⊎ (room ≤ length joins) → IsRoomFor RESERVATIONS_MAX (length ts) stripes most → IsRoomFor JOINERS_MAX (length ts) stripes room → IsFull stripes ts asked
+    by (inl none) (inl all) rooms = absurd (omega (arith, fewer, none, all, same))
+    by (inl none) (inr more) rooms = inl (omega (arith, none, more))
+    by (inr none) mosts (inl all) = absurd (omega (arith, fewer_joined, none, all))
+    by (inr none) mosts (inr more) = inr (omega (arith, fewer_joined, none, more), a_get joins joined (omega (arith, none, more)))

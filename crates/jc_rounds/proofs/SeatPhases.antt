@@ -1,0 +1,155 @@
+-- One phase at one seat, and what it leaves of all of a session's seats.
+--     MovesSeat          what a phase of the call at this key leaves of the key's seat
+--     grown_phase, grown_itself, grown_on    a phase, no phase, and two phases: the front has grown
+--     seen_phase, gained_phase               a phase that leaves the own steps, and one that makes one more, at any place
+--     view_set           the views after one seat was replaced
+--     view_there         the view of a seat that is there
+--     moves_all          what a phase leaves of all seats
+use Rattle.std.proofs.Common.{◌≡◌, ◌==◌, ◌&&◌, ◌⊎◌, ⊎_elim, inl, inr, ℕ, zero, suc, List, [], ◌∷◌, ◌++◌, Bool, true, false, Option, Some, slice_get, slice_set, refl, sym, ap, subst, ◌∙◌, arith, le_refl}
+use Rattle.std.proofs.lemmas.Bool.Decides.{nat_tests}
+use Rattle.std.proofs.lemmas.Option.{same_Some}
+use Rattle.std.specs.Cmp.Lexicographic.{pointwise}
+use mathlib.Core.List.{IsPrefix}
+use Rattle.atomic_table.specs.Seated.{TableId}
+use Rattle.jc_types.specs.Stripes.{stripe_of}
+use Rattle.jc_types.specs.declared.caller.Caller.{Caller}
+use Rattle.jc_model.specs.Cache.{Bytes}
+use Rattle.jc_model.specs.declared.event.Event.{Event}
+use Rattle.jc_model.specs.declared.event.Event.TheVariants.{Step}
+use Rattle.jc_model.specs.declared.event.Op.{Op}
+use Rattle.jc_model.specs.declared.event.Out.{Out}
+use Rattle.jc_model.specs.declared.event.Reply.{Reply}
+use Rattle.jc_stripe.specs.State.{State}
+use Rattle.jc_stripe.specs.Generations.{whole_history}
+use Rattle.jc_stripe.specs.OnePhase.{OnePhase, IsUniform, own_steps}
+use Rattle.jc_stripe.proofs.CallerLemmas.{whole_goes_on, own_stay}
+use Rattle.jc_lock.specs.declared.view.View.{View}
+use Rattle.jc_lock.proofs.CallerLemmas.{prefix-refl, prefix-trans, same_itself, same_on}
+use Rattle.jc_cache.specs.Fronts.{HasAllSeen}
+use Rattle.jc_cache.specs.PhaseCalls.{SeatPhase}
+use Rattle.jc_rounds.specs.Keys.{IsEarly}
+use Rattle.jc_rounds.specs.Recorded.{steps_of, former_steps, are_before}
+use Rattle.jc_rounds.specs.Seats.{HasGrown, Moves, view_at}
+use Rattle.jc_rounds.proofs.CallSteps.{before-gained, former-gained, others-gained}
+
+abbrev pub Seated : Type 0
+Seated = TableId × View
+
+-- 1. One seat.
+
+pub record MovesSeat (caller : Caller) (key : Bytes) (v w : View) : Type 0 where
+  pub grown : HasGrown v w
+  pub others : (q : Bytes) → pointwise ◌==◌ key q ≡ false → steps_of caller q w.own ≡ steps_of caller q v.own
+  pub former : former_steps caller w.own ≡ former_steps caller v.own
+  pub numbers : are_before caller v.own ≡ true → are_before caller w.own ≡ true
+
+pub grown_itself : (v : View) → HasGrown v v
+grown_itself v = record { front = prefix-refl v.front; same = same_itself v.noted; next = le_refl v.noted.next; all = λ a. a }
+
+pub grown_on : (u v w : View) → HasGrown u v → HasGrown v w → HasGrown u w
+grown_on u v w p q = record { front = prefix-trans u.front v.front w.front p.front q.front; same = same_on u.noted v.noted w.noted p.same q.same; next = (let one = p.next in let two = q.next in omega arith); all = λ a. q.all (p.all a) }
+
+module _ (law : OnePhase) (session : ℕ) (phase : State → State → Type 0) (v w : View) (x : SeatPhase session v phase w) where
+  pub uniform : IsUniform session x.found w.noted
+  uniform = law session x.found w.noted x.reached x.one
+
+  pub front_found : IsPrefix (whole_history x.found) w.front
+  front_found = subst (IsPrefix (whole_history x.found)) (sym x.front_is) (whole_goes_on x.found w.noted uniform.grows)
+
+  pub all_now : HasAllSeen w
+  all_now = record { reached = uniform.reached; front = x.front_is }
+
+  pub grown_phase : HasGrown v w
+  grown_phase = record {
+    front = prefix-trans v.front (whole_history x.found) w.front x.front front_found;
+    same = x.seat.same;
+    next = x.seat.next;
+    all = λ a. all_now;
+  }
+
+  pub seen_own : own_steps session w.noted ≡ own_steps session x.found → w.own ≡ v.own
+  seen_own same = x.own_is ∙ own_stay session x.found w.noted uniform.grows.same.ended same ∙ x.own
+
+  pub seen_phase : (caller : Caller) (key : Bytes) → own_steps session w.noted ≡ own_steps session x.found → MovesSeat caller key v w
+  seen_phase caller key same = record {
+    grown = grown_phase;
+    others = λ q apart. ap (steps_of caller q) (seen_own same);
+    former = ap (former_steps caller) (seen_own same);
+    numbers = λ before. ap (are_before caller) (seen_own same) ∙ before;
+  }
+
+  pub gained_phase : (caller : Caller) (key : Bytes) (op : Op) (out : Out) (shared : Option ℕ) (reply : Reply) (xs ys : List Event) → v.own ≡ xs ++ ys → w.own ≡ xs ++ Step caller op key out shared reply ∷ ys → IsEarly caller
+      → MovesSeat caller key v w
+  gained_phase caller key op out shared reply xs ys was is early = record {
+    grown = grown_phase;
+    others = others-gained caller key op out shared reply v.own w.own xs ys was is;
+    former = former-gained caller key op out shared reply v.own w.own xs ys was is;
+    numbers = before-gained caller key op out shared reply v.own w.own xs ys was is early;
+  }
+
+-- 2. All seats.
+
+pub view_there : (xs : List Seated) (i : ℕ) (x : Seated) → slice_get xs i ≡ Some x → view_at xs i ≡ x.1
+view_there [] i x at = cc
+view_there (y ∷ xs) zero x at = ap (λ (z : Seated). z.1) (same_Some y x at)
+view_there (y ∷ xs) (suc i) x at = view_there xs i x at
+
+differ : (i j : ℕ) → (i ≡ j → ⊥) → (i == j) ≡ false
+differ i j apart = grind (arith, nat_tests)
+
+-- the view at the seat that was replaced, and elsewhere
+pub view_set : (xs : List Seated) (i j : ℕ) (x y : Seated) → slice_get xs i ≡ Some x → ((j ≡ i) × (view_at (slice_set xs i y) j ≡ y.1)) ⊎ ((i ≡ j → ⊥) × (view_at (slice_set xs i y) j ≡ view_at xs j))
+view_set [] i j x y at = cc
+view_set (z ∷ xs) zero zero x y at = inl (refl, refl)
+view_set (z ∷ xs) zero (suc j) x y at = inr ((λ e. cc), refl)
+view_set (z ∷ xs) (suc i) zero x y at = inr ((λ e. cc), refl)
+view_set (z ∷ xs) (suc i) (suc j) x y at = ⊎_elim (λ t. inl (ap suc t.0, t.1)) (λ t. inr ((λ e. t.0 (omega arith)), t.1)) (view_set xs i j x y at)
+
+pub view_here : (xs : List Seated) (i : ℕ) (x y : Seated) → slice_get xs i ≡ Some x → view_at (slice_set xs i y) i ≡ y.1
+view_here xs i x y at = ⊎_elim (λ t. t.1) (λ t. absurd (t.0 refl)) (view_set xs i i x y at)
+
+-- so the key is another one
+apart_here : (a b : Bool) → b ≡ true → (a && b) ≡ false → a ≡ false
+apart_here true b is h = cc
+apart_here false b is h = refl
+
+same_number : (i j : ℕ) → j ≡ i → (i == j) ≡ true
+same_number i j is = grind (arith, nat_tests)
+
+pub moves_all : (caller : Caller) (stripes : ℕ) (key : Bytes) (old new : List Seated) (lock : TableId) (v w : View) → slice_get old (stripe_of key stripes) ≡ Some (lock, v) → new ≡ slice_set old (stripe_of key stripes) (lock, w)
+    → MovesSeat caller key v w → Moves caller stripes key old new
+moves_all caller stripes key old new lock v w was now moves = record {
+  grown = λ i. ⊎_elim (λ t. grows i t.0 t.1) (λ t. stays (HasGrown (view_at old i)) i t.1 (grown_itself (view_at old i))) (at i);
+  others = λ other i not_at. ⊎_elim
+      (λ t. ap (λ (u : View). steps_of caller other u.own) (here i t.1)
+      ∙ moves.others other (apart_here (pointwise ◌==◌ key other) (stripe_of key stripes == i) (same_number (stripe_of key stripes) i t.0) not_at)
+      ∙ ap (λ (u : View). steps_of caller other u.own) (sym (there i t.0)))
+      (λ t. ap (λ (u : View). steps_of caller other u.own) (same i t.1))
+      (at i);
+  former = λ i. ⊎_elim
+      (λ t. ap (λ (u : View). former_steps caller u.own) (here i t.1) ∙ moves.former ∙ ap (λ (u : View). former_steps caller u.own) (sym (there i t.0)))
+      (λ t. ap (λ (u : View). former_steps caller u.own) (same i t.1))
+      (at i);
+  numbers = λ i before. ⊎_elim
+      (λ t. ap (λ (u : View). are_before caller u.own) (here i t.1) ∙ moves.numbers (ap (λ (u : View). are_before caller u.own) (sym (there i t.0)) ∙ before))
+      (λ t. ap (λ (u : View). are_before caller u.own) (same i t.1) ∙ before)
+      (at i);
+}
+  where
+    at : (i : ℕ) → ((i ≡ stripe_of key stripes) × (view_at (slice_set old (stripe_of key stripes) (lock, w)) i ≡ w)) ⊎ ((stripe_of key stripes ≡ i → ⊥) × (view_at (slice_set old (stripe_of key stripes) (lock, w)) i ≡ view_at old i))
+    at i = view_set old (stripe_of key stripes) i (lock, v) (lock, w) was
+
+    there : (i : ℕ) → i ≡ stripe_of key stripes → view_at old i ≡ v
+    there i is = ap (view_at old) is ∙ view_there old (stripe_of key stripes) (lock, v) was
+
+    here : (i : ℕ) → view_at (slice_set old (stripe_of key stripes) (lock, w)) i ≡ w → view_at new i ≡ w
+    here i set_is = ap (λ (xs : List Seated). view_at xs i) now ∙ set_is
+
+    same : (i : ℕ) → view_at (slice_set old (stripe_of key stripes) (lock, w)) i ≡ view_at old i → view_at new i ≡ view_at old i
+    same i set_is = ap (λ (xs : List Seated). view_at xs i) now ∙ set_is
+
+    stays : (P : View → Type 0) (i : ℕ) → view_at (slice_set old (stripe_of key stripes) (lock, w)) i ≡ view_at old i → P (view_at old i) → P (view_at new i)
+    stays P i set_is p = subst P (sym (same i set_is)) p
+
+    grows : (i : ℕ) → i ≡ stripe_of key stripes → view_at (slice_set old (stripe_of key stripes) (lock, w)) i ≡ w → HasGrown (view_at old i) (view_at new i)
+    grows i is set_is = subst (λ (u : View). HasGrown u (view_at new i)) (sym (there i is)) (subst (HasGrown v) (sym (here i set_is)) moves.grown)

@@ -1,0 +1,32 @@
+use Rattle.std.proofs.Common.{Some, ap, sym, ◌∙◌}
+use Rattle.std.proofs.lemmas.List.{append-nil}
+use Rattle.jc_rounds.proofs.Loops.{commit_none, commit_past, next_commit, no_items}
+use Rattle.jc_rounds.proofs.Underway.{reserved_is, there_by}
+use Rattle.jc_rounds.proofs.bulk_call.BulkCall.commit_at.Goals as goal
+
+pub unreachable-requires : goal.unreachable-requires
+unreachable-requires g c =
+    let r = c.requires.answered in
+    commit_none c.args.cache.now r.0 r.1 c.args.session.now c.args.self.now c.args.answers.now c.args.place
+    (there_by c.args.self.now.progress.items c.args.place c.index.result.now c.requires.place c.index.ensures ∙ ap Some (reserved_is c.index.result.now (sym c.is_reserved.ensures ∙ c.if-is_reserved.true)))
+    (no_items c.args.self.now.tickets c.in-None.ensures.cases.0) r.2
+
+pub commit_ticket-requires-clause-there : goal.commit_ticket-requires-clause-there
+commit_ticket-requires-clause-there g c =
+    there_by c.args.self.now.progress.items c.args.place c.index.result.now c.requires.place c.index.ensures ∙ ap Some (reserved_is c.index.result.now (sym c.is_reserved.ensures ∙ c.if-is_reserved.true))
+
+pub commit_ticket-requires-clause-answered : goal.commit_ticket-requires-clause-answered
+commit_ticket-requires-clause-answered g c =
+    let r = c.requires.answered in (r.0, r.1, next_commit c.args.cache.now r.0 r.1 c.args.session.now c.args.self.now c.pop.new.self c.in-Some.ticket c.args.answers.now c.args.place c.in-Some.ensures.items c.in-Some.ensures.capacity r.2)
+
+pub returns-in-Some-clause-advances : goal.returns-in-Some-clause-advances
+returns-in-Some-clause-advances g c = let a = c.commit_ticket.ensures.advances in record { goes = a.goes; agent = a.agent; targets = a.targets; most = a.most }
+
+pub returns-in-Some-clause-committed : goal.returns-in-Some-clause-committed
+returns-in-Some-clause-committed g c past round next =
+    c.commit_ticket.ensures.committed past round (next_commit c.args.cache.now past round c.args.session.now c.args.self.now c.pop.new.self c.in-Some.ticket c.args.answers.now c.args.place c.in-Some.ensures.items c.in-Some.ensures.capacity next)
+
+pub returns-else-is_reserved-clause-committed : goal.returns-else-is_reserved-clause-committed
+returns-else-is_reserved-clause-committed g c past round next =
+    commit_past c.args.cache.now past round c.args.session.now c.args.self.now c.args.answers.now c.args.place c.index.result.now
+    (there_by c.args.self.now.progress.items c.args.place c.index.result.now c.requires.place c.index.ensures) (sym c.is_reserved.ensures ∙ c.if-is_reserved.false) next

@@ -1,0 +1,23 @@
+use Rattle.std.proofs.Common.{refl, ap, sym, subst}
+use Rattle.jc_rounds.specs.declared.progress.Progress.TheVariants.{Joined}
+use Rattle.jc_rounds.proofs.OnCall.{advances_by, may_pick, near_in, picking_on}
+use Rattle.jc_rounds.proofs.bulk_call.BulkCall.pick_join.Goals as goal
+
+pub pick_key-picked-requires-clause-may : goal.pick_key-picked-requires-clause-may
+pick_key-picked-requires-clause-may g c = let r = c.requires.picking in (may_pick c.args.cache.now r.0 c.args.session.now c.args.self.now c.args.place c.args.join c.requires.there r.1).0
+
+pub pick_key-picked-requires-clause-caller : goal.pick_key-picked-requires-clause-caller
+pick_key-picked-requires-clause-caller g c = let r = c.requires.picking in (may_pick c.args.cache.now r.0 c.args.session.now c.args.self.now c.args.place c.args.join c.requires.there r.1).1
+
+pub index_mut-requires : goal.index_mut-requires
+index_mut-requires g c = near_in c.args.self.now.progress c.args.place Joined c.requires.there
+
+pub returns-clause-advances : goal.returns-clause-advances
+returns-clause-advances g c =
+    advances_by c.args.cache.now c.requires.picking.0 c.args.session.now c.pick_key-picked.new.session c.args.self.now _ (record { targets = refl; most = refl; cause = refl; tickets_room = refl; joins_room = refl })
+    _ c.args.join.key _ c.args.place Joined c.after_pick_up.result refl c.requires.there (λ e bad. cc) (λ held. refl) c.pick_key-picked.ensures.phase
+
+pub returns-clause-picking : goal.returns-clause-picking
+returns-clause-picking g c past next =
+    picking_on c.args.cache.now past c.args.session.now c.pick_key-picked.new.session c.args.self.now _ (record { targets = refl; most = refl; cause = refl; tickets_room = refl; joins_room = refl })
+    c.args.place c.args.join c.pick_key-picked.result c.after_pick_up.result refl refl refl c.requires.there c.after_pick_up.ensures c.pick_key-picked.ensures.phase next

@@ -1,0 +1,33 @@
+use Rattle.std.proofs.Common.{◌≡◌, ◌<◌, length, ap, sym, subst, ◌∙◌, arith}
+use Rattle.jc_rounds.specs.declared.bulk_call.BulkCall.{BulkCall}
+use Rattle.jc_rounds.specs.Underway.{are_fresh}
+use Rattle.jc_rounds.proofs.Loops.{Held, note_on, noted_advances, start_from, start_more, start_over}
+use Rattle.jc_rounds.proofs.OnCall.{advances_both, advances_itself}
+use Rattle.jc_rounds.proofs.bulk_call.BulkCall.start.Goals as goal
+
+pub loop-place-init : goal.loop-place-init
+loop-place-init g c = record {
+  advances = advances_itself c.args.session.now c.args.self.now;
+  starting = λ past between. (start_from c.args.cache.now past c.args.session.now c.args.self.now between, λ place less. absurd (omega (arith, less)));
+}
+
+pub start_at-requires-clause-starting : goal.start_at-requires-clause-starting
+start_at-requires-clause-starting g c = let r = c.requires.between in (r.0, (c.loop-place.invariant.starting r.0 r.1).0)
+
+pub loop-place-preserved : goal.loop-place-preserved
+loop-place-preserved g c = record {
+  advances = advances_both _ _ _ _ _ _ c.loop-place.invariant.advances c.start_at.ensures.advances;
+  starting = λ past between.
+      let now = c.loop-place.invariant.starting past between in
+      let next = c.start_at.ensures.starting past now.0 in
+      (next.0, start_more c.args.cache.now past _ _ _ _ _ _ c.loop-place.place c.loop-place.invariant.advances c.start_at.ensures.advances now.1 next.1 next.2);
+}
+
+pub returns-clause-advances : goal.returns-clause-advances
+returns-clause-advances g c = noted_advances _ _ _ _ _ c.note_failures.ensures.rest c.loop-place.invariant.advances
+
+pub returns-clause-started : goal.returns-clause-started
+returns-clause-started g c past between =
+    let now = c.loop-place.invariant.starting past between in
+    start_over c.args.cache.now past c.args.session.now c.loop-place.session c.args.self.now c.loop-place.self c.note_failures.new.self c.loop-place.place c.loop-place.invariant.advances c.note_failures.ensures.rest c.note_failures.ensures.cause
+    (let many = c.loop-place.invariant.advances.goes.stay.many in omega (arith, many, c.args.self.now.progress.ok.0, c.len-place-end.ensures, c.loop-place-test.false)) now.0 now.1

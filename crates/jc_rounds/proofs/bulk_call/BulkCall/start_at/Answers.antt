@@ -1,0 +1,25 @@
+use Rattle.std.proofs.Common.{Some, ⊎_elim, inl, inr, ap, sym, subst, ◌∙◌, arith}
+use Rattle.jc_rounds.specs.KeyProgress.{is_waiting}
+use Rattle.jc_rounds.proofs.Loops.{start_else, start_past}
+use Rattle.jc_rounds.proofs.Underway.{there_by, waiting_is}
+use Rattle.jc_rounds.proofs.bulk_call.BulkCall.start_at.Goals as goal
+
+pub start_waiting-requires-clause-waits : goal.start_waiting-requires-clause-waits
+start_waiting-requires-clause-waits g c =
+    there_by c.args.self.now.progress.items c.args.place c.index.result.now c.requires.place c.index.ensures ∙ ap Some (waiting_is c.index.result.now (sym c.is_waiting.ensures ∙ c.if-is_waiting.true))
+
+pub returns-then-has_room-clause-starting : goal.returns-then-has_room-clause-starting
+returns-then-has_room-clause-starting g c past starting =
+    let s = c.start_waiting.ensures.starting past starting in
+    (s.0, s.1, λ key op p at there is. ⊎_elim (λ never. absurd never) (λ back. inr back) (s.2 key op p at there is))
+
+pub returns-else-has_room-clause-starting : goal.returns-else-has_room-clause-starting
+returns-else-has_room-clause-starting g c past starting =
+    start_else c.args.cache.now past c.args.session.now c.args.self.now c.args.place
+    (there_by c.args.self.now.progress.items c.args.place c.index.result.now c.requires.place c.index.ensures ∙ ap Some (waiting_is c.index.result.now (sym c.is_waiting.ensures ∙ c.if-is_waiting.true)))
+    (c.has_room.ensures.full c.if-has_room.false) starting
+
+pub returns-else-is_waiting-clause-starting : goal.returns-else-is_waiting-clause-starting
+returns-else-is_waiting-clause-starting g c past starting =
+    start_past c.args.cache.now past c.args.session.now c.args.self.now c.args.place c.index.result.now
+    (there_by c.args.self.now.progress.items c.args.place c.index.result.now c.requires.place c.index.ensures) (sym c.is_waiting.ensures ∙ c.if-is_waiting.false) starting

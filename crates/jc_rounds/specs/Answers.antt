@@ -1,0 +1,116 @@
+-- What was answered outside for the keys that a round has reserved.
+--     key_of            the key of an ask
+--     RunState          a reservation, and what its processor did
+--     key_run           that as a run
+--     done_of           its done value, in a running cache
+--     reservations_of   the reservations of these
+--     is_change_of      a change is of the kind that a batch asks for: a delete or a write
+--     claim_after       what the writer is asked for after a run in such a batch, if it is; `through` is whether the cache writes through
+--     claims_after      after these runs
+--     reports           what the writer has reported of these runs in such a batch
+--     IsToBeAnswered    a round asked for the key of a reservation, which asks first whom the round asked
+--     AreProcessed      the processor has run for each of these reservations, and the writer has reported where it is due
+--     IsReportedOn      the first of these runs, with the reports of all of them, the first one last
+--     TakesReport       the report on it, if one is due, and the reports that are left
+--     AreAnswers        these answer each of these reservations, with what a round said of its key
+use Rattle.std.specs.Prelude.{◌≡◌, ◌∷◌, List, [], map, reverse, Bool, true, false, not, Option, None, Some, if◌then◌else◌}
+use Rattle.std.specs.Global.{Vec}
+use Rattle.std.specs.List.{AllByRecursion, IsAmong, filter_map}
+use Rattle.jc_types.specs.declared.config.Config.{Config}
+use Rattle.jc_model.specs.Batches.{is_among}
+use Rattle.jc_model.specs.Cache.{Bytes}
+use Rattle.jc_model.specs.declared.event.Change.{Change}
+use Rattle.jc_model.specs.declared.event.Change.TheVariants.{Write, Delete}
+use Rattle.jc_model.specs.declared.event.LoadAnswer.{LoadAnswer}
+use Rattle.jc_model.specs.declared.event.ProcessAnswer.{ProcessAnswer}
+use Rattle.jc_model.specs.declared.event.WriteAnswer.{WriteAnswer}
+use Rattle.jc_outside.specs.CallingAll.{loads_done, writes_done}
+use Rattle.jc_outside.specs.Done.{WriteResult}
+use Rattle.jc_outside.specs.declared.done.Origin.TheVariants.{Live}
+use Rattle.jc_mutentry.specs.Done.{ProcessResult}
+use Rattle.jc_stripe.specs.Effects.{HasReport, report_answer}
+use Rattle.jc_stripe.specs.declared.ticket.First.{First}
+use Rattle.jc_stripe.specs.declared.ticket.Reservation.{Reservation}
+use Rattle.jc_stripe.specs.Tickets.{Claim, asks_loader, asks_processor, asks_writer, claim_of, entry_seen, id_of, is_loadable}
+use Rattle.jc_rounds.specs.declared.answers.Answers.{Answers}
+use Rattle.jc_rounds.specs.declared.answers.Answers.TheVariants as answers
+use Rattle.jc_rounds.specs.Rounds.{KeyRun, LoadAll, ProcessAll, ProcessRound, Round, WriteAll, answer_by, change_of, keys_asked}
+
+abbrev pub key_of : Claim → Bytes
+key_of ask = ask.reservation.key
+
+-- 1. Runs of a processor.
+
+pub record RunState : Type 0 where
+  pub reservation : Reservation
+  pub load : LoadAnswer
+  pub process : ProcessAnswer
+
+abbrev pub key_run : RunState → KeyRun
+key_run run = record {
+  key = run.reservation.key;
+  entry = entry_seen run.reservation.first;
+  may_load = is_loadable run.reservation.first;
+  load = run.load;
+  process = run.process;
+}
+
+abbrev pub done_of : RunState → ProcessResult Claim
+done_of run = record { ask = claim_of run.reservation; origin = Live; load = run.load; process = run.process }
+
+abbrev pub reservations_of : List RunState → List Reservation
+reservations_of runs = map (λ (r : RunState). r.reservation) runs
+
+abbrev pub is_change_of : Bool → Option Change → Bool
+is_change_of deletes None = false
+is_change_of deletes (Some (Write value)) = not deletes
+is_change_of deletes (Some Delete) = deletes
+
+abbrev pub claim_after : Bool → Bool → RunState → Option Claim
+claim_after through deletes run =
+    if is_change_of deletes (change_of through (key_run run)) then Some (record { reservation = id_of run.reservation; change = change_of through (key_run run) }) else None
+
+abbrev pub claims_after : Bool → Bool → List RunState → List Claim
+claims_after through deletes runs = filter_map (claim_after through deletes) runs
+
+abbrev pub reports : Bool → Bool → (Bytes → WriteAnswer) → List RunState → List (WriteResult Claim)
+reports through deletes said runs = writes_done key_of said (claims_after through deletes runs)
+
+-- 2. Answers.
+
+abbrev pub IsToBeAnswered : (First → Bool) → Round → Reservation → Type 0
+IsToBeAnswered asks round r = (asks r.first ≡ true) × (is_among (keys_asked round) r.key ≡ true)
+
+pub record AreProcessed (through : Bool) (round : ProcessRound) (done : List (ProcessResult Claim)) (written deleted : List (WriteResult Claim)) (calls : List Reservation) : Type 0 where
+  pub runs : List RunState
+  pub calls_are : calls ≡ reservations_of runs
+  pub done_are : done ≡ map done_of runs
+  pub written_are : written ≡ reports through false round.written runs
+  pub deleted_are : deleted ≡ reports through true round.deleted runs
+  pub each : AllByRecursion (λ (run : RunState). IsAmong round.runs (key_run run)) runs
+
+-- the reports stand in the other order
+pub record IsReportedOn (through : Bool) (round : ProcessRound) (run : RunState) (runs : List RunState) (done : ProcessResult Claim) (written deleted : List (WriteResult Claim)) : Type 0 where
+  pub done_is : done ≡ done_of run
+  pub written_are : reverse written ≡ reports through false round.written (run ∷ runs)
+  pub deleted_are : reverse deleted ≡ reports through true round.deleted (run ∷ runs)
+
+pub record TakesReport (through : Bool) (round : ProcessRound) (run : RunState) (runs : List RunState) (report : Option (WriteResult Claim)) (written deleted : List (WriteResult Claim)) : Type 0 where
+  pub due : HasReport Live run.reservation (change_of through (key_run run)) report
+  pub answer : report_answer report ≡ answer_by (change_of through (key_run run)) (round.written run.reservation.key) (round.deleted run.reservation.key)
+  pub written_are : reverse written ≡ reports through false round.written runs
+  pub deleted_are : reverse deleted ≡ reports through true round.deleted runs
+
+abbrev pub AreAnswers : Config → Round → Answers → List Reservation → Type 0
+AreAnswers config (LoadAll r) (answers.Loads done) calls =
+    (reverse done.items ≡ loads_done key_of r.said (map claim_of calls)) × AllByRecursion (IsToBeAnswered asks_loader (LoadAll r)) calls
+AreAnswers config (WriteAll r) (answers.Writes done) calls =
+    (reverse done.items ≡ writes_done key_of r.said (map claim_of calls)) × AllByRecursion (IsToBeAnswered asks_writer (WriteAll r)) calls
+AreAnswers config (ProcessAll r) (answers.Processes done written deleted) calls =
+    AreProcessed config.write_through r (reverse done.items) (reverse written.items) (reverse deleted.items) calls × AllByRecursion (IsToBeAnswered asks_processor (ProcessAll r)) calls
+AreAnswers config (LoadAll r) (answers.Writes done) calls = ⊥
+AreAnswers config (LoadAll r) (answers.Processes done written deleted) calls = ⊥
+AreAnswers config (WriteAll r) (answers.Loads done) calls = ⊥
+AreAnswers config (WriteAll r) (answers.Processes done written deleted) calls = ⊥
+AreAnswers config (ProcessAll r) (answers.Loads done) calls = ⊥
+AreAnswers config (ProcessAll r) (answers.Writes done) calls = ⊥

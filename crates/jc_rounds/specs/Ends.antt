@@ -1,0 +1,62 @@
+-- How each key of a call ended.
+--     KeyEnd          a key of the call, its operation, and how it ended: with its step's reply, or refused
+--     key_ops         the keys with their operations, in the call's order
+--     key_end, key_ends    how a key ended, if it is over, and how these keys did, in their order
+--     reply_value     the value that a key's step replied, if it did
+--     value_at        that of a key that is so far
+--     entries_by      each key of whose end something is said, with that, in the call's order
+--     failed_entries  each key that ended in a fault or a refusal, with it, in the call's order
+--     found_entries   each key whose step replied a value, with it, in the call's order
+use Rattle.std.specs.Prelude.{◌++◌, List, [], ◌∷◌, map, Option, None, option_map, Result, Ok, Err}
+use Rattle.std.specs.List.{filter_map}
+use Rattle.jc_types.specs.declared.refusal.Refusal.{Refusal}
+use Rattle.jc_model.specs.declared.event.Op.{Op}
+use Rattle.jc_model.specs.declared.event.Reply.{Reply}
+use Rattle.jc_model.specs.declared.event.Reply.TheVariants as reply
+use Rattle.jc_model.specs.Cache.{Bytes}
+use Rattle.jc_rounds.specs.declared.progress.Progress.{Progress}
+use Rattle.jc_rounds.specs.declared.progress.Progress.TheVariants.{Waiting, Reserved, Joined, Ended}
+use Rattle.jc_rounds.specs.KeyProgress.{refusal_in}
+
+pub record KeyEnd : Type 0 where
+  pub key : Bytes
+  pub op : Op
+  pub ended : Result Reply Refusal
+
+abbrev pub key_ops : List KeyEnd → List (Bytes × Op)
+key_ops ends = map (λ (e : KeyEnd). (e.key, e.op)) ends
+
+abbrev pub key_end : Bytes × Op → Progress → List KeyEnd
+key_end target Waiting = []
+key_end target Reserved = []
+key_end target Joined = []
+key_end target (Ended ended) = record { key = target.0; op = target.1; ended = ended } ∷ []
+
+abbrev pub key_ends : List (Bytes × Op) → List Progress → List KeyEnd
+key_ends [] progress = []
+key_ends (target ∷ targets) [] = []
+key_ends (target ∷ targets) (p ∷ progress) = key_end target p ++ key_ends targets progress
+
+-- 1. What a bulk call returns of its keys.
+
+abbrev pub reply_value : Result Reply Refusal → Option Bytes
+reply_value (Err refusal) = None
+reply_value (Ok (reply.Fault fault)) = None
+reply_value (Ok (reply.Value value)) = value
+reply_value (Ok (reply.Flag flag)) = None
+reply_value (Ok reply.Unit) = None
+
+abbrev pub value_at : Progress → Option Bytes
+value_at Waiting = None
+value_at Reserved = None
+value_at Joined = None
+value_at (Ended ended) = reply_value ended
+
+abbrev pub entries_by : {V : Type 0} → (Result Reply Refusal → Option V) → List KeyEnd → List (Bytes × V)
+entries_by said ends = filter_map (λ (e : KeyEnd). option_map (λ v. (e.key, v)) (said e.ended)) ends
+
+abbrev pub failed_entries : List KeyEnd → List (Bytes × Refusal)
+failed_entries ends = entries_by refusal_in ends
+
+abbrev pub found_entries : List KeyEnd → List (Bytes × Bytes)
+found_entries ends = entries_by reply_value ends

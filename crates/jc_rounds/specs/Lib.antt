@@ -1,0 +1,15 @@
+pub mod Recorded
+pub mod Seats
+pub mod Rounds
+pub mod Targets
+pub mod KeyProgress
+pub mod Ends
+pub mod Keys
+pub mod KeyPhases
+pub mod SoFar
+pub mod Asking
+pub mod Starting
+pub mod Answers
+pub mod OutsideCalls
+pub mod Underway
+pub mod Running

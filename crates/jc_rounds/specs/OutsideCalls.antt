@@ -1,0 +1,105 @@
+-- One call of the loader, or one of the writer, for many asks.
+--     asked_keys        the keys of these asks
+--     wanted            each one's key, with the change that it asks for
+--     is_delete         whether a batch is one of deletes
+--     batch_room        for how many more there is room in a batch
+--     LoadCallState     for which asks the loader is to be called, and for how many more there is room
+--     WriteCallState    for which asks the writer is to be called, whether they are deletes, and for how many more there is room
+--     no_loads, no_writes    for none, with room for so many
+--     with_load, with_write  for one more
+--     IsLoadCall, IsWriteCall    the asks and their batch, in one order, with room for so many more and for their done values
+--     LoadCallAsked     the loader was called once, and has said this of the keys; the last ask's done value comes first
+--     WritesBatch       the writer was called once for exactly these changes, if there are any, and else it wasn't
+--     WriteCallAsked    so the writer was called, and has said this of the keys; the last ask's done value comes first
+use Rattle.std.specs.Prelude.{◌≡◌, ◌≤◌, ◌+◌, ◌-◌, ◌++◌, ℕ, List, [], ◌∷◌, map, reverse, Bool, true, false, Option, Result, Ok, vec_len, vec_capacity}
+use Rattle.std.specs.Global.{Vec}
+use Rattle.jc_model.specs.Cache.{Bytes}
+use Rattle.jc_model.specs.declared.event.Change.{Change}
+use Rattle.jc_model.specs.declared.event.LoadAnswer.{LoadAnswer}
+use Rattle.jc_model.specs.declared.event.WriteAnswer.{WriteAnswer}
+use Rattle.jc_batch.specs.Changes.{changes_of}
+use Rattle.jc_batch.specs.declared.batch.Batch.{Batch}
+use Rattle.jc_batch.specs.declared.batch.Batch.TheVariants.{Writes, Deletes}
+use Rattle.jc_outside.specs.Calling.{KeepsType}
+use Rattle.jc_outside.specs.CallingAll.{LoadAllRelation, DeleteAllRelation, LoadsAllOnce, WriteAllRelation, WritesAllOnce, asked_changes, loads_done, writes_done}
+use Rattle.jc_outside.specs.Done.{LoadResult, WriteResult}
+use Rattle.jc_session.specs.Boxed.{boxed}
+use Rattle.jc_stripe.specs.Tickets.{Claim}
+use Rattle.jc_cache.specs.declared.session.Session.{Session}
+use Rattle.jc_rounds.specs.Answers.{key_of}
+
+abbrev pub asked_keys : List Claim → List Bytes
+asked_keys asks = map key_of asks
+
+abbrev pub wanted : List Claim → List (Bytes × Option Change)
+wanted asks = asked_changes key_of (λ (a : Claim). a.change) asks
+
+abbrev pub is_delete : Batch → Bool
+is_delete (Writes batch) = false
+is_delete (Deletes batch) = true
+
+abbrev pub batch_room : Batch → ℕ
+batch_room (Writes batch) = batch.room
+batch_room (Deletes batch) = batch.room
+
+-- 1. The loader.
+
+pub record LoadCallState : Type 0 where
+  pub items : List Claim
+  pub room : ℕ
+
+abbrev pub no_loads : ℕ → LoadCallState
+no_loads room = record { items = []; room = room }
+
+abbrev pub with_load : LoadCallState → Claim → LoadCallState
+with_load calls ask = record { items = calls.items ++ ask ∷ []; room = calls.room - 1 }
+
+-- `keys` are those in the batch, `room` is for how many more it has room
+pub record IsLoadCall (asks : Vec Claim) (keys : List Bytes) (room : ℕ) (done : Vec (LoadResult Claim)) : Type 0 where
+  pub keys_are : keys ≡ asked_keys asks.items
+  pub asks_room : vec_len asks + room ≤ vec_capacity asks
+  pub done_room : vec_len asks + room ≤ vec_capacity done
+  pub none : done.items ≡ []
+
+pub record LoadCallAsked
+    {I J : Type 0} {D : I → Type 0} {E : J → Type 0} (loads_all : LoadAllRelation ((i : I) × D i)) (load_state : (i : I) × D i → List ℕ)
+    (old : Session I J D E) (items : List Claim) (done : List (LoadResult Claim)) (new : Session I J D E) : Type 0 where
+  pub said : Bytes → LoadAnswer
+  pub loads : LoadsAllOnce (boxed loads_all) (boxed load_state) old.agent.hands.outside.loader (asked_keys items) said new.agent.hands.outside.loader
+  pub done_are : reverse done ≡ loads_done key_of said items
+  pub loader_type : KeepsType old.agent.hands.outside.loader new.agent.hands.outside.loader
+  pub writer : new.agent.hands.outside.writer ≡ old.agent.hands.outside.writer
+
+-- 2. The writer.
+
+pub record WriteCallState : Type 0 where
+  pub deletes : Bool
+  pub items : List Claim
+  pub room : ℕ
+
+abbrev pub no_writes : Bool → ℕ → WriteCallState
+no_writes deletes room = record { deletes = deletes; items = []; room = room }
+
+abbrev pub with_write : WriteCallState → Claim → WriteCallState
+with_write calls ask = record calls { items = calls.items ++ ask ∷ []; room = calls.room - 1 }
+
+pub record IsWriteCall (asks : Vec Claim) (batch : Batch) (done : Vec (WriteResult Claim)) : Type 0 where
+  pub batch_is : changes_of batch ≡ wanted asks.items
+  pub asks_room : vec_len asks + batch_room batch ≤ vec_capacity asks
+  pub done_room : vec_len asks + batch_room batch ≤ vec_capacity done
+  pub none : done.items ≡ []
+
+module _ {W : Type 0} (writes_all : WriteAllRelation W) (deletes_all : DeleteAllRelation W) (write_state : W → List ℕ) where
+  abbrev pub WritesBatch : Bool → List (Bytes × Option Change) → Option W → Result (Unit {0}) ℕ → (Bytes → WriteAnswer) → Option W → Type 0
+  WritesBatch deletes [] writer returned said writer' = (writer' ≡ writer) × (returned ≡ Ok tt)
+  WritesBatch deletes (change ∷ changes) writer returned said writer' =
+      (batch : Batch) × (is_delete batch ≡ deletes) × (changes_of batch ≡ change ∷ changes) × WritesAllOnce writes_all deletes_all write_state writer batch returned said writer'
+
+pub record WriteCallAsked
+    {I J : Type 0} {D : I → Type 0} {E : J → Type 0} (writes_all : WriteAllRelation ((j : J) × E j)) (deletes_all : DeleteAllRelation ((j : J) × E j)) (write_state : (j : J) × E j → List ℕ)
+    (old : Session I J D E) (deletes : Bool) (items : List Claim) (returned : Result (Unit {0}) ℕ) (done : List (WriteResult Claim)) (new : Session I J D E) : Type 0 where
+  pub said : Bytes → WriteAnswer
+  pub writes : WritesBatch (boxed writes_all) (boxed deletes_all) (boxed write_state) deletes (wanted items) old.agent.hands.outside.writer returned said new.agent.hands.outside.writer
+  pub done_are : reverse done ≡ writes_done key_of said items
+  pub writer_type : KeepsType old.agent.hands.outside.writer new.agent.hands.outside.writer
+  pub loader : new.agent.hands.outside.loader ≡ old.agent.hands.outside.loader

@@ -1,0 +1,167 @@
+-- A call with many keys, between its phases.
+--     Past          what a call has behind it: who makes it, what the session had seen of each stripe before it, and its rounds that asked
+--     with_round    one round more
+--     IsFresh       a ticket for which nobody was asked, of a key for which none of these rounds asked
+--     AreRooms      the memory of the rounds of a call with so many keys, none of which was started
+--     IsNew         a call for these keys before its first round, with room for its rounds
+--     IsOn          the session's current call, with this past, which has these tickets and joins out
+--     IsBetween     the same with nothing out, as between two rounds: its cause is one of the faults and refusals that it has met
+--     IsPickingNext      the same with the next join taken out
+--     Advances      phases of the call: what has ended stays so, and of the session only its seats and its counts have changed
+--     HasStarted    the first phases of a round were made: each key that waits was put off, and nobody was asked yet
+--     IsStarting    the first phases are being made, and are at this place
+--     IsAnswered    the tickets' asks were answered in a round of the call
+--     IsCommitting  the last phases are being made, and are at this place
+--     IsCommittingNext   the same with the next ticket taken out
+--     HasCommitted  the last phases were made: no key is reserved
+--     IsPicking     the pick-ups are being made, and are at this place
+--     HasRoom       one more key may be reserved or join a load: there is room for that
+--     KeepsRoom     only the tickets and the joins have changed, and there is as much room for them
+--     IsOver        no key waits
+use Rattle.std.specs.Prelude.{◌≡◌, ◌==◌, ◌≤◌, ◌<◌, ℕ, List, [], ◌∷◌, ◌++◌, length, map, reverse, true, false, None, nat_lt, vec_capacity}
+use Rattle.std.specs.List.{AllByRecursion, IsAmong, IsDistinct}
+use Rattle.std.specs.Map.{keys_of}
+use Rattle.std.specs.Cmp.Lexicographic.{pointwise}
+use Rattle.atomic_table.specs.Seated.{TableId}
+use Rattle.jc_types.specs.declared.caller.Caller.{Caller}
+use Rattle.jc_types.specs.declared.limits.TheConstants.{JOINERS_MAX, RESERVATIONS_MAX}
+use Rattle.jc_model.specs.Batches.{is_among}
+use Rattle.jc_stripe.specs.Refusals.{last_number}
+use Rattle.jc_stripe.specs.Tickets.{JoinClaim, TicketClaim}
+use Rattle.jc_stripe.specs.declared.ticket.Reservation.{Reservation}
+use Rattle.jc_lock.specs.declared.view.View.{View}
+use Rattle.jc_cache.specs.Caches.{CacheState}
+use Rattle.jc_cache.specs.declared.session.Session.{Session}
+use Rattle.jc_rounds.specs.declared.answers.Answers.{Answers}
+use Rattle.jc_rounds.specs.declared.bulk_call.BulkCall.{BulkCall}
+use Rattle.jc_rounds.specs.declared.bulk_call.Rooms.{Rooms}
+use Rattle.jc_rounds.specs.declared.targets.Targets.{Targets}
+use Rattle.jc_rounds.specs.Answers.{AreAnswers}
+use Rattle.jc_rounds.specs.Asking.{HasAsked}
+use Rattle.jc_rounds.specs.KeyProgress.{IsCauseIn, IsMet, StillWaits, all_waiting, failures, is_joined, is_reserved}
+use Rattle.jc_rounds.specs.Rounds.{Round, asked_in, faults_in}
+use Rattle.jc_rounds.specs.SoFar.{AreHeldBack, AreSettledFrom, AreUnder, GoesOn, IsUnderway}
+use Rattle.jc_rounds.specs.Starting.{IsFull, IsRoomFor}
+use Rattle.jc_rounds.specs.Targets.{ops_of}
+
+pub record Past : Type 0 where
+  pub caller : Caller
+  pub first : List (TableId × View)
+  pub rounds : List Round
+
+abbrev pub with_round : Past → Round → Past
+with_round past round = record past { rounds = past.rounds ++ round ∷ [] }
+
+abbrev pub reserved_by : TicketClaim → Reservation
+reserved_by ticket = ticket.reservation
+
+abbrev pub IsFresh : List Round → TicketClaim → Type 0
+IsFresh rounds ticket = (ticket.asked ≡ false) × (ticket.writer_asked ≡ false) × (is_among (asked_in rounds) ticket.reservation.key ≡ false)
+
+abbrev pub are_fresh : List Round → List TicketClaim → Type 0
+are_fresh rounds tickets = AllByRecursion (IsFresh rounds) tickets
+
+pub record AreRooms (keys stripes : ℕ) (rooms : Rooms) : Type 0 where
+  pub waiting : rooms.progress.items ≡ all_waiting keys
+  pub no_tickets : rooms.tickets.items ≡ []
+  pub no_joins : rooms.joins.items ≡ []
+  pub tickets_room : rooms.most ≤ vec_capacity rooms.tickets
+  pub most : IsRoomFor RESERVATIONS_MAX keys stripes rooms.most
+  pub joins_room : IsRoomFor JOINERS_MAX keys stripes (vec_capacity rooms.joins)
+
+pub record IsNew (targets : Targets) (stripes : ℕ) (call : BulkCall) : Type 0 where
+  pub targets_are : call.targets.now ≡ targets
+  pub waiting : call.progress.items ≡ all_waiting (length (ops_of targets))
+  pub no_tickets : call.tickets.items ≡ []
+  pub no_joins : call.joins.items ≡ []
+  pub no_cause : call.cause ≡ None
+  pub tickets_room : call.most ≤ vec_capacity call.tickets
+  pub most : IsRoomFor RESERVATIONS_MAX (length (ops_of targets)) stripes call.most
+  pub joins_room : IsRoomFor JOINERS_MAX (length (ops_of targets)) stripes (vec_capacity call.joins)
+
+module _ {I J : Type 0} {D : I → Type 0} {E : J → Type 0} (cache : CacheState) (past : Past) where
+  pub record IsOn (session : Session I J D E) (call : BulkCall) (tickets : List TicketClaim) (joins : List JoinClaim) : Type 0 where
+    pub distinct : IsDistinct (pointwise ◌==◌) (keys_of (ops_of call.targets.now))
+    pub under : IsUnderway cache past.caller (ops_of call.targets.now) past.rounds past.first session call.progress.items (map reserved_by tickets) joins
+    pub asked : HasAsked cache.config (ops_of call.targets.now) past.rounds call.progress.items
+    pub met : IsMet call.cause call.progress.items (faults_in past.rounds)
+    pub tickets_room : call.most ≤ vec_capacity call.tickets
+    pub most : IsRoomFor RESERVATIONS_MAX (length (ops_of call.targets.now)) cache.config.stripes call.most
+    pub joins_room : IsRoomFor JOINERS_MAX (length (ops_of call.targets.now)) cache.config.stripes (vec_capacity call.joins)
+
+  pub record IsBetween (session : Session I J D E) (call : BulkCall) : Type 0 where
+    pub on : IsOn session call [] []
+    pub no_tickets : call.tickets.items ≡ []
+    pub no_joins : call.joins.items ≡ []
+    pub cause : IsCauseIn call.cause (failures call.progress.items ++ faults_in past.rounds)
+
+  -- 1. First phases.
+
+  pub record IsStarting (session : Session I J D E) (call : BulkCall) (place : ℕ) : Type 0 where
+    pub on : IsOn session call call.tickets.items call.joins.items
+    pub fresh : are_fresh past.rounds call.tickets.items
+    pub few : length call.tickets.items ≤ call.most
+    pub settled : AreSettledFrom place call.progress.items
+
+  pub record HasStarted (old new : Session I J D E) (call : BulkCall) : Type 0 where
+    pub on : IsOn new call call.tickets.items call.joins.items
+    pub fresh : are_fresh past.rounds call.tickets.items
+    pub few : length call.tickets.items ≤ call.most
+    pub held : AreHeldBack (IsFull cache.config.stripes (ops_of call.targets.now) (length call.tickets.items)) (length (ops_of call.targets.now)) past.caller cache.config.stripes (ops_of call.targets.now) old.seats.items new.seats.items call.progress.items
+
+  -- 2. Last phases. The tickets stand in the other order.
+
+  pub record IsAnswered (round : Round) (session : Session I J D E) (call : BulkCall) (answers : Answers) : Type 0 where
+    pub on : IsOn session call call.tickets.items call.joins.items
+    pub among : IsAmong past.rounds round
+    pub answered : AreAnswers cache.config round answers (map reserved_by call.tickets.items)
+
+  pub record IsCommitting (round : Round) (session : Session I J D E) (call : BulkCall) (answers : Answers) (place : ℕ) : Type 0 where
+    pub on : IsOn session call (reverse call.tickets.items) call.joins.items
+    pub among : IsAmong past.rounds round
+    pub answered : AreAnswers cache.config round answers (map reserved_by (reverse call.tickets.items))
+    pub committed : AreUnder is_reserved place call.progress.items
+
+  -- the next of the tickets is taken out
+  pub record IsCommittingNext (round : Round) (session : Session I J D E) (call : BulkCall) (ticket : TicketClaim) (answers : Answers) (place : ℕ) : Type 0 where
+    pub on : IsOn session call (ticket ∷ reverse call.tickets.items) call.joins.items
+    pub among : IsAmong past.rounds round
+    pub answered : AreAnswers cache.config round answers (map reserved_by (ticket ∷ reverse call.tickets.items))
+    pub committed : AreUnder is_reserved place call.progress.items
+
+  pub record HasCommitted (session : Session I J D E) (call : BulkCall) : Type 0 where
+    pub on : IsOn session call [] call.joins.items
+    pub no_tickets : call.tickets.items ≡ []
+
+  -- 3. Pick-ups. The joins stand in the other order.
+
+  pub record IsPicking (session : Session I J D E) (call : BulkCall) (place : ℕ) : Type 0 where
+    pub on : IsOn session call [] (reverse call.joins.items)
+    pub no_tickets : call.tickets.items ≡ []
+    pub picked : AreUnder is_joined place call.progress.items
+
+  -- the next of the joins is taken out
+  pub record IsPickingNext (session : Session I J D E) (call : BulkCall) (join : JoinClaim) (place : ℕ) : Type 0 where
+    pub on : IsOn session call [] (join ∷ reverse call.joins.items)
+    pub no_tickets : call.tickets.items ≡ []
+    pub picked : AreUnder is_joined place call.progress.items
+
+pub record Advances {I J : Type 0} {D : I → Type 0} {E : J → Type 0} (old new : Session I J D E) (call later : BulkCall) : Type 0 where
+  pub goes : GoesOn old.seats.items new.seats.items call.progress.items later.progress.items
+  pub agent : new.agent ≡ record old.agent { counts = new.agent.counts }
+  pub targets : later.targets ≡ call.targets
+  pub most : later.most ≡ call.most
+
+pub record HasRoom (call : BulkCall) : Type 0 where
+  pub tickets : length call.tickets.items < call.most
+  pub joins : length call.joins.items < vec_capacity call.joins
+  pub few_tickets : nat_lt (length call.tickets.items) last_number ≡ true
+  pub few_joins : nat_lt (length call.joins.items) last_number ≡ true
+
+pub record KeepsRoom (call later : BulkCall) : Type 0 where
+  pub rest : later ≡ record call { tickets = later.tickets; joins = later.joins }
+  pub tickets_room : vec_capacity later.tickets ≡ vec_capacity call.tickets
+  pub joins_room : vec_capacity later.joins ≡ vec_capacity call.joins
+
+abbrev pub IsOver : BulkCall → Type 0
+IsOver call = (place : ℕ) → StillWaits call.progress.items place → ⊥

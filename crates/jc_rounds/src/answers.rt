@@ -1,0 +1,130 @@
+//! What was answered outside for the keys that a round has reserved, and the last phases that it leads to.
+ghost use Rattle.std.specs.Prelude.{◌≡◌, ◌∷◌, [], List, None, if◌then◌else◌};
+ghost use Rattle.jc_types.specs.declared.config.Config.{Config};
+ghost use Rattle.jc_model.specs.declared.event.Out.{Out};
+ghost use Rattle.jc_mutentry.specs.Done.{effect_change};
+ghost use Rattle.jc_stripe.specs.declared.ticket.Reservation.{Reservation};
+ghost use Rattle.jc_session.specs.declared.counts.Counted.TheVariants.{Committed};
+ghost use Rattle.jc_rounds.specs.Answers.{AreAnswers, IsReportedOn, RunState, TakesReport};
+ghost use Rattle.jc_rounds.specs.KeyPhases.{IsKeyPhase, MayStep};
+ghost use Rattle.jc_rounds.specs.Keys.{IsCommitted, IsEarly};
+ghost use Rattle.jc_rounds.specs.Rounds.{IsAnswer, ProcessRound, Round};
+ghost use Rattle.jc_rounds.specs.Seats.{view_of};
+
+use jc_cache::{Cache, Session};
+use jc_model::{Change, Reply};
+use jc_stripe::phase_laws::{is_uniform, own_steps};
+use jc_stripe::{Ask, LoadDone, ProcDone, Ticket, WriteDone};
+use std::sync::Wait;
+
+/// What was answered outside for the keys that a round has reserved. The last key's answer comes first. They can't be dropped.
+pub enum Answers {
+    /// By the loader.
+    Loads(Vec<LoadDone<Ask>>),
+    /// By the writer.
+    Writes(Vec<WriteDone<Ask>>),
+    /// By a processor, and for those whose net effect is to be written by the writer: of the writes, and of the deletes.
+    Processes(
+        Vec<ProcDone<Ask>>,
+        Vec<WriteDone<Ask>>,
+        Vec<WriteDone<Ask>>,
+    ),
+}
+
+impl Answers {
+    /// The last phase of the session's current call at the first key that was answered. It returns the step's reply.
+    ///
+    /// Conditions: the session is of this cache; the ticket is of its current call, which isn't its last and has made no step at the
+    /// key; the first of these answers is the one to the ticket's ask.
+    pub(crate) fn commit_next<R: Wait>(
+        &mut self,
+        rt: &R,
+        cache: &Cache,
+        session: &mut Session,
+        ticket: Ticket,
+    ) -> Reply
+        requires may { MayStep cache.now session.old ticket.reservation.key }
+        requires caller { (ticket.reservation.caller ≡ session.old.agent.caller) × IsEarly session.old.agent.caller }
+        requires answers { (round : Round) × (rest : List Reservation)
+            × AreAnswers cache.now.config round self.old (ticket.reservation ∷ rest) }
+        ensures { (round : Round) (rest : List Reservation)
+            → AreAnswers cache.now.config round self.old (ticket.reservation ∷ rest)
+            → AreAnswers cache.now.config round self.new rest
+            × IsKeyPhase cache.now session.old ticket.reservation.key Committed session.new
+            ((out : Out) × IsAnswer cache.now.config round ticket.reservation.key ticket.reservation.first out
+            × IsCommitted cache.now.config session.old.agent.caller ticket.reservation out
+            (view_of cache.now.config.stripes session.old.seats.items ticket.reservation.key)
+            (view_of cache.now.config.stripes session.new.seats.items ticket.reservation.key) result) }
+    {
+        is_uniform();
+        own_steps();
+        match self {
+            Answers::Loads(done) => match done.pop() {
+                Some(done) => cache.commit_load(rt, session, ticket, done).reply,
+                None => unreachable!(),
+            },
+            Answers::Writes(done) => match done.pop() {
+                Some(done) => cache.commit_write(rt, session, ticket, done).reply,
+                None => unreachable!(),
+            },
+            Answers::Processes(done, written, deleted) => match done.pop() {
+                Some(done) => {
+                    let through = cache.config().write_through;
+                    let report = next_report(through, &done, written, deleted);
+                    cache
+                        .commit_process(rt, session, ticket, done, report)
+                        .reply
+                }
+                None => unreachable!(),
+            },
+        }
+    }
+
+    /// Ends answers of which none is left.
+    pub(crate) fn end(self)
+        requires { (config : Config) × (round : Round) × AreAnswers config round self [] }
+    {
+        match self {
+            Answers::Loads(done) => done.destroy_empty(),
+            Answers::Writes(done) => done.destroy_empty(),
+            Answers::Processes(done, written, deleted) => {
+                done.destroy_empty();
+                written.destroy_empty();
+                deleted.destroy_empty();
+            }
+        }
+    }
+}
+
+/// The writer's report on the first run of a processor, if one is due: the first one of its kind.
+fn next_report(
+    through: bool,
+    done: &ProcDone<Ask>,
+    written: &mut Vec<WriteDone<Ask>>,
+    deleted: &mut Vec<WriteDone<Ask>>,
+) -> Option<WriteDone<Ask>>
+    requires { (round : ProcessRound) × (run : RunState) × (runs : List RunState)
+        × IsReportedOn through round run runs done.now written.old.items deleted.old.items }
+    ensures { (round : ProcessRound) (run : RunState) (runs : List RunState)
+        → IsReportedOn through round run runs done.now written.old.items deleted.old.items
+        → TakesReport through round run runs result written.new.items deleted.new.items }
+{
+    match change_after(through, done) {
+        None => None,
+        Some(Change::Write(_)) => match written.pop() {
+            Some(report) => Some(report),
+            None => unreachable!(),
+        },
+        Some(Change::Delete) => match deleted.pop() {
+            Some(report) => Some(report),
+            None => unreachable!(),
+        },
+    }
+}
+
+/// What the writer is to be asked for after a processor, if the cache writes through: its net effect, and nothing after a fault.
+pub fn change_after(through: bool, done: &ProcDone<Ask>) -> Option<Change>
+    ensures { result ≡ if through then effect_change done.now.load done.now.process else None }
+{
+    if through { done.change() } else { None }
+}

@@ -1,0 +1,89 @@
+//! The last phases of a round of a call with many keys, once those outside have answered.
+ghost use Rattle.std.specs.Prelude.{◌≡◌, ◌<◌, ◌+◌, length, slice_get, reverse, Some, ◌∷◌};
+ghost use Rattle.jc_rounds.specs.declared.progress.Progress.TheVariants.{Reserved};
+ghost use Rattle.jc_rounds.specs.Rounds.{Round};
+ghost use Rattle.jc_rounds.specs.Underway.{Advances, HasCommitted, IsAnswered, IsCommitting, IsCommittingNext, Past};
+
+use crate::answers::Answers;
+use crate::bulk_call::BulkCall;
+use crate::progress::Progress;
+use jc_cache::{Cache, Session};
+use jc_model::Reply;
+use jc_stripe::Ticket;
+use jc_types::Value;
+use std::sync::Wait;
+
+impl<'a> BulkCall<'a> {
+    /// The last phases of a round, at each key that is reserved, in their order.
+    ///
+    /// Conditions: the call is the session's current one; these answers are what a round of the call has said of the keys that are
+    /// reserved.
+    pub fn commit<R: Wait>(
+        &mut self,
+        rt: &R,
+        cache: &Cache,
+        session: &mut Session,
+        answers: Answers,
+    )
+        requires answered { (past : Past) × (round : Round) × IsAnswered cache.now past round session.old self.old answers }
+        ensures advances { Advances session.old session.new self.old self.new }
+        ensures committed { (past : Past) (round : Round) → IsAnswered cache.now past round session.old self.old answers
+            → HasCommitted cache.now past session.new self.new }
+    {
+        let mut left = answers;
+        self.tickets.reverse();
+        for place in 0..self.progress.len() {
+            self.commit_at(rt, cache, session, place, &mut left);
+        }
+        left.end();
+        self.note_failures();
+    }
+
+    /// The last phase at the key of this place, if it is reserved. No key before it is. The last of the tickets is the first key's.
+    fn commit_at<R: Wait>(
+        &mut self,
+        rt: &R,
+        cache: &Cache,
+        session: &mut Session,
+        place: usize,
+        answers: &mut Answers,
+    )
+        requires place { place < length self.old.progress.items }
+        requires answered { (past : Past) × (round : Round)
+            × IsCommitting cache.now past round session.old self.old answers.old place }
+        ensures advances { Advances session.old session.new self.old self.new }
+        ensures committed { (past : Past) (round : Round)
+            → IsCommitting cache.now past round session.old self.old answers.old place
+            → IsCommitting cache.now past round session.new self.new answers.new (place + 1) }
+    {
+        if self.progress[place].is_reserved() {
+            match self.tickets.pop() {
+                Some(ticket) => self.commit_ticket(rt, cache, session, place, ticket, answers),
+                None => unreachable!(),
+            }
+        }
+    }
+
+    /// The last phase at the key of this place, the first one that is reserved.
+    fn commit_ticket<R: Wait>(
+        &mut self,
+        rt: &R,
+        cache: &Cache,
+        session: &mut Session,
+        place: usize,
+        ticket: Ticket,
+        answers: &mut Answers,
+    )
+        requires there { slice_get self.old.progress.items place ≡ Some Reserved }
+        requires answered { (past : Past) × (round : Round)
+            × IsCommittingNext cache.now past round session.old self.old ticket answers.old place }
+        ensures advances { Advances session.old session.new self.old self.new }
+        ensures committed { (past : Past) (round : Round)
+            → IsCommittingNext cache.now past round session.old self.old ticket answers.old place
+            → IsCommitting cache.now past round session.new self.new answers.new (place + 1) }
+    {
+        let _types: Option<&(Reply, Value)> = None;
+        let reply = answers.commit_next(rt, cache, session, ticket);
+        self.progress[place] = Progress::Ended(Ok(reply));
+    }
+}

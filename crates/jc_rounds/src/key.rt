@@ -1,0 +1,62 @@
+//! The phases of a call with many keys, at one of them, but for the last one.
+ghost use Rattle.std.specs.Prelude.{◌≡◌, [], true};
+ghost use Rattle.jc_model.specs.declared.event.Op.TheVariants.{Get};
+ghost use Rattle.jc_lock.specs.declared.view.View.{View};
+ghost use Rattle.jc_session.specs.Counting.{counted_begun, counted_picked};
+ghost use Rattle.jc_cache.specs.Sessions.{IsOf};
+ghost use Rattle.jc_rounds.specs.KeyPhases.{IsKeyPhase, MayStep};
+ghost use Rattle.jc_rounds.specs.Keys.{HasBegun, HasPicked, IsEarly, IsJoinFor, IsPickedUp};
+ghost use Rattle.jc_rounds.specs.Recorded.{steps_of};
+ghost use Rattle.jc_rounds.specs.Seats.{AreBefore, HasGrown, view_of};
+
+use jc_cache::{Cache, Session};
+use jc_model::Op;
+use jc_stripe::phase_laws::{is_uniform, own_steps, steps_behind};
+use jc_stripe::{Begun, Join, Picked};
+use jc_types::Key;
+use std::sync::Wait;
+
+/// The first phase of the session's current call at one of its keys. Each refusal is an answer of it: it waits out none.
+///
+/// Conditions: the session is of this cache; its steps are all of this call or of former ones, and none is of this call at this key.
+pub(crate) fn start_key<R: Wait>(
+    rt: &R,
+    cache: &Cache,
+    session: &mut Session,
+    key: &Key,
+    op: &Op,
+) -> Begun
+    requires may { MayStep cache.now session.old key.now }
+    requires before { AreBefore session.old.agent.caller session.old.seats.items }
+    ensures { IsKeyPhase cache.now session.old key.now (counted_begun result) session.new
+        (HasBegun session.old.agent.caller cache.now.config
+        (view_of cache.now.config.stripes session.old.seats.items key.now)
+        (view_of cache.now.config.stripes session.new.seats.items key.now) key.now op.now result) }
+{
+    is_uniform();
+    own_steps();
+    cache.start(rt, session, key, op)
+}
+
+/// Waits for the answer of a load that the session's current call has joined at a key. `Again` says that the load was given back
+/// unanswered; `NotYet` isn't answered.
+///
+/// Conditions: the session is of this cache, and has no reservation out; the join is of its current call, which isn't its last and
+/// has made no step at the key.
+pub(crate) fn pick_key<R: Wait>(rt: &R, cache: &Cache, session: &mut Session, join: Join) -> Picked
+    requires reservations { session.old.agent.counts.reservations ≡ 0 }
+    requires may { MayStep cache.now session.old join.key }
+    requires caller { (join.caller ≡ session.old.agent.caller) × IsEarly session.old.agent.caller }
+    ensures over { IsPickedUp result }
+    ensures phase { IsKeyPhase cache.now session.old join.key (counted_picked result) session.new
+        ((first : View)
+        → HasGrown first (view_of cache.now.config.stripes session.old.seats.items join.key)
+        → IsJoinFor session.old.agent.caller first join.key Get join
+        → HasPicked cache.now.config session.old.agent.caller first
+        (view_of cache.now.config.stripes session.new.seats.items join.key) join.key Get result) }
+{
+    is_uniform();
+    own_steps();
+    steps_behind();
+    cache.wait_for_load(rt, session, join)
+}

@@ -1,0 +1,86 @@
+//! The pick-ups of a round of a call with many keys: the answers of the loads that it has joined.
+ghost use Rattle.std.specs.Prelude.{◌≡◌, ◌<◌, ◌+◌, length, slice_get, Some, []};
+ghost use Rattle.jc_rounds.specs.declared.progress.Progress.TheVariants.{Joined};
+ghost use Rattle.jc_rounds.specs.Keys.{IsPickedUp};
+ghost use Rattle.jc_rounds.specs.SoFar.{IsPicked};
+ghost use Rattle.jc_rounds.specs.Underway.{Advances, HasCommitted, IsBetween, IsPicking, IsPickingNext, Past};
+
+use crate::bulk_call::BulkCall;
+use crate::key::pick_key;
+use crate::progress::Progress;
+use jc_cache::{Cache, Session};
+use jc_model::Reply;
+use jc_stripe::{Join, Picked};
+use jc_types::Value;
+use std::sync::Wait;
+
+impl<'a> BulkCall<'a> {
+    /// The pick-ups of a round, at each key that has joined a load, in their order. It waits until each load was answered, or was given
+    /// back. Nothing is reserved meanwhile.
+    ///
+    /// Conditions: the call is the session's current one, and no key of it is reserved.
+    pub fn pick_up<R: Wait>(&mut self, rt: &R, cache: &Cache, session: &mut Session)
+        requires committed { (past : Past) × HasCommitted cache.now past session.old self.old }
+        ensures advances { Advances session.old session.new self.old self.new }
+        ensures between { (past : Past) → HasCommitted cache.now past session.old self.old
+            → IsBetween cache.now past session.new self.new }
+    {
+        self.joins.reverse();
+        for place in 0..self.progress.len() {
+            self.pick_at(rt, cache, session, place);
+        }
+        self.note_failures();
+    }
+
+    /// The pick-up at the key of this place, if it has joined a load. No key before it has. The last of the joins is the first key's.
+    fn pick_at<R: Wait>(&mut self, rt: &R, cache: &Cache, session: &mut Session, place: usize)
+        requires place { place < length self.old.progress.items }
+        requires picking { (past : Past) × IsPicking cache.now past session.old self.old place }
+        ensures advances { Advances session.old session.new self.old self.new }
+        ensures picking { (past : Past) → IsPicking cache.now past session.old self.old place
+            → IsPicking cache.now past session.new self.new (place + 1) }
+    {
+        if self.progress[place].is_joined() {
+            match self.joins.pop() {
+                Some(join) => self.pick_join(rt, cache, session, place, join),
+                None => unreachable!(),
+            }
+        }
+    }
+
+    /// The pick-up at the key of this place, the first one that has joined a load.
+    fn pick_join<R: Wait>(
+        &mut self,
+        rt: &R,
+        cache: &Cache,
+        session: &mut Session,
+        place: usize,
+        join: Join,
+    )
+        requires there { slice_get self.old.progress.items place ≡ Some Joined }
+        requires picking { (past : Past) × IsPickingNext cache.now past session.old self.old join place }
+        ensures advances { Advances session.old session.new self.old self.new }
+        ensures picking { (past : Past) → IsPickingNext cache.now past session.old self.old join place
+            → IsPicking cache.now past session.new self.new (place + 1) }
+    {
+        let _types: Option<&(Reply, Value)> = None;
+        let picked = pick_key(rt, cache, session, join);
+        self.progress[place] = after_pick_up(picked);
+    }
+}
+
+/// How far a key is after a pick-up that wasn't too early.
+fn after_pick_up(picked: Picked) -> Progress
+    requires { IsPickedUp picked }
+    ensures { IsPicked picked result }
+{
+    match picked {
+        Picked::Answer {
+            reply,
+            place: _,
+            shared_with: _,
+        } => Progress::Ended(Ok(reply)),
+        Picked::Again => Progress::Waiting,
+        Picked::NotYet(_join) => unreachable!(),
+    }
+}

@@ -1,0 +1,115 @@
+//! The first phases of a round of a call with many keys.
+ghost use Rattle.std.specs.Prelude.{◌≡◌, ◌⊎◌, ◌<◌, ◌≤◌, ◌+◌, true, false, length, slice_get, vec_capacity, Some};
+ghost use Rattle.jc_rounds.specs.declared.progress.Progress.TheVariants.{Waiting};
+ghost use Rattle.jc_rounds.specs.SoFar.{IsHeldAt, IsKept};
+ghost use Rattle.jc_rounds.specs.Starting.{IsFull};
+ghost use Rattle.jc_rounds.specs.Targets.{ops_of};
+ghost use Rattle.jc_rounds.specs.Underway.{Advances, HasStarted, HasRoom, IsBetween, IsStarting, KeepsRoom, Past};
+
+use crate::bulk_call::BulkCall;
+use crate::key::start_key;
+use crate::progress::Progress;
+use jc_cache::{Cache, Session};
+use jc_model::Reply;
+use jc_stripe::Begun;
+use jc_types::{Key, Value};
+use std::sync::Wait;
+
+impl<'a> BulkCall<'a> {
+    /// The first phases of a round: at each key that waits, in their order and without waiting. A key that is put off waits on.
+    ///
+    /// Conditions: the call is the session's current one, and has nothing out.
+    pub fn start<R: Wait>(&mut self, rt: &R, cache: &Cache, session: &mut Session)
+        requires between { (past : Past) × IsBetween cache.now past session.old self.old }
+        ensures advances { Advances session.old session.new self.old self.new }
+        ensures started { (past : Past) → IsBetween cache.now past session.old self.old
+            → HasStarted cache.now past session.old session.new self.new }
+    {
+        for place in 0..self.progress.len() {
+            self.start_at(rt, cache, session, place);
+        }
+        self.note_failures();
+    }
+
+    /// The first phase at the key of this place, if it waits and there is room. No key from there on is reserved or has joined a load.
+    fn start_at<R: Wait>(&mut self, rt: &R, cache: &Cache, session: &mut Session, place: usize)
+        requires place { place < length self.old.progress.items }
+        requires starting { (past : Past) × IsStarting cache.now past session.old self.old place }
+        ensures advances { Advances session.old session.new self.old self.new }
+        ensures starting { (past : Past) → IsStarting cache.now past session.old self.old place
+            → IsStarting cache.now past session.new self.new (place + 1)
+            × (length self.old.tickets.items ≤ length self.new.tickets.items)
+            × IsHeldAt (IsFull cache.now.config.stripes (ops_of self.new.targets.now) (length self.new.tickets.items))
+            place past.caller cache.now.config.stripes (ops_of self.new.targets.now)
+            session.old.seats.items session.new.seats.items self.new.progress.items }
+    {
+        if self.progress[place].is_waiting() {
+            if self.has_room() {
+                self.start_waiting(rt, cache, session, place);
+            }
+        }
+    }
+
+    /// The first phase at the key of this place, which waits, with room for what it leaves out.
+    fn start_waiting<R: Wait>(
+        &mut self,
+        rt: &R,
+        cache: &Cache,
+        session: &mut Session,
+        place: usize,
+    )
+        requires waits { slice_get self.old.progress.items place ≡ Some Waiting }
+        requires room { HasRoom self.old }
+        requires starting { (past : Past) × IsStarting cache.now past session.old self.old place }
+        ensures advances { Advances session.old session.new self.old self.new }
+        ensures starting { (past : Past) → IsStarting cache.now past session.old self.old place
+            → IsStarting cache.now past session.new self.new (place + 1)
+            × (length self.old.tickets.items ≤ length self.new.tickets.items)
+            × IsHeldAt ⊥ place past.caller cache.now.config.stripes (ops_of self.new.targets.now)
+            session.old.seats.items session.new.seats.items self.new.progress.items }
+    {
+        let _types: Option<&(Key, Reply, Value)> = None;
+        let key = *self.targets.key(place);
+        let op = self.targets.op(place);
+        let begun = start_key(rt, cache, session, &key, &op);
+        let progress = self.keep(begun);
+        self.progress[place] = progress;
+    }
+
+    /// Whether one more call may be begun: if it reserves its key, or joins a load, there is room for that.
+    fn has_room(&self) -> bool
+        ensures full { result ≡ false → (self.now.most ≤ length self.now.tickets.items)
+            ⊎ (vec_capacity self.now.joins ≤ length self.now.joins.items) }
+        ensures room { result ≡ true → HasRoom self.now }
+    {
+        self.tickets.len() < self.most && self.joins.len() < self.joins.capacity()
+    }
+
+    /// How far a key is after its first phase. What is out of it is kept.
+    fn keep(&mut self, begun: Begun) -> Progress
+        requires tickets { length self.old.tickets.items < vec_capacity self.old.tickets }
+        requires joins { length self.old.joins.items < vec_capacity self.old.joins }
+        ensures kept { IsKept begun result self.old.tickets.items self.new.tickets.items
+            self.old.joins.items self.new.joins.items }
+        ensures rest { KeepsRoom self.old self.new }
+    {
+        match begun {
+            Begun::Done(step) => Progress::Ended(Ok(step.reply)),
+            Begun::Refused(refusal) => {
+                if refusal.is_put_off() {
+                    Progress::Waiting
+                } else {
+                    Progress::Ended(Err(refusal))
+                }
+            }
+            Begun::Asks(ticket) => {
+                self.tickets.push_reserved(ticket);
+                Progress::Reserved
+            }
+            Begun::Joined(join) => {
+                self.joins.push_reserved(join);
+                Progress::Joined
+            }
+        }
+    }
+}
