@@ -4,13 +4,12 @@
 --     report_due                 the writer's report on it
 --     run_over                   what is left, and what was answered
 --     loads_over, writes_over, processes_over    no answer is left
-use Rattle.std.proofs.Common.{◌≡◌, ◌<◌, ◌++◌, ℕ, List, [], ◌∷◌, length, map, reverse, Bool, true, false, Option, None, Some, vec_len, refl, sym, ap, subst, ◌∙◌, arith}
+use Rattle.std.proofs.Common.{◌≡◌, ◌++◌, List, [], ◌∷◌, length, map, reverse, Bool, true, false, Option, vec_len, refl, sym, ap, subst, ◌∙◌}
 use Rattle.std.proofs.lemmas.List.{reverse-reverse}
 use Rattle.std.specs.Global.{Vec}
 use Rattle.std.specs.List.{AllByRecursion, IsAmong}
 use Rattle.jc_types.specs.declared.config.Config.{Config}
 use Rattle.jc_model.specs.Group.{load_only, write_only}
-use Rattle.jc_model.specs.declared.event.Out.{Out}
 use Rattle.jc_outside.specs.CallingAll.{loads_done, writes_done}
 use Rattle.jc_outside.specs.Done.{LoadResult, WriteResult}
 use Rattle.jc_outside.specs.declared.done.Origin.TheVariants.{Live}
@@ -19,7 +18,7 @@ use Rattle.jc_stripe.specs.Effects.{HasReport, change_due, process_out}
 use Rattle.jc_stripe.specs.Tickets.{Claim, asks_loader, asks_processor, asks_writer, claim_of, entry_seen, is_loadable}
 use Rattle.jc_stripe.specs.declared.ticket.Reservation.{Reservation}
 use Rattle.jc_rounds.specs.declared.answers.Answers.TheVariants as answers
-use Rattle.jc_rounds.specs.Answers.{AreAnswers, AreProcessed, IsReportedOn, IsToBeAnswered, RunState, TakesReport, done_of, key_of, key_run, reports, reservations_of}
+use Rattle.jc_rounds.specs.Answers.{AreAnswers, IsReportedOn, IsToBeAnswered, RunState, TakesReport, done_of, key_of, key_run, reports, reservations_of}
 use Rattle.jc_rounds.specs.Rounds.{IsAnswer, LoadAll, ProcessAll, ProcessRound, Round, WriteAll}
 use Rattle.jc_rounds.proofs.Underway.{last_first}
 
@@ -109,15 +108,15 @@ module _ (config : Config) (round : Round) (after : Vec (ProcessResult Claim)) (
     subst (λ q. AreAnswers config q (answers.Processes after written' deleted') rest) next.round_is
         (record { runs = next.runs; calls_are = next.rest_is; done_are = next.left; written_are = takes.written_are; deleted_are = takes.deleted_are; each = next.others }, next.asked_later),
     subst (λ q. IsAnswer config q r.key r.first (process_out d report)) next.round_is (
-        next.asked.0,
-        (
-          key_run next.run,
-          next.among,
-          ap (λ (x : Reservation). x.key) next.reservation,
-          (ap (λ (x : Reservation). entry_seen x.first) next.reservation, ap (λ (x : Reservation). is_loadable x.first) next.reservation),
-          ap (λ (x : ProcessResult Claim). process_out x report) next.reported.done_is ∙ (λ i. record { load = next.run.load; write = takes.answer i; process = next.run.process }),
-        ),
-        ),
+      next.asked.0,
+      (
+        key_run next.run,
+        next.among,
+        ap (λ (x : Reservation). x.key) next.reservation,
+        (ap (λ (x : Reservation). entry_seen x.first) next.reservation, ap (λ (x : Reservation). is_loadable x.first) next.reservation),
+        ap (λ (x : ProcessResult Claim). process_out x report) next.reported.done_is ∙ (λ i. record { load = next.run.load; write = takes.answer i; process = next.run.process }),
+      ),
+    ),
   )
 
 -- 3. No answer is left.

@@ -8,7 +8,7 @@
 --     asked_set                         the key at a place goes on
 --     asked_more, asked_on              one round more, for the keys that are reserved
 --     types_on                          the loader and the writer stay of their types
-use Rattle.std.proofs.Common.{◌≡◌, ◌==◌, ◌||◌, ◌⊎◌, ⊎_elim, inl, inr, ◌<◌, ◌++◌, ℕ, zero, suc, List, [], ◌∷◌, append-nil, length, map, set, slice_get, Bool, true, false, true≢false, MatchBool, Option, Some, option_map, Result, refl, sym, ap, ◌∙◌, subst, arith}
+use Rattle.std.proofs.Common.{◌≡◌, ◌==◌, ◌||◌, ◌⊎◌, ⊎_elim, inl, inr, ◌<◌, ◌++◌, ℕ, zero, suc, List, [], ◌∷◌, append-nil, length, map, set, slice_get, Bool, true, false, true≢false, MatchBool, Some, refl, sym, ap, ◌∙◌, subst, arith}
 use Rattle.std.proofs.lemmas.Cmp.{nat_list_eq_equiv}
 use Rattle.std.proofs.lemmas.List.Concat.{flat_map-append}
 use Rattle.std.proofs.lemmas.List.Elements.{All-append, All-cons, All-nil}
@@ -20,16 +20,12 @@ use Rattle.std.specs.Map.{keys_of}
 use Rattle.std.specs.Cmp.Lexicographic.{pointwise}
 use Rattle.jc_types.specs.declared.caller.Caller.{Caller}
 use Rattle.jc_types.specs.declared.config.Config.{Config}
-use Rattle.jc_types.specs.declared.refusal.Refusal.{Refusal}
 use Rattle.jc_model.specs.Batches.{is_among}
 use Rattle.jc_model.specs.Cache.{Bytes}
-use Rattle.jc_model.specs.declared.event.Change.{Change}
 use Rattle.jc_model.specs.declared.event.Op.{Op}
-use Rattle.jc_model.specs.declared.event.Reply.{Reply}
 use Rattle.jc_stripe.specs.declared.ticket.Reservation.{Reservation}
 use Rattle.jc_stripe.proofs.CallerLemmas.{none_twice}
-use Rattle.jc_stripe.specs.Refusals.{first_asked}
-use Rattle.jc_stripe.specs.Tickets.{JoinClaim, asks_loader, change_asked}
+use Rattle.jc_stripe.specs.Tickets.{JoinClaim}
 use Rattle.jc_session.specs.declared.agent.Agent.{Agent}
 use Rattle.jc_engine.specs.Asking.{KeepsTypes}
 use Rattle.jc_cache.specs.Caches.{CacheState}
@@ -39,16 +35,14 @@ use Rattle.jc_rounds.specs.declared.progress.Progress.TheVariants.{Ended}
 use Rattle.jc_rounds.specs.Keys.{IsTicketFor}
 use Rattle.jc_rounds.proofs.SeatPhases.{Seated}
 use Rattle.jc_rounds.proofs.SoFar.{or_parts}
-
 use Rattle.jc_outside.proofs.CallerLemmas.{at_place}
 use Rattle.jc_rounds.specs.declared.progress.Progress.TheVariants.{Waiting, Reserved, Joined}
-use Rattle.jc_rounds.specs.Asking.{AsksEachOnce, AsksFor, HasAsked, reserved_keys}
+use Rattle.jc_rounds.specs.Asking.{AsksFor, HasAsked, reserved_keys}
 use Rattle.jc_rounds.specs.KeyProgress.{is_held_back, is_reserved}
 use Rattle.jc_rounds.specs.Rounds.{Round, asked_in, keys_asked}
 use Rattle.jc_rounds.specs.SoFar.{AreIn, IsSoFar, IsUnderway}
 use Rattle.jc_rounds.proofs.Out.{is_no}
-use Rattle.jc_rounds.proofs.SoFar.{key_at, more_rounds, or_true}
-use Rattle.jc_rounds.proofs.Underway.{set_get}
+use Rattle.jc_rounds.proofs.SoFar.{key_at, more_rounds}
 use Rattle.jc_cache.specs.Sessions.{IsOf}
 
 -- 1. Lists.

@@ -9,9 +9,7 @@
 --     not_held                             a settled key that doesn't wait isn't held back
 --     fewer_out                            if some key isn't such, fewer are out than there are keys
 --     full_by                              there is no room: the round is full
-use Rattle.std.proofs.Common.{◌≡◌, ◌==◌, ◌⊎◌, ⊎_elim, inl, inr, ◌<◌, ◌≤◌, ◌+◌, ℕ, zero, suc, List, [], ◌∷◌, length, set, slice_get, Bool, true, false, true≢false, MatchBool, if◌then◌else◌, Some, Result, Err, refl, sym, ap, ◌∙◌, subst, arith}
-use Rattle.std.proofs.lemmas.Bool.Decides.{nat_tests}
-use Rattle.std.proofs.lemmas.List.{length-append}
+use Rattle.std.proofs.Common.{◌≡◌, ◌⊎◌, ⊎_elim, inl, inr, ◌<◌, ◌≤◌, ◌+◌, ℕ, zero, suc, List, [], ◌∷◌, length, set, slice_get, Bool, true, false, true≢false, MatchBool, if◌then◌else◌, Some, Result, Err, refl, sym, ap, ◌∙◌, subst, arith}
 use Rattle.std.proofs.lemmas.Option.{same_Some}
 use Rattle.std.specs.List.{IsAmong}
 use Rattle.jc_types.specs.Stripes.{stripe_of}

@@ -98,14 +98,18 @@ module _ (law : OnePhase) (steps : OwnSteps) where
           out = nothing_said;
           shared_with = None;
           place = whole_place w.noted done.place;
-          told = inl (refl, refl, record {
-            decided = x.found;
-            reached = x.reached;
-            later = front_found law caller.session _ v w x;
-            same = of_same x.found w.noted (uniform law caller.session _ v w x).grows;
-            next = subst (λ (es : List Event). IsNext x.found key (whole_place w.noted done.place) es) (sym x.front_is) (next_place x.found w.noted caller key op nothing_said _ done x.made.begins.2);
-            entry = ap (λ (c : Config). first_asked c op (entry_at x.found.cache key)) (sym (x.same.config ∙ shape)) ∙ x.made.begins.1;
-          });
+          told = inl (
+            refl,
+            refl,
+            record {
+              decided = x.found;
+              reached = x.reached;
+              later = front_found law caller.session _ v w x;
+              same = of_same x.found w.noted (uniform law caller.session _ v w x).grows;
+              next = subst (λ (es : List Event). IsNext x.found key (whole_place w.noted done.place) es) (sym x.front_is) (next_place x.found w.noted caller key op nothing_said _ done x.made.begins.2);
+              entry = ap (λ (c : Config). first_asked c op (entry_at x.found.cache key)) (sym (x.same.config ∙ shape)) ∙ x.made.begins.1;
+            },
+          );
           one = a.1;
           all = all_now law caller.session _ v w x;
           there = a.2;

@@ -4,13 +4,11 @@
 --     start_else, start_past                   a key for which there is no room, and one that doesn't wait
 --     commit_noted, commit_from, next_commit, commit_none, commit_past, commit_over    the last phases
 --     pick_noted, pick_from, next_pick, pick_none, pick_past, pick_over              the pick-ups
-use Rattle.std.proofs.Common.{◌≡◌, ◌==◌, ◌⊎◌, ⊎_elim, inl, inr, ◌<◌, ◌≤◌, ◌+◌, ◌++◌, ℕ, List, [], ◌∷◌, length, map, reverse, slice_get, Bool, true, false, true≢false, Option, None, Some, vec_capacity, vec_len, refl, sym, ap, subst, ◌∙◌, arith}
+use Rattle.std.proofs.Common.{◌≡◌, ◌⊎◌, inl, inr, ◌≤◌, ◌+◌, ◌++◌, ℕ, List, [], ◌∷◌, length, map, reverse, slice_get, false, true≢false, Some, vec_capacity, vec_len, refl, sym, ap, subst, ◌∙◌, arith}
 use Rattle.std.proofs.lemmas.List.{reverse-reverse}
 use Rattle.std.specs.Global.{Vec}
-use Rattle.jc_types.specs.declared.refusal.Refusal.{Refusal}
 use Rattle.jc_model.specs.Cache.{Bytes}
 use Rattle.jc_model.specs.declared.event.Op.{Op}
-use Rattle.jc_stripe.specs.declared.ticket.Reservation.{Reservation}
 use Rattle.jc_stripe.specs.Tickets.{JoinClaim, TicketClaim}
 use Rattle.jc_cache.specs.Caches.{CacheState}
 use Rattle.jc_cache.specs.declared.session.Session.{Session}
@@ -19,11 +17,11 @@ use Rattle.jc_rounds.specs.declared.bulk_call.BulkCall.{BulkCall}
 use Rattle.jc_rounds.specs.declared.progress.Progress.{Progress}
 use Rattle.jc_rounds.specs.declared.progress.Progress.TheVariants.{Waiting, Reserved, Joined}
 use Rattle.jc_rounds.specs.Answers.{AreAnswers}
-use Rattle.jc_rounds.specs.KeyProgress.{IsCauseIn, IsNoted, failures, is_joined, is_reserved, is_settled, is_waiting}
+use Rattle.jc_rounds.specs.KeyProgress.{IsCauseIn, IsNoted, failures, is_joined, is_reserved, is_waiting}
 use Rattle.jc_rounds.specs.Keys.{IsJoinFor, IsTicketFor}
 use Rattle.jc_rounds.specs.Rounds.{Round, faults_in}
 use Rattle.jc_rounds.specs.Seats.{view_of}
-use Rattle.jc_rounds.specs.SoFar.{AreHeldBack, AreIn, AreSettledFrom, AreUnder, IsHeldAt}
+use Rattle.jc_rounds.specs.SoFar.{AreHeldBack, AreIn, IsHeldAt}
 use Rattle.jc_rounds.specs.Starting.{IsFull}
 use Rattle.jc_rounds.specs.Targets.{ops_of}
 use Rattle.jc_rounds.specs.Underway.{Advances, HasCommitted, HasStarted, IsAnswered, IsBetween, IsCommitting, IsCommittingNext, IsOn, IsPicking, IsPickingNext, IsStarting, Past, are_fresh, reserved_by}
@@ -31,7 +29,6 @@ use Rattle.jc_rounds.proofs.Failures.{cause_met, noted_all}
 use Rattle.jc_rounds.proofs.Held.{full_by, held_next, not_held}
 use Rattle.jc_rounds.proofs.OnCall.{on_by}
 use Rattle.jc_rounds.proofs.Out.{none_in, nothing_out}
-use Rattle.jc_rounds.proofs.SeatPhases.{Seated}
 use Rattle.jc_rounds.proofs.Underway.{as_many, last_first, none_at_all, settled_by, settled_next, under_next}
 
 pub no_items : {X : Type 0} (v : Vec X) → vec_len v ≡ 0 → v.items ≡ []
@@ -45,11 +42,9 @@ full_more : (stripes : ℕ) (ops : List (Bytes × Op)) (m n : ℕ) → m ≤ n �
 full_more stripes ops m n more (inl many) = inl (omega (arith, many, more))
 full_more stripes ops m n more (inr joins) = inr joins
 
-
 none_mapped : (ts : List TicketClaim) → map reserved_by ts ≡ [] → ts ≡ []
 none_mapped [] is = refl
 none_mapped (t ∷ ts) is = cc
-
 
 -- 1. What has failed is noted.
 

@@ -7,10 +7,10 @@
 --     starting_on       a first phase
 --     committing_on     a commit
 --     picking_on        a pick-up
-use Rattle.std.proofs.Common.{◌≡◌, ◌==◌, ◌⊎◌, ⊎_elim, inl, inr, ◌<◌, ◌≤◌, ◌+◌, ◌++◌, ℕ, List, [], ◌∷◌, length, map, set, reverse, slice_get, Bool, true, false, Option, None, Some, Result, Ok, Err, vec_capacity, vec_len, refl, sym, ap, subst, ◌∙◌, arith}
+use Rattle.std.proofs.Common.{◌≡◌, ◌==◌, ◌⊎◌, inl, inr, ◌<◌, ◌≤◌, ◌+◌, ◌++◌, ℕ, List, [], ◌∷◌, length, map, set, reverse, slice_get, true, false, Option, None, Some, Result, Ok, vec_capacity, vec_len, refl, sym, ap, subst, ◌∙◌, arith}
 use Rattle.std.proofs.lemmas.List.{length-append}
 use Rattle.std.specs.Global.{Vec}
-use Rattle.std.specs.List.{AllByRecursion, IsAmong, IsDistinct}
+use Rattle.std.specs.List.{IsAmong, IsDistinct}
 use Rattle.std.specs.Map.{keys_of}
 use Rattle.std.specs.Cmp.Lexicographic.{pointwise}
 use Rattle.jc_types.specs.declared.limits.TheConstants.{JOINERS_MAX, RESERVATIONS_MAX}
@@ -43,7 +43,7 @@ use Rattle.jc_rounds.specs.declared.progress.Progress.TheVariants.{Waiting, Rese
 use Rattle.jc_rounds.specs.Answers.{AreAnswers}
 use Rattle.jc_rounds.specs.Asking.{HasAsked}
 use Rattle.jc_rounds.specs.KeyPhases.{IsKeyPhase, MayStep}
-use Rattle.jc_rounds.specs.KeyProgress.{IsCauseIn, IsMet, IsNoted, StayEnded, failures, is_held_back, is_joined, is_reserved}
+use Rattle.jc_rounds.specs.KeyProgress.{IsMet, StayEnded, failures, is_held_back, is_joined, is_reserved}
 use Rattle.jc_rounds.specs.Keys.{HasBegun, HasPicked, IsCommitted, IsEarly, IsJoinFor}
 use Rattle.jc_rounds.specs.Rounds.{IsAnswer, LoadAll, ProcessAll, Round, WriteAll, asked_in, faults_in, keys_asked}
 use Rattle.jc_rounds.specs.Seats.{AreBefore, HasGrown, view_of}
@@ -55,7 +55,6 @@ use Rattle.jc_rounds.specs.Underway.{Advances, HasRoom, IsCommitting, IsCommitti
 use Rattle.jc_rounds.proofs.Asked.{asked_set, unasked_at}
 use Rattle.jc_rounds.proofs.Failures.{among_after, among_either, failures_stay}
 use Rattle.jc_rounds.proofs.Held.{goes_both, goes_itself, goes_set, held_at, kept_held, set_there}
-use Rattle.jc_rounds.proofs.SeatPhases.{Seated}
 use Rattle.jc_rounds.proofs.SoFar.{among_more}
 use Rattle.jc_rounds.proofs.Underway.{committed_on, first_join, first_ticket, picked_not_joined, picked_on, place_near, settled_set, stay_set, started_on, under_set}
 

@@ -18,7 +18,6 @@ use Rattle.jc_rounds.specs.declared.progress.Progress.TheVariants.{Waiting}
 use Rattle.jc_rounds.specs.Keys.{IsHeldBack}
 use Rattle.jc_rounds.specs.Seats.{view_of}
 use Rattle.jc_rounds.proofs.SeatPhases.{Seated}
-
 use Rattle.jc_cache.specs.Caches.{CacheState}
 use Rattle.jc_cache.specs.declared.session.Session.{Session}
 use Rattle.jc_rounds.specs.declared.bulk_call.BulkCall.{BulkCall}

@@ -3,7 +3,7 @@
 --     same_op    that of a call that does the same at each key
 --     same_keys  the keys of such a call
 --     put_at     the entry at a place is put there
-use Rattle.std.proofs.Common.{◌≡◌, ℕ, zero, suc, List, [], ◌∷◌, map, Some, option_map, slice_get, refl, sym, ap, ◌∙◌}
+use Rattle.std.proofs.Common.{◌≡◌, ℕ, zero, suc, List, [], ◌∷◌, Some, option_map, slice_get, refl, sym, ap, ◌∙◌}
 use Rattle.std.proofs.lemmas.Option.{same_Some, slice_get-map}
 use Rattle.std.specs.Map.{keys_of}
 use Rattle.jc_model.specs.Cache.{Bytes}

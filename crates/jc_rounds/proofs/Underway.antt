@@ -9,7 +9,7 @@
 --     stay_itself, stay_on, stay_set    keys that have ended stay so
 --     under_set, under_next, settled_set, settled_next    the keys before a place, and from it on
 use Rattle.std.proofs.Common.{◌≡◌, ◌==◌, ◌⊎◌, ⊎_elim, inl, inr, ◌<◌, ◌≤◌, ◌+◌, ◌-◌, ℕ, zero, suc, List, [], ◌∷◌, ◌++◌, length, length-set, set, reverse, Bool, true, false, None, Some, Result, Ok, Err, nat_lt, if◌then◌else◌, get_or, slice_get, refl, sym, ap, subst, ◌∙◌, arith}
-use Rattle.std.proofs.lemmas.List.{length-append, reverse-append, reverse-reverse}
+use Rattle.std.proofs.lemmas.List.{length-append, reverse-append}
 use Rattle.std.proofs.lemmas.Option.{same_Some, slice_get-get_or}
 use Rattle.std.specs.List.{IsDistinct}
 use Rattle.std.specs.Map.{keys_of}
@@ -28,12 +28,10 @@ use Rattle.jc_model.specs.declared.event.Reply.{Reply}
 use Rattle.jc_stripe.specs.Refusals.{last_number}
 use Rattle.jc_stripe.specs.Tickets.{JoinClaim, TicketClaim}
 use Rattle.jc_model.specs.Batches.{is_among}
-use Rattle.jc_stripe.specs.Refusals.{first_asked}
-use Rattle.jc_rounds.specs.Keys.{MadeOn}
 use Rattle.jc_rounds.specs.Underway.{reserved_by}
 use Rattle.std.proofs.lemmas.List.{map-append}
 use Rattle.std.specs.List.{IsAmong}
-use Rattle.std.proofs.Common.{map, Option}
+use Rattle.std.proofs.Common.{map}
 use Rattle.jc_stripe.specs.declared.begun.Begun.{Begun}
 use Rattle.jc_stripe.specs.declared.begun.Begun.TheVariants as begun
 use Rattle.jc_stripe.specs.declared.begun.Picked.{Picked}
@@ -45,7 +43,6 @@ use Rattle.jc_session.specs.declared.agent.Agent.{Agent}
 use Rattle.jc_session.specs.declared.counts.Counted.TheVariants.{Committed}
 use Rattle.jc_session.specs.declared.counts.Counts.{Counts}
 use Rattle.jc_cache.specs.Caches.{CacheState}
-use Rattle.jc_cache.specs.Sessions.{IsOf}
 use Rattle.jc_cache.specs.declared.session.Session.{Session}
 use Rattle.jc_rounds.specs.declared.progress.Progress.{Progress}
 use Rattle.jc_rounds.specs.declared.progress.Progress.TheVariants.{Waiting, Reserved, Joined, Ended}
@@ -57,7 +54,7 @@ use Rattle.jc_rounds.specs.Rounds.{IsAnswer, Round, asked_in, keys_asked}
 use Rattle.jc_rounds.specs.Seats.{HasGrown, Moves, view_of}
 use Rattle.jc_rounds.specs.SoFar.{AreIn, AreSettledFrom, AreUnder, IsKept, IsPicked, IsUnderway}
 use Rattle.jc_rounds.proofs.KeyPhases.{all_before}
-use Rattle.jc_rounds.proofs.Out.{keep_in, none_in, nothing_out, pop_in, push_in}
+use Rattle.jc_rounds.proofs.Out.{keep_in, pop_in, push_in}
 use Rattle.jc_rounds.proofs.SeatPhases.{Seated}
 use Rattle.jc_rounds.proofs.SoFar.{at_more, at_since, goes_on}
 
@@ -225,14 +222,19 @@ module _ {I J : Type 0} {D : I → Type 0} {E : J → Type 0} where
         out = out;
         shared_with = None;
         place = made.place;
-        told = inr (round, among, asked, record {
-          decided = made.made.decided;
-          reached = made.made.reached;
-          later = made.made.later;
-          same = made.made.same;
-          next = made.made.next;
-          entry = subst (λ f. IsAnswer cache.config round r.key f out) (sym made.made.entry) said;
-        });
+        told = inr (
+          round,
+          among,
+          asked,
+          record {
+            decided = made.made.decided;
+            reached = made.made.reached;
+            later = made.made.later;
+            same = made.made.same;
+            next = made.made.next;
+            entry = subst (λ f. IsAnswer cache.config round r.key f out) (sym made.made.entry) said;
+          },
+        );
         one = made.one;
         all = made.all;
         there = made.there;

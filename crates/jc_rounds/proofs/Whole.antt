@@ -8,13 +8,13 @@
 --     round_of        a round, from its phases
 --     refused_call, refused_round    each key that waits is refused
 --     carried_out     after the last round the call is carried out
-use Rattle.std.proofs.Common.{◌≡◌, ◌&&◌, ◌⊎◌, ⊎_elim, inl, inr, ◌<◌, ◌≤◌, ◌+◌, ◌*◌, ◌++◌, ℕ, zero, suc, List, [], ◌∷◌, All, length, Bool, true, false, nat_le, nat_lt, Option, None, Some, Result, Ok, Err, slice_get, refl, sym, ap, subst, ◌∙◌, arith}
+use Rattle.std.proofs.Common.{◌≡◌, ◌&&◌, ◌⊎◌, ⊎_elim, inl, inr, ◌<◌, ◌≤◌, ◌+◌, ◌*◌, ◌++◌, ℕ, zero, suc, List, [], ◌∷◌, All, length, Bool, true, false, nat_le, nat_lt, Some, Result, Ok, Err, slice_get, refl, sym, ap, subst, ◌∙◌, arith}
 use Rattle.std.proofs.lemmas.Bool.Decides.{nat_tests}
 use Rattle.std.proofs.lemmas.List.Elements.{All-nil, All-cons}
 use Rattle.std.proofs.lemmas.List.Sums.{count_by-le-length}
 use Rattle.std.specs.List.{list_all}
 use Rattle.jc_types.specs.declared.caller.Caller.{Caller}
-use Rattle.jc_types.specs.declared.limits.TheConstants.{BULK_KEYS_MAX, STEP_PLACES, RESERVATIONS_MAX, JOINERS_MAX}
+use Rattle.jc_types.specs.declared.limits.TheConstants.{STEP_PLACES, RESERVATIONS_MAX, JOINERS_MAX}
 use Rattle.jc_types.specs.declared.refusal.Refusal.{Refusal}
 use Rattle.jc_types.specs.declared.refusal.Refusal.TheVariants.{HistoryFull, OutOfMemory}
 use Rattle.jc_model.specs.Cache.{Bytes}
@@ -27,9 +27,7 @@ use Rattle.jc_stripe.specs.Refusals.{has_room, last_number, needs_free_key, plac
 use Rattle.jc_stripe.specs.State.{State, promised, waits}
 use Rattle.jc_lock.specs.declared.view.View.{View}
 use Rattle.jc_lock.specs.Views.{spent_view}
-use Rattle.jc_session.specs.Boxed.{boxed}
 use Rattle.jc_session.specs.Counting.{one_more}
-use Rattle.jc_engine.specs.Asking.{KeepsTypes}
 use Rattle.jc_cache.specs.Caches.{CacheState}
 use Rattle.jc_cache.specs.Calls.{next_call}
 use Rattle.jc_cache.specs.Sessions.{MayCall}
@@ -38,7 +36,6 @@ use Rattle.jc_rounds.specs.declared.progress.Progress.{Progress}
 use Rattle.jc_rounds.specs.declared.progress.Progress.TheVariants.{Waiting, Reserved, Joined, Ended}
 use Rattle.jc_rounds.specs.Recorded.{are_before}
 use Rattle.jc_rounds.specs.Seats.{view_at, view_of}
-
 use Rattle.std.proofs.Common.{◌==◌, map, true≢false, vec_capacity}
 use Rattle.std.proofs.lemmas.Option.{same_Some}
 use Rattle.std.specs.Map.{keys_of}
@@ -62,15 +59,15 @@ use Rattle.jc_stripe.specs.Tickets.{TicketClaim}
 use Rattle.jc_rounds.specs.declared.bulk_call.BulkCall.{BulkCall}
 use Rattle.jc_rounds.specs.Asking.{AsksFor, HasAsked, reserved_keys}
 use Rattle.jc_rounds.specs.Ends.{KeyEnd, key_end, key_ends, key_ops}
-use Rattle.jc_rounds.specs.KeyProgress.{IsCauseIn, IsNoted, StayEnded, StillWaits, all_waiting, failures, is_held_back, is_joined, is_reserved, is_settled, refused_if_waiting}
+use Rattle.jc_rounds.specs.KeyProgress.{IsCauseIn, IsNoted, StayEnded, all_waiting, failures, is_held_back, is_joined, is_reserved, is_settled, refused_if_waiting}
 use Rattle.jc_rounds.specs.Keys.{HasEnded, IsAt, IsJoinFor, IsTicketFor, WasRefused}
 use Rattle.jc_rounds.specs.Rounds.{Round, asked_in, faults_in, keys_asked, round_fault}
-use Rattle.jc_rounds.specs.Running.{HasRun, IsCarriedOut, IsNearFull, IsRound, WasNearFull, with_rounds}
-use Rattle.jc_rounds.specs.SoFar.{AreIn, GoesOn, IsSoFar, IsUnderway}
+use Rattle.jc_rounds.specs.Running.{HasRun, IsCarriedOut, IsNearFull, IsRound, WasNearFull}
+use Rattle.jc_rounds.specs.SoFar.{GoesOn, IsUnderway}
 use Rattle.jc_rounds.specs.Starting.{IsFull}
 use Rattle.jc_rounds.specs.Targets.{ops_of}
-use Rattle.jc_rounds.specs.Underway.{HasCommitted, HasStarted, IsAnswered, IsBetween, IsFresh, IsNew, IsOn, IsOver, Past, are_fresh, reserved_by, with_round}
-use Rattle.jc_rounds.proofs.Asked.{all_map, asked_more, asked_on, mapped_by, new_key, none_asked, some_there, unasked_at}
+use Rattle.jc_rounds.specs.Underway.{HasCommitted, HasStarted, IsBetween, IsNew, IsOn, IsOver, Past, are_fresh, reserved_by, with_round}
+use Rattle.jc_rounds.proofs.Asked.{asked_more, asked_on, new_key, none_asked, some_there, unasked_at}
 use Rattle.jc_rounds.proofs.Failures.{met_fault, noted_all}
 use Rattle.jc_rounds.proofs.Held.{goes_both, held_after}
 use Rattle.jc_rounds.proofs.OnCall.{met_stay}
@@ -330,10 +327,8 @@ refused_asked config targets rounds ps a = record {
     still Joined is = is
     still (Ended e) is = refl
 
-
 pub refused_over : (call later : BulkCall) → later.progress.items ≡ map refused_if_waiting call.progress.items → IsOver later
 refused_over call later is place waits = none_waits call.progress.items place (ap (λ qs. slice_get qs place) (sym is) ∙ waits)
-
 
 module _ {I J : Type 0} {D : I → Type 0} {E : J → Type 0} where
   refused_goes : (cache : CacheState) (past : Past) (session : Session I J D E) (call : BulkCall) → IsBetween cache past session call → GoesOn session.seats.items session.seats.items call.progress.items (map refused_if_waiting call.progress.items)

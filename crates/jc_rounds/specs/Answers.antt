@@ -13,8 +13,7 @@
 --     IsReportedOn      the first of these runs, with the reports of all of them, the first one last
 --     TakesReport       the report on it, if one is due, and the reports that are left
 --     AreAnswers        these answer each of these reservations, with what a round said of its key
-use Rattle.std.specs.Prelude.{◌≡◌, ◌∷◌, List, [], map, reverse, Bool, true, false, not, Option, None, Some, if◌then◌else◌}
-use Rattle.std.specs.Global.{Vec}
+use Rattle.std.specs.Prelude.{◌≡◌, ◌∷◌, List, map, reverse, Bool, true, false, not, Option, None, Some, if◌then◌else◌}
 use Rattle.std.specs.List.{AllByRecursion, IsAmong, filter_map}
 use Rattle.jc_types.specs.declared.config.Config.{Config}
 use Rattle.jc_model.specs.Batches.{is_among}

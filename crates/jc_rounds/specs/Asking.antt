@@ -3,7 +3,7 @@
 --     AsksFor        a round asks for keys of the call alone, and only for what their operations ask for
 --     AsksEachOnce   the rounds of a call that ask: each asks for some key, and no key is asked for twice
 --     HasAsked       the same of a call that is under way: each key that was asked for is reserved or over
-use Rattle.std.specs.Prelude.{◌≡◌, ◌==◌, ℕ, List, [], All, Bool, true, false, Option, Some, slice_get, map}
+use Rattle.std.specs.Prelude.{◌≡◌, ◌==◌, ℕ, List, [], All, true, false, Option, Some, slice_get, map}
 use Rattle.std.specs.List.{IsAmong, IsDistinct}
 use Rattle.std.specs.Cmp.Lexicographic.{pointwise}
 use Rattle.jc_types.specs.declared.config.Config.{Config}

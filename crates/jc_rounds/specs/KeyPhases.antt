@@ -2,7 +2,7 @@
 --     MayStep      the session is of this cache, and has made no step of its current call at this key
 --     IsKeyPhase   a phase of the session's current call at this key: it may have seen more of each stripe, this is changed of its counts,
 --                  and no other key's steps have changed; and this is so of the key
-use Rattle.std.specs.Prelude.{◌≡◌, List, []}
+use Rattle.std.specs.Prelude.{◌≡◌, []}
 use Rattle.jc_model.specs.Cache.{Bytes}
 use Rattle.jc_session.specs.Counting.{counts_after}
 use Rattle.jc_session.specs.declared.counts.Counted.{Counted}

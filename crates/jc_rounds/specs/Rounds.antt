@@ -16,7 +16,7 @@
 --     fault_of         the fault that a call of the writer returned, if it failed
 --     round_fault      that of a round that the writer returned, if it failed; after a processor such a fault has no key, and is dropped
 --     faults_in        the faults that the writer returned
-use Rattle.std.specs.Prelude.{◌≡◌, ℕ, List, [], ◌∷◌, map, Bool, true, Option, None, Some, Result, Ok, Err, if◌then◌else◌}
+use Rattle.std.specs.Prelude.{◌≡◌, ℕ, List, map, Bool, true, Option, None, Some, Result, Ok, Err, if◌then◌else◌}
 use Rattle.std.specs.List.{IsAmong, filter_map, flat_map}
 use Rattle.jc_types.specs.declared.config.Config.{Config}
 use Rattle.jc_types.specs.declared.refusal.Refusal.{Refusal}

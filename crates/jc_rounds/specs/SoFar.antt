@@ -10,7 +10,7 @@
 --     IsHeldAt, AreHeldBack    a key that is held back, at this place, or at each before it, was put off between these views or has joined a
 --                   load; or it is as this says
 --     AreSettledFrom, AreUnder    no key from a place on is reserved or has joined a load; no key before a place is such
-use Rattle.std.specs.Prelude.{◌≡◌, ◌⊎◌, ◌==◌, ◌&&◌, ◌≤◌, ◌<◌, ◌++◌, ℕ, List, [], ◌∷◌, length, Bool, true, false, None, Some, Ok, Err, slice_get, MatchBool, if◌then◌else◌}
+use Rattle.std.specs.Prelude.{◌≡◌, ◌⊎◌, ◌==◌, ◌&&◌, ◌≤◌, ◌<◌, ◌++◌, ℕ, List, [], ◌∷◌, length, Bool, true, false, Some, Ok, Err, slice_get, MatchBool, if◌then◌else◌}
 use Rattle.std.specs.Map.{keys_of}
 use Rattle.atomic_table.specs.Seated.{TableId}
 use Rattle.jc_types.specs.Stripes.{stripe_of}

@@ -24,11 +24,7 @@ pub enum Answers {
     /// By the writer.
     Writes(Vec<WriteDone<Ask>>),
     /// By a processor, and for those whose net effect is to be written by the writer: of the writes, and of the deletes.
-    Processes(
-        Vec<ProcDone<Ask>>,
-        Vec<WriteDone<Ask>>,
-        Vec<WriteDone<Ask>>,
-    ),
+    Processes(Vec<ProcDone<Ask>>, Vec<WriteDone<Ask>>, Vec<WriteDone<Ask>>),
 }
 
 impl Answers {

@@ -51,13 +51,7 @@ impl<'a> BulkCall<'a> {
     }
 
     /// The first phase at the key of this place, which waits, with room for what it leaves out.
-    fn start_waiting<R: Wait>(
-        &mut self,
-        rt: &R,
-        cache: &Cache,
-        session: &mut Session,
-        place: usize,
-    )
+    fn start_waiting<R: Wait>(&mut self, rt: &R, cache: &Cache, session: &mut Session, place: usize)
         requires waits { slice_get self.old.progress.items place ≡ Some Waiting }
         requires room { HasRoom self.old }
         requires starting { (past : Past) × IsStarting cache.now past session.old self.old place }

@@ -1,8 +1,8 @@
-use Rattle.std.proofs.Common.{◌∷◌, ap, sym, subst}
+use Rattle.std.proofs.Common.{◌∷◌, sym, subst}
 use Rattle.jc_model.specs.Group.{load_only, write_only}
 use Rattle.jc_stripe.specs.Effects.{process_out}
 use Rattle.jc_rounds.specs.Answers.{AreAnswers, IsReportedOn, TakesReport}
-use Rattle.jc_rounds.proofs.Answering.{NextRun, loads_next, processes_next, report_due, run_done, run_over, writes_next}
+use Rattle.jc_rounds.proofs.Answering.{loads_next, processes_next, report_due, run_done, run_over, writes_next}
 use Rattle.jc_rounds.proofs.KeyCalls.{commit_told}
 use Rattle.jc_rounds.proofs.answers.Answers.commit_next.Goals as goal
 

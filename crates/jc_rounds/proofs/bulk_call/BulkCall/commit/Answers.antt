@@ -1,5 +1,4 @@
-use Rattle.std.proofs.Common.{refl, ap, sym, subst, ◌∙◌, arith}
-use Rattle.jc_rounds.specs.declared.bulk_call.BulkCall.{BulkCall}
+use Rattle.std.proofs.Common.{refl, arith}
 use Rattle.jc_rounds.proofs.Held.{goes_itself}
 use Rattle.jc_rounds.proofs.Loops.{commit_from, commit_noted, commit_over, noted_advances}
 use Rattle.jc_rounds.proofs.OnCall.{advances_both}
@@ -22,9 +21,12 @@ loop-place-preserved g c = record {
 
 pub end-requires : goal.end-requires
 end-requires g c =
-    let r = c.requires.answered in
-    (c.args.cache.now.config, r.1, (commit_over c.args.cache.now r.0 r.1 c.loop-place.session c.loop-place.self c.loop-place.left c.loop-place.place
-    (let many = c.loop-place.invariant.advances.goes.stay.many in omega (arith, many, c.args.self.now.progress.ok.0, c.len-place-end.ensures, c.loop-place-test.false)) (c.loop-place.invariant.committed r.0 r.1 r.2)).1)
+    let r = c.requires.answered in (
+      c.args.cache.now.config,
+      r.1,
+      (commit_over c.args.cache.now r.0 r.1 c.loop-place.session c.loop-place.self c.loop-place.left c.loop-place.place
+          (let many = c.loop-place.invariant.advances.goes.stay.many in omega (arith, many, c.args.self.now.progress.ok.0, c.len-place-end.ensures, c.loop-place-test.false)) (c.loop-place.invariant.committed r.0 r.1 r.2)).1,
+    )
 
 pub returns-clause-advances : goal.returns-clause-advances
 returns-clause-advances g c = noted_advances _ _ _ _ _ c.note_failures.ensures.rest c.loop-place.invariant.advances

@@ -1,5 +1,4 @@
 use Rattle.std.proofs.Common.{Some, ap, sym, ◌∙◌}
-use Rattle.std.proofs.lemmas.List.{append-nil}
 use Rattle.jc_rounds.proofs.Loops.{commit_none, commit_past, next_commit, no_items}
 use Rattle.jc_rounds.proofs.Underway.{reserved_is, there_by}
 use Rattle.jc_rounds.proofs.bulk_call.BulkCall.commit_at.Goals as goal

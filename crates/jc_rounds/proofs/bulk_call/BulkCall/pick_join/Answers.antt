@@ -1,4 +1,4 @@
-use Rattle.std.proofs.Common.{refl, ap, sym, subst}
+use Rattle.std.proofs.Common.{refl}
 use Rattle.jc_rounds.specs.declared.progress.Progress.TheVariants.{Joined}
 use Rattle.jc_rounds.proofs.OnCall.{advances_by, may_pick, near_in, picking_on}
 use Rattle.jc_rounds.proofs.bulk_call.BulkCall.pick_join.Goals as goal

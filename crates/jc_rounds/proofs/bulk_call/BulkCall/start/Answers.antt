@@ -1,7 +1,5 @@
-use Rattle.std.proofs.Common.{◌≡◌, ◌<◌, length, ap, sym, subst, ◌∙◌, arith}
-use Rattle.jc_rounds.specs.declared.bulk_call.BulkCall.{BulkCall}
-use Rattle.jc_rounds.specs.Underway.{are_fresh}
-use Rattle.jc_rounds.proofs.Loops.{Held, note_on, noted_advances, start_from, start_more, start_over}
+use Rattle.std.proofs.Common.{arith}
+use Rattle.jc_rounds.proofs.Loops.{noted_advances, start_from, start_more, start_over}
 use Rattle.jc_rounds.proofs.OnCall.{advances_both, advances_itself}
 use Rattle.jc_rounds.proofs.bulk_call.BulkCall.start.Goals as goal
 

@@ -1,5 +1,4 @@
-use Rattle.std.proofs.Common.{Some, ⊎_elim, inl, inr, ap, sym, subst, ◌∙◌, arith}
-use Rattle.jc_rounds.specs.KeyProgress.{is_waiting}
+use Rattle.std.proofs.Common.{Some, ⊎_elim, inr, ap, sym, ◌∙◌}
 use Rattle.jc_rounds.proofs.Loops.{start_else, start_past}
 use Rattle.jc_rounds.proofs.Underway.{there_by, waiting_is}
 use Rattle.jc_rounds.proofs.bulk_call.BulkCall.start_at.Goals as goal

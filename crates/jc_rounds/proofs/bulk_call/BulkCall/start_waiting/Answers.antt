@@ -1,10 +1,6 @@
-use Rattle.std.proofs.Common.{◌<◌, ◌≤◌, length, refl, ap, sym, set, subst, ◌∙◌, vec_len}
-use Rattle.jc_types.specs.declared.caller.Caller.{Caller}
+use Rattle.std.proofs.Common.{◌<◌, refl, ap, sym, set, subst, vec_len}
 use Rattle.jc_rounds.specs.declared.bulk_call.BulkCall.{BulkCall}
 use Rattle.jc_rounds.specs.declared.progress.Progress.TheVariants.{Waiting}
-use Rattle.jc_rounds.specs.SoFar.{IsHeldAt}
-use Rattle.jc_rounds.specs.Targets.{ops_of}
-use Rattle.jc_rounds.proofs.Held.{held_at, kept_held, set_there}
 use Rattle.jc_rounds.proofs.OnCall.{advances_by, held_by, kept_more, may_start, near_in, progress_kept, same_kept, starting_on}
 use Rattle.jc_rounds.proofs.bulk_call.BulkCall.start_waiting.Goals as goal
 

@@ -1,4 +1,4 @@
-use Rattle.std.proofs.Common.{◌∙◌, ap, subst, sym}
+use Rattle.std.proofs.Common.{◌∙◌, ap, subst}
 use Rattle.jc_outside.specs.CallingAll.{LoadsAllOnce, loads_done}
 use Rattle.jc_session.specs.Boxed.{boxed}
 use Rattle.jc_rounds.specs.Answers.{key_of}

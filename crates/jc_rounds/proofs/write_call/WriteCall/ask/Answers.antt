@@ -1,4 +1,4 @@
-use Rattle.std.proofs.Common.{[], length, reverse, refl, ◌∙◌, ap, subst, sym}
+use Rattle.std.proofs.Common.{length, reverse, refl, ◌∙◌, ap, subst, sym}
 use Rattle.jc_model.specs.declared.event.WriteAnswer.TheVariants.{NotAsked}
 use Rattle.jc_session.specs.Boxed.{boxed}
 use Rattle.jc_outside.specs.CallingAll.{writes_done}
