@@ -25,7 +25,7 @@ use Rattle.jc_rounds.specs.declared.progress.Progress.{Progress}
 use Rattle.jc_rounds.specs.declared.targets.Targets.{Targets}
 use Rattle.jc_rounds.specs.Ends.{KeyEnd, failed_entries, found_entries, key_ends}
 use Rattle.jc_rounds.specs.KeyProgress.{IsCauseIn}
-use Rattle.jc_rounds.specs.Rounds.{Round, faults_in}
+use Rattle.jc_rounds.specs.Rounds.{faults_in}
 use Rattle.jc_rounds.specs.Targets.{ops_of}
 use Rattle.jc_rounds.specs.Running.{HasRun}
 use Rattle.jc_rounds.specs.Underway.{IsNew, IsOver, Past}
@@ -36,10 +36,12 @@ use Rattle.jc_bulk.specs.declared.outside.Kind.{Kind}
 use Rattle.jc_bulk.specs.Carrying.{IsRoomOf}
 use Rattle.jc_bulk.specs.RoundsRun.{KeysAskAs, RunsOn}
 
-pub own_room : (kind : Kind) (n stripes : ℕ) (room : Room) (ops : List (Bytes × Op)) → IsRoomOf kind n stripes room → n ≡ length ops → KeysAskAs kind ops → IsRoomOf room.outside.kind (length ops) stripes room × KeysAskAs room.outside.kind ops
-own_room kind n stripes room ops is same asks =
-    let own : kind ≡ room.outside.kind = sym (ap (λ s. s.kind) is.outside) in
-    (subst (λ k. IsRoomOf k (length ops) stripes room) own (subst (λ m. IsRoomOf kind m stripes room) same is), subst (λ k. KeysAskAs k ops) own asks)
+pub own_room : (kind : Kind) (n stripes own : ℕ) (room : Room) (ops : List (Bytes × Op)) → IsRoomOf kind n stripes room → n ≡ length ops → stripes ≡ own → KeysAskAs kind ops → IsRoomOf room.outside.kind (length ops) own room × KeysAskAs room.outside.kind ops
+own_room kind n stripes own room ops is keys same asks =
+    let kind_is : kind ≡ room.outside.kind = sym (ap (λ s. s.kind) is.outside) in (
+      subst (λ k. IsRoomOf k (length ops) own room) kind_is (subst (λ m. IsRoomOf kind (length ops) m room) same (subst (λ m. IsRoomOf kind m stripes room) keys is)),
+      subst (λ k. KeysAskAs k ops) kind_is asks,
+    )
 
 module _ {I J : Type 0} {D : I → Type 0} {E : J → Type 0} where
   abbrev pub begun : Session I J D E → Past

@@ -4,30 +4,22 @@
 --     same_asks, puts_ask    each key of a call asks as the call does
 --     may_fill         the tickets of a round may be asked for in one call
 --     asks_for         a round asks for keys of the call alone, and only for what their operations ask for
-use Rattle.std.proofs.Common.{◌≡◌, ◌==◌, ◌&&◌, ◌||◌, ◌⊎◌, inl, inr, ◌<◌, ◌≤◌, ◌+◌, ◌++◌, ℕ, zero, suc, List, [], ◌∷◌, map, length, take, drop, slice_get, Bool, true, false, true≢false, cond, Option, None, Some, is_none, Result, Ok, refl, sym, ap, ◌∙◌, subst, arith}
-use Rattle.std.proofs.lemmas.Cmp.{nat_list_eq_equiv}
-use Rattle.std.proofs.lemmas.List.{map-append}
-use Rattle.std.proofs.lemmas.Map.Keys.{IsDistinct-head, IsDistinct-tail}
+use Rattle.std.proofs.Common.{◌≡◌, ◌&&◌, ◌||◌, inl, inr, ℕ, zero, suc, List, [], ◌∷◌, map, slice_get, Bool, true, false, true≢false, cond, Option, None, Some, is_none, refl, sym, ap, ◌∙◌, subst, arith}
 use Rattle.std.proofs.lemmas.Option.{same_Some}
-use Rattle.std.specs.List.{All, AllByRecursion, IsAmong, IsDistinct}
-use Rattle.std.specs.Map.{keys_of}
-use Rattle.std.specs.Cmp.Lexicographic.{pointwise}
+use Rattle.std.specs.List.{All, AllByRecursion, IsAmong}
 use Rattle.jc_types.specs.declared.caller.Caller.{Caller}
 use Rattle.jc_types.specs.declared.config.Config.{Config}
-use Rattle.jc_types.specs.declared.refusal.Refusal.{Refusal}
-use Rattle.jc_model.specs.Batches.{is_among}
 use Rattle.jc_model.specs.Cache.{Bytes}
 use Rattle.jc_model.specs.Table.{always_if}
 use Rattle.jc_model.specs.declared.event.Change.{Change}
 use Rattle.jc_model.specs.declared.event.Change.TheVariants as change
 use Rattle.jc_model.specs.declared.event.Op.{Op}
-use Rattle.jc_model.specs.declared.event.Op.TheVariants.{Get, Put, Remove, Clear, LoadAll}
-use Rattle.jc_batch.specs.Changes.{changes_of}
+use Rattle.jc_model.specs.declared.event.Op.TheVariants.{Put}
 use Rattle.jc_stripe.specs.declared.ticket.First.{First}
 use Rattle.jc_stripe.specs.declared.ticket.First.TheVariants.{Writer}
 use Rattle.jc_stripe.specs.declared.ticket.Reservation.{Reservation}
 use Rattle.jc_stripe.specs.Refusals.{first_asked, first_by, reserves}
-use Rattle.jc_stripe.specs.Tickets.{Claim, TicketClaim, asks_loader, change_asked, claim_of}
+use Rattle.jc_stripe.specs.Tickets.{TicketClaim, asks_loader, change_asked}
 use Rattle.jc_cache.specs.Caches.{CacheState}
 use Rattle.jc_cache.specs.Sessions.{IsOf}
 use Rattle.jc_cache.specs.declared.session.Session.{Session}
@@ -40,11 +32,11 @@ use Rattle.jc_rounds.specs.Keys.{IsTicketFor}
 use Rattle.jc_rounds.specs.Rounds.{LoadAll as LoadsAll, ProcessAll, Round, WriteAll, keys_asked}
 use Rattle.jc_rounds.specs.SoFar.{AreIn}
 use Rattle.jc_rounds.specs.Targets.{ops_of, ops_with, put_ops}
-use Rattle.jc_rounds.specs.Underway.{HasStarted, IsFresh, Past, are_fresh, reserved_by}
-use Rattle.jc_rounds.proofs.CallerLemmas.{IsOutAt, all_map, all_mapped, all_out, among_there, as_many, distinct_reserved, in_head}
+use Rattle.jc_rounds.specs.Underway.{HasStarted, Past, are_fresh, reserved_by}
+use Rattle.jc_rounds.proofs.CallerLemmas.{IsOutAt, all_map, all_mapped, all_out, among_there, distinct_reserved}
 use Rattle.jc_bulk.specs.declared.outside.Kind.{Kind}
 use Rattle.jc_bulk.specs.declared.outside.Kind.TheVariants.{Load, Write, Delete}
-use Rattle.jc_bulk.specs.Outside.{AsksAs, HasOneToAsk, IsAskedOf, IsWrittenOf, MayFill, OutsideState, fits, fits_first, wanted_changes}
+use Rattle.jc_bulk.specs.Outside.{AsksAs, HasOneToAsk, IsAskedOf, IsWrittenOf, MayFill, OutsideState, fits_first, wanted_changes}
 use Rattle.jc_bulk.specs.RoundsRun.{IsReady, KeysAskAs}
 
 -- 1. Whom an operation asks.

@@ -1,7 +1,7 @@
 -- What follows of a result.
 --     then_ok, then_err    of its value, and of its error
 --     put_keys             the keys of a call that puts are those of its entries
-use Rattle.std.proofs.Common.{◌≡◌, List, [], ◌∷◌, Bool, IfOk, IfErr, Result, Ok, Err, refl, ap}
+use Rattle.std.proofs.Common.{◌≡◌, List, [], ◌∷◌, IfOk, IfErr, Result, Ok, Err, refl, ap}
 use Rattle.std.specs.Map.{keys_of}
 use Rattle.jc_model.specs.Cache.{Bytes}
 use Rattle.jc_rounds.specs.Targets.{put_ops}

@@ -13,7 +13,6 @@ use Rattle.jc_types.specs.declared.refusal.Refusal.{Refusal}
 use Rattle.jc_outside.specs.CallingAll.{LoadAllRelation, WriteAllRelation, DeleteAllRelation}
 use Rattle.jc_session.specs.Boxed.{boxed}
 use Rattle.jc_session.specs.declared.agent.Agent.{Agent}
-use Rattle.jc_engine.specs.Asking.{KeepsTypes}
 use Rattle.jc_cache.specs.Caches.{CacheState}
 use Rattle.jc_cache.specs.Sessions.{HasAsked}
 use Rattle.jc_cache.specs.declared.session.Session.{Session}
@@ -143,7 +142,7 @@ module _ {I J : Type 0} {D : I → Type 0} {E : J → Type 0} (loads_all : LoadA
           after.agent.hands.outside.loader,
           after.agent.hands.outside.writer,
           subst (λ h. CallsOnce (boxed loads_all) (boxed load_state) (boxed writes_all) (boxed deletes_all) (boxed write_state) h.loader h.writer r after.agent.hands.outside.loader after.agent.hands.outside.writer)
-          (ap (λ g. g.hands.outside) one.agent) a.calls,
+              (ap (λ g. g.hands.outside) one.agent) a.calls,
           (ap (λ g. g.hands.outside.loader) three.agent ∙ ap (λ g. g.hands.outside.loader) two.agent, ap (λ g. g.hands.outside.writer) three.agent ∙ ap (λ g. g.hands.outside.writer) two.agent),
         );
         types = (

@@ -7,13 +7,12 @@
 --     new_next         its key is that of none before it
 --     whole_tickets    once all have asked
 --     answered_loads, answered_writes    what the loader or the writer has answered
-use Rattle.std.proofs.Common.{◌≡◌, ◌==◌, ◌||◌, ◌<◌, ◌≤◌, ◌+◌, ◌++◌, ℕ, zero, suc, List, [], ◌∷◌, length, map, set, take, drop, get_or, reverse, slice_get, Bool, true, false, Option, None, Some, option_map, Result, Ok, refl, sym, ap, ◌∙◌, subst, arith}
+use Rattle.std.proofs.Common.{◌≡◌, ◌==◌, ◌||◌, ◌<◌, ◌≤◌, ◌+◌, ◌++◌, ℕ, zero, suc, List, [], ◌∷◌, length, map, set, take, drop, get_or, slice_get, Bool, true, false, Option, None, Some, option_map, Result, refl, sym, ap, ◌∙◌, subst, arith}
 use Rattle.std.proofs.lemmas.Cmp.{nat_list_eq_equiv}
 use Rattle.std.proofs.lemmas.List.{map-append, take_all, take_more}
 use Rattle.std.specs.Global.{Vec}
 use Rattle.std.specs.List.{AllByRecursion, IsDistinct}
 use Rattle.std.specs.Cmp.Lexicographic.{pointwise}
-use Rattle.jc_types.specs.declared.config.Config.{Config}
 use Rattle.jc_types.specs.declared.refusal.Refusal.{Refusal}
 use Rattle.jc_model.specs.Batches.{is_among}
 use Rattle.jc_model.specs.Cache.{Bytes}
@@ -30,9 +29,8 @@ use Rattle.jc_stripe.specs.declared.ticket.First.TheVariants.{Nobody, Loader, Wr
 use Rattle.jc_stripe.specs.declared.ticket.Reservation.{Reservation}
 use Rattle.jc_stripe.specs.Tickets.{Claim, TicketClaim, asks_loader, asks_writer, change_asked, claim_of}
 use Rattle.jc_cache.specs.declared.session.Session.{Session}
-use Rattle.jc_rounds.specs.declared.answers.Answers.{Answers}
 use Rattle.jc_rounds.specs.declared.answers.Answers.TheVariants.{Loads, Writes}
-use Rattle.jc_rounds.specs.Answers.{AreAnswers, IsToBeAnswered, is_change_of, key_of}
+use Rattle.jc_rounds.specs.Answers.{IsToBeAnswered, key_of}
 use Rattle.jc_rounds.specs.Asking.{reserved_keys}
 use Rattle.jc_rounds.specs.OutsideCalls.{LoadCallAsked, WriteCallAsked, WritesBatch, asked_keys, is_delete, wanted}
 use Rattle.jc_rounds.specs.Rounds.{LoadAll, Round, WriteAll, WriteRound, fault_of, keys_asked}
@@ -205,7 +203,7 @@ module _ {I J : Type 0} {D : I → Type 0} {E : J → Type 0} (loads_all : LoadA
   answered_writes old new deletes kind ts asks returned done fault is are some all fault_is a =
       let calls = map reserved_by ts in
       let b = batch_of deletes ts old new returned a.said some
-          (subst (λ xs. WritesBatch (boxed writes_all) (boxed deletes_all) (boxed write_state) deletes (wanted xs) old.agent.hands.outside.writer returned a.said new.agent.hands.outside.writer) are a.writes) in
+      (subst (λ xs. WritesBatch (boxed writes_all) (boxed deletes_all) (boxed write_state) deletes (wanted xs) old.agent.hands.outside.writer returned a.said new.agent.hands.outside.writer) are a.writes) in
       let r : WriteRound = record { batch = b.0; returned = returned; said = a.said } in
       subst (λ k. Answered loads_all load_state writes_all deletes_all write_state old k ts (Writes done) fault new) (sym is) (record {
         round = WriteAll r;
@@ -215,7 +213,7 @@ module _ {I J : Type 0} {D : I → Type 0} {E : J → Type 0} (loads_all : LoadA
         answered = λ config. (
           a.done_are ∙ ap (writes_done key_of a.said) (are ∙ claims_are ts),
           to_be asks_writer (WriteAll r) (reserved_keys calls) ts (all_write deletes ts (subst (λ k. AllByRecursion (λ (t : TicketClaim). fits_first k t.reservation.first ≡ true) ts) is all))
-          (ap (map (λ (c : Bytes × Option Change). c.0)) b.2 ∙ firsts calls) (λ key among. among),
+              (ap (map (λ (c : Bytes × Option Change). c.0)) b.2 ∙ firsts calls) (λ key among. among),
         );
         types = (ap (λ l. option_map (λ b. b.vtable) l) a.loader, a.writer_type);
       })

@@ -58,7 +58,8 @@ pub fn put_all<R: Wait>(
     if entries.len() > BULK_KEYS_MAX {
         return Err(BulkFault::of_whole_call(alloc, Refusal::TooManyKeys));
     }
-    call_all(alloc, rt, cache, session, &Targets::Puts(entries), Kind::Write)
+    let targets = Targets::Puts(entries);
+    call_all(alloc, rt, cache, session, &targets, Kind::Write)
 }
 
 /// Removes many keys, as the session's next call (JSR 107, `javax.cache.Cache.removeAll`). Each key is removed on its own, and the

@@ -1,4 +1,4 @@
-use Rattle.std.proofs.Common.{◌≡◌, length, ap, arith, subst, sym, ◌∙◌}
+use Rattle.std.proofs.Common.{length, ap, arith, subst, sym, ◌∙◌}
 use Rattle.jc_rounds.specs.Ends.{failed_entries, key_ends}
 use Rattle.jc_rounds.specs.Running.{with_rounds}
 use Rattle.jc_rounds.specs.Targets.{ops_of}
@@ -52,8 +52,7 @@ pub returns-clause-failed : goal.returns-clause-failed
 returns-clause-failed g c =
     let ops = ops_of c.args.targets.now in
     let new = c.new-call.ensures.new c.args.cache.now.config.stripes c.requires.room.0.rooms in
-    let runs = c.run_rounds.ensures.runs (begun c.args.session.now) (first_run c.args.cache.now c.args.session.now c.next_call.new.self c.args.targets.now c.new-call.result c.requires.may c.requires.distinct new c.next_call.ensures.call) in
-    (
+    let runs = c.run_rounds.ensures.runs (begun c.args.session.now) (first_run c.args.cache.now c.args.session.now c.next_call.new.self c.args.targets.now c.new-call.result c.requires.may c.requires.distinct new c.next_call.ensures.call) in (
       c.add_failed.ensures ∙ ap (λ ps. failed_entries (key_ends ops ps)) c.as_slice.ensures.value,
       ap (λ v. length v.items) c.end-progress.ensures.0 ∙ runs.run.between.on.under.so_far.many ∙ ap (λ t. length (ops_of t)) (ap (λ t. t.now) runs.targets ∙ new.targets_are),
     )

@@ -15,8 +15,8 @@ get_keys-requires-clause-distinct g c = subst (IsDistinct (pointwise ◌==◌)) 
 
 pub get_keys-requires-clause-room : goal.get_keys-requires-clause-room
 get_keys-requires-clause-room g c =
-    own_room Load c.len.result c.config.result.now.stripes c.in-Ok.room (get_ops c.as_slice.result.now) c.in-Ok.ensures.room
-    (c.len.ensures.len ∙ ap length (sym c.as_slice.ensures.keys) ∙ sym (as_many (λ k. (k, Get)) c.as_slice.result.now)) (same_asks Load Get c.as_slice.result.now (inl refl))
+    own_room Load c.len-2.result c.config.result.now.stripes c.args.cache.now.config.stripes c.in-Ok.room (get_ops c.as_slice.result.now) c.in-Ok.ensures.room
+    (c.len-2.ensures.len ∙ ap length (sym c.as_slice.ensures.keys) ∙ sym (as_many (λ k. (k, Get)) c.as_slice.result.now)) (ap (λ config. config.stripes) c.config.ensures.config) (same_asks Load Get c.as_slice.result.now (inl refl))
 
 pub returns-in-Ok-clause-ok : goal.returns-in-Ok-clause-ok
 returns-in-Ok-clause-ok g c =

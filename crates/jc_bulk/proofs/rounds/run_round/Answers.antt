@@ -1,4 +1,4 @@
-use Rattle.std.proofs.Common.{◌∙◌, [], length, ap, refl, sym}
+use Rattle.std.proofs.Common.{◌∙◌, length, ap, refl, sym}
 use Rattle.jc_rounds.specs.Underway.{with_round}
 use Rattle.jc_rounds.proofs.CallerLemmas.{no_items, nobody_asked}
 use Rattle.jc_bulk.proofs.Filling.{may_fill}
@@ -37,8 +37,8 @@ commit-requires g c =
         with_round r.0 asked.asked.round,
         asked.asked.round,
         answered_call (λ v. (goal.CacheLoader-dyn g v).loads_all v.1) (λ v. (goal.CacheLoader-dyn g v).load_state v.1) (λ v. (goal.CacheWriter-dyn g v).writes_all v.1) (λ v. (goal.CacheWriter-dyn g v).deletes_all v.1) (λ v. (goal.CacheWriter-dyn g v).write_state v.1)
-        c.args.cache.now r.0 c.args.session.now c.start.new.session c.ask_for-answers.new.session c.args.call.now c.start.new.self _ c.note.new.self c.args.outside c.ask_for-answers.new.tickets c.ask_for-answers.result.0 c.ask_for-answers.result.1 c.requires.ready
-        (c.start.ensures.started r.0 r.1.between) c.start.ensures.advances (λ none. c.if-len-eq0.false (c.len.ensures ∙ c.start.new.self.tickets.ok.0 ∙ ap length none)) c.ask_for-answers.ensures.tickets refl c.note.ensures asked,
+            c.args.cache.now r.0 c.args.session.now c.start.new.session c.ask_for-answers.new.session c.args.call.now c.start.new.self _ c.note.new.self c.args.outside c.ask_for-answers.new.tickets c.ask_for-answers.result.0 c.ask_for-answers.result.1 c.requires.ready
+            (c.start.ensures.started r.0 r.1.between) c.start.ensures.advances (λ none. c.if-len-eq0.false (c.len.ensures ∙ c.start.new.self.tickets.ok.0 ∙ ap length none)) c.ask_for-answers.ensures.tickets refl c.note.ensures asked,
       );
     }
 
@@ -51,9 +51,9 @@ pick_up-requires-2 g c =
       committed = (
         past,
         c.commit.ensures.committed past asked.asked.round
-        (answered_call (λ v. (goal.CacheLoader-dyn g v).loads_all v.1) (λ v. (goal.CacheLoader-dyn g v).load_state v.1) (λ v. (goal.CacheWriter-dyn g v).writes_all v.1) (λ v. (goal.CacheWriter-dyn g v).deletes_all v.1) (λ v. (goal.CacheWriter-dyn g v).write_state v.1)
-        c.args.cache.now r.0 c.args.session.now c.start.new.session c.ask_for-answers.new.session c.args.call.now c.start.new.self _ c.note.new.self c.args.outside c.ask_for-answers.new.tickets c.ask_for-answers.result.0 c.ask_for-answers.result.1 c.requires.ready
-        (c.start.ensures.started r.0 r.1.between) c.start.ensures.advances (λ none. c.if-len-eq0.false (c.len.ensures ∙ c.start.new.self.tickets.ok.0 ∙ ap length none)) c.ask_for-answers.ensures.tickets refl c.note.ensures asked),
+            (answered_call (λ v. (goal.CacheLoader-dyn g v).loads_all v.1) (λ v. (goal.CacheLoader-dyn g v).load_state v.1) (λ v. (goal.CacheWriter-dyn g v).writes_all v.1) (λ v. (goal.CacheWriter-dyn g v).deletes_all v.1) (λ v. (goal.CacheWriter-dyn g v).write_state v.1)
+            c.args.cache.now r.0 c.args.session.now c.start.new.session c.ask_for-answers.new.session c.args.call.now c.start.new.self _ c.note.new.self c.args.outside c.ask_for-answers.new.tickets c.ask_for-answers.result.0 c.ask_for-answers.result.1 c.requires.ready
+            (c.start.ensures.started r.0 r.1.between) c.start.ensures.advances (λ none. c.if-len-eq0.false (c.len.ensures ∙ c.start.new.self.tickets.ok.0 ∙ ap length none)) c.ask_for-answers.ensures.tickets refl c.note.ensures asked),
       );
     }
 

@@ -1,4 +1,4 @@
-use Rattle.std.proofs.Common.{◌≡◌, ◌≤◌, ◌<◌, ◌+◌, ◌-◌, ◌++◌, ◌∷◌, [], length, take, get_or, slice_set, sym, ap, ◌∙◌, arith}
+use Rattle.std.proofs.Common.{◌≡◌, ◌<◌, ◌+◌, ◌-◌, ◌++◌, ◌∷◌, [], length, take, get_or, slice_set, sym, ap, ◌∙◌, arith}
 use Rattle.jc_model.specs.Batches.{is_among}
 use Rattle.jc_rounds.specs.OutsideCalls.{asked_keys}
 use Rattle.jc_bulk.specs.Outside.{items_in, kind_in, with_ask}
