@@ -1,6 +1,7 @@
-mod SoFar
-mod Underway
 mod Runs
-mod Once
+mod RunEach
+mod RoundAsked
+mod InvokeRound
 mod KeyResults
-mod Whole
+mod InvokeRounds
+mod Invoked

@@ -2,14 +2,15 @@
 --     result_of        a key's result, by how it ended: its value, its fault or its refusal; a processor that gives none has no result
 --     result_at        that of a key that is so far
 --     result_entries   each key that has a result, with it, in the call's order
---     IsInvokedAll     a session's next call, carried out for these keys, each of which ended in one way, with these calls outside
+--     IsInvokedAll     a session's next call, carried out for these keys, each of which ended in one way, in rounds that asked this outside
 --     IsRefusedWhole   a call with too many keys, or one for which an allocation failed: nothing changes
 use Rattle.std.specs.declared.dyn_box.DynBox.{DynBox}
-use Rattle.std.specs.Prelude.{◌≡◌, ◌≤◌, ◌<◌, ◌⊎◌, ℕ, List, [], false, Option, None, Some, Result, Ok, Err, All}
+use Rattle.std.specs.Prelude.{◌≡◌, ◌≤◌, ◌<◌, ◌⊎◌, ℕ, List, map, Option, None, Some, Result, Ok, Err}
 use Rattle.jc_types.specs.declared.limits.TheConstants.{BULK_KEYS_MAX}
 use Rattle.jc_types.specs.declared.refusal.Refusal.{Refusal}
-use Rattle.jc_types.specs.declared.refusal.Refusal.TheVariants.{HistoryFull, OutOfMemory, TooManyKeys}
+use Rattle.jc_types.specs.declared.refusal.Refusal.TheVariants.{OutOfMemory, TooManyKeys}
 use Rattle.jc_model.specs.Cache.{Bytes}
+use Rattle.jc_model.specs.declared.event.Op.TheVariants.{Invoke}
 use Rattle.jc_model.specs.declared.event.Reply.{Reply}
 use Rattle.jc_model.specs.declared.event.Reply.TheVariants as reply
 use Rattle.jc_outside.specs.Calling.{LoadRelation}
@@ -18,17 +19,14 @@ use Rattle.jc_mutentry.specs.Running.{ProcessRelation}
 use Rattle.jc_session.specs.Boxed.{boxed}
 use Rattle.jc_engine.specs.Asking.{KeepsTypes}
 use Rattle.jc_cache.specs.Caches.{CacheState}
-use Rattle.jc_cache.specs.Calls.{next_call}
 use Rattle.jc_cache.specs.declared.session.Session.{Session}
-use Rattle.jc_bulk.specs.declared.progress.Progress.{Progress}
-use Rattle.jc_bulk.specs.declared.progress.Progress.TheVariants.{Waiting, Reserved, Joined, Ended}
-use Rattle.jc_bulk.specs.Bulk.{WasNearFull}
-use Rattle.jc_bulk.specs.Ends.{KeyEnd, entries_by, key_ops}
-use Rattle.jc_bulk.specs.Recorded.{former_steps, steps_of}
-use Rattle.jc_bulk.specs.Seats.{HasGrown, view_at, view_of}
-use Rattle.jc_bulk.specs.SoFar.{is_due}
-use Rattle.jc_invoke.specs.Keys.{HasEnded, invoke_ops}
-use Rattle.jc_invoke.specs.Runs.{CallsEach, InvokeRound, IsRunOf, IsShown, RunsEachOnce, all_runs}
+use Rattle.jc_rounds.specs.declared.progress.Progress.{Progress}
+use Rattle.jc_rounds.specs.declared.progress.Progress.TheVariants.{Waiting, Reserved, Joined, Ended}
+use Rattle.jc_rounds.specs.Ends.{KeyEnd, entries_by}
+use Rattle.jc_rounds.specs.Rounds.{ProcessAll, ProcessRound}
+use Rattle.jc_rounds.specs.Running.{IsCarriedOut}
+use Rattle.jc_rounds.specs.Targets.{ops_with}
+use Rattle.jc_invoke.specs.Runs.{CallsEach}
 
 abbrev pub result_of : Result Reply Refusal → Option (Result Bytes Refusal)
 result_of (Err refusal) = Some (Err refusal)
@@ -54,20 +52,12 @@ pub record IsInvokedAll
     (writes_all : WriteAllRelation ((j : J) × E j)) (deletes_all : DeleteAllRelation ((j : J) × E j)) (write_state : (j : J) × E j → List ℕ)
     (processes : ProcessRelation (DynBox P Z F)) (process_state : DynBox P Z F → List ℕ)
     (cache : CacheState) (old : Session I J D E) (keys : List Bytes) (args : List Bytes) (processor : DynBox P Z F)
-    (ends : List KeyEnd) (rounds : List InvokeRound) (new : Session I J D E) (processor' : DynBox P Z F) : Type 0 where
-  pub keys_are : key_ops ends ≡ invoke_ops keys
-  pub grown : (i : ℕ) → HasGrown (view_at old.seats.items i) (view_at new.seats.items i)
-  pub each : All (λ (e : KeyEnd). HasEnded (IsRunOf cache.config.write_through rounds) (next_call old).agent.caller (view_of cache.config.stripes old.seats.items e.key) (view_of cache.config.stripes new.seats.items e.key) e.key e.ended) ends
-  pub refused : All (λ (e : KeyEnd). e.ended ≡ Err HistoryFull → WasNearFull (next_call old).agent.caller (view_of cache.config.stripes old.seats.items e.key) (view_of cache.config.stripes new.seats.items e.key)) ends
-  pub others : (key : Bytes) (i : ℕ) → is_due cache.config.stripes (invoke_ops keys) key i ≡ false → steps_of (next_call old).agent.caller key (view_at new.seats.items i).own ≡ []
-  pub former : (i : ℕ) → former_steps (next_call old).agent.caller (view_at new.seats.items i).own ≡ former_steps (next_call old).agent.caller (view_at old.seats.items i).own
+    (ends : List KeyEnd) (rounds : List ProcessRound) (new : Session I J D E) (processor' : DynBox P Z F) : Type 0 where
+  pub carried : IsCarriedOut cache old (ops_with Invoke keys) ends (map ProcessAll rounds) new
   pub calls : CallsEach processes process_state (boxed loads) (boxed load_state) (boxed writes_all) (boxed deletes_all) (boxed write_state) args cache.config.write_through
       processor old.agent.hands.outside.loader old.agent.hands.outside.writer rounds processor' new.agent.hands.outside.loader new.agent.hands.outside.writer
-  pub once : RunsEachOnce keys rounds
-  pub shown : All (IsShown cache.config) (all_runs rounds)
   pub types : KeepsTypes old.agent new.agent
   pub processor_type : processor'.vtable ≡ processor.vtable
-  pub left : new.agent ≡ record (next_call old).agent { counts = new.agent.counts; hands = new.agent.hands }
 
 -- `keys` is how many keys it has
 abbrev pub IsRefusedWhole : {S P : Type 0} → S → P → ℕ → Refusal → S → P → Type 0

@@ -1,5 +1,5 @@
 pub mod Runs
-pub mod Keys
-pub mod Room
 pub mod RoundRooms
+pub mod Processing
+pub mod InvokeRounds
 pub mod Invoke

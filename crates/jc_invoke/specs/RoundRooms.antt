@@ -1,24 +1,27 @@
 -- What a round takes in memory before its first phase.
---     IsRoomFor     room for so many keys, and nothing in it yet
---     IsMemoryFor   the same of what a whole call takes: none of its keys was begun
-use Rattle.std.specs.Prelude.{◌≡◌, ◌≤◌, ℕ, [], true, false, vec_capacity}
+--     IsRoomFor     room for so many keys, and nothing in it yet, in a cache that writes through or doesn't
+--     IsMemoryFor   the memory of a whole call for these keys, in a cache of this shape: none of them was started
+use Rattle.std.specs.Prelude.{◌≡◌, ◌≤◌, ℕ, List, [], length, Bool, true, false, vec_capacity}
 use Rattle.indexmap.specs.IndexMap.{spare}
-use Rattle.jc_bulk.specs.KeyProgress.{all_waiting}
+use Rattle.jc_types.specs.declared.config.Config.{Config}
+use Rattle.jc_model.specs.Cache.{Bytes}
+use Rattle.jc_model.specs.declared.event.Op.{Op}
+use Rattle.jc_rounds.specs.OutsideCalls.{no_writes}
+use Rattle.jc_rounds.specs.Targets.{ops_of}
+use Rattle.jc_rounds.specs.Underway.{IsNew}
 use Rattle.jc_invoke.specs.declared.invoking.Memory.{Memory}
 use Rattle.jc_invoke.specs.declared.room.RoundRoom.{RoundRoom}
-use Rattle.jc_invoke.specs.Room.{no_asks}
 
-pub record IsRoomFor (keys : ℕ) (room : RoundRoom) : Type 0 where
-  pub most_is : room.most ≡ keys
-  pub no_tickets : room.tickets.items ≡ []
+pub record IsRoomFor (keys : ℕ) (through : Bool) (room : RoundRoom) : Type 0 where
+  pub through_is : room.through ≡ through
   pub no_runs : room.runs.items ≡ []
-  pub tickets_room : keys ≤ vec_capacity room.tickets
   pub runs_room : keys ≤ vec_capacity room.runs
-  pub writes_are : room.writes ≡ no_asks false keys
-  pub deletes_are : room.deletes ≡ no_asks true keys
+  pub writes_are : room.writes ≡ no_writes false keys
+  pub deletes_are : room.deletes ≡ no_writes true keys
 
-pub record IsMemoryFor (keys : ℕ) (memory : Memory) : Type 0 where
+pub record IsMemoryFor (targets : List (Bytes × Op)) (config : Config) (memory : Memory) : Type 0 where
   pub no_results : memory.results.entries ≡ []
-  pub results_room : keys ≤ spare memory.results
-  pub progress_is : memory.progress.items ≡ all_waiting keys
-  pub room_is : IsRoomFor keys memory.room
+  pub results_room : length targets ≤ spare memory.results
+  pub targets_are : ops_of memory.call.targets.now ≡ targets
+  pub call_is : IsNew memory.call.targets.now config.stripes memory.call
+  pub room_is : IsRoomFor memory.call.most config.write_through memory.room

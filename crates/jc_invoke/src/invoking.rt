@@ -1,27 +1,27 @@
 //! `invoke` and `invokeAll`: entry processors on a cache.
-ghost use Rattle.std.specs.Prelude.{◌≡◌, ◌==◌, ◌≤◌, List, length, Result, IfOk, IfErr};
-ghost use Rattle.std.specs.List.{IsDistinct};
-ghost use Rattle.std.specs.Cmp.Lexicographic.{pointwise};
+ghost use Rattle.std.specs.Prelude.{◌≡◌, ◌≤◌, List, length, Result, IfOk, IfErr};
 ghost use Rattle.jc_types.specs.declared.limits.TheConstants.{BULK_KEYS_MAX};
 ghost use Rattle.jc_types.specs.declared.refusal.Refusal.{Refusal};
+ghost use Rattle.jc_model.specs.declared.event.Op.TheVariants.{Invoke};
 ghost use Rattle.jc_model.specs.declared.event.Reply.{Reply};
 ghost use Rattle.jc_cache.specs.Calls.{Invoked, value_in};
 ghost use Rattle.jc_cache.specs.Sessions.{MayCall};
-ghost use Rattle.jc_bulk.specs.Ends.{KeyEnd, key_ends};
-ghost use Rattle.jc_bulk.specs.KeyProgress.{all_waiting};
+ghost use Rattle.jc_rounds.specs.Ends.{KeyEnd};
+ghost use Rattle.jc_rounds.specs.Rounds.{ProcessRound};
+ghost use Rattle.jc_rounds.specs.Targets.{ops_of, ops_with};
 ghost use Rattle.jc_invoke.specs.Invoke.{IsInvokedAll, IsRefusedWhole, result_entries};
-ghost use Rattle.jc_invoke.specs.Keys.{invoke_ops};
-ghost use Rattle.jc_invoke.specs.RoundRooms.{IsMemoryFor, IsRoomFor};
-ghost use Rattle.jc_invoke.specs.Runs.{InvokeRound};
+ghost use Rattle.jc_invoke.specs.RoundRooms.{IsMemoryFor};
 
 use crate::results::fill_results;
 use crate::room::RoundRoom;
 use crate::rounds::run_rounds;
+use crate::run::Processing;
 use indexmap::{IndexMap, IndexSet};
-use jc_bulk::{Progress, all_waiting};
 use jc_cache::{Cache, Session};
+use jc_model::{Op, Reply};
 use jc_mutentry::EntryProcessor;
-use jc_types::{BULK_KEYS_MAX, Key, Refusal, Value};
+use jc_rounds::{BulkCall, Rooms, Targets};
+use jc_types::{BULK_KEYS_MAX, Config, Key, Refusal, Value};
 use std::alloc::{AllocError, Global};
 use std::sync::Wait;
 
@@ -84,7 +84,7 @@ pub fn invoke_all<R: Wait>(
     requires may { MayCall cache.now session.old }
     ensures may { MayCall cache.now session.new }
     ensures ok { IfOk result (λ results. (length keys.now.keys ≤ BULK_KEYS_MAX)
-        × (ends : List KeyEnd) × (rounds : List InvokeRound)
+        × (ends : List KeyEnd) × (rounds : List ProcessRound)
         × IsInvokedAll loads load_state writes_all deletes_all write_state processes process_state
         cache.now session.old keys.now.keys args.now processor.old ends rounds session.new processor.new
         × (results.entries ≡ result_entries ends)) }
@@ -94,100 +94,83 @@ pub fn invoke_all<R: Wait>(
     if keys.len() > BULK_KEYS_MAX {
         return Err(Refusal::TooManyKeys);
     }
-    match memory_for(alloc, keys.len()) {
-        Ok(memory) => Ok(carry_out(alloc, rt, cache, session, keys, memory, processor, args)),
+    let targets = Targets::Each(keys.as_slice(), Op::Invoke);
+    match memory_for(alloc, cache.config(), &targets) {
+        Ok(memory) => {
+            let mut processing = Processing {
+                alloc,
+                processor,
+                args,
+            };
+            Ok(carry_out(rt, cache, session, keys, memory, &mut processing))
+        }
         Err(_failed) => Err(Refusal::OutOfMemory),
     }
 }
 
 /// Carries out the session's next call, for these keys. It returns their results.
 fn carry_out<R: Wait>(
-    alloc: Global,
     rt: &R,
     cache: &Cache,
     session: &mut Session,
     keys: &IndexSet<Key>,
-    memory: Memory,
-    processor: &mut Box<dyn EntryProcessor + Send + Drop>,
-    args: &[Value],
+    memory: Memory<'_>,
+    processing: &mut Processing<'_>,
 ) -> IndexMap<Key, Result<Value, Refusal>>
     requires may { MayCall cache.now session.old }
-    requires memory { IsMemoryFor (length keys.now.keys) memory }
+    requires memory { IsMemoryFor (ops_with Invoke keys.now.keys) cache.now.config memory }
     ensures may { MayCall cache.now session.new }
-    ensures invoked { (ends : List KeyEnd) × (rounds : List InvokeRound)
+    ensures invoked { (ends : List KeyEnd) × (rounds : List ProcessRound)
         × IsInvokedAll loads load_state writes_all deletes_all write_state processes process_state
-        cache.now session.old keys.now.keys args.now processor.old ends rounds session.new processor.new
+        cache.now session.old keys.now.keys processing.old.args.now processing.old.processor.now
+        ends rounds session.new processing.new.processor.now
         × (result.entries ≡ result_entries ends) }
+    ensures same { processing.new.processor.ghost_name ≡ processing.old.processor.ghost_name }
 {
+    let _types: Option<&(Reply, Value)> = None;
     let Memory {
         results,
-        progress,
+        call,
         room,
     } = memory;
-    let slice = keys.as_slice();
     let mut results = results;
-    let mut progress = progress;
-    begin_and_run(
-        alloc,
-        rt,
-        cache,
-        session,
-        slice,
-        progress.as_mut_slice(),
-        room,
-        processor,
-        args,
-    );
+    let mut call = call;
+    let slice = keys.as_slice();
+    session.next_call();
+    run_rounds(rt, cache, session, &mut call, room, processing);
+    let (progress, _cause) = call.end();
     fill_results(&mut results, slice, progress.as_slice());
     results
 }
 
-/// Begins the session's next call, and runs its rounds: `progress` says how each key ended.
-fn begin_and_run<R: Wait>(
-    alloc: Global,
-    rt: &R,
-    cache: &Cache,
-    session: &mut Session,
-    keys: &[Key],
-    progress: &mut [Progress],
-    room: RoundRoom,
-    processor: &mut Box<dyn EntryProcessor + Send + Drop>,
-    args: &[Value],
-)
-    requires may { MayCall cache.now session.old }
-    requires distinct { IsDistinct (pointwise ◌==◌) keys.now }
-    requires new { progress.old ≡ all_waiting (length keys.now) }
-    requires room { IsRoomFor (length keys.now) room }
-    ensures may { MayCall cache.now session.new }
-    ensures whole { length progress.new ≡ length keys.now }
-    ensures invoked { (rounds : List InvokeRound)
-        × IsInvokedAll loads load_state writes_all deletes_all write_state processes process_state
-        cache.now session.old keys.now args.now processor.old
-        (key_ends (invoke_ops keys.now) progress.new) rounds session.new processor.new }
-{
-    session.next_call();
-    run_rounds(
-        alloc, rt, cache, session, keys, progress, room, processor, args,
-    );
-}
-
 /// What a call takes in memory before its first phase. It can't be dropped.
-struct Memory {
+struct Memory<'a> {
     results: IndexMap<Key, Result<Value, Refusal>>,
-    progress: Vec<Progress>,
+    call: BulkCall<'a>,
     room: RoundRoom,
 }
 
-/// The memory for so many keys, none of which was begun. An `Err` says that an allocation failed.
-fn memory_for(alloc: Global, keys: usize) -> Result<Memory, AllocError>
-    ensures { IfOk result (λ memory. IsMemoryFor keys memory) }
+/// The memory of a call for these keys, none of which was started, in a cache of this shape. An `Err` says that an allocation failed.
+fn memory_for<'a>(
+    alloc: Global,
+    config: &Config,
+    targets: &'a Targets<'a>,
+) -> Result<Memory<'a>, AllocError>
+    ensures { IfOk result (λ memory. IsMemoryFor (ops_of targets.now) config.now memory) }
 {
+    let keys = targets.len();
     let results = IndexMap::with_capacity(alloc, keys)?;
-    let progress = all_waiting(alloc, keys)?;
-    let room = RoundRoom::new(alloc, keys)?;
-    Ok(Memory {
-        results,
-        progress,
-        room,
-    })
+    let rooms = Rooms::new(alloc, keys, config.stripes)?;
+    let call = BulkCall::new(targets, rooms);
+    match RoundRoom::new(alloc, config.write_through, call.most()) {
+        Ok(room) => Ok(Memory {
+            results,
+            call,
+            room,
+        }),
+        Err(failed) => {
+            let (_progress, _cause) = call.end();
+            Err(failed)
+        }
+    }
 }

@@ -1,11 +1,9 @@
 //! Entry processors on a cache that threads share (JSR 107, `javax.cache.Cache`): `invoke` and `invokeAll`.
 #![tactic(auto)]
 
-mod batch_call;
 mod invoking;
 mod results;
 mod room;
-mod round;
 mod rounds;
 mod run;
 

@@ -4,14 +4,15 @@ ghost use Rattle.std.specs.List.{IsDistinct, cons_option, list_any};
 ghost use Rattle.std.specs.Map.{keys_of};
 ghost use Rattle.std.specs.Cmp.Lexicographic.{pointwise};
 ghost use Rattle.indexmap.specs.IndexMap.{spare};
-ghost use Rattle.jc_bulk.specs.Ends.{key_ends};
+ghost use Rattle.jc_model.specs.declared.event.Op.TheVariants.{Invoke};
+ghost use Rattle.jc_rounds.specs.Ends.{key_ends};
 ghost use Rattle.jc_invoke.specs.Invoke.{result_at, result_entries, result_of};
-ghost use Rattle.jc_invoke.specs.Keys.{invoke_ops};
+ghost use Rattle.jc_rounds.specs.Targets.{ops_with};
 
 use indexmap::IndexMap;
 use jc_batch::insert_new;
-use jc_bulk::Progress;
 use jc_model::Reply;
+use jc_rounds::Progress;
 use jc_types::{Key, Refusal, Value};
 
 /// A key's result, by how it ended. A processor that gives none has no result.
@@ -46,7 +47,7 @@ pub(crate) fn fill_results(
     requires none { results.old.entries ≡ [] }
     requires many { length progress.now ≡ length keys.now }
     requires room { length keys.now ≤ spare results.old }
-    ensures { results.new.entries ≡ result_entries (key_ends (invoke_ops keys.now) progress.now) }
+    ensures { results.new.entries ≡ result_entries (key_ends (ops_with Invoke keys.now) progress.now) }
 {
     for place in 0..progress.len() {
         insert_result(results, &keys[place], &progress[place]);

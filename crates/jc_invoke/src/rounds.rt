@@ -1,115 +1,111 @@
-//! All rounds of a call of many keys, each with a processor.
-ghost use Rattle.std.specs.Prelude.{◌≡◌, ◌==◌, ◌++◌, [], List, ℕ, length};
-ghost use Rattle.std.specs.List.{IsDistinct};
-ghost use Rattle.std.specs.Cmp.Lexicographic.{pointwise};
-ghost use Rattle.atomic_table.specs.Seated.{TableId};
-ghost use Rattle.jc_types.specs.declared.caller.Caller.{Caller};
-ghost use Rattle.jc_lock.specs.declared.view.View.{View};
-ghost use Rattle.jc_session.specs.Boxed.{boxed};
-ghost use Rattle.jc_engine.specs.Asking.{KeepsTypes};
-ghost use Rattle.jc_bulk.specs.KeyProgress.{StayEnded, StillWaits};
-ghost use Rattle.jc_invoke.specs.Keys.{HasRun, IsUnderway};
+//! All rounds of a call with many keys, each with a processor.
+ghost use Rattle.std.specs.Prelude.{◌≡◌, ◌≤◌, ℕ, Bool, Option, IfOk, IfSome};
+ghost use Rattle.jc_rounds.specs.Underway.{IsOver};
+ghost use Rattle.jc_invoke.specs.InvokeRounds.{HasMadeRound, HasMadeRounds, MayMakeRound};
 ghost use Rattle.jc_invoke.specs.RoundRooms.{IsRoomFor};
-ghost use Rattle.jc_invoke.specs.Runs.{CallsEach, InvokeRound, IsRunOf};
 
 use crate::room::RoundRoom;
-use crate::round::run_round;
-use jc_bulk::{Progress, first_waiting, refuse_rest};
+use crate::run::Processing;
 use jc_cache::{Cache, Session};
-use jc_mutentry::EntryProcessor;
-use jc_types::{Key, Value};
-use std::alloc::Global;
+use jc_rounds::BulkCall;
+use std::alloc::{AllocError, Global};
 use std::sync::Wait;
 
 /// All rounds, until each key has ended.
 ///
-/// Between two rounds it waits for a change on the stripe of a key that was put off, with no reservation out. Nothing says that it
-/// returns. The memory of a later round is taken before its first phase.
+/// Between two rounds it pauses until something has changed on the stripe of a key that was put off, with no reservation out. Nothing
+/// says that it returns. The memory for what a later round asks outside is taken before its first phase; if it can't be, each key that
+/// waits is refused.
 pub(crate) fn run_rounds<R: Wait>(
-    alloc: Global,
     rt: &R,
     cache: &Cache,
     session: &mut Session,
-    keys: &[Key],
-    progress: &mut [Progress],
+    call: &mut BulkCall<'_>,
     room: RoundRoom,
-    processor: &mut Box<dyn EntryProcessor + Send + Drop>,
-    args: &[Value],
+    processing: &mut Processing<'_>,
 )
-    requires distinct { IsDistinct (pointwise ◌==◌) keys.now }
-    requires room { IsRoomFor (length keys.now) room }
-    requires underway { (caller : Caller) × (first : List (TableId × View))
-        × IsUnderway (IsRunOf cache.now.config.write_through []) cache.now caller keys.now first session.old progress.old [] }
-    ensures agent { session.new.agent ≡ record session.old.agent {
-      counts = session.new.agent.counts;
-      hands = session.new.agent.hands;
-    } }
-    ensures over { (place : ℕ) → StillWaits progress.new place → ⊥ }
-    ensures types { KeepsTypes session.old.agent session.new.agent × (processor.new.vtable ≡ processor.old.vtable) }
-    ensures underway { (caller : Caller) (first : List (TableId × View))
-        → IsUnderway (IsRunOf cache.now.config.write_through []) cache.now caller keys.now first session.old progress.old []
-        → (rounds : List InvokeRound)
-        × CallsEach processes process_state (boxed loads) (boxed load_state)
-        (boxed writes_all) (boxed deletes_all) (boxed write_state) args.now cache.now.config.write_through
-        processor.old session.old.agent.hands.outside.loader session.old.agent.hands.outside.writer rounds
-        processor.new session.new.agent.hands.outside.loader session.new.agent.hands.outside.writer
-        × IsUnderway (IsRunOf cache.now.config.write_through rounds) cache.now caller keys.now first session.new progress.new []
-        × HasRun cache.now.config keys.now rounds progress.new }
+    requires may { MayMakeRound cache.now session.old call.old room }
+    ensures over { IsOver call.new }
+    ensures made { HasMadeRounds loads load_state writes_all deletes_all write_state processes process_state
+        processing.old.args.now cache.now session.old call.old processing.old.processor.now
+        session.new call.new processing.new.processor.now }
+    ensures same { (processing.new.processor.ghost_name ≡ processing.old.processor.ghost_name)
+        × (processing.new.args ≡ processing.old.args) }
 {
-    run_round(rt, cache, session, keys, progress, room, processor, args);
+    let mut room = room;
     for _ in rt.forever() {
-        let Some(place) = first_waiting(progress) else {
+        let left = run_round(rt, cache, session, call, room, processing);
+        if !call.wait(rt, cache, session) {
+            end_room(left);
             return;
-        };
-        run_later_round(
-            alloc, rt, cache, session, keys, progress, place, processor, args,
-        );
+        }
+        match next_room(
+            processing.alloc,
+            cache.config().write_through,
+            call.most(),
+            left,
+        ) {
+            Ok(next) => room = next,
+            Err(_failed) => {
+                call.refuse_rest();
+                return;
+            }
+        }
     }
     unreachable!()
 }
 
-/// A later round, after a pause for the key of this place, which was put off. If there is no memory for it, each key that waits is
-/// refused.
-fn run_later_round<R: Wait>(
-    alloc: Global,
+/// One round: its first phases, what it asks outside, and its last phases. It returns the memory for what it asks outside if it has
+/// asked nobody.
+fn run_round<R: Wait>(
     rt: &R,
     cache: &Cache,
     session: &mut Session,
-    keys: &[Key],
-    progress: &mut [Progress],
-    place: usize,
-    processor: &mut Box<dyn EntryProcessor + Send + Drop>,
-    args: &[Value],
-)
-    requires distinct { IsDistinct (pointwise ◌==◌) keys.now }
-    requires waits { StillWaits progress.old place }
-    requires underway { (caller : Caller) × (rounds : List InvokeRound) × (first : List (TableId × View))
-        × IsUnderway (IsRunOf cache.now.config.write_through rounds) cache.now caller keys.now first
-        session.old progress.old [] }
-    ensures stay { StayEnded progress.old progress.new }
-    ensures agent { session.new.agent ≡ record session.old.agent {
-      counts = session.new.agent.counts;
-      hands = session.new.agent.hands;
-    } }
-    ensures types { KeepsTypes session.old.agent session.new.agent × (processor.new.vtable ≡ processor.old.vtable) }
-    ensures underway { (caller : Caller) (rounds : List InvokeRound) (first : List (TableId × View))
-        → IsUnderway (IsRunOf cache.now.config.write_through rounds) cache.now caller keys.now first
-        session.old progress.old []
-        → HasRun cache.now.config keys.now rounds progress.old
-        → (more : List InvokeRound)
-        × CallsEach processes process_state (boxed loads) (boxed load_state)
-        (boxed writes_all) (boxed deletes_all) (boxed write_state) args.now cache.now.config.write_through
-        processor.old session.old.agent.hands.outside.loader session.old.agent.hands.outside.writer more
-        processor.new session.new.agent.hands.outside.loader session.new.agent.hands.outside.writer
-        × IsUnderway (IsRunOf cache.now.config.write_through (rounds ++ more)) cache.now caller keys.now first
-        session.new progress.new []
-        × HasRun cache.now.config keys.now (rounds ++ more) progress.new }
+    call: &mut BulkCall<'_>,
+    room: RoundRoom,
+    processing: &mut Processing<'_>,
+) -> Option<RoundRoom>
+    requires may { MayMakeRound cache.now session.old call.old room }
+    ensures made { HasMadeRound loads load_state writes_all deletes_all write_state processes process_state
+        processing.old.args.now cache.now session.old call.old processing.old.processor.now
+        session.new call.new processing.new.processor.now result }
+    ensures same { (processing.new.processor.ghost_name ≡ processing.old.processor.ghost_name)
+        × (processing.new.args ≡ processing.old.args) }
 {
-    match RoundRoom::new(alloc, keys.len()) {
-        Ok(room) => {
-            cache.wait_for_change(rt, session, &keys[place]);
-            run_round(rt, cache, session, keys, progress, room, processor, args);
-        }
-        Err(_failed) => refuse_rest(progress),
+    call.start(rt, cache, session);
+    if call.tickets.len() == 0 {
+        call.pick_up(rt, cache, session);
+        return Some(room);
+    }
+    let answers = room.ask(rt, session, &mut call.tickets, processing);
+    call.commit(rt, cache, session, answers);
+    call.pick_up(rt, cache, session);
+    None
+}
+
+/// The memory for what the next round asks outside: what the last one has left, or as much anew. An `Err` says that an allocation
+/// failed.
+fn next_room(
+    alloc: Global,
+    through: bool,
+    keys: usize,
+    left: Option<RoundRoom>,
+) -> Result<RoundRoom, AllocError>
+    requires { IfSome left (λ room. IsRoomFor keys through room) }
+    ensures { IfOk result (λ room. IsRoomFor keys through room) }
+{
+    match left {
+        Some(room) => Ok(room),
+        None => RoundRoom::new(alloc, through, keys),
+    }
+}
+
+/// Lets go of what the last round has left.
+fn end_room(left: Option<RoundRoom>)
+    requires { (keys : ℕ) × (through : Bool) × IfSome left (λ room. IsRoomFor keys through room) }
+{
+    match left {
+        Some(room) => room.end(),
+        None => {}
     }
 }

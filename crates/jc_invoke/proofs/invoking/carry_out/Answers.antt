@@ -1,22 +1,67 @@
-use Rattle.std.proofs.Common.{length, drop, sym, ap, ◌∙◌}
-use Rattle.std.proofs.lemmas.List.{take_at}
-use Rattle.jc_bulk.proofs.CallerLemmas.{waiting_many}
-use Rattle.jc_invoke.proofs.Whole.{returned_as, returned_for}
+use Rattle.std.proofs.Common.{ap, sym, ◌∙◌, length}
+use Rattle.jc_model.specs.declared.event.Op.TheVariants.{Invoke}
+use Rattle.jc_rounds.specs.Ends.{key_ends}
+use Rattle.jc_rounds.specs.Targets.{ops_with}
+use Rattle.jc_invoke.specs.Invoke.{result_entries}
+use Rattle.jc_invoke.proofs.Invoked.{has_begun, invoked, opened, over}
 use Rattle.jc_invoke.proofs.invoking.carry_out.Goals as goal
+
+pub run_rounds-requires : goal.run_rounds-requires
+run_rounds-requires g c =
+    let m = c.requires.memory in
+    record {
+      may = opened c.args.cache.now c.args.session.now c.next_call.new.self c.args.memory.call c.args.keys.now.keys c.args.memory.room c.requires.may c.next_call.ensures.call m.call_is m.targets_are
+          c.as_slice-slice.ensures.unique m.room_is;
+    }
+
+pub end-progress-requires : goal.end-progress-requires
+end-progress-requires g c =
+    let m = c.requires.memory in
+    let run = has_begun c.args.cache.now c.args.session.now c.next_call.new.self c.args.memory.call c.args.keys.now.keys c.requires.may c.next_call.ensures.call m.call_is m.targets_are
+    c.as_slice-slice.ensures.unique in
+    (over (λ v. (goal.CacheLoader-dyn g v).loads v.1) (λ v. (goal.CacheLoader-dyn g v).load_state v.1)
+    (λ v. (goal.CacheWriter-dyn g v).writes_all v.1) (λ v. (goal.CacheWriter-dyn g v).deletes_all v.1) (λ v. (goal.CacheWriter-dyn g v).write_state v.1)
+    (λ b. (goal.EntryProcessor-dyn g (b.vtable, b.value)).processes b.value) (λ b. (goal.EntryProcessor-dyn g (b.vtable, b.value)).process_state b.value)
+    c.args.processing.now.args.now c.args.cache.now c.args.session.now c.next_call.new.self c.run_rounds.new.session c.args.memory.call c.run_rounds.new.call
+    c.args.processing.now.processor.now c.run_rounds.new.processing.processor.now c.args.keys.now.keys run m.targets_are c.run_rounds.ensures.made).1
+
+pub fill_results-requires-clause-many : goal.fill_results-requires-clause-many
+fill_results-requires-clause-many g c =
+    let m = c.requires.memory in
+    let run = has_begun c.args.cache.now c.args.session.now c.next_call.new.self c.args.memory.call c.args.keys.now.keys c.requires.may c.next_call.ensures.call m.call_is m.targets_are
+    c.as_slice-slice.ensures.unique in
+    ap length c.as_slice.ensures.value ∙ ap (λ v. length v.items) c.end-progress.ensures.0
+    ∙ (over (λ v. (goal.CacheLoader-dyn g v).loads v.1) (λ v. (goal.CacheLoader-dyn g v).load_state v.1)
+    (λ v. (goal.CacheWriter-dyn g v).writes_all v.1) (λ v. (goal.CacheWriter-dyn g v).deletes_all v.1) (λ v. (goal.CacheWriter-dyn g v).write_state v.1)
+    (λ b. (goal.EntryProcessor-dyn g (b.vtable, b.value)).processes b.value) (λ b. (goal.EntryProcessor-dyn g (b.vtable, b.value)).process_state b.value)
+    c.args.processing.now.args.now c.args.cache.now c.args.session.now c.next_call.new.self c.run_rounds.new.session c.args.memory.call c.run_rounds.new.call
+    c.args.processing.now.processor.now c.run_rounds.new.processing.processor.now c.args.keys.now.keys run m.targets_are c.run_rounds.ensures.made).2
+    ∙ sym (ap length c.as_slice-slice.ensures.keys)
+
+pub returns-clause-may : goal.returns-clause-may
+returns-clause-may g c =
+    let m = c.requires.memory in
+    let run = has_begun c.args.cache.now c.args.session.now c.next_call.new.self c.args.memory.call c.args.keys.now.keys c.requires.may c.next_call.ensures.call m.call_is m.targets_are
+    c.as_slice-slice.ensures.unique in
+    (over (λ v. (goal.CacheLoader-dyn g v).loads v.1) (λ v. (goal.CacheLoader-dyn g v).load_state v.1)
+    (λ v. (goal.CacheWriter-dyn g v).writes_all v.1) (λ v. (goal.CacheWriter-dyn g v).deletes_all v.1) (λ v. (goal.CacheWriter-dyn g v).write_state v.1)
+    (λ b. (goal.EntryProcessor-dyn g (b.vtable, b.value)).processes b.value) (λ b. (goal.EntryProcessor-dyn g (b.vtable, b.value)).process_state b.value)
+    c.args.processing.now.args.now c.args.cache.now c.args.session.now c.next_call.new.self c.run_rounds.new.session c.args.memory.call c.run_rounds.new.call
+    c.args.processing.now.processor.now c.run_rounds.new.processing.processor.now c.args.keys.now.keys run m.targets_are c.run_rounds.ensures.made).0
 
 pub returns-clause-invoked : goal.returns-clause-invoked
 returns-clause-invoked g c =
-    let run = c.begin_and_run in
-    let ps = run.new.progress in
-    let was = c.args.memory.progress in
-    let keys = c.as_slice-slice.result.now in
-    let back = take_at ps (drop (length ps) was.items) was.len
-    (run.ensures.whole ∙ ap length c.as_slice-slice.ensures.keys ∙ sym (waiting_many (length c.args.keys.now.keys)) ∙ sym (ap length c.requires.memory.progress_is) ∙ sym was.ok.0) in
-    returned_for (λ v. (goal.CacheLoader-dyn g v).loads v.1) (λ v. (goal.CacheLoader-dyn g v).load_state v.1)
+    let m = c.requires.memory in
+    let run = has_begun c.args.cache.now c.args.session.now c.next_call.new.self c.args.memory.call c.args.keys.now.keys c.requires.may c.next_call.ensures.call m.call_is m.targets_are
+    c.as_slice-slice.ensures.unique in
+    let is = invoked (λ v. (goal.CacheLoader-dyn g v).loads v.1) (λ v. (goal.CacheLoader-dyn g v).load_state v.1)
     (λ v. (goal.CacheWriter-dyn g v).writes_all v.1) (λ v. (goal.CacheWriter-dyn g v).deletes_all v.1) (λ v. (goal.CacheWriter-dyn g v).write_state v.1)
     (λ b. (goal.EntryProcessor-dyn g (b.vtable, b.value)).processes b.value) (λ b. (goal.EntryProcessor-dyn g (b.vtable, b.value)).process_state b.value)
-    c.args.cache.now c.args.session.now run.new.session c.args.keys.now.keys keys c.args.args.now c.args.processor.now run.new.processor c.fill_results.new.results.entries c.as_slice-slice.ensures.keys
-    (returned_as (λ v. (goal.CacheLoader-dyn g v).loads v.1) (λ v. (goal.CacheLoader-dyn g v).load_state v.1)
-    (λ v. (goal.CacheWriter-dyn g v).writes_all v.1) (λ v. (goal.CacheWriter-dyn g v).deletes_all v.1) (λ v. (goal.CacheWriter-dyn g v).write_state v.1)
-    (λ b. (goal.EntryProcessor-dyn g (b.vtable, b.value)).processes b.value) (λ b. (goal.EntryProcessor-dyn g (b.vtable, b.value)).process_state b.value)
-    c.args.cache.now c.args.session.now run.new.session keys c.args.args.now ps c.as_slice.result.now c.args.processor.now run.new.processor c.fill_results.new.results.entries (c.as_slice.ensures.value ∙ back) c.fill_results.ensures run.ensures.invoked)
+    c.args.processing.now.args.now c.args.cache.now c.args.session.now c.next_call.new.self c.run_rounds.new.session c.args.memory.call c.run_rounds.new.call
+    c.args.processing.now.processor.now c.run_rounds.new.processing.processor.now c.args.keys.now.keys run c.next_call.ensures.call m.targets_are c.run_rounds.ensures.over c.run_rounds.ensures.made in
+    let items = c.as_slice.ensures.value ∙ ap (λ v. v.items) c.end-progress.ensures.0 in (
+      key_ends (ops_with Invoke c.args.keys.now.keys) c.run_rounds.new.call.progress.items,
+      is.0,
+      is.1,
+      c.fill_results.ensures ∙ (λ i. result_entries (key_ends (ops_with Invoke (c.as_slice-slice.ensures.keys i)) (items i))),
+    )

@@ -1,9 +1,9 @@
 use Rattle.std.proofs.Common.{◌≡◌, Some, slice_get, sym, ap, ◌∙◌, arith}
 use Rattle.std.proofs.lemmas.Option.{slice_get-get_or}
 use Rattle.jc_model.specs.declared.event.Op.TheVariants.{Invoke}
-use Rattle.jc_invoke.specs.Keys.{invoke_ops}
-use Rattle.jc_invoke.proofs.KeyResults.{results_more, results_new, results_whole}
-use Rattle.jc_invoke.proofs.Underway.{as_many, keys_are, keys_distinct, target_at}
+use Rattle.jc_rounds.specs.Targets.{ops_with}
+use Rattle.jc_invoke.proofs.KeyResults.{as_many, keys_distinct, results_more, results_new, results_whole}
+use Rattle.jc_rounds.proofs.TargetOps.{same_keys}
 use Rattle.jc_invoke.proofs.results.fill_results.Goals as goal
 
 pub insert_result-requires-clause-new : goal.insert_result-requires-clause-new
@@ -11,8 +11,8 @@ insert_result-requires-clause-new c =
     let near = c.loop-place-test.true in
     let many = c.requires.many in
     let there : slice_get c.args.keys.now c.loop-place.place ≡ Some c.index-keys-place.result = slice_get-get_or c.args.keys.now c.loop-place.place c.index-keys-place.result (omega arith) ∙ ap Some (sym c.index-keys-place.is) in
-    results_new (invoke_ops c.args.keys.now) c.args.progress.now c.loop-place.place c.index-keys-place.result c.loop-place.results.entries (keys_distinct c.args.keys.now c.requires.distinct)
-    (ap (λ ks. slice_get ks c.loop-place.place) (keys_are c.args.keys.now) ∙ there) c.loop-place.invariant.filled
+    results_new (ops_with Invoke c.args.keys.now) c.args.progress.now c.loop-place.place c.index-keys-place.result c.loop-place.results.entries (keys_distinct Invoke c.args.keys.now c.requires.distinct)
+    (ap (λ ks. slice_get ks c.loop-place.place) (same_keys Invoke c.args.keys.now) ∙ there) c.loop-place.invariant.filled
 
 pub loop-place-preserved : goal.loop-place-preserved
 loop-place-preserved c =
@@ -22,11 +22,11 @@ loop-place-preserved c =
     let there : slice_get c.args.keys.now c.loop-place.place ≡ Some c.index-keys-place.result = slice_get-get_or c.args.keys.now c.loop-place.place c.index-keys-place.result (omega arith) ∙ ap Some (sym c.index-keys-place.is) in
     record {
       filled = c.insert_result.ensures.entries
-          ∙ results_more (invoke_ops c.args.keys.now) c.args.progress.now c.loop-place.place (c.index-keys-place.result, Invoke) c.index-progress-place.result c.loop-place.results.entries
-          (many ∙ sym (as_many c.args.keys.now)) near (target_at c.args.keys.now c.loop-place.place c.index-keys-place.result there) c.index-progress-place.is old.filled;
+          ∙ results_more (ops_with Invoke c.args.keys.now) c.args.progress.now c.loop-place.place c.index-keys-place.result c.index-progress-place.result c.loop-place.results.entries
+          (many ∙ sym (as_many Invoke c.args.keys.now)) near (ap (λ ks. slice_get ks c.loop-place.place) (same_keys Invoke c.args.keys.now) ∙ there) c.index-progress-place.is old.filled;
       room = omega (arith, old.room, c.insert_result.ensures.room);
     }
 
 pub returns : goal.returns
 returns c =
-    results_whole (invoke_ops c.args.keys.now) c.args.progress.now c.loop-place.place c.loop-place.results.entries (c.requires.many ∙ sym (as_many c.args.keys.now)) (omega (arith, c.loop-place-test.false)) c.loop-place.invariant.filled
+    results_whole (ops_with Invoke c.args.keys.now) c.args.progress.now c.loop-place.place c.loop-place.results.entries (c.requires.many ∙ sym (as_many Invoke c.args.keys.now)) (omega (arith, c.loop-place-test.false)) c.loop-place.invariant.filled

@@ -1,47 +1,90 @@
-use Rattle.std.proofs.Common.{rules, ◌++◌, ◌∷◌, [], ◌∙◌}
-use Rattle.jc_invoke.proofs.Once.{none_run}
-use Rattle.jc_invoke.proofs.Underway.{types_on}
-use Rattle.jc_invoke.proofs.Whole.{calls_then, one_call}
+use Rattle.std.proofs.Common.{refl, subst, ◌∙◌}
+use Rattle.jc_rounds.proofs.Whole.{refused_over}
+use Rattle.jc_invoke.specs.InvokeRounds.{HasMadeRound}
+use Rattle.jc_invoke.specs.RoundRooms.{IsRoomFor}
+use Rattle.jc_invoke.proofs.InvokeRounds.{made_past, may_more, rounds_begin, rounds_more, rounds_refused}
 use Rattle.jc_invoke.proofs.rounds.run_rounds.Goals as goal
 
-pub run_round-requires-clause-room : goal.run_round-requires-clause-room
-run_round-requires-clause-room g c = (_, c.requires.room)
-
-pub run_round-requires-clause-underway : goal.run_round-requires-clause-underway
-run_round-requires-clause-underway g c = (c.requires.underway.0, [], c.requires.underway.1, c.requires.underway.2)
-
 pub loop-init : goal.loop-init
-loop-init g c = (
-  c.run_round.ensures.agent,
-  c.run_round.ensures.types,
-  λ caller first u.
-      let e = c.run_round.ensures.underway caller [] first u (none_run c.args.cache.now.config c.args.keys.now c.args.progress.now) in (
-        e.0 ∷ [],
-        one_call _ _ _ _ _ _ _ c.args.args.now c.args.cache.now.config.write_through e.0 c.args.processor.now c.run_round.new.processor c.args.session.now.agent.hands.outside.loader c.run_round.new.session.agent.hands.outside.loader
-            c.args.session.now.agent.hands.outside.writer c.run_round.new.session.agent.hands.outside.writer e.1,
-        e.2,
-        e.3,
-      ),
-)
+loop-init g c = record {
+  may = c.requires.may;
+  made = rounds_begin (λ v. (goal.CacheLoader-dyn g v).loads v.1) (λ v. (goal.CacheLoader-dyn g v).load_state v.1)
+      (λ v. (goal.CacheWriter-dyn g v).writes_all v.1) (λ v. (goal.CacheWriter-dyn g v).deletes_all v.1) (λ v. (goal.CacheWriter-dyn g v).write_state v.1)
+      (λ b. (goal.EntryProcessor-dyn g (b.vtable, b.value)).processes b.value) (λ b. (goal.EntryProcessor-dyn g (b.vtable, b.value)).process_state b.value)
+      c.args.processing.now.args.now c.args.cache.now c.args.session.now c.args.call.now c.args.processing.now.processor.now;
+  same_processor = refl;
+  same_args = refl;
+}
 
-pub run_later_round-requires-clause-underway : goal.run_later_round-requires-clause-underway
-run_later_round-requires-clause-underway g c =
-    let r = c.requires.underway in
-    let now = c.loop.invariant.2 r.0 r.1 r.2 in
-    (r.0, now.0, r.1, now.2)
+pub run_round-left-requires : goal.run_round-left-requires
+run_round-left-requires g c = record { may = c.loop.invariant.may }
+
+pub wait-requires : goal.wait-requires
+wait-requires g c =
+    let one = subst (λ args. HasMadeRound (λ v. (goal.CacheLoader-dyn g v).loads v.1) (λ v. (goal.CacheLoader-dyn g v).load_state v.1)
+    (λ v. (goal.CacheWriter-dyn g v).writes_all v.1) (λ v. (goal.CacheWriter-dyn g v).deletes_all v.1) (λ v. (goal.CacheWriter-dyn g v).write_state v.1)
+    (λ b. (goal.EntryProcessor-dyn g (b.vtable, b.value)).processes b.value) (λ b. (goal.EntryProcessor-dyn g (b.vtable, b.value)).process_state b.value)
+    args.now c.args.cache.now c.loop.session c.loop.call c.loop.processing.processor.now c.run_round-left.new.session c.run_round-left.new.call c.run_round-left.new.processing.processor.now c.run_round-left.result) c.loop.invariant.same_args c.run_round-left.ensures.made in
+    made_past (λ v. (goal.CacheLoader-dyn g v).loads v.1) (λ v. (goal.CacheLoader-dyn g v).load_state v.1)
+    (λ v. (goal.CacheWriter-dyn g v).writes_all v.1) (λ v. (goal.CacheWriter-dyn g v).deletes_all v.1) (λ v. (goal.CacheWriter-dyn g v).write_state v.1)
+    (λ b. (goal.EntryProcessor-dyn g (b.vtable, b.value)).processes b.value) (λ b. (goal.EntryProcessor-dyn g (b.vtable, b.value)).process_state b.value)
+    c.args.processing.now.args.now c.args.cache.now c.loop.session c.run_round-left.new.session c.loop.call c.run_round-left.new.call c.loop.processing.processor.now c.run_round-left.new.processing.processor.now c.loop.room c.run_round-left.result c.loop.invariant.may one
+
+pub returns-then-not-wait-clause-made : goal.returns-then-not-wait-clause-made
+returns-then-not-wait-clause-made g c =
+    let one = subst (λ args. HasMadeRound (λ v. (goal.CacheLoader-dyn g v).loads v.1) (λ v. (goal.CacheLoader-dyn g v).load_state v.1)
+    (λ v. (goal.CacheWriter-dyn g v).writes_all v.1) (λ v. (goal.CacheWriter-dyn g v).deletes_all v.1) (λ v. (goal.CacheWriter-dyn g v).write_state v.1)
+    (λ b. (goal.EntryProcessor-dyn g (b.vtable, b.value)).processes b.value) (λ b. (goal.EntryProcessor-dyn g (b.vtable, b.value)).process_state b.value)
+    args.now c.args.cache.now c.loop.session c.loop.call c.loop.processing.processor.now c.run_round-left.new.session c.run_round-left.new.call c.run_round-left.new.processing.processor.now c.run_round-left.result) c.loop.invariant.same_args c.run_round-left.ensures.made in
+    rounds_more (λ v. (goal.CacheLoader-dyn g v).loads v.1) (λ v. (goal.CacheLoader-dyn g v).load_state v.1)
+    (λ v. (goal.CacheWriter-dyn g v).writes_all v.1) (λ v. (goal.CacheWriter-dyn g v).deletes_all v.1) (λ v. (goal.CacheWriter-dyn g v).write_state v.1)
+    (λ b. (goal.EntryProcessor-dyn g (b.vtable, b.value)).processes b.value) (λ b. (goal.EntryProcessor-dyn g (b.vtable, b.value)).process_state b.value)
+    c.args.processing.now.args.now c.args.cache.now c.args.session.now c.loop.session c.run_round-left.new.session c.args.call.now c.loop.call c.run_round-left.new.call
+    c.args.processing.now.processor.now c.loop.processing.processor.now c.run_round-left.new.processing.processor.now c.run_round-left.result c.loop.invariant.made one
+
+pub returns-then-not-wait-clause-same : goal.returns-then-not-wait-clause-same
+returns-then-not-wait-clause-same g c = (c.run_round-left.ensures.same.0 ∙ c.loop.invariant.same_processor, c.run_round-left.ensures.same.1 ∙ c.loop.invariant.same_args)
 
 pub loop-preserved : goal.loop-preserved
-loop-preserved g c = (
-  search rules,
-  (types_on c.args.session.now.agent c.loop.session.agent c.run_later_round.new.session.agent c.loop.invariant.1.0 c.run_later_round.ensures.types.0, c.run_later_round.ensures.types.1 ∙ c.loop.invariant.1.1),
-  λ caller first u.
-      let now = c.loop.invariant.2 caller first u in
-      let e = c.run_later_round.ensures.underway caller now.0 first now.2 now.3 in (
-        now.0 ++ e.0,
-        calls_then _ _ _ _ _ _ _ c.args.args.now c.args.cache.now.config.write_through now.0 e.0 c.args.processor.now c.loop.processor c.run_later_round.new.processor
-            c.args.session.now.agent.hands.outside.loader c.loop.session.agent.hands.outside.loader c.run_later_round.new.session.agent.hands.outside.loader
-            c.args.session.now.agent.hands.outside.writer c.loop.session.agent.hands.outside.writer c.run_later_round.new.session.agent.hands.outside.writer now.1 e.1,
-        e.2,
-        e.3,
-      ),
-)
+loop-preserved g c =
+    let one = subst (λ args. HasMadeRound (λ v. (goal.CacheLoader-dyn g v).loads v.1) (λ v. (goal.CacheLoader-dyn g v).load_state v.1)
+    (λ v. (goal.CacheWriter-dyn g v).writes_all v.1) (λ v. (goal.CacheWriter-dyn g v).deletes_all v.1) (λ v. (goal.CacheWriter-dyn g v).write_state v.1)
+    (λ b. (goal.EntryProcessor-dyn g (b.vtable, b.value)).processes b.value) (λ b. (goal.EntryProcessor-dyn g (b.vtable, b.value)).process_state b.value)
+    args.now c.args.cache.now c.loop.session c.loop.call c.loop.processing.processor.now c.run_round-left.new.session c.run_round-left.new.call c.run_round-left.new.processing.processor.now c.run_round-left.result) c.loop.invariant.same_args c.run_round-left.ensures.made in
+    record {
+      may = may_more (λ v. (goal.CacheLoader-dyn g v).loads v.1) (λ v. (goal.CacheLoader-dyn g v).load_state v.1)
+          (λ v. (goal.CacheWriter-dyn g v).writes_all v.1) (λ v. (goal.CacheWriter-dyn g v).deletes_all v.1) (λ v. (goal.CacheWriter-dyn g v).write_state v.1)
+          (λ b. (goal.EntryProcessor-dyn g (b.vtable, b.value)).processes b.value) (λ b. (goal.EntryProcessor-dyn g (b.vtable, b.value)).process_state b.value)
+          c.args.processing.now.args.now c.args.cache.now c.loop.session c.run_round-left.new.session c.loop.call c.run_round-left.new.call c.loop.processing.processor.now c.run_round-left.new.processing.processor.now c.loop.room c.in-Ok.next c.run_round-left.result c.loop.invariant.may one
+          (subst (λ n. IsRoomFor n c.args.cache.now.config.write_through c.in-Ok.next) c.most.ensures (subst (λ x. IsRoomFor c.most.result x.write_through c.in-Ok.next) c.config.ensures.config c.in-Ok.ensures));
+      made = rounds_more (λ v. (goal.CacheLoader-dyn g v).loads v.1) (λ v. (goal.CacheLoader-dyn g v).load_state v.1)
+          (λ v. (goal.CacheWriter-dyn g v).writes_all v.1) (λ v. (goal.CacheWriter-dyn g v).deletes_all v.1) (λ v. (goal.CacheWriter-dyn g v).write_state v.1)
+          (λ b. (goal.EntryProcessor-dyn g (b.vtable, b.value)).processes b.value) (λ b. (goal.EntryProcessor-dyn g (b.vtable, b.value)).process_state b.value)
+          c.args.processing.now.args.now c.args.cache.now c.args.session.now c.loop.session c.run_round-left.new.session c.args.call.now c.loop.call c.run_round-left.new.call
+          c.args.processing.now.processor.now c.loop.processing.processor.now c.run_round-left.new.processing.processor.now c.run_round-left.result c.loop.invariant.made one;
+      same_processor = c.run_round-left.ensures.same.0 ∙ c.loop.invariant.same_processor;
+      same_args = c.run_round-left.ensures.same.1 ∙ c.loop.invariant.same_args;
+    }
+
+pub returns-in-Err-clause-over : goal.returns-in-Err-clause-over
+returns-in-Err-clause-over g c = refused_over c.run_round-left.new.call c.refuse_rest.new.self c.refuse_rest.ensures.progress
+
+pub returns-in-Err-clause-made : goal.returns-in-Err-clause-made
+returns-in-Err-clause-made g c =
+    let one = subst (λ args. HasMadeRound (λ v. (goal.CacheLoader-dyn g v).loads v.1) (λ v. (goal.CacheLoader-dyn g v).load_state v.1)
+    (λ v. (goal.CacheWriter-dyn g v).writes_all v.1) (λ v. (goal.CacheWriter-dyn g v).deletes_all v.1) (λ v. (goal.CacheWriter-dyn g v).write_state v.1)
+    (λ b. (goal.EntryProcessor-dyn g (b.vtable, b.value)).processes b.value) (λ b. (goal.EntryProcessor-dyn g (b.vtable, b.value)).process_state b.value)
+    args.now c.args.cache.now c.loop.session c.loop.call c.loop.processing.processor.now c.run_round-left.new.session c.run_round-left.new.call c.run_round-left.new.processing.processor.now c.run_round-left.result) c.loop.invariant.same_args c.run_round-left.ensures.made in
+    rounds_refused (λ v. (goal.CacheLoader-dyn g v).loads v.1) (λ v. (goal.CacheLoader-dyn g v).load_state v.1)
+    (λ v. (goal.CacheWriter-dyn g v).writes_all v.1) (λ v. (goal.CacheWriter-dyn g v).deletes_all v.1) (λ v. (goal.CacheWriter-dyn g v).write_state v.1)
+    (λ b. (goal.EntryProcessor-dyn g (b.vtable, b.value)).processes b.value) (λ b. (goal.EntryProcessor-dyn g (b.vtable, b.value)).process_state b.value)
+    c.args.processing.now.args.now c.args.cache.now c.args.session.now c.run_round-left.new.session c.args.call.now c.run_round-left.new.call c.refuse_rest.new.self
+    c.args.processing.now.processor.now c.run_round-left.new.processing.processor.now c.refuse_rest.ensures.progress c.refuse_rest.ensures.cause c.refuse_rest.ensures.rest
+    (rounds_more (λ v. (goal.CacheLoader-dyn g v).loads v.1) (λ v. (goal.CacheLoader-dyn g v).load_state v.1)
+    (λ v. (goal.CacheWriter-dyn g v).writes_all v.1) (λ v. (goal.CacheWriter-dyn g v).deletes_all v.1) (λ v. (goal.CacheWriter-dyn g v).write_state v.1)
+    (λ b. (goal.EntryProcessor-dyn g (b.vtable, b.value)).processes b.value) (λ b. (goal.EntryProcessor-dyn g (b.vtable, b.value)).process_state b.value)
+    c.args.processing.now.args.now c.args.cache.now c.args.session.now c.loop.session c.run_round-left.new.session c.args.call.now c.loop.call c.run_round-left.new.call
+    c.args.processing.now.processor.now c.loop.processing.processor.now c.run_round-left.new.processing.processor.now c.run_round-left.result c.loop.invariant.made one)
+
+pub returns-in-Err-clause-same : goal.returns-in-Err-clause-same
+returns-in-Err-clause-same g c = (c.run_round-left.ensures.same.0 ∙ c.loop.invariant.same_processor, c.run_round-left.ensures.same.1 ∙ c.loop.invariant.same_args)

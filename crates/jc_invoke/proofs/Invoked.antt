@@ -1,0 +1,96 @@
+-- A whole call with many keys, each with a processor, from its rounds.
+--     before_it      what the session's next call has behind it
+--     opened         it may make its first round
+--     has_begun      it has made no round yet
+--     over           after the last round nothing is out, and each key has an end
+--     invoked        then the call is carried out
+use Rattle.std.specs.declared.dyn_box.DynBox.{DynBox}
+use Rattle.std.proofs.Common.{◌≡◌, ◌==◌, ℕ, List, [], length, map, refl, sym, ap, subst, ◌∙◌}
+use Rattle.std.specs.List.{IsDistinct}
+use Rattle.std.specs.Map.{keys_of}
+use Rattle.std.specs.Cmp.Lexicographic.{pointwise}
+use Rattle.jc_model.specs.Cache.{Bytes}
+use Rattle.jc_model.specs.declared.event.Op.TheVariants.{Invoke}
+use Rattle.jc_outside.specs.Calling.{LoadRelation}
+use Rattle.jc_outside.specs.CallingAll.{DeleteAllRelation, WriteAllRelation}
+use Rattle.jc_mutentry.specs.Running.{ProcessRelation}
+use Rattle.jc_cache.specs.Caches.{CacheState}
+use Rattle.jc_cache.specs.Calls.{next_call}
+use Rattle.jc_cache.specs.Sessions.{MayCall}
+use Rattle.jc_cache.specs.declared.session.Session.{Session}
+use Rattle.jc_rounds.specs.declared.bulk_call.BulkCall.{BulkCall}
+use Rattle.jc_rounds.specs.Ends.{KeyEnd, key_ends}
+use Rattle.jc_rounds.specs.Rounds.{ProcessAll, ProcessRound}
+use Rattle.jc_rounds.specs.Running.{HasRun, IsCarriedOut, with_rounds}
+use Rattle.jc_rounds.specs.Targets.{ops_of, ops_with}
+use Rattle.jc_rounds.specs.Underway.{IsBetween, IsNew, IsOver, Past}
+use Rattle.jc_rounds.proofs.Started.{none_run}
+use Rattle.jc_rounds.proofs.Whole.{carried_out, may_again, opens_call}
+use Rattle.jc_invoke.specs.declared.room.RoundRoom.{RoundRoom}
+use Rattle.jc_invoke.specs.Invoke.{IsInvokedAll}
+use Rattle.jc_invoke.specs.InvokeRounds.{HasMadeRounds, MayMakeRound}
+use Rattle.jc_invoke.specs.RoundRooms.{IsRoomFor}
+use Rattle.jc_invoke.proofs.KeyResults.{as_many, keys_distinct}
+
+module _ {I J : Type 0} {D : I → Type 0} {E : J → Type 0} (cache : CacheState) (old mid : Session I J D E) (call : BulkCall) (keys : List Bytes) where
+  abbrev pub before_it : Past
+  before_it = record { caller = (next_call old).agent.caller; first = old.seats.items; rounds = [] }
+
+  between : MayCall cache old → mid ≡ next_call old → IsNew call.targets.now cache.config.stripes call → ops_of call.targets.now ≡ ops_with Invoke keys → IsDistinct (pointwise ◌==◌) keys → IsBetween cache before_it mid call
+  between may begun new are distinct =
+      subst (λ (s : Session I J D E). IsBetween cache before_it s call) (sym begun)
+      (opens_call cache old call.targets.now call may (subst (λ ops. IsDistinct (pointwise ◌==◌) (keys_of ops)) (sym are) (keys_distinct Invoke keys distinct)) new)
+
+  pub opened : (room : RoundRoom) → MayCall cache old → mid ≡ next_call old → IsNew call.targets.now cache.config.stripes call → ops_of call.targets.now ≡ ops_with Invoke keys → IsDistinct (pointwise ◌==◌) keys
+      → IsRoomFor call.most cache.config.write_through room → MayMakeRound cache mid call room
+  opened room may begun new are distinct is = record { past = before_it; between = between may begun new are distinct; invoked = (keys, are); room_is = is }
+
+  pub has_begun : MayCall cache old → mid ≡ next_call old → IsNew call.targets.now cache.config.stripes call → ops_of call.targets.now ≡ ops_with Invoke keys → IsDistinct (pointwise ◌==◌) keys → HasRun cache before_it mid call
+  has_begun may begun new are distinct = none_run cache before_it mid call refl (ap (λ (s : Session I J D E). s.seats.items) (sym begun)) (between may begun new are distinct)
+
+module _ {I J P Z : Type 0} {D : I → Type 0} {E : J → Type 0} {F : P → Type 0}
+    (loads : LoadRelation ((i : I) × D i)) (load_state : (i : I) × D i → List ℕ)
+    (writes_all : WriteAllRelation ((j : J) × E j)) (deletes_all : DeleteAllRelation ((j : J) × E j)) (write_state : (j : J) × E j → List ℕ)
+    (processes : ProcessRelation (DynBox P Z F)) (process_state : DynBox P Z F → List ℕ) (args : List Bytes) (cache : CacheState)
+    (old mid new : Session I J D E) (call later : BulkCall) (processor p : DynBox P Z F) (keys : List Bytes) where
+  abbrev Made : Session I J D E → Type 0
+  Made session = HasMadeRounds loads load_state writes_all deletes_all write_state processes process_state args cache session call processor new later p
+
+  targets_later : Made mid → ops_of call.targets.now ≡ ops_with Invoke keys → ops_of later.targets.now ≡ ops_with Invoke keys
+  targets_later many are = ap (λ t. ops_of t.now) many.continues.targets ∙ are
+
+  pub over : HasRun cache (before_it cache old mid call keys) mid call → ops_of call.targets.now ≡ ops_with Invoke keys → Made mid
+      → MayCall cache new × ((later.tickets.items ≡ []) × (later.joins.items ≡ [])) × (length later.progress.items ≡ length keys)
+  over run are many =
+      let made = many.made (before_it cache old mid call keys) run in
+      let after = with_rounds (before_it cache old mid call keys) (map ProcessAll made.0) in
+      let b = made.2.between in
+      (may_again cache after new later b, (b.no_tickets, b.no_joins), b.on.under.so_far.many ∙ ap length (targets_later many are) ∙ as_many Invoke keys)
+
+  pub invoked : HasRun cache (before_it cache old mid call keys) mid call → mid ≡ next_call old → ops_of call.targets.now ≡ ops_with Invoke keys → IsOver later → Made mid
+      → (rounds : List ProcessRound) × IsInvokedAll loads load_state writes_all deletes_all write_state processes process_state cache old keys args processor (key_ends (ops_with Invoke keys) later.progress.items) rounds new p
+  invoked run begun are late many =
+      let past = before_it cache old mid call keys in
+      let from : Made (next_call old) = subst Made begun many in
+      let made = from.made past (subst (λ (s : Session I J D E). HasRun cache past s call) begun run) in
+      let after = with_rounds past (map ProcessAll made.0) in (
+        made.0,
+        record {
+          carried = subst (λ ops. IsCarriedOut cache old ops (key_ends ops later.progress.items) (map ProcessAll made.0) new) (targets_later many are)
+              (carried_out cache after old new later refl refl late from.continues.agent made.2);
+          calls = made.1;
+          types = from.continues.types;
+          processor_type = from.continues.processor_type;
+        },
+      )
+
+-- the processor that is left, under whichever name
+pub left_as : {I J P Z : Type 0} {D : I → Type 0} {E : J → Type 0} {F : P → Type 0}
+    (loads : LoadRelation ((i : I) × D i)) (load_state : (i : I) × D i → List ℕ)
+    (writes_all : WriteAllRelation ((j : J) × E j)) (deletes_all : DeleteAllRelation ((j : J) × E j)) (write_state : (j : J) × E j → List ℕ)
+    (processes : ProcessRelation (DynBox P Z F)) (process_state : DynBox P Z F → List ℕ) (args : List Bytes) (cache : CacheState)
+    (old new : Session I J D E) (keys : List Bytes) (processor p q : DynBox P Z F) (ends : List KeyEnd) (rounds : List ProcessRound)
+    → IsInvokedAll loads load_state writes_all deletes_all write_state processes process_state cache old keys args processor ends rounds new p → q ≡ p
+    → IsInvokedAll loads load_state writes_all deletes_all write_state processes process_state cache old keys args processor ends rounds new q
+left_as loads load_state writes_all deletes_all write_state processes process_state args cache old new keys processor p q ends rounds is same =
+    subst (λ x. IsInvokedAll loads load_state writes_all deletes_all write_state processes process_state cache old keys args processor ends rounds new x) (sym same) is

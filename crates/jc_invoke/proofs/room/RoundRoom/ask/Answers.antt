@@ -1,0 +1,42 @@
+use Rattle.std.proofs.Common.{sym, true, false, ◌∙◌}
+use Rattle.jc_cache.proofs.SessionPhases.{holds_nothing}
+use Rattle.jc_invoke.proofs.RoundAsked.{round_asked}
+use Rattle.jc_invoke.proofs.Runs.{has_writer, rest_on}
+use Rattle.jc_invoke.proofs.room.RoundRoom.ask.Goals as goal
+
+pub ask-written-requires-clause-nothing : goal.ask-written-requires-clause-nothing
+ask-written-requires-clause-nothing g c = holds_nothing _ _ (c.run_each.ensures.run.own c.requires.may.cache c.requires.may.own)
+
+pub ask-written-requires-clause-writer : goal.ask-written-requires-clause-writer
+ask-written-requires-clause-writer g c =
+    let may = c.requires.may in
+    let run = c.run_each.ensures.run in
+    let own = run.own may.cache may.own in
+    has_writer c.args.self.through false run.asked.runs c.run_each.new.self.writes.items c.run_each.new.session.agent.hands.outside.writer run.asked.writes_are (λ is. own.writes (sym may.room_is.through_is ∙ is))
+
+pub ask-deleted-requires-clause-nothing : goal.ask-deleted-requires-clause-nothing
+ask-deleted-requires-clause-nothing g c = holds_nothing _ _ (c.ask-written.ensures.own c.requires.may.cache (c.run_each.ensures.run.own c.requires.may.cache c.requires.may.own))
+
+pub ask-deleted-requires-clause-writer : goal.ask-deleted-requires-clause-writer
+ask-deleted-requires-clause-writer g c =
+    let may = c.requires.may in
+    let run = c.run_each.ensures.run in
+    let own = c.ask-written.ensures.own may.cache (run.own may.cache may.own) in
+    has_writer c.args.self.through true run.asked.runs c.run_each.new.self.deletes.items c.ask-written.new.session.agent.hands.outside.writer run.asked.deletes_are (λ is. own.writes (sym may.room_is.through_is ∙ is))
+
+pub returns-clause-asked : goal.returns-clause-asked
+returns-clause-asked g c =
+    let run = c.run_each.ensures.run in
+    let w = c.ask-written.ensures in
+    let d = c.ask-deleted.ensures in
+    record {
+      asked = round_asked (λ v. (goal.CacheLoader-dyn g v).loads v.1) (λ v. (goal.CacheLoader-dyn g v).load_state v.1)
+          (λ v. (goal.CacheWriter-dyn g v).writes_all v.1) (λ v. (goal.CacheWriter-dyn g v).deletes_all v.1) (λ v. (goal.CacheWriter-dyn g v).write_state v.1)
+          (λ b. (goal.EntryProcessor-dyn g (b.vtable, b.value)).processes b.value) (λ b. (goal.EntryProcessor-dyn g (b.vtable, b.value)).process_state b.value)
+          c.args.processing.now.args.now c.args.self.through c.args.session.now.agent c.run_each.new.session c.ask-written.new.session c.ask-deleted.new.session
+          c.args.processing.now.processor.now c.run_each.new.processing.processor.now c.args.tickets.now.items c.run_each.new.self
+          c.reverse.new.self c.ask-written.result.0 c.ask-deleted.result.0 c.ask-written.result.1 c.ask-deleted.result.1
+          run.asked w.asked d.asked c.reverse.ensures.items c.requires.may.fresh;
+      rest = rest_on c.args.session.now c.ask-written.new.session c.ask-deleted.new.session d.rest (rest_on c.args.session.now c.run_each.new.session c.ask-written.new.session w.rest run.rest);
+      own = λ cache of. d.own cache (w.own cache (run.own cache of));
+    }

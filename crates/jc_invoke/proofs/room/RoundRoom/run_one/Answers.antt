@@ -1,0 +1,40 @@
+use Rattle.std.proofs.Common.{◌≡◌, ◌++◌, ◌∷◌, [], ap, ◌∙◌}
+use Rattle.jc_stripe.specs.Tickets.{TicketClaim}
+use Rattle.jc_stripe.specs.declared.ticket.Reservation.{Reservation}
+use Rattle.jc_rounds.specs.Answers.{RunState}
+use Rattle.jc_invoke.proofs.Runs.{done_as, one_of}
+use Rattle.jc_invoke.proofs.room.RoundRoom.run_one.Goals as goal
+
+pub returns-clause-run : goal.returns-clause-run
+returns-clause-run g c =
+    let e = c.run_processor-done.ensures in
+    let n = c.note.ensures.noted in
+    let done = c.run_processor-done.result in
+    let r : Reservation = c.args.ticket.now.reservation in
+    let s : Reservation = c.ask.new.self.reservation in
+    let same : s ≡ r = ap (λ (t : TicketClaim). t.reservation) c.ask.ensures.asked in
+    let run : RunState = record { reservation = s; load = done.load; process = done.process } in
+    record {
+      asked = record {
+        run = run;
+        reservation = same;
+        kept = c.note.ensures.reservation ∙ same;
+        one = one_of _ _ _ _ c.args.processing.now.args.now run r c.ask.result c.args.processing.now.processor.now c.run_processor-done.new.processor c.args.session.now.agent.hands.outside.loader c.run_processor-done.new.self.agent.hands.outside.loader same c.ask.ensures.ask e.asked.run e.asked.loader;
+        done_is = c.push_reserved.ensures.items ∙ (λ i. (c.note.ensures.runs i).items ++ done_as done r s c.ask.result e.asked.ask c.ask.ensures.ask same e.asked.origin i ∷ []);
+        noted = record {
+          through_is = n.through_is;
+          runs_room = c.push_reserved.ensures.capacity ∙ n.runs_room;
+          writes_kind = n.writes_kind;
+          deletes_kind = n.deletes_kind;
+          writes_are = n.writes_are;
+          deletes_are = n.deletes_are;
+          writes_room = n.writes_room;
+          deletes_room = n.deletes_room;
+        };
+        loader_type = e.asked.loader_type;
+        writer = e.asked.writer;
+        processor_type = e.asked.processor_type;
+      };
+      rest = e.rest;
+      own = e.own;
+    }
