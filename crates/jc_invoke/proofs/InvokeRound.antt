@@ -1,8 +1,13 @@
 -- One round of a call with many keys, each with a processor.
 --     op_there         each operation of the call is an `Invoke`
+--     IsCalled         a reservation is of a key of the call, and asks the processor
 --     asks_for         the runs are on keys of the call, each shown what is due
+--     some_long        a vector that isn't empty has items
+--     all_called       so is each reservation that a round has made
 --     may_run          the processor may be run for each ticket that a round has
 --     quiet_round      a round that has reserved no key
+--     agent_by         an agent of the same caller
+--     same_keys        for which keys the round has asked
 --     answered_round   what was asked outside answers each ticket
 --     asked_round      a round that has asked
 use Rattle.std.specs.declared.dyn_box.DynBox.{DynBox}

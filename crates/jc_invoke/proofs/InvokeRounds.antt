@@ -1,10 +1,10 @@
 -- All rounds of a call with many keys, each with a processor, and the call.
 --     calls_then       the rounds of a call, with those after them
---     with_both        what a call has behind it after both
 --     rounds_begin     before the first round
 --     rounds_more      one round more
 --     rounds_refused   each key that waits is refused
 --     may_more         another round may be made
+--     made_past        what the call has behind it after a round
 use Rattle.std.specs.declared.dyn_box.DynBox.{DynBox}
 use Rattle.std.proofs.Common.{◌≡◌, ◌++◌, ℕ, List, [], ◌∷◌, append-nil, append_assoc, map, Bool, Option, refl, sym, ap, subst, ◌∙◌}
 use Rattle.std.proofs.lemmas.List.{map-append}

@@ -4,6 +4,7 @@
 --     has_begun      it has made no round yet
 --     over           after the last round nothing is out, and each key has an end
 --     invoked        then the call is carried out
+--     left_as        the processor that is left, under whichever name
 use Rattle.std.specs.declared.dyn_box.DynBox.{DynBox}
 use Rattle.std.proofs.Common.{◌≡◌, ◌==◌, ℕ, List, [], length, map, refl, sym, ap, subst, ◌∙◌}
 use Rattle.std.specs.List.{IsDistinct}

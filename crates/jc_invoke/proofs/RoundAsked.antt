@@ -1,4 +1,5 @@
 -- What a round has asked outside, from the runs of its processor and the calls of the writer.
+--     keys_run         the keys of the runs are those of their reservations
 --     key_asked        the round asked for each of the keys that were reserved
 --     each_among       each run is one of the round's
 --     kind_asked       a call of the writer, as that of the round's changes of one kind

@@ -3,8 +3,10 @@
 --     takes_same      the first tickets stand for the same reservations
 --     split_at        the tickets before a place, the one there and those after it
 --     reserved_set    a ticket was used: the reservations are the same
---     run_next        one ticket more
+--     many_same       as many tickets stand for the same reservations
+--     run_next, left_next    one ticket more
 --     may_take        there is room for the next run, and its key is new
+--     begins          before the first run
 use Rattle.std.specs.declared.dyn_box.DynBox.{DynBox}
 use Rattle.std.proofs.Common.{◌≡◌, ◌==◌, ◌≤◌, ◌<◌, ◌+◌, ◌++◌, ℕ, zero, suc, List, [], ◌∷◌, length, map, set, take, drop, get_or, Bool, false, true, vec_capacity, refl, sym, ap, subst, ◌∙◌, arith}
 use Rattle.std.proofs.lemmas.List.{drop_more, length-append, map-append, take-append-drop, take-map, take_more}

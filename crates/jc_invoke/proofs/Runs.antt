@@ -6,7 +6,7 @@
 --     new_claim                the next key isn't among those that are to be asked for
 --     changes_are              what is asked for, as changes of keys
 --     has_writer               there is a writer if anything is asked for
---     asked_both               two calls outside of a session, one after the other
+--     rest_on                  two calls outside leave all of a session but its hands
 use Rattle.std.proofs.Common.{◌≡◌, ◌==◌, ◌||◌, ◌++◌, ℕ, List, [], ◌∷◌, map, Bool, true, false, Option, None, Some, IsSome, if◌then◌else◌, refl, sym, ap, subst, ◌∙◌}
 use Rattle.std.proofs.lemmas.Cmp.{nat_list_eq_equiv}
 use Rattle.std.proofs.lemmas.List.{map-append}
@@ -22,7 +22,6 @@ use Rattle.jc_mutentry.specs.Done.{ProcessResult}
 use Rattle.jc_mutentry.specs.Running.{LoadsIfGiven, ProcessRelation, RunsOnce}
 use Rattle.jc_stripe.specs.Tickets.{Claim, claim_of, entry_seen, id_of, is_loadable}
 use Rattle.jc_stripe.specs.declared.ticket.Reservation.{Reservation}
-use Rattle.jc_cache.specs.Sessions.{HasAsked}
 use Rattle.jc_cache.specs.declared.session.Session.{Session}
 use Rattle.jc_rounds.specs.Answers.{RunState, claim_after, claims_after, done_of, is_change_of, key_run, reservations_of}
 use Rattle.jc_rounds.specs.Asking.{reserved_keys}
@@ -118,10 +117,3 @@ has_writer false deletes runs items writer is there some = absurd (some (is ∙ 
 pub rest_on : {I J : Type 0} {D : I → Type 0} {E : J → Type 0} (first mid new : Session I J D E) → new ≡ record mid { agent = record mid.agent { hands = new.agent.hands } } → mid ≡ record first { agent = record first.agent { hands = mid.agent.hands } }
     → new ≡ record first { agent = record first.agent { hands = new.agent.hands } }
 rest_on {I} {J} {D} {E} first mid new one two = one ∙ ap (λ (s : Session I J D E). record s { agent = record s.agent { hands = new.agent.hands } }) two
-
-pub asked_both : {I J : Type 0} {D : I → Type 0} {E : J → Type 0} (first mid new : Session I J D E) (A B C : Type 0) → HasAsked first mid A → HasAsked mid new B → (A → B → C) → HasAsked first new C
-asked_both first mid new A B C one two both = record {
-  asked = both one.asked two.asked;
-  rest = rest_on first mid new two.rest one.rest;
-  own = λ cache of. two.own cache (one.own cache of);
-}

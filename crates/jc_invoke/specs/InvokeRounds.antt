@@ -1,6 +1,8 @@
 -- The rounds of a call with many keys, each with a processor.
+--     IsInvoked      each operation of the call is an `Invoke`
 --     MayMakeRound   the call has nothing out, runs a processor at each key, and has the memory for what a round asks outside
---     Continues      rounds of the call: of its session only seats, counts and hands have changed, and of what it has outside only the states
+--     Continues      rounds of the call: of its session only seats, counts and hands have changed, and the loader, the writer and the processor are of the same types
+--     HaveAsked      these rounds have asked this outside, one after the other
 --     IsRoundMade    one round of the call, which has asked this outside, if it has asked
 --     HasMadeRound   one round of the call, whatever it has behind it, and the memory that is left if it has asked nobody
 --     HasMadeRounds  the same of all rounds

@@ -1,6 +1,4 @@
 //! What one round takes in memory for what it asks outside.
-ghost use Rattle.std.specs.Prelude.{◌≡◌, ◌≤◌, [], ℕ, Bool, IfOk, vec_capacity};
-
 use jc_rounds::WriteCall;
 use jc_stripe::{Ask, ProcDone};
 use std::alloc::{AllocError, Global};

@@ -1,5 +1,5 @@
 //! All rounds of a call with many keys, each with a processor.
-ghost use Rattle.std.specs.Prelude.{◌≡◌, ◌≤◌, ℕ, Bool, Option, IfOk, IfSome};
+ghost use Rattle.std.specs.Prelude.{◌≡◌, ℕ, Bool, IfOk, IfSome};
 ghost use Rattle.jc_rounds.specs.Underway.{IsOver};
 ghost use Rattle.jc_invoke.specs.InvokeRounds.{HasMadeRound, HasMadeRounds, MayMakeRound};
 ghost use Rattle.jc_invoke.specs.RoundRooms.{IsRoomFor};

@@ -1,6 +1,5 @@
 //! What a round asks outside for the keys that it has reserved: a processor for each of them, and then the writer.
 ghost use Rattle.std.specs.Prelude.{◌≡◌};
-ghost use Rattle.jc_stripe.specs.declared.ticket.Reservation.{Reservation};
 ghost use Rattle.jc_cache.specs.Sessions.{HasAsked, HoldsNothing};
 ghost use Rattle.jc_invoke.specs.Processing.{HasNoted, HasRunEach, IsRoundAsked, IsTicketRun, IsToBeRun, KeepsTickets, MayNote, MayRunEach, TakesKey};
 
@@ -94,8 +93,7 @@ impl RoundRoom {
         processing: &mut Processing<'_>,
     )
         requires nothing { HoldsNothing session.old }
-        requires run { IsToBeRun ticket.old }
-        requires takes { TakesKey self.old ticket.old.reservation.key }
+        requires run { IsToBeRun ticket.old × TakesKey self.old ticket.old.reservation.key }
         ensures run { HasAsked session.old session.new (IsTicketRun loads load_state processes process_state
             processing.old.args.now session.old.agent ticket.old self.old processing.old.processor.now
             session.new.agent ticket.new self.new processing.new.processor.now) }

@@ -22,17 +22,20 @@ loop-place-init g c =
       same_args = refl;
     }
 
-pub run_one-requires-clause-takes : goal.run_one-requires-clause-takes
-run_one-requires-clause-takes g c =
+pub run_one-requires-clause-run : goal.run_one-requires-clause-run
+run_one-requires-clause-run g c =
     let old = c.loop-place.invariant in
     let now = c.loop-place.tickets.items in
     let near : c.loop-place.place < length now = let many = many_same c.args.tickets.now.items c.loop-place.tickets.items old.kept.reservations in omega (arith, many, c.loop-place-test.true, c.len-place-end.ensures, c.args.tickets.now.ok.0) in
-    subst (λ (t : TicketClaim). TakesKey c.loop-place.self t.reservation.key) (sym c.index_mut.ensures.value)
-    (may_take (λ v. (goal.CacheLoader-dyn g v).loads v.1) (λ v. (goal.CacheLoader-dyn g v).load_state v.1)
-    (λ b. (goal.EntryProcessor-dyn g (b.vtable, b.value)).processes b.value) (λ b. (goal.EntryProcessor-dyn g (b.vtable, b.value)).process_state b.value) c.args.processing.now.args.now
-    c.args.self.now.through c.args.session.now.agent c.loop-place.session.agent c.loop-place.session.agent c.args.processing.now.processor.now c.loop-place.processing.processor.now c.loop-place.processing.processor.now
-    c.args.tickets.now.items now c.loop-place.place c.index_mut.result.now c.index_mut.result.now c.loop-place.self c.loop-place.self
-    old.kept.reservations near c.requires.may.distinct old.left old.run.asked)
+    let is : c.index_mut.result.now ≡ get_or now c.loop-place.place c.index_mut.result.now = c.index_mut.ensures.value in (
+      subst IsToBeRun (sym is) (subst (AllByRecursion IsToBeRun) (drop_more now c.loop-place.place c.index_mut.result.now near) old.fresh).0,
+      subst (λ (t : TicketClaim). TakesKey c.loop-place.self t.reservation.key) (sym is)
+          (may_take (λ v. (goal.CacheLoader-dyn g v).loads v.1) (λ v. (goal.CacheLoader-dyn g v).load_state v.1)
+          (λ b. (goal.EntryProcessor-dyn g (b.vtable, b.value)).processes b.value) (λ b. (goal.EntryProcessor-dyn g (b.vtable, b.value)).process_state b.value) c.args.processing.now.args.now
+          c.args.self.now.through c.args.session.now.agent c.loop-place.session.agent c.loop-place.session.agent c.args.processing.now.processor.now c.loop-place.processing.processor.now c.loop-place.processing.processor.now
+          c.args.tickets.now.items now c.loop-place.place c.index_mut.result.now c.index_mut.result.now c.loop-place.self c.loop-place.self
+          old.kept.reservations near c.requires.may.distinct old.left old.run.asked),
+    )
 
 pub loop-place-preserved : goal.loop-place-preserved
 loop-place-preserved g c =
