@@ -19,22 +19,29 @@ struct Shared {
     seven: Value,
 }
 
+impl Shared {
+    /// The keys and the value.
+    fn new(alloc: Global) -> anyhow::Result<Shared> {
+        let mut names = Vec::new(alloc);
+        for name in &NAMES {
+            names.push(Key::new(name.as_bytes())?)?;
+        }
+        Ok(Shared {
+            names,
+            plum: Key::new(b"plum")?,
+            counter: Key::new(b"counter")?,
+            seven: Value::new(b"7")?,
+        })
+    }
+}
+
 /// All workers work, each on a thread of its own. It says how many steps each has made, or why it ended too soon.
 pub fn work_all<R: Threads + Wait + Sync>(
     rt: &R,
     alloc: Global,
     clients: Vec<Client<'_>>,
 ) -> anyhow::Result<Vec<Result<u64, Refusal>>> {
-    let mut names = Vec::new(alloc);
-    for name in &NAMES {
-        names.push(Key::new(name.as_bytes())?)?;
-    }
-    let shared = Shared {
-        names,
-        plum: Key::new(b"plum")?,
-        counter: Key::new(b"counter")?,
-        seven: Value::new(b"7")?,
-    };
+    let shared = Shared::new(alloc)?;
     Ok(thread::map_vec(
         rt,
         clients,
