@@ -9,6 +9,7 @@ ghost use Rattle.jc_types.specs.Stripes.{stripe_of};
 
 use crate::inline::{filled, fmt_bytes};
 use crate::limits::KEY_MAX;
+use crate::words::cmp_words;
 use std::cmp::Ordering;
 use std::fmt::{self, Debug, Formatter, Write};
 use std::hash::{Hash, Hasher};
@@ -113,8 +114,9 @@ impl PartialEq for Key {
 
     ghost laws = { Prim.search (comparing, rules) };
 
+    #[inline]
     fn eq(&self, other: &Key) -> bool {
-        self.bytes() == other.bytes()
+        self.cmp(other).is_eq()
     }
 }
 
@@ -131,8 +133,9 @@ impl Ord for Key {
 
     ghost matches_eq = { Prim.search (comparing, rules) };
 
+    #[inline]
     fn cmp(&self, other: &Key) -> Ordering {
-        self.bytes().cmp(other.bytes())
+        cmp_words(&self.buf, &other.buf).then(self.len.cmp(&other.len))
     }
 }
 

@@ -12,6 +12,7 @@ pub mod key;
 pub mod limits;
 pub mod refusal;
 pub mod value;
+mod words;
 
 pub use caller::{Caller, is_session};
 pub use config::{Config, Field};

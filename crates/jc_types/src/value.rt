@@ -6,7 +6,7 @@ ghost use Rattle.std.specs.Cmp.{partial_order_from_own_ties};
 ghost use Rattle.std.specs.Cmp.Rules.{comparing};
 ghost use Rattle.std.specs.Cmp.Lexicographic.{slice_cmp, pointwise};
 
-use crate::inline::{filled, fmt_bytes};
+use crate::inline::{filled, fmt_bytes, refill};
 use crate::limits::VALUE_MAX;
 use std::cmp::Ordering;
 use std::fmt::{self, Debug, Formatter, Write};
@@ -77,6 +77,15 @@ impl Value {
         ensures few { length self.now ≤ VALUE_MAX }
     {
         &self.buf[..self.len as usize]
+    }
+
+    /// Takes the bytes of another value, in place: only the bytes that count are copied, and what is
+    /// left of a longer old value is cleared.
+    pub fn copy_from(&mut self, other: &Value)
+        ensures { self.new ≡ other.now }
+    {
+        refill(&mut self.buf, self.len as usize, other.bytes());
+        self.len = other.len;
     }
 }
 

@@ -24,7 +24,7 @@ fn takes_1_to_32_bytes(rt: HostRuntime) {
     }
 }
 
-// The last two are of 32 bytes.
+// The fifth and sixth are of 32 bytes.
 const PAIRS: &[(&str, &str, Ordering)] = &[
     ("a", "a", Ordering::Equal),
     ("a\0", "a\0", Ordering::Equal),
@@ -40,6 +40,15 @@ const PAIRS: &[(&str, &str, Ordering)] = &[
         "0123456789abcdef0123456789abcde0",
         Ordering::Greater,
     ),
+    // They differ first in the second and in the third word of 8 bytes, and after it the other way.
+    ("0123456789abcdeg0", "0123456789abcdef1", Ordering::Greater),
+    (
+        "0123456789abcdefb123456z",
+        "0123456789abcdefc123456y",
+        Ordering::Less,
+    ),
+    ("0123456\u{80}", "0123456\u{7f}", Ordering::Greater),
+    ("01234567", "01234567\0", Ordering::Less),
 ];
 
 #[test]

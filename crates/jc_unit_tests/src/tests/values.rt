@@ -52,6 +52,26 @@ fn compares_all_bytes(rt: HostRuntime) {
     }
 }
 
+// A value, and one that takes its place.
+const COPIES: [(&str, &str); 6] = [
+    ("", ""),
+    ("short", LONG),
+    (LONG, "short"),
+    (LONG, ""),
+    (LONG, OTHER),
+    ("same", "size"),
+];
+
+#[test]
+fn copies_in_place(rt: HostRuntime) {
+    for (old, new) in COPIES {
+        let (mut place, other) = (value(&rt, old.as_bytes()), value(&rt, new.as_bytes()));
+        place.copy_from(&other);
+        is(&rt, new, place, other);
+        is(&rt, new, place.bytes(), new.as_bytes());
+    }
+}
+
 #[test]
 fn says_why(rt: HostRuntime) {
     let text = format!(in rt.alloc(); "{}", ValueFault::TooLong).expect(&rt, "memory");
