@@ -28,7 +28,7 @@ use Rattle.jc_lock.specs.declared.view.View.{View}
 use Rattle.jc_session.specs.Boxed.{boxed}
 use Rattle.jc_session.specs.Counting.{one_more}
 use Rattle.jc_engine.specs.Asking.{AsksLoader, AsksWriter, KeepsTypes, RunsProcessor, change_wanted, own_after}
-pub use Rattle.jc_engine.specs.Values.{value_in}
+pub use Rattle.jc_engine.specs.Values.{value_in, value_into}
 use Rattle.jc_cache.specs.declared.session.Session.{Session}
 use Rattle.jc_cache.specs.Caches.{CacheState}
 use Rattle.jc_cache.specs.Fronts.{SeatAfter, SeatTried, IsBetween, IsMadeIn}

@@ -6,14 +6,13 @@ ghost use Rattle.jc_model.specs.declared.event.Reply.{Reply};
 ghost use Rattle.jc_model.specs.declared.event.Op.TheVariants.{Get};
 ghost use Rattle.jc_stripe.specs.OnePhase.{OnePhase};
 ghost use Rattle.jc_stripe.specs.OwnSteps.{OwnSteps, OwnNumbers, StepsBehind};
-ghost use Rattle.jc_engine.specs.Values.{value_told};
 ghost use Rattle.jc_cache.specs.CacheInside.{IsShaped};
 ghost use Rattle.jc_cache.specs.Sessions.{MayCall, Completes};
-ghost use Rattle.jc_cache.specs.Calls.{Called, Tried, Invoked, value_in};
+ghost use Rattle.jc_cache.specs.Calls.{Called, Returns, Tried, Invoked, value_in, value_into};
 
 use crate::calls::value_of;
 use crate::session::Session;
-use jc_engine::{call, get, invoke, try_call};
+use jc_engine::{call, get_into, invoke, try_call};
 use jc_lock::HistLock;
 use jc_model::{Op, Reply};
 use jc_mutentry::EntryProcessor;
@@ -86,26 +85,29 @@ impl Cache {
         call(rt, &mut lock, seat, &mut session.agent, key, op)
     }
 
-    /// The session's next call, if it is a `get`, whole. It writes the key's value, or None, to `value`.
-    pub(crate) fn get_into<R: Wait>(
+    /// The key's value (`get`), written to `value`, as [`get`](Cache::get) reads it: for a caller that keeps a room for values, since no
+    /// other copy is made of a hit. It says whether there is one. If there is none, and none is loaded, `value` stays.
+    ///
+    /// An `Err` is `LoaderFailed` or `HistoryFull`, and leaves `value` as it was. It may wait, also as long as the loader does.
+    /// Condition: the session may call the cache.
+    pub fn get_into<R: Wait>(
         &self,
         rt: &R,
         session: &mut Session,
         key: &Key,
-        value: &mut Option<Value>,
-    ) -> Result<(), Refusal>
+        value: &mut Value,
+    ) -> Result<bool, Refusal>
         requires may { MayCall self.now session.old }
         ensures { Completes self.now session.new
-            ((ended : Result Reply Refusal) × Called loads load_state writes write_state
-            self.now session.old key.now Get ended session.new
-            × (value_in ended ≡ value_told result value.new)) }
+            (Returns loads load_state writes write_state
+            self.now session.old key.now Get (value_into value.old) (result, value.new) session.new) }
     {
         laws();
         let at = stripe_of(key, self.config.stripes);
         session.agent.next_call();
         let mut lock = &self.locks[at];
         let seat = &mut session.seats[at];
-        get(rt, &mut lock, seat, &mut session.agent, key, value)
+        get_into(rt, &mut lock, seat, &mut session.agent, key, value)
     }
 
     /// The session's next call on one key, if it can be done at once.

@@ -43,9 +43,10 @@ impl Cache {
             (Returns loads load_state writes write_state
             self.now session.old key.now op.Get value_in result session.new) }
     {
-        let mut value = None;
+        let mut value = Value::default();
         match self.get_into(rt, session, key, &mut value) {
-            Ok(()) => Ok(value),
+            Ok(true) => Ok(Some(value)),
+            Ok(false) => Ok(None),
             Err(fault) => Err(fault),
         }
     }

@@ -84,6 +84,17 @@ fn remove<R: Abort + Wait>(rt: &R, client: &mut Client<'_>, t: &Texts)
     is(rt, client.get_and_remove(rt, &t.a), Ok(None));
 }
 
+/// The room keeps its value if there is none.
+fn read_into<R: Abort + Wait>(rt: &R, client: &mut Client<'_>, t: &Texts)
+    requires { Unit {0} }
+{
+    let mut room = t.one;
+    is(rt, client.get_into(rt, &t.a, &mut room), Ok(false));
+    is(rt, room, t.one);
+    is(rt, client.get_into(rt, &t.b, &mut room), Ok(true));
+    is(rt, room, t.two);
+}
+
 fn try_all<R: Abort>(rt: &R, client: &mut Client<'_>, t: &Texts)
     requires { Unit {0} }
 {
@@ -120,10 +131,11 @@ fn call_each<R: Abort + Wait>(
     replace(rt, client, &t);
     remove(rt, client, &t);
     try_all(rt, client, &t);
+    read_into(rt, client, &t);
     let three = Value::new(b"3").expect(rt, "a value");
     is(rt, client.invoke(rt, &t.b, increment, &[]), Ok(Some(three)));
-    is(rt, client.own(), 17);
-    is(rt, client.caller().call, 17);
+    is(rt, client.own(), 19);
+    is(rt, client.caller().call, 19);
     client.skip_to(30);
     is(rt, client.get(rt, &t.b), Ok(Some(three)));
     is(rt, client.caller().call, 30);

@@ -11,9 +11,8 @@
 --     later_call       a whole call
 --     hit_enters       a get that found its entry is done
 --     hit_call         and is the whole call
---     hit_told         so what it wrote is what the call returns
---     not_found        what is not there is None
-use Rattle.std.proofs.Common.{◌≡◌, ◌∙◌, ℕ, zero, suc, List, [], ◌∷◌, ◌++◌, length, true, false, Result, Ok, Option, None, Some, is_some, option_map, refl, sym, ap, subst}
+--     hit_into_room    and its value is written
+use Rattle.std.proofs.Common.{◌≡◌, ◌∙◌, ℕ, zero, suc, List, [], ◌∷◌, ◌++◌, length, true, false, Result, Ok, Some, option_map, refl, sym, ap, subst}
 use Rattle.jc_types.specs.declared.caller.Caller.{Caller}
 use Rattle.jc_types.specs.declared.refusal.Refusal.{Refusal}
 use Rattle.jc_model.specs.Cache.{Bytes}
@@ -33,8 +32,8 @@ use Rattle.jc_session.specs.declared.counts.Counted.TheVariants.{Step}
 use Rattle.jc_session.specs.declared.agent.Agent.{Agent}
 use Rattle.jc_engine.specs.Asking.{AsksWriter, change_wanted}
 use Rattle.jc_engine.specs.Chain.{AllQuiet, Rests, Since, LentPhase}
-use Rattle.jc_engine.specs.Needs.{Starts, Hits, counted_hit}
-use Rattle.jc_engine.specs.Values.{value_in, value_told}
+use Rattle.jc_engine.specs.Needs.{Starts, Hits}
+use Rattle.jc_engine.specs.Values.{value_into}
 use Rattle.jc_engine.specs.Calls.{Retries, EntersAs, Enters, IsCall}
 use Rattle.jc_engine.specs.declared.entering.Entered.{Entered}
 use Rattle.jc_engine.specs.declared.entering.Entered.TheVariants as entered
@@ -186,7 +185,7 @@ module _ {I J G T : Type 0} {D : I → Type 0} {E : J → Type 0}
       }
 
   hit_enters : (caller who : Caller) (key value : Bytes) (g : G) (t : T) (h : G) (u : T) → who ≡ caller
-      → LentPhase takes gives finds caller.session g t (λ a b. Hits who key (Some value) a b) h u
+      → LentPhase takes gives finds caller.session g t (λ a b. Hits who key true value a b) h u
       → Enters takes gives finds caller key Get g t (entered.Done (reply.Value (Some value))) h u
   hit_enters caller who key value g t h u is x = at_once takes gives finds caller key Get g t (begun.Done (hit_done (length x.before.history) value)) (entered.Done (reply.Value (Some value))) h u
       (record {
@@ -204,7 +203,7 @@ module _ {I J G T : Type 0} {D : I → Type 0} {E : J → Type 0}
       (refl, refl, refl)
 
   pub hit_call : (old new : Agent I J D E) (who : Caller) (key value : Bytes) (g : G) (t : T) (h : G) (u : T) → who ≡ old.caller
-      → LentPhase takes gives finds old.caller.session g t (λ a b. Hits who key (Some value) a b) h u
+      → LentPhase takes gives finds old.caller.session g t (λ a b. Hits who key true value a b) h u
       → new ≡ record old { counts = counts_after old.counts Step } → old.hands.held ≡ 0
       → IsCall loads load_state writes write_state takes gives finds old key Get g t (Ok (reply.Value (Some value))) new h u
   hit_call old new who key value g t h u is x first held = record {
@@ -221,14 +220,9 @@ module _ {I J G T : Type 0} {D : I → Type 0} {E : J → Type 0}
     agent = after_first old new _ first;
   }
 
-  pub hit_told : (old new : Agent I J D E) (key : Bytes) (found : Option Bytes) (g : G) (t : T) (h : G) (u : T) → is_some found ≡ true
-      → LentPhase takes gives finds old.caller.session g t (λ a b. Hits old.caller key found a b) h u
-      → new ≡ record old { counts = counts_after old.counts (counted_hit found) } → old.hands.held ≡ 0
+  pub hit_into_room : (old new : Agent I J D E) (key value room : Bytes) (g : G) (t : T) (h : G) (u : T)
+      → LentPhase takes gives finds old.caller.session g t (λ a b. Hits old.caller key true value a b) h u
+      → new ≡ record old { counts = counts_after old.counts Step } → old.hands.held ≡ 0
       → (ended : Result Reply Refusal) × IsCall loads load_state writes write_state takes gives finds old key Get g t ended new h u
-      × (value_in ended ≡ value_told (Ok tt) found)
-  hit_told old new key (Some value) g t h u is x first held = (Ok (reply.Value (Some value)), hit_call old new old.caller key value g t h u refl x first held, refl)
-  hit_told old new key None g t h u is x first held = cc
-
-pub not_found : (found : Option Bytes) → is_some found ≡ false → found ≡ None
-not_found None h = refl
-not_found (Some value) h = cc
+      × ((Ok true, value) ≡ value_into room ended)
+  hit_into_room old new key value room g t h u x first held = (Ok (reply.Value (Some value)), hit_call old new old.caller key value g t h u refl x first held, refl)

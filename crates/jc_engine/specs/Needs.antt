@@ -10,7 +10,7 @@
 --     StartsBy        a call's first phase, by how it goes about what stands in its way
 --     Starts          one that waits
 --     IsPutOff        a stripe in this state refuses a call, which waits that out
---     Hits            a first phase of a get on a live stripe that found its entry, which gives its value, or nothing was done
+--     Hits            whether a first phase of a get on a live stripe found its entry, and its value; if it didn't, nothing was done
 --     counted_hit     what that changes of its session's counts
 --     IsReported      after a processor, the writer's report is there exactly if it is due
 --     CommitsHere     a call that was answered is to be committed on a live stripe in this state, if its reservation is out there
@@ -89,13 +89,13 @@ pub record IsPutOff (how : How) (caller : Caller) (key : Bytes) (op : Op) (state
   pub refused : first_refusal state caller key op ≡ Some refusal
   pub put_off : puts_off how (begun.Refused refusal) ≡ true
 
-abbrev pub Hits : Caller → Bytes → Option Bytes → State → State → Type 0
-Hits caller key None before after = after ≡ before
-Hits caller key (Some value) before after = Starts caller key Get (begun.Done (hit_done (length before.history) value)) before after
+abbrev pub Hits : Caller → Bytes → Bool → Bytes → State → State → Type 0
+Hits caller key false value before after = after ≡ before
+Hits caller key true value before after = Starts caller key Get (begun.Done (hit_done (length before.history) value)) before after
 
-abbrev pub counted_hit : Option Bytes → Counted
-counted_hit None = Nothing
-counted_hit (Some value) = Step
+abbrev pub counted_hit : Bool → Counted
+counted_hit false = Nothing
+counted_hit true = Step
 
 -- 2. Commits.
 

@@ -1,7 +1,7 @@
--- What is said of a value that is written in place.
---     value_in      what a call returns that replies with a value: a fault is an error
---     value_told    the same, by what is returned beside the value that was written
-use Rattle.std.specs.Prelude.{Option, None, Result, Ok, Err}
+-- What a call returns that replies with a value.
+--     value_in      the value, if there is one: a fault is an error
+--     value_into    the same where the value is written to a room: whether there is one, and what the room holds; without a value it stays
+use Rattle.std.specs.Prelude.{Bool, true, false, Option, None, Some, Result, Ok, Err}
 use Rattle.jc_types.specs.declared.refusal.Refusal.{Refusal}
 use Rattle.jc_model.specs.Cache.{Bytes}
 use Rattle.jc_model.specs.declared.event.Reply.{Reply}
@@ -14,6 +14,10 @@ value_in (Ok (reply.Value value)) = Ok value
 value_in (Ok (reply.Flag flag)) = Ok None
 value_in (Ok reply.Unit) = Ok None
 
-abbrev pub value_told : Result (Unit {0}) Refusal → Option Bytes → Result (Option Bytes) Refusal
-value_told (Ok done) value = Ok value
-value_told (Err refusal) value = Err refusal
+abbrev pub value_into : Bytes → Result Reply Refusal → Result Bool Refusal × Bytes
+value_into room (Err refusal) = (Err refusal, room)
+value_into room (Ok (reply.Fault fault)) = (Err fault, room)
+value_into room (Ok (reply.Value (Some value))) = (Ok true, value)
+value_into room (Ok (reply.Value None)) = (Ok false, room)
+value_into room (Ok (reply.Flag flag)) = (Ok false, room)
+value_into room (Ok reply.Unit) = (Ok false, room)

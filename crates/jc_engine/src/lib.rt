@@ -22,7 +22,7 @@ pub use door::{Phase, lend, try_lend};
 pub use ending::{Answer, Commit, Processed, Withdraw};
 pub use entering::Entered;
 pub use first::{First, How};
-pub use getting::get;
+pub use getting::get_into;
 pub use invoking::invoke;
 pub use joining::PickUp;
 pub use owned::{call_owned, invoke_owned};

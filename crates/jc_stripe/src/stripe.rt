@@ -1,6 +1,7 @@
 //! A stripe and its phases.
-ghost use Rattle.std.specs.Prelude.{◌≡◌, ◌≤◌, ◌<◌, ◌+◌, ◌++◌, ◌↔◌, ◌⊎◌, true, false, IsTrue, OnOk, OnErr, IfSome, IfNone, None};
+ghost use Rattle.std.specs.Prelude.{◌≡◌, ◌≤◌, ◌<◌, ◌+◌, ◌++◌, ◌↔◌, ◌⊎◌, true, false, IsTrue, OnOk, OnErr, IfSome, None};
 ghost use Rattle.std.specs.Prelude.{Some, is_some, length, slice_get, slice_range};
+ghost use Rattle.std.specs.Bool.{OnTrue, OnFalse};
 ghost use Rattle.std.specs.FinMap as map;
 ghost use Rattle.jc_model.specs.declared.event.Op.{Op};
 ghost use Rattle.jc_model.specs.declared.event.Op.TheVariants.{Get};
@@ -119,22 +120,23 @@ impl Stripe {
         Begun::Done(hit_done(place, self.most_recent()))
     }
 
-    /// A `get` that finds its entry, as [`begin`](Stripe::begin) makes it, and gives its value. None says that the entry is missing,
-    /// or that the history lacks the place or a number is at its end, and nothing else; then nothing is done.
+    /// A `get` that finds its entry, as [`begin`](Stripe::begin) makes it, and writes its value to `value`. `false` says that the entry
+    /// is missing, or that the history lacks the place or a number is at its end, and nothing else; then nothing is done, and `value`
+    /// stays.
     ///
     /// Conditions: those of [`begin`](Stripe::begin).
-    pub fn hit(&mut self, caller: Caller, key: &Key) -> Option<Value>
+    pub fn hit_into(&mut self, caller: Caller, key: &Key, value: &mut Value) -> bool
         requires begins { MayBegin self.old caller key.now }
-        ensures none { IfNone result (self.new ≡ self.old) }
-        ensures missing { IfNone result ((has_room self.old caller.call HIT_PLACES ≡ false) ⊎ (entry_at self.old.cache key.now ≡ None)) }
-        ensures some { IfSome result (λ value. Begins self.old caller key.now Get
-            (Done (hit_done (length self.old.history) value)) self.new) }
+        ensures none { OnFalse result ((self.new ≡ self.old) × (value.new ≡ value.old)) }
+        ensures missing { OnFalse result ((has_room self.old caller.call HIT_PLACES ≡ false) ⊎ (entry_at self.old.cache key.now ≡ None)) }
+        ensures some { OnTrue result (Begins self.old caller key.now Get
+            (Done (hit_done (length self.old.history) value.new)) self.new) }
     {
-        if self.has_room(caller.call, HIT_PLACES) && self.find_and_use(caller, key) {
-            Some(*self.most_recent())
-        } else {
-            None
+        if !self.has_room(caller.call, HIT_PLACES) || !self.find_and_use(caller, key) {
+            return false;
         }
+        value.copy_from(self.most_recent());
+        true
     }
 
     /// The last phase of a call whose loader was asked: its reservation ends, and its step is appended with the loader's answer.

@@ -1,5 +1,5 @@
 //! The value of an entry.
-ghost use Rattle.std.specs.Prelude.{◌≡◌, ◌<◌, ◌≤◌, ◌↔◌, ◌==◌, length, IfOk, IsOk};
+ghost use Rattle.std.specs.Prelude.{◌≡◌, ◌<◌, ◌≤◌, ◌↔◌, ◌==◌, [], length, IfOk, IsOk};
 ghost use Rattle.std.proofs.Common.{rules};
 ghost use Rattle.std.specs.Ordering.{nat_cmp, as_partial_cmp};
 ghost use Rattle.std.specs.Cmp.{partial_order_from_own_ties};
@@ -86,6 +86,18 @@ impl Value {
     {
         refill(&mut self.buf, self.len as usize, other.bytes());
         self.len = other.len;
+    }
+}
+
+/// The value of no bytes, with which a room for values begins.
+impl Default for Value {
+    ghost is_default = { λ value. value ≡ [] };
+
+    fn default() -> Value {
+        Value {
+            buf: [0; VALUE_MAX],
+            len: 0,
+        }
     }
 }
 

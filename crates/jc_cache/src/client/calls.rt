@@ -7,7 +7,7 @@ ghost use Rattle.std.specs.Prelude.{◌≡◌, Result};
 ghost use Rattle.jc_types.specs.declared.refusal.Refusal.{Refusal};
 ghost use Rattle.jc_model.specs.declared.event.Op.TheVariants as op;
 ghost use Rattle.jc_model.specs.declared.event.Reply.{Reply};
-ghost use Rattle.jc_cache.specs.Calls.{Invoked, Returns, value_in, flag_in, unit_in};
+ghost use Rattle.jc_cache.specs.Calls.{Invoked, Returns, value_in, value_into, flag_in, unit_in};
 ghost use Rattle.jc_cache.specs.Clients.{OnSameCache};
 
 use crate::client::Client;
@@ -25,6 +25,22 @@ impl<'a> Client<'a> {
             self.old.cache.now self.old.session key.now op.Get value_in result self.new.session) }
     {
         self.cache.get(rt, &mut self.session, key)
+    }
+
+    /// The key's value, written to `value`, as by [`Cache::get_into`], and whether there is one. If there is none, `value` stays.
+    ///
+    /// An `Err` is `LoaderFailed` or `HistoryFull`, and leaves `value` as it was. It may wait, also as long as the loader does.
+    pub fn get_into<R: Wait>(
+        &mut self,
+        rt: &R,
+        key: &Key,
+        value: &mut Value,
+    ) -> Result<bool, Refusal>
+        ensures { OnSameCache self.old.cache self.new.cache
+            (Returns loads load_state writes write_state
+            self.old.cache.now self.old.session key.now op.Get (value_into value.old) (result, value.new) self.new.session) }
+    {
+        self.cache.get_into(rt, &mut self.session, key, value)
     }
 
     /// Whether the key has an entry, as by [`Cache::contains_key`]. It never loads.

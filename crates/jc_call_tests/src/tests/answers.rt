@@ -82,6 +82,16 @@ fn unit(answer: Result<(), Refusal>) -> Answer {
     Ok(Reply::Unit)
 }
 
+/// A `get` that writes the value to a room.
+fn read_into<R: Wait>(rt: &R, cache: &Cache, session: &mut Session, key: &Key) -> Answer
+    requires { MayCall cache.now session.old }
+    ensures { MayCall cache.now session.new }
+{
+    let mut room = Value::default();
+    let is_there = cache.get_into(rt, session, key, &mut room)?;
+    Ok(Reply::Value(if is_there { Some(room) } else { None }))
+}
+
 /// The operations that take a key alone.
 pub fn called_bare<R: Wait>(
     rt: &R,
@@ -95,6 +105,7 @@ pub fn called_bare<R: Wait>(
 {
     match op {
         "get" => Some(entry(cache.get(rt, session, key))),
+        "getinto" => Some(read_into(rt, cache, session, key)),
         "contains" => Some(flag(cache.contains_key(rt, session, key))),
         "remove" => Some(flag(cache.remove(rt, session, key))),
         "getremove" => Some(entry(cache.get_and_remove(rt, session, key))),

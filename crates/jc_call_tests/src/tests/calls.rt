@@ -3,7 +3,7 @@
 pub const DAY: &str = "\
 open 1 4 100 read write
 get a = 1 | 1 0 0
-get a = 1 | 1 0 0
+getinto a = 1 | 1 0 0
 put b 2 = ok | 1 1 0
 remove c = false | 1 1 1
 contains d = false | 1 1 1
@@ -26,7 +26,7 @@ removeif a 1 = false | 0 0 0
 getremove b = - | 0 0 1
 remove b = false | 0 0 2
 get b = - | 1 0 2
-get b = - | 2 0 2
+getinto b = - | 2 0 2
 getput c 3 = - | 2 1 2
 putif d 4 = true | 2 2 2
 put e 5 = ok | 2 3 2
@@ -81,7 +81,7 @@ open 1 4 100 read
 get a = 1 | 1 0 0
 put a 2 = ok | 1 0 0
 remove a = true | 1 0 0
-get a = 1 | 2 0 0
+getinto a = 1 | 2 0 0
 stored a=1
 ";
 

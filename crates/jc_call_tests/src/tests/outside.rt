@@ -8,7 +8,7 @@ get a = LoaderFailed 7 | 0 0 0
 contains a = false | 0 0 0
 put a 2 = ok | 0 1 0
 get a = 2 | 0 1 0
-get b = LoaderFailed 7 | 0 1 0
+getinto b = LoaderFailed 7 | 0 1 0
 own 5
 stored a=2
 ";

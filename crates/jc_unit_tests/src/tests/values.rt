@@ -63,6 +63,16 @@ const COPIES: [(&str, &str); 6] = [
 ];
 
 #[test]
+fn begins_empty(rt: HostRuntime) {
+    is(
+        &rt,
+        "the first value of a room",
+        Value::default(),
+        value(&rt, b""),
+    );
+}
+
+#[test]
 fn copies_in_place(rt: HostRuntime) {
     for (old, new) in COPIES {
         let (mut place, other) = (value(&rt, old.as_bytes()), value(&rt, new.as_bytes()));

@@ -8,11 +8,11 @@ pub give-requires-clause-phase : goal.give-requires-clause-phase
 give-requires-clause-phase g c = (
   c.take-stripe.result.value,
   c.take-stripe.ensures.taken,
-  rw (c.counted_hit.ensures, ← c.caller.ensures, ← c.deref_mut.ensures.value) c.hit_on.ensures.counted,
+  rw (c.counted_hit.ensures, ← c.caller.ensures, ← c.deref_mut.ensures.value) c.hit_on-is_hit.ensures.counted,
 )
 
-pub returns : goal.returns
-returns g c =
+pub returns-clause-made : goal.returns-clause-made
+returns-clause-made g c =
     let who : c.caller.result ≡ c.args.agent.now.caller = c.caller.ensures ∙ ap (λ a. a.caller) c.take-stripe.ensures.agent in
     record {
       ready = search rules;
@@ -22,11 +22,11 @@ returns g c =
         token = c.args.token.now;
         rests = rests-start g.G.Gate.takes g.G.Gate.gives g.G.Gate.finds c.args.gate.now c.args.token.now;
         before = c.take-stripe.result.value;
-        after = c.hit_on.new.stripe;
+        after = c.hit_on-is_hit.new.stripe;
         since = since_start g.G.Gate.finds _ c.args.gate.now c.args.token.now _ c.take-stripe.ensures.found.0;
         lent = record { gate = c.take-stripe.new.gate; token = c.take-stripe.new.token; took = c.take-stripe.ensures.takes; reached = c.take-stripe.ensures.found.1; gave = c.give.ensures.gives };
-        made = rw (← who, ← c.deref_mut.ensures.value) c.hit_on.ensures.made;
-        one = rw (← who, ← c.deref_mut.ensures.value) (phase_of _ _ _ _ c.hit_on.ensures.counted);
+        made = rw (← who, ← c.deref_mut.ensures.value) c.hit_on-is_hit.ensures.made;
+        one = rw (← who, ← c.deref_mut.ensures.value) (phase_of _ _ _ _ c.hit_on-is_hit.ensures.counted);
         next = λ a f. c.give.ensures.next _ a (c.take-stripe.ensures.speaks _ c.requires.ready.speaks) f;
       };
     }

@@ -15,15 +15,15 @@ index_mut-seat-requires g c =
     subst (λ (n : ℕ). c.stripe_of-at.result < n) (sym c.args.session.now.seats.ok.0)
     (seat_near c.args.self.now c.args.session.now _ c.args.key.now _ c.requires.may.own c.self.invariant.fits (ap (λ (z : CacheState). z.config) c.self.view_is) c.stripe_of-at.ensures)
 
-pub get-requires-clause-ready : goal.get-requires-clause-ready
-get-requires-clause-ready g c =
+pub get_into-requires-clause-ready : goal.get_into-requires-clause-ready
+get_into-requires-clause-ready g c =
     let there : slice_get c.args.session.now.seats.items c.stripe_of-at.result ≡ Some c.index_mut-seat.result.now =
     seat_at c.args.self.now c.args.session.now _ c.args.key.now _ _ c.requires.may.own c.self.invariant.fits (ap (λ (z : CacheState). z.config) c.self.view_is) c.stripe_of-at.ensures c.index_mut-seat.ensures.value in
     ready_next c.args.self.now c.args.session.now c.next_call.new.self c.stripe_of-at.result c.index_mut-seat.result.now c.requires.may.own c.next_call.ensures.call there
     (free_at c.args.self.now c.args.session.now c.self.inside.locks.items c.stripe_of-at.result c.index_mut-seat.result.now c.index.result.now c.requires.may.own (ap (λ (z : CacheState). z.locks) c.self.view_is) there c.index.ensures)
 
-pub get-requires-clause-may : goal.get-requires-clause-may
-get-requires-clause-may g c =
+pub get_into-requires-clause-may : goal.get_into-requires-clause-may
+get_into-requires-clause-may g c =
     let there : slice_get c.args.session.now.seats.items c.stripe_of-at.result ≡ Some c.index_mut-seat.result.now =
     seat_at c.args.self.now c.args.session.now _ c.args.key.now _ _ c.requires.may.own c.self.invariant.fits (ap (λ (z : CacheState). z.config) c.self.view_is) c.stripe_of-at.ensures c.index_mut-seat.ensures.value in
     may_call c.laws.ensures.numbers c.args.self.now c.args.session.now c.next_call.new.self c.stripe_of-at.result _ c.index_mut-seat.result.now c.args.key.now c.requires.may c.next_call.ensures.call there
@@ -34,5 +34,5 @@ returns g c =
     let there : slice_get c.args.session.now.seats.items c.stripe_of-at.result ≡ Some c.index_mut-seat.result.now =
     seat_at c.args.self.now c.args.session.now _ c.args.key.now _ _ c.requires.may.own c.self.invariant.fits same c.stripe_of-at.ensures c.index_mut-seat.ensures.value in
     let made = called _ _ _ _ c.laws.ensures.uniform c.laws.ensures.steps c.laws.ensures.behind c.laws.ensures.numbers c.args.self.now c.args.session.now _ c.next_call.new.self c.args.key.now Get c.stripe_of-at.result
-    c.get.ensures.call.0 _ c.index_mut-seat.result.now c.get.new.gate c.get.new.token c.requires.may c.next_call.ensures.call (at_key c.args.self.now _ c.args.key.now _ same c.stripe_of-at.ensures) there refl c.get.ensures.call.1 in
-    record { may = made.may; call = (c.get.ensures.call.0, made.call, c.get.ensures.call.2) }
+    c.get_into.ensures.call.0 _ c.index_mut-seat.result.now c.get_into.new.gate c.get_into.new.token c.requires.may c.next_call.ensures.call (at_key c.args.self.now _ c.args.key.now _ same c.stripe_of-at.ensures) there refl c.get_into.ensures.call.1 in
+    record { may = made.may; call = (c.get_into.ensures.call.0, made.call, c.get_into.ensures.call.2) }
