@@ -1,6 +1,7 @@
 //! The operation table: what an [`Op`] asks of the loader and the writer, which entry it leaves, and what it
 //! replies (JSR 107, "Integration", whose two tables are the first two of these; "Entry Processors").
-ghost use Rattle.std.specs.Prelude.{◌≡◌, ◌↔◌, IsTrue, is_some, is_none, if◌then◌else◌};
+ghost use Rattle.std.specs.Prelude.{◌≡◌, ◌↔◌, IsTrue, is_some, is_none, unwrap_or, Some, if◌then◌else◌};
+ghost use Rattle.std.specs.Option.{option_copied};
 ghost use Rattle.jc_model.specs.Table.{holds, entry_after_replace, value_after_load, loader_ask, always_if, wanted_if, load_fits};
 ghost use Rattle.jc_model.specs.Table.{is_invoke, early_fault, first_fault, write_ask, answers_fit, after_effect, outcome_of};
 ghost use Rattle.jc_model.specs.Table.{entry_without_fault, reply_without_fault, entry_after, reply_after};
@@ -11,8 +12,8 @@ use crate::event::{Change, Effect, LoadAnswer, Op, Out, ProcessAnswer, Reply, Wr
 use jc_types::{Config, Refusal, Value};
 
 /// Whether the entry has this value.
-fn holds(entry: &Option<Value>, value: &Value) -> bool
-    ensures { result ≡ holds entry.now value.now }
+fn holds(entry: Option<&Value>, value: &Value) -> bool
+    ensures { result ≡ holds (option_copied entry.entry) value.now }
 {
     match entry {
         Some(held) => *held == *value,
@@ -21,8 +22,8 @@ fn holds(entry: &Option<Value>, value: &Value) -> bool
 }
 
 /// The entry with a loaded value, if one was found.
-fn value_after_load(answer: LoadAnswer, entry: Option<Value>) -> Option<Value>
-    ensures { result ≡ value_after_load answer entry }
+fn value_after_load<'a>(answer: &'a LoadAnswer, entry: Option<&'a Value>) -> Option<&'a Value>
+    ensures { option_copied result ≡ value_after_load answer.now (option_copied entry.entry) }
 {
     match answer {
         LoadAnswer::Found(value) => Some(value),
@@ -31,15 +32,26 @@ fn value_after_load(answer: LoadAnswer, entry: Option<Value>) -> Option<Value>
 }
 
 /// Another entry if this one has a value, and else this one.
-fn entry_if(entry: Option<Value>, old: &Value, next: Option<Value>) -> Option<Value>
-    ensures { result ≡ (if holds entry old.now then next else entry) }
+fn entry_if<'a>(entry: Option<&'a Value>, old: &Value, next: Option<&'a Value>) -> Option<&'a Value>
+    ensures { option_copied result ≡ (if holds (option_copied entry.entry) old.now
+        then option_copied next.entry else option_copied entry.entry) }
 {
-    if holds(&entry, old) { next } else { entry }
+    if holds(entry, old) { next } else { entry }
+}
+
+/// The entry, or this value if there is none.
+fn entry_or<'a>(entry: Option<&'a Value>, value: &'a Value) -> Option<&'a Value>
+    ensures { option_copied result ≡ Some (unwrap_or (option_copied entry.entry) value.now) }
+{
+    match entry {
+        Some(held) => Some(held),
+        None => Some(value),
+    }
 }
 
 /// A value in the place of the entry, if there is one.
-fn entry_after_replace(entry: Option<Value>, value: Value) -> Option<Value>
-    ensures { result ≡ entry_after_replace entry value }
+fn entry_after_replace<'a>(entry: Option<&Value>, value: &'a Value) -> Option<&'a Value>
+    ensures { option_copied result ≡ entry_after_replace (option_copied entry.entry) value.now }
 {
     match entry {
         Some(_) => Some(value),
@@ -48,8 +60,8 @@ fn entry_after_replace(entry: Option<Value>, value: Value) -> Option<Value>
 }
 
 /// The entry with what a processor did to it.
-fn after_effect(answer: ProcessAnswer, entry: Option<Value>) -> Option<Value>
-    ensures { result ≡ after_effect answer entry }
+fn after_effect<'a>(answer: &'a ProcessAnswer, entry: Option<&'a Value>) -> Option<&'a Value>
+    ensures { option_copied result ≡ after_effect answer.now (option_copied entry.entry) }
 {
     match answer {
         ProcessAnswer::Ended { effect, outcome: _ } => match effect {
@@ -62,11 +74,11 @@ fn after_effect(answer: ProcessAnswer, entry: Option<Value>) -> Option<Value>
 }
 
 /// What a processor answers the caller.
-fn outcome_of(answer: ProcessAnswer) -> Option<Value>
-    ensures { result ≡ outcome_of answer }
+fn outcome_of(answer: &ProcessAnswer) -> Option<Value>
+    ensures { result ≡ outcome_of answer.now }
 {
     match answer {
-        ProcessAnswer::Ended { effect: _, outcome } => outcome,
+        ProcessAnswer::Ended { effect: _, outcome } => *outcome,
         ProcessAnswer::NotAsked | ProcessAnswer::Failed(_) => None,
     }
 }
@@ -92,41 +104,47 @@ impl Out {
 
 impl Op {
     /// The entry afterwards, if there was no fault.
-    fn entry_without_fault(&self, entry: Option<Value>, out: &Out) -> Option<Value>
-        ensures { result ≡ entry_without_fault self.now entry out.now }
+    fn entry_without_fault<'a>(
+        &'a self,
+        entry: Option<&'a Value>,
+        out: &'a Out,
+    ) -> Option<&'a Value>
+        ensures { option_copied result ≡ entry_without_fault self.now (option_copied entry.entry) out.now }
     {
         match self {
-            Op::Get | Op::LoadAll { .. } => value_after_load(out.load, entry),
+            Op::Get | Op::LoadAll { .. } => value_after_load(&out.load, entry),
             Op::ContainsKey => entry,
-            Op::Put(value) | Op::GetAndPut(value) => Some(*value),
-            Op::PutIfAbsent(value) => Some(entry.unwrap_or(*value)),
+            Op::Put(value) | Op::GetAndPut(value) => Some(value),
+            Op::PutIfAbsent(value) => entry_or(entry, value),
             Op::Remove | Op::GetAndRemove | Op::Clear => None,
             Op::RemoveIf(old) => entry_if(entry, old, None),
-            Op::Replace(value) | Op::GetAndReplace(value) => entry_after_replace(entry, *value),
-            Op::ReplaceIf { old, new } => entry_if(entry, old, Some(*new)),
-            Op::Invoke => after_effect(out.process, value_after_load(out.load, entry)),
+            Op::Replace(value) | Op::GetAndReplace(value) => entry_after_replace(entry, value),
+            Op::ReplaceIf { old, new } => entry_if(entry, old, Some(new)),
+            Op::Invoke => after_effect(&out.process, value_after_load(&out.load, entry)),
         }
     }
 
     /// The reply, if there was no fault.
-    fn reply_without_fault(&self, entry: Option<Value>, out: &Out) -> Reply
-        ensures { result ≡ reply_without_fault self.now entry out.now }
+    fn reply_without_fault(&self, entry: Option<&Value>, out: &Out) -> Reply
+        ensures { result ≡ reply_without_fault self.now (option_copied entry.entry) out.now }
     {
         match self {
-            Op::Get => Reply::Value(value_after_load(out.load, entry)),
+            Op::Get => Reply::Value(value_after_load(&out.load, entry).copied()),
             Op::ContainsKey | Op::Remove | Op::Replace(_) => Reply::Flag(entry.is_some()),
             Op::Put(_) | Op::Clear | Op::LoadAll { .. } => Reply::Unit,
-            Op::GetAndPut(_) | Op::GetAndRemove | Op::GetAndReplace(_) => Reply::Value(entry),
+            Op::GetAndPut(_) | Op::GetAndRemove | Op::GetAndReplace(_) => {
+                Reply::Value(entry.copied())
+            }
             Op::PutIfAbsent(_) => Reply::Flag(entry.is_none()),
-            Op::RemoveIf(old) | Op::ReplaceIf { old, .. } => Reply::Flag(holds(&entry, old)),
-            Op::Invoke => Reply::Value(outcome_of(out.process)),
+            Op::RemoveIf(old) | Op::ReplaceIf { old, .. } => Reply::Flag(holds(entry, old)),
+            Op::Invoke => Reply::Value(outcome_of(&out.process)),
         }
     }
 
     /// The entry that a step leaves if it found this one, with these outside answers. A failed load, processor or
     /// write leaves it as it was.
-    pub fn entry_after(&self, entry: Option<Value>, out: &Out) -> Option<Value>
-        ensures { result ≡ entry_after self.now entry out.now }
+    pub fn entry_after<'a>(&'a self, entry: Option<&'a Value>, out: &'a Out) -> Option<&'a Value>
+        ensures { option_copied result ≡ entry_after self.now (option_copied entry.entry) out.now }
     {
         match out.first_fault() {
             Some(_) => entry,
@@ -136,8 +154,8 @@ impl Op {
 
     /// What a step replies if it found this entry, with these outside answers. A failed load, processor or write is
     /// the reply, the first of them that failed.
-    pub fn reply_after(&self, entry: Option<Value>, out: &Out) -> Reply
-        ensures { result ≡ reply_after self.now entry out.now }
+    pub fn reply_after(&self, entry: Option<&Value>, out: &Out) -> Reply
+        ensures { result ≡ reply_after self.now (option_copied entry.entry) out.now }
     {
         match out.first_fault() {
             Some(fault) => Reply::Fault(fault),
@@ -303,11 +321,11 @@ impl Op {
             Op::Put(value) | Op::GetAndPut(value) => Some(Change::Write(*value)),
             Op::PutIfAbsent(value) => ask_if(entry.is_none(), Change::Write(*value)),
             Op::Remove | Op::GetAndRemove => Some(Change::Delete),
-            Op::RemoveIf(old) => ask_if(holds(entry, old), Change::Delete),
+            Op::RemoveIf(old) => ask_if(holds(entry.as_ref(), old), Change::Delete),
             Op::Replace(value) | Op::GetAndReplace(value) => {
                 ask_if(entry.is_some(), Change::Write(*value))
             }
-            Op::ReplaceIf { old, new } => ask_if(holds(entry, old), Change::Write(*new)),
+            Op::ReplaceIf { old, new } => ask_if(holds(entry.as_ref(), old), Change::Write(*new)),
             Op::Invoke => process_ask(answer),
             Op::Get | Op::ContainsKey | Op::Clear | Op::LoadAll { .. } => None,
         }

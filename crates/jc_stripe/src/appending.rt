@@ -92,13 +92,13 @@ fn apply_to_entries(
     if out.first_fault().is_some() || !uses(op, &out.load) {
         return (None, None);
     }
-    match op.entry_after(*entry, out) {
+    match op.entry_after(entry.as_ref(), out) {
         Some(value) => {
-            if holds(entry, &value) {
+            if holds(entry, value) {
                 entries.touch(key);
                 return (None, None);
             }
-            match entries.insert(key, &value, pinned) {
+            match entries.insert(key, value, pinned) {
                 Inserted::Kept => (None, None),
                 Inserted::KeptAfter(victim) => (Some(victim), None),
                 Inserted::NotKept(cause, victim) => (victim, Some(cause)),
@@ -137,7 +137,7 @@ pub(crate) fn make_step<'a>(
     } }
     ensures applies { AppliesStep entries.old pinned.now key.now op.now out.now result.victim result.evicted entries.new }
 {
-    let reply = op.reply_after(*entry, out);
+    let reply = op.reply_after(entry.as_ref(), out);
     let (victim, evicted) = apply_to_entries(entries, pinned, key, entry, op, out);
     NewGroup {
         caller,

@@ -29,10 +29,10 @@ pub(super) fn entry_before(contents: &Contents, victim: &Option<Key>, key: &Key)
 }
 
 /// Whether a step inserts, at the entry that it found.
-pub(super) fn does_insert(entry: Option<Value>, op: &Op, out: &Out) -> bool
-    ensures { result ≡ (is_none entry && is_some (entry_after op.now entry out.now)) }
+pub(super) fn does_insert(entry: &Option<Value>, op: &Op, out: &Out) -> bool
+    ensures { result ≡ (is_none entry.now && is_some (entry_after op.now entry.now out.now)) }
 {
-    entry.is_none() && op.entry_after(entry, out).is_some()
+    entry.is_none() && op.entry_after(entry.as_ref(), out).is_some()
 }
 
 /// Whether the victim may go before the step.
@@ -54,7 +54,7 @@ fn does_victim_fit(
             contents.len() == config.capacity
                 && contents.get(victim).is_some()
                 && *victim != *key
-                && does_insert(entry, op, out)
+                && does_insert(&entry, op, out)
         }
     }
 }
@@ -64,7 +64,8 @@ fn is_made(config: &Config, entry: Option<Value>, op: &Op, out: &Out, reply: &Re
     ensures { IsTrue result ↔ (IsTrue (answers_fit config.now op.now entry out.now)
         × (reply.now ≡ reply_after op.now entry out.now)) }
 {
-    op.answers_fit(config, &entry, out) && is_same_reply(reply, &op.reply_after(entry, out))
+    op.answers_fit(config, &entry, out)
+        && is_same_reply(reply, &op.reply_after(entry.as_ref(), out))
 }
 
 /// Whether a group may begin with this step.

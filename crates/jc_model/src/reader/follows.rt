@@ -32,7 +32,7 @@ fn opened_group(
             && op.loads_whole()
             && entry.is_none()
             && out.load.is_given(),
-        is_inserted: does_insert(entry, op, out),
+        is_inserted: does_insert(&entry, op, out),
         was_full: contents.len() == config.capacity && victim.is_none(),
     }
 }
@@ -51,7 +51,8 @@ fn make_step(
     if let Some(victim) = victim {
         contents.remove(victim);
     }
-    let left = op.entry_after(contents.get(key), out);
+    let entry = contents.get(key);
+    let left = op.entry_after(entry.as_ref(), out).copied();
     contents.set(key, left)?;
     Ok(())
 }
