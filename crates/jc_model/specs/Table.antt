@@ -7,6 +7,7 @@
 --     loader_ask                                       the loader table: whether an operation asks the loader, never, always or if the processor wants it
 --     load_fits                                        whether the loader answered as the table has it asked
 --     value_after_load                                 the entry with a loaded value, if one was found
+--     to_change                                        a change whose value is lent
 --     ask_if                                           a change, if it is asked for
 --     effect_ask, process_ask                          what the writer is asked for after a processor, by its net effect and by its answer
 --     write_ask                                        the writer table: what the writer is asked for, or nothing
@@ -48,6 +49,8 @@ use Rattle.jc_model.specs.declared.event.Change.{Change}
 use Rattle.jc_model.specs.declared.event.Change.TheVariants.{Write, Delete}
 use Rattle.jc_model.specs.declared.event.Reply.{Reply}
 use Rattle.jc_model.specs.declared.event.Reply.TheVariants as reply
+use Rattle.jc_model.specs.declared.table.LentChange.{LentChange}
+use Rattle.jc_model.specs.declared.table.LentChange.TheVariants as lent
 use Rattle.jc_model.specs.declared.table.LoaderAsk.{LoaderAsk}
 use Rattle.jc_model.specs.declared.table.LoaderAsk.TheVariants.{Never, Always, IfWanted}
 use Rattle.jc_model.specs.Cache.{Bytes, Cache, entry_at, with_entry}
@@ -105,6 +108,10 @@ value_after_load load.Nothing entry = entry
 value_after_load (load.Failed code) entry = entry
 
 -- 2. The writer.
+
+abbrev pub to_change : LentChange → Change
+to_change (lent.Write value) = Write value.now
+to_change lent.Delete = Delete
 
 abbrev pub ask_if : Bool → Change → Option Change
 ask_if true change = Some change

@@ -34,4 +34,4 @@ pub use event::{
 };
 pub use processor::{EntryAnswer, EntryCall};
 pub use statistics::Statistics;
-pub use table::LoaderAsk;
+pub use table::{LentChange, LoaderAsk};

@@ -1,11 +1,11 @@
 //! The operation table: what an [`Op`] asks of the loader and the writer, which entry it leaves, and what it
 //! replies (JSR 107, "Integration", whose two tables are the first two of these; "Entry Processors").
-ghost use Rattle.std.specs.Prelude.{◌≡◌, ◌↔◌, IsTrue, is_some, is_none, unwrap_or, Some, if◌then◌else◌};
+ghost use Rattle.std.specs.Prelude.{◌≡◌, ◌↔◌, IsTrue, is_some, is_none, option_map, unwrap_or, Some, if◌then◌else◌};
 ghost use Rattle.std.specs.Option.{option_copied};
 ghost use Rattle.jc_model.specs.Table.{holds, entry_after_replace, value_after_load, loader_ask, always_if, wanted_if, load_fits};
 ghost use Rattle.jc_model.specs.Table.{is_invoke, early_fault, first_fault, write_ask, answers_fit, after_effect, outcome_of};
 ghost use Rattle.jc_model.specs.Table.{entry_without_fault, reply_without_fault, entry_after, reply_after};
-ghost use Rattle.jc_model.specs.Table.{ask_if, process_ask};
+ghost use Rattle.jc_model.specs.Table.{to_change, ask_if, process_ask};
 ghost use Rattle.jc_model.specs.Lawful.{loads_whole};
 
 use crate::event::{Change, Effect, LoadAnswer, Op, Out, ProcessAnswer, Reply, WriteAnswer};
@@ -208,22 +208,43 @@ fn load_fits(ask: LoaderAsk, given: bool) -> bool
     }
 }
 
+/// A change of the store whose value is lent.
+#[derive(Clone, Copy, Debug)]
+pub enum LentChange<'a> {
+    /// The value is written.
+    Write(&'a Value),
+    /// The key is deleted.
+    Delete,
+}
+
+impl<'a> LentChange<'a> {
+    /// The change, with a copy of its value.
+    pub fn to_change(self) -> Change
+        ensures { result ≡ to_change self.entry }
+    {
+        match self {
+            LentChange::Write(value) => Change::Write(*value),
+            LentChange::Delete => Change::Delete,
+        }
+    }
+}
+
 /// The change, if it is asked for.
-fn ask_if(asked: bool, change: Change) -> Option<Change>
-    ensures { result ≡ ask_if asked change }
+fn ask_if<'a>(asked: bool, change: LentChange<'a>) -> Option<LentChange<'a>>
+    ensures { option_map to_change result ≡ ask_if asked (to_change change.entry) }
 {
     if asked { Some(change) } else { None }
 }
 
 /// What the writer is asked for after a processor.
-fn process_ask(answer: &ProcessAnswer) -> Option<Change>
-    ensures { result ≡ process_ask answer.now }
+fn process_ask<'a>(answer: &'a ProcessAnswer) -> Option<LentChange<'a>>
+    ensures { option_map to_change result ≡ process_ask answer.now }
 {
     match answer {
         ProcessAnswer::Ended { effect, outcome: _ } => match effect {
             Effect::Keep => None,
-            Effect::Set(value) => Some(Change::Write(*value)),
-            Effect::Remove => Some(Change::Delete),
+            Effect::Set(value) => Some(LentChange::Write(value)),
+            Effect::Remove => Some(LentChange::Delete),
         },
         ProcessAnswer::NotAsked | ProcessAnswer::Failed(_) => None,
     }
@@ -314,18 +335,25 @@ impl Op {
     /// "Integration"). It holds with write-through on; with write-through off, nobody is asked.
     ///
     /// For `Invoke` the processor's answer decides; the other operations do not look at it.
-    pub fn write_ask(&self, entry: &Option<Value>, answer: &ProcessAnswer) -> Option<Change>
-        ensures { result ≡ write_ask self.now entry.now answer.now }
+    pub fn write_ask<'a>(
+        &'a self,
+        entry: &Option<Value>,
+        answer: &'a ProcessAnswer,
+    ) -> Option<LentChange<'a>>
+        ensures { option_map to_change result ≡ write_ask self.now entry.now answer.now }
     {
         match self {
-            Op::Put(value) | Op::GetAndPut(value) => Some(Change::Write(*value)),
-            Op::PutIfAbsent(value) => ask_if(entry.is_none(), Change::Write(*value)),
-            Op::Remove | Op::GetAndRemove => Some(Change::Delete),
-            Op::RemoveIf(old) => ask_if(holds(entry.as_ref(), old), Change::Delete),
+            Op::Put(value) | Op::GetAndPut(value) => Some(LentChange::Write(value)),
+            Op::PutIfAbsent(value) => ask_if(entry.is_none(), LentChange::Write(value)),
+            Op::Remove | Op::GetAndRemove => Some(LentChange::Delete),
+            Op::RemoveIf(old) => ask_if(holds(entry.as_ref(), old), LentChange::Delete),
             Op::Replace(value) | Op::GetAndReplace(value) => {
-                ask_if(entry.is_some(), Change::Write(*value))
+                ask_if(entry.is_some(), LentChange::Write(value))
             }
-            Op::ReplaceIf { old, new } => ask_if(holds(entry.as_ref(), old), Change::Write(*new)),
+            Op::ReplaceIf { old, new } => ask_if(
+                holds(entry.as_ref(), old),
+                LentChange::Write(new),
+            ),
             Op::Invoke => process_ask(answer),
             Op::Get | Op::ContainsKey | Op::Clear | Op::LoadAll { .. } => None,
         }

@@ -56,7 +56,10 @@ impl<A: AskProcess> ProcDone<A> {
         match self.load {
             LoadAnswer::Failed(_) => None,
             LoadAnswer::NotAsked | LoadAnswer::Found(_) | LoadAnswer::Nothing => {
-                Op::Invoke.write_ask(&None, &self.process)
+                match Op::Invoke.write_ask(&None, &self.process) {
+                    Some(change) => Some(change.to_change()),
+                    None => None,
+                }
             }
         }
     }

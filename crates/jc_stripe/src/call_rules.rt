@@ -1,10 +1,12 @@
 //! The rules by which a first phase decides: whether a call answers at once or may join a load, whom it asks first, what it needs.
-ghost use Rattle.std.specs.Prelude.{◌≡◌};
+ghost use Rattle.std.specs.Prelude.{◌≡◌, option_map};
+ghost use Rattle.jc_model.specs.Table.{to_change};
+ghost use Rattle.jc_model.specs.declared.event.ProcessAnswer.TheVariants.{NotAsked};
 ghost use Rattle.jc_stripe.specs.Refusals.{answers_at_once, may_join, places_needed, first_asked, is_wanted, writer_for, load_of, reserves, change_for};
 ghost use Rattle.jc_stripe.specs.Finding.{is_to_reserve};
 
 use crate::ticket::First;
-use jc_model::{Change, LoaderAsk, Op, ProcessAnswer};
+use jc_model::{Change, LentChange, LoaderAsk, Op, ProcessAnswer};
 use jc_types::{Config, HIT_PLACES, STEP_PLACES, Value};
 
 /// What a call finds at its key, before anything is done.
@@ -88,21 +90,27 @@ pub(crate) fn load_of(first: &First, number: u64) -> Option<u64>
 }
 
 /// The writer, for a change that is asked for.
-fn writer_for(change: Option<Change>) -> First
-    ensures { result ≡ writer_for change }
+fn writer_for(change: Option<LentChange<'_>>) -> First
+    ensures { result ≡ writer_for (option_map to_change change.entry) }
 {
     match change {
-        Some(change) => First::Writer(change),
+        Some(LentChange::Write(value)) => First::Writer(Change::Write(*value)),
+        Some(LentChange::Delete) => First::Writer(Change::Delete),
         None => First::Nobody,
     }
 }
 
-/// The change that the writer is asked for, if write-through is on.
-fn change_for(config: &Config, op: &Op, entry: &Option<Value>) -> Option<Change>
-    ensures { result ≡ change_for config.now op.now entry.now }
+/// The change that the writer is asked for, if write-through is on, and a processor answered this.
+fn change_for<'a>(
+    config: &Config,
+    op: &'a Op,
+    entry: &Option<Value>,
+    answer: &'a ProcessAnswer,
+) -> Option<LentChange<'a>>
+    ensures { answer.now ≡ NotAsked → option_map to_change result ≡ change_for config.now op.now entry.now }
 {
     if config.write_through {
-        op.write_ask(entry, &ProcessAnswer::NotAsked)
+        op.write_ask(entry, answer)
     } else {
         None
     }
@@ -130,7 +138,7 @@ pub(crate) fn first_asked(config: &Config, op: &Op, entry: &Option<Value>) -> Fi
         };
     }
     match ask {
-        LoaderAsk::Never => writer_for(change_for(config, op, entry)),
+        LoaderAsk::Never => writer_for(change_for(config, op, entry, &ProcessAnswer::NotAsked)),
         LoaderAsk::Always => First::Loader,
         LoaderAsk::IfWanted => First::Processor {
             entry: None,

@@ -1,6 +1,6 @@
 //! What the texts don't run: the rows of an entry processor.
 use super::value;
-use jc_model::{Change, Effect, LoaderAsk, Op, ProcessAnswer};
+use jc_model::{Effect, LentChange, LoaderAsk, Op, ProcessAnswer};
 
 #[test]
 fn asks_for_an_entry_processor(rt: HostRuntime) {
@@ -11,5 +11,6 @@ fn asks_for_an_entry_processor(rt: HostRuntime) {
     };
     assert!(rt; Op::Invoke.is_invoke() && set.is_given());
     assert!(rt; Op::Invoke.loader_ask(true, &None) == LoaderAsk::IfWanted);
-    assert!(rt; Op::Invoke.write_ask(&None, &set) == Some(Change::Write(value)));
+    let asked = Op::Invoke.write_ask(&None, &set);
+    assert!(rt; matches!(asked, Some(LentChange::Write(written)) if *written == value));
 }
