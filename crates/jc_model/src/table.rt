@@ -1,5 +1,7 @@
 //! The operation table: what an [`Op`] asks of the loader and the writer, which entry it leaves, and what it
 //! replies (JSR 107, "Integration", whose two tables are the first two of these; "Entry Processors").
+//!
+//! The rows that a call's path reads are in line: out of line, each value that one gives would be cleared and copied once more.
 ghost use Rattle.std.specs.Prelude.{◌≡◌, ◌↔◌, IsTrue, is_some, is_none, option_map, unwrap_or, Some, if◌then◌else◌};
 ghost use Rattle.std.specs.Option.{option_copied};
 ghost use Rattle.jc_model.specs.Table.{holds, entry_after_replace, value_after_load, loader_ask, always_if, wanted_if, load_fits};
@@ -12,6 +14,7 @@ use crate::event::{Change, Effect, LoadAnswer, Op, Out, ProcessAnswer, Reply, Wr
 use jc_types::{Config, Refusal, Value};
 
 /// Whether the entry has this value.
+#[inline(always)]
 fn holds(entry: Option<&Value>, value: &Value) -> bool
     ensures { result ≡ holds (option_copied entry.entry) value.now }
 {
@@ -22,6 +25,7 @@ fn holds(entry: Option<&Value>, value: &Value) -> bool
 }
 
 /// The entry with a loaded value, if one was found.
+#[inline(always)]
 fn value_after_load<'a>(answer: &'a LoadAnswer, entry: Option<&'a Value>) -> Option<&'a Value>
     ensures { option_copied result ≡ value_after_load answer.now (option_copied entry.entry) }
 {
@@ -32,6 +36,7 @@ fn value_after_load<'a>(answer: &'a LoadAnswer, entry: Option<&'a Value>) -> Opt
 }
 
 /// Another entry if this one has a value, and else this one.
+#[inline(always)]
 fn entry_if<'a>(entry: Option<&'a Value>, old: &Value, next: Option<&'a Value>) -> Option<&'a Value>
     ensures { option_copied result ≡ (if holds (option_copied entry.entry) old.now
         then option_copied next.entry else option_copied entry.entry) }
@@ -40,6 +45,7 @@ fn entry_if<'a>(entry: Option<&'a Value>, old: &Value, next: Option<&'a Value>) 
 }
 
 /// The entry, or this value if there is none.
+#[inline(always)]
 fn entry_or<'a>(entry: Option<&'a Value>, value: &'a Value) -> Option<&'a Value>
     ensures { option_copied result ≡ Some (unwrap_or (option_copied entry.entry) value.now) }
 {
@@ -50,6 +56,7 @@ fn entry_or<'a>(entry: Option<&'a Value>, value: &'a Value) -> Option<&'a Value>
 }
 
 /// A value in the place of the entry, if there is one.
+#[inline(always)]
 fn entry_after_replace<'a>(entry: Option<&Value>, value: &'a Value) -> Option<&'a Value>
     ensures { option_copied result ≡ entry_after_replace (option_copied entry.entry) value.now }
 {
@@ -60,6 +67,7 @@ fn entry_after_replace<'a>(entry: Option<&Value>, value: &'a Value) -> Option<&'
 }
 
 /// The entry with what a processor did to it.
+#[inline(always)]
 fn after_effect<'a>(answer: &'a ProcessAnswer, entry: Option<&'a Value>) -> Option<&'a Value>
     ensures { option_copied result ≡ after_effect answer.now (option_copied entry.entry) }
 {
@@ -74,6 +82,7 @@ fn after_effect<'a>(answer: &'a ProcessAnswer, entry: Option<&'a Value>) -> Opti
 }
 
 /// What a processor answers the caller.
+#[inline(always)]
 fn outcome_of(answer: &ProcessAnswer) -> Option<Value>
     ensures { result ≡ outcome_of answer.now }
 {
@@ -86,6 +95,7 @@ fn outcome_of(answer: &ProcessAnswer) -> Option<Value>
 impl Out {
     /// The first fault of the outside answers: the loader's before the processor's before the writer's. A step with a
     /// fault leaves the entry as it was.
+    #[inline(always)]
     pub fn first_fault(&self) -> Option<Refusal>
         ensures { result ≡ first_fault self.now }
     {
@@ -104,6 +114,7 @@ impl Out {
 
 impl Op {
     /// The entry afterwards, if there was no fault.
+    #[inline(always)]
     fn entry_without_fault<'a>(
         &'a self,
         entry: Option<&'a Value>,
@@ -125,6 +136,7 @@ impl Op {
     }
 
     /// The reply, if there was no fault.
+    #[inline(always)]
     fn reply_without_fault(&self, entry: Option<&Value>, out: &Out) -> Reply
         ensures { result ≡ reply_without_fault self.now (option_copied entry.entry) out.now }
     {
@@ -143,6 +155,7 @@ impl Op {
 
     /// The entry that a step leaves if it found this one, with these outside answers. A failed load, processor or
     /// write leaves it as it was.
+    #[inline(always)]
     pub fn entry_after<'a>(&'a self, entry: Option<&'a Value>, out: &'a Out) -> Option<&'a Value>
         ensures { option_copied result ≡ entry_after self.now (option_copied entry.entry) out.now }
     {
@@ -154,6 +167,7 @@ impl Op {
 
     /// What a step replies if it found this entry, with these outside answers. A failed load, processor or write is
     /// the reply, the first of them that failed.
+    #[inline(always)]
     pub fn reply_after(&self, entry: Option<&Value>, out: &Out) -> Reply
         ensures { result ≡ reply_after self.now (option_copied entry.entry) out.now }
     {
@@ -230,6 +244,7 @@ impl<'a> LentChange<'a> {
 }
 
 /// The change, if it is asked for.
+#[inline(always)]
 fn ask_if<'a>(asked: bool, change: LentChange<'a>) -> Option<LentChange<'a>>
     ensures { option_map to_change result ≡ ask_if asked (to_change change.entry) }
 {
@@ -237,6 +252,7 @@ fn ask_if<'a>(asked: bool, change: LentChange<'a>) -> Option<LentChange<'a>>
 }
 
 /// What the writer is asked for after a processor.
+#[inline(always)]
 fn process_ask<'a>(answer: &'a ProcessAnswer) -> Option<LentChange<'a>>
     ensures { option_map to_change result ≡ process_ask answer.now }
 {
@@ -267,6 +283,7 @@ fn has_early_fault(out: &Out) -> bool
 
 impl Op {
     /// The loader table: whether the loader is asked by a step that finds this entry (JSR 107, "Integration").
+    #[inline(always)]
     pub fn loader_ask(&self, read_through: bool, entry: &Option<Value>) -> LoaderAsk
         ensures { result ≡ loader_ask read_through self.now entry.now }
     {
@@ -335,6 +352,7 @@ impl Op {
     /// "Integration"). It holds with write-through on; with write-through off, nobody is asked.
     ///
     /// For `Invoke` the processor's answer decides; the other operations do not look at it.
+    #[inline(always)]
     pub fn write_ask<'a>(
         &'a self,
         entry: &Option<Value>,

@@ -1,4 +1,5 @@
-//! What a step leaves of the entries, and what is appended of it.
+//! What a step leaves of the entries, and what is appended of it. What makes a step is in line: a reply or a group that a call
+//! returns would be cleared and copied once more.
 ghost use Rattle.std.specs.Prelude.{◌≡◌, ◌+◌, ◌≤◌, ◌<◌, ◌^◌, [], ◌∷◌, ◌++◌, map, length, Option, None, Some, IsTrue, option_map};
 ghost use Rattle.std.specs.FinMap as finite;
 ghost use Rattle.jc_model.specs.Cache.{key_cmp};
@@ -67,6 +68,7 @@ fn uses(op: &Op, load: &LoadAnswer) -> bool
 }
 
 /// Whether an entry has this value already.
+#[inline(always)]
 fn holds(entry: &Option<Value>, value: &Value) -> bool
     ensures { result ≡ holds entry.now value.now }
 {
@@ -77,6 +79,7 @@ fn holds(entry: &Option<Value>, value: &Value) -> bool
 }
 
 /// Makes a step in the entries if the key has this entry, and says who went before it and why its own key went after it.
+#[inline(always)]
 fn apply_to_entries(
     entries: &mut Entries,
     pinned: &[Key],
@@ -115,6 +118,7 @@ fn apply_to_entries(
 }
 
 /// Makes a step in the entries if the key has this entry, and says what is to be appended of it.
+#[inline(always)]
 pub(crate) fn make_step<'a>(
     entries: &mut Entries,
     pinned: &[Key],
@@ -161,6 +165,7 @@ fn append_eviction(history: &mut History, key: &Key, cause: Cause)
 }
 
 /// Appends the eviction before a step, if there is one, and the step. It answers the place of the step.
+#[inline(always)]
 fn append_step(history: &mut History, group: &NewGroup) -> u32
     requires few { length history.old.events + 1 < 2 ^ 32 }
     requires places { length (victim_events group.now.victim) + 1 ≤ history.old.promised }
@@ -240,6 +245,7 @@ fn append_evicted(history: &mut History, group: &NewGroup) -> Option<Eviction>
 }
 
 /// Appends a step with all that belongs to it, in room that was reserved for it, and gives back the room that it does not use.
+#[inline(always)]
 pub(crate) fn append_group(
     history: &mut History,
     joiners: &Joiners,

@@ -1,4 +1,5 @@
 //! The rules by which a first phase decides: whether a call answers at once or may join a load, whom it asks first, what it needs.
+//! Those that give a value are in line, so that it isn't cleared and copied once more.
 ghost use Rattle.std.specs.Prelude.{◌≡◌, option_map};
 ghost use Rattle.jc_model.specs.Table.{to_change};
 ghost use Rattle.jc_model.specs.declared.event.ProcessAnswer.TheVariants.{NotAsked};
@@ -90,6 +91,7 @@ pub(crate) fn load_of(first: &First, number: u64) -> Option<u64>
 }
 
 /// The writer, for a change that is asked for.
+#[inline(always)]
 fn writer_for(change: Option<LentChange<'_>>) -> First
     ensures { result ≡ writer_for (option_map to_change change.entry) }
 {
@@ -101,6 +103,7 @@ fn writer_for(change: Option<LentChange<'_>>) -> First
 }
 
 /// The change that the writer is asked for, if write-through is on, and a processor answered this.
+#[inline(always)]
 fn change_for<'a>(
     config: &Config,
     op: &'a Op,
@@ -127,6 +130,7 @@ fn is_wanted(ask: &LoaderAsk) -> bool
 }
 
 /// Whom a call asks first.
+#[inline(always)]
 pub(crate) fn first_asked(config: &Config, op: &Op, entry: &Option<Value>) -> First
     ensures { result ≡ first_asked config.now op.now entry.now }
 {
