@@ -23,6 +23,8 @@ use Rattle.jc_cache.specs.declared.session.Session.{Session}
 use Rattle.jc_rounds.specs.declared.bulk_call.BulkCall.{BulkCall}
 use Rattle.jc_rounds.specs.declared.progress.Progress.{Progress}
 use Rattle.jc_rounds.specs.declared.targets.Targets.{Targets}
+use Rattle.jc_rounds.specs.Causes.{IsFirst}
+use Rattle.jc_rounds.specs.Starting.{RoundEnd}
 use Rattle.jc_rounds.specs.Ends.{KeyEnd, failed_entries, found_entries, key_ends}
 use Rattle.jc_rounds.specs.KeyProgress.{IsCauseIn}
 use Rattle.jc_rounds.specs.Rounds.{faults_in}
@@ -54,15 +56,13 @@ module _ {I J : Type 0} {D : I → Type 0} {E : J → Type 0} (loads_all : LoadA
   ends_so : (cache : CacheState) (old new : Session I J D E) (call later : BulkCall)
       → IsOver later → RunsOn loads_all load_state writes_all deletes_all write_state cache (begun old) (next_call old) call new later
       → EndsSo loads_all load_state writes_all deletes_all write_state cache old (ops_of later.targets.now) (key_ends (ops_of later.targets.now) later.progress.items) later.cause new
-  ends_so cache old new call later over runs = (
-    runs.rounds,
-    record {
-      carried = carried_out cache (record { caller = (next_call old).agent.caller; first = old.seats.items; rounds = runs.rounds }) old new later refl refl over runs.agent runs.run;
-      calls = runs.calls;
-      types = runs.types;
-    },
-    subst (λ rs. IsCauseIn later.cause (rs ++ faults_in runs.rounds)) (sym (failures_are (ops_of later.targets.now) later.progress.items runs.run.between.on.under.so_far.many)) runs.run.between.cause,
-  )
+  ends_so cache old new call later over runs =
+      let carried = carried_out cache (record { caller = (next_call old).agent.caller; first = old.seats.items; rounds = runs.rounds }) old new later refl refl over runs.agent runs.run in (
+        runs.rounds,
+        record { carried = carried.0; calls = runs.calls; types = runs.types },
+        subst (λ rs. IsCauseIn later.cause (rs ++ faults_in runs.rounds)) (sym (failures_are (ops_of later.targets.now) later.progress.items runs.run.between.on.under.so_far.many)) runs.run.between.cause,
+        carried.1,
+      )
 
   pub ends_for : (cache : CacheState) (old next new : Session I J D E) (targets : Targets) (call later : BulkCall) (progress : Vec Progress) (cause : Option Refusal) → next ≡ next_call old → call.targets.now ≡ targets → progress ≡ later.progress → cause ≡ later.cause
       → IsOver later → RunsOn loads_all load_state writes_all deletes_all write_state cache (begun old) next call new later
@@ -73,13 +73,16 @@ module _ {I J : Type 0} {D : I → Type 0} {E : J → Type 0} (loads_all : LoadA
       (subst (λ (p : Vec Progress). EndsSo loads_all load_state writes_all deletes_all write_state cache old (ops_of later.targets.now) (key_ends (ops_of later.targets.now) p.items) cause new) (sym progress_is)
       (subst (λ o. EndsSo loads_all load_state writes_all deletes_all write_state cache old (ops_of later.targets.now) (key_ends (ops_of later.targets.now) later.progress.items) o new) (sym cause_is) e))
 
+  first_by : (cache : CacheState) (old : Session I J D E) (targets : List (Bytes × Op)) (es : List RoundEnd) (cause same : Option Refusal) → cause ≡ same → IsFirst (next_call old).agent.caller cache.config.stripes targets [] es cause → IsFirst (next_call old).agent.caller cache.config.stripes targets [] es same
+  first_by cache old targets es cause same is first = subst (IsFirst (next_call old).agent.caller cache.config.stripes targets [] es) is first
+
   pub end_ok : (cache : CacheState) (old new : Session I J D E) (targets : List (Bytes × Op)) (ends : List KeyEnd) (cause : Option Refusal) → cause ≡ None
       → EndsSo loads_all load_state writes_all deletes_all write_state cache old targets ends cause new → Succeeds loads_all load_state writes_all deletes_all write_state cache old targets new
   end_ok cache old new targets ends cause is e = (ends, e.0, e.1, subst (λ o. IsCauseIn o (causes_of ends e.0)) is e.2)
 
   pub end_err : (cache : CacheState) (old new : Session I J D E) (targets : List (Bytes × Op)) (ends : List KeyEnd) (cause : Option Refusal) (met : Refusal) (failed : List (Bytes × Refusal)) → cause ≡ Some met → failed ≡ failed_entries ends
       → EndsSo loads_all load_state writes_all deletes_all write_state cache old targets ends cause new → FailsInPart loads_all load_state writes_all deletes_all write_state cache old targets met failed new
-  end_err cache old new targets ends cause met failed is all e = (ends, e.0, e.1, subst (λ o. IsCauseIn o (causes_of ends e.0)) is e.2, all)
+  end_err cache old new targets ends cause met failed is all e = (ends, e.0, e.1, subst (λ o. IsCauseIn o (causes_of ends e.0)) is e.2, all, first_by cache old targets e.1.carried.started.ends cause (Some met) is e.3)
 
   pub get_ok : (cache : CacheState) (old new : Session I J D E) (targets : List (Bytes × Op)) (ends : List KeyEnd) (cause : Option Refusal) (found : List (Bytes × Bytes)) → cause ≡ None → found ≡ found_entries ends
       → EndsSo loads_all load_state writes_all deletes_all write_state cache old targets ends cause new → GetsAll loads_all load_state writes_all deletes_all write_state cache old targets found new
@@ -87,7 +90,7 @@ module _ {I J : Type 0} {D : I → Type 0} {E : J → Type 0} (loads_all : LoadA
 
   pub get_err : (cache : CacheState) (old new : Session I J D E) (targets : List (Bytes × Op)) (ends : List KeyEnd) (cause : Option Refusal) (met : Refusal) (failed : List (Bytes × Refusal)) (found : List (Bytes × Bytes)) → cause ≡ Some met → failed ≡ failed_entries ends → found ≡ found_entries ends
       → EndsSo loads_all load_state writes_all deletes_all write_state cache old targets ends cause new → FailsToGet loads_all load_state writes_all deletes_all write_state cache old targets met failed found new
-  get_err cache old new targets ends cause met failed found is all values e = (ends, e.0, e.1, subst (λ o. IsCauseIn o (causes_of ends e.0)) is e.2, all, values)
+  get_err cache old new targets ends cause met failed found is all values e = (ends, e.0, e.1, subst (λ o. IsCauseIn o (causes_of ends e.0)) is e.2, all, values, first_by cache old targets e.1.carried.started.ends cause (Some met) is e.3)
 
   -- the same, by the keys that the call was given
 

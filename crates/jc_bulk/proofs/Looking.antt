@@ -2,10 +2,9 @@
 --     looks_itself, looks_on    no look, and looks after looks
 --     may_still                 the session may still begin its next call
 --     look_told                 a look at one stripe
---     looked_none, looked_next, looked_on    no stripe, one stripe more, and what the session sees later
+--     looked_none, looked_next  no stripe, and one stripe more
 --     apart_next                the keys still differ, and are of the stripes that were looked at
---     since_looked              a call that is carried out for these keys is since before the looks
---     sweep_ok, sweep_err       and what it returns
+--     sweep_ok, sweep_err       a call that is carried out for the keys that were found
 use Rattle.std.proofs.Common.{◌≡◌, ◌==◌, ◌&&◌, ◌⊎◌, ⊎_elim, inl, inr, ◌+◌, ◌++◌, ℕ, zero, suc, List, [], ◌∷◌, length, Bool, true, false, nat_lt, None, Some, Err, slice_get, refl, sym, ap, subst, ◌∙◌, arith}
 use Rattle.std.proofs.lemmas.Bool.{and_parts}
 use Rattle.std.proofs.lemmas.Bool.Decides.{nat_tests}
@@ -123,14 +122,6 @@ looked_since u v w keys grown at = record {
   keys_are = at.keys_are;
 }
 
-pub looked_on : (n : ℕ) (old mid new : List Seated) (keys : List Bytes) → ((i : ℕ) → HasGrown (view_at mid i) (view_at new i)) → HasLooked n old mid keys → HasLooked n old new keys
-looked_on n old mid new keys grown looked = record {
-  found = looked.found;
-  count = looked.count;
-  each = λ i some there. looked_later (view_at old i) (view_at mid i) (view_at new i) some (grown i) (looked.each i some there);
-  keys_are = looked.keys_are;
-}
-
 pub looked_none : (old new : List Seated) (keys : List Bytes) → keys ≡ [] → HasLooked 0 old new keys
 looked_none old new keys none = record { found = []; count = refl; each = λ i some there. cc; keys_are = none }
 
@@ -235,69 +226,18 @@ module _ {I J : Type 0} {D : I → Type 0} {E : J → Type 0} where
 
 -- 4. The call.
 
-full_since : (caller : Caller) (u v w : View) → HasGrown u v → WasNearFull caller v w → WasNearFull caller u w
-full_since caller u v w grown was =
-    record { seen = was.seen; reached = was.reached; same = was.same; since = prefix-trans u.front v.front (whole_history was.seen) grown.front was.since; later = was.later; full = was.full }
-
 module _ {I J : Type 0} {D : I → Type 0} {E : J → Type 0} (loads_all : LoadAllRelation ((i : I) × D i)) (load_state : (i : I) × D i → List ℕ) (writes_all : WriteAllRelation ((j : J) × E j)) (deletes_all : DeleteAllRelation ((j : J) × E j)) (write_state : (j : J) × E j → List ℕ) where
-  -- what a call is carried out for is so since before the looks
-  carried_since : (cache : CacheState) (old mid new : Session I J D E) (targets : List (Bytes × Op)) (ends : List KeyEnd) (rounds : List Round) → OnlyLooks old mid → IsCarriedOut cache mid targets ends rounds new → IsCarriedOut cache old targets ends rounds new
-  carried_since cache old mid new targets ends rounds looks carried =
-      let caller = (next_call old).agent.caller in
-      let n = cache.config.stripes in
-      let from : Session I J D E = record old { seats = mid.seats } in
-      let same : mid ≡ from = λ i. record mid { agent = looks.agent i } in
-      let c : IsCarriedOut cache from targets ends rounds new = subst (λ s. IsCarriedOut cache s targets ends rounds new) same carried in
-      record {
-        targets_are = c.targets_are;
-        grown = λ i. grown_on (view_at old.seats.items i) (view_at mid.seats.items i) (view_at new.seats.items i) (looks.grown i) (c.grown i);
-        each = All-weaker
-            (λ (e : KeyEnd). HasEnded cache.config caller rounds (view_of n mid.seats.items e.key) (view_of n new.seats.items e.key) e.key e.op e.ended)
-            (λ (e : KeyEnd). HasEnded cache.config caller rounds (view_of n old.seats.items e.key) (view_of n new.seats.items e.key) e.key e.op e.ended)
-            (λ e ended. at_since cache.config caller rounds (view_of n old.seats.items e.key) (view_of n mid.seats.items e.key) (view_of n new.seats.items e.key) e.key e.op (Ended e.ended) (looks.grown (stripe_of e.key n)) ended)
-            ends c.each;
-        refused = All-weaker
-            (λ (e : KeyEnd). e.ended ≡ Err HistoryFull → WasNearFull caller (view_of n mid.seats.items e.key) (view_of n new.seats.items e.key))
-            (λ (e : KeyEnd). e.ended ≡ Err HistoryFull → WasNearFull caller (view_of n old.seats.items e.key) (view_of n new.seats.items e.key))
-            (λ e was full. full_since caller (view_of n old.seats.items e.key) (view_of n mid.seats.items e.key) (view_of n new.seats.items e.key) (looks.grown (stripe_of e.key n)) (was full))
-            ends c.refused;
-        others = c.others;
-        former = λ i. c.former i ∙ ap (former_steps caller) (looks.own i);
-        asked = c.asked;
-        started = started_since caller n targets old.seats.items mid.seats.items new.seats.items rounds looks.grown c.started;
-        left = c.left;
-      }
-
-  pub since_looked : (cache : CacheState) (old mid new : Session I J D E) (targets : List (Bytes × Op)) (ends : List KeyEnd) (rounds : List Round) → OnlyLooks old mid
-      → IsBulkCall loads_all load_state writes_all deletes_all write_state cache mid targets ends rounds new → IsBulkCall loads_all load_state writes_all deletes_all write_state cache old targets ends rounds new
-  since_looked cache old mid new targets ends rounds looks c = record {
-    carried = carried_since cache old mid new targets ends rounds looks c.carried;
-    calls = subst (λ (a : Agent I J D E). CallsInRounds (boxed loads_all) (boxed load_state) (boxed writes_all) (boxed deletes_all) (boxed write_state) a.hands.outside.loader a.hands.outside.writer rounds new.agent.hands.outside.loader new.agent.hands.outside.writer) looks.agent c.calls;
-    types = subst (λ (a : Agent I J D E). KeepsTypes a new.agent) looks.agent c.types;
-  }
-
   pub sweep_ok : (cache : CacheState) (old mid new : Session I J D E) (ops : List Bytes → List (Bytes × Op)) (list keys : List Bytes) → OnlyLooks old mid → HasLooked cache.config.stripes old.seats.items mid.seats.items keys → list ≡ keys
       → Succeeds loads_all load_state writes_all deletes_all write_state cache mid (ops list) new
-      → (found : List Bytes) × HasLooked cache.config.stripes old.seats.items new.seats.items found × Succeeds loads_all load_state writes_all deletes_all write_state cache old (ops found) new
+      → (found : List Bytes) × LooksFirst cache.config.stripes old found (λ looked. Succeeds loads_all load_state writes_all deletes_all write_state cache looked (ops found) new)
   sweep_ok cache old mid new ops list keys looks looked is r =
-      let c = since_looked cache old mid new (ops list) r.0 r.1 looks r.2 in (
-        keys,
-        looked_on cache.config.stripes old.seats.items mid.seats.items new.seats.items keys r.2.carried.grown looked,
-        subst (λ ks. Succeeds loads_all load_state writes_all deletes_all write_state cache old (ops ks) new) is (r.0, r.1, c, r.3),
-      )
+      (keys, record { looked = mid; only = looks; found = looked; done = subst (λ ks. Succeeds loads_all load_state writes_all deletes_all write_state cache mid (ops ks) new) is r })
 
   pub sweep_err : (cache : CacheState) (old mid new : Session I J D E) (ops : List Bytes → List (Bytes × Op)) (list keys : List Bytes) (cause : Refusal) (failed : List (Bytes × Refusal)) (found : List (Bytes × Bytes))
       → OnlyLooks old mid → HasLooked cache.config.stripes old.seats.items mid.seats.items keys → list ≡ keys
       → FailsInPart loads_all load_state writes_all deletes_all write_state cache mid (ops list) cause failed new × (found ≡ []) ⊎ IsOutOfMemory mid cause failed found new
-      → ((ks : List Bytes) × HasLooked cache.config.stripes old.seats.items new.seats.items ks × FailsInPart loads_all load_state writes_all deletes_all write_state cache old (ops ks) cause failed new × (found ≡ []))
+      → ((ks : List Bytes) × LooksFirst cache.config.stripes old ks (λ looked. FailsInPart loads_all load_state writes_all deletes_all write_state cache looked (ops ks) cause failed new) × (found ≡ []))
       ⊎ IsSweepRefused old cause failed found new
   sweep_err cache old mid new ops list keys cause failed found looks looked is (inl r) =
-      let f = r.0 in
-      let c = since_looked cache old mid new (ops list) f.0 f.1 looks f.2 in
-      inl (
-        keys,
-        looked_on cache.config.stripes old.seats.items mid.seats.items new.seats.items keys f.2.carried.grown looked,
-        subst (λ ks. FailsInPart loads_all load_state writes_all deletes_all write_state cache old (ops ks) cause failed new) is (f.0, f.1, c, f.3, f.4),
-        r.1,
-      )
+      inl (keys, record { looked = mid; only = looks; found = looked; done = subst (λ ks. FailsInPart loads_all load_state writes_all deletes_all write_state cache mid (ops ks) cause failed new) is r.0 }, r.1)
   sweep_err cache old mid new ops list keys cause failed found looks looked is (inr r) = inr (r.0, r.1, r.2, subst (OnlyLooks old) (sym r.3) looks)

@@ -21,13 +21,13 @@ use Rattle.jc_rounds.specs.declared.answers.Answers.{Answers}
 use Rattle.jc_rounds.specs.declared.bulk_call.BulkCall.{BulkCall}
 use Rattle.jc_rounds.specs.Answers.{AreAnswers}
 use Rattle.jc_rounds.specs.Asking.{reserved_keys}
-use Rattle.jc_rounds.specs.KeyProgress.{IsNoted, failures, refused_if_waiting}
+use Rattle.jc_rounds.specs.KeyProgress.{IsNoted, KeepsCause, failures, refused_if_waiting}
 use Rattle.jc_rounds.specs.Rounds.{Round, asked_in, keys_asked, round_fault}
 use Rattle.jc_rounds.specs.Running.{HasRun, IsRound, with_rounds}
 use Rattle.jc_rounds.specs.SoFar.{GoesOn}
 use Rattle.jc_rounds.specs.Targets.{ops_of}
 use Rattle.jc_rounds.specs.Underway.{Advances, HasStarted, IsAnswered, IsBetween, Past, reserved_by, with_round}
-use Rattle.jc_rounds.proofs.CallerLemmas.{among_there, asked_call, goes_both, refused_call, refused_round, round_of, run_more}
+use Rattle.jc_rounds.proofs.CallerLemmas.{among_there, asked_call, goes_both, keeps_both, keeps_noted, keeps_or, refused_call, refused_round, round_of, run_more, some_more}
 use Rattle.jc_bulk.specs.declared.outside.Kind.{Kind}
 use Rattle.jc_bulk.specs.Outside.{Answered, CallsInRounds, CallsOnce, IsFilled, OutsideState}
 use Rattle.jc_bulk.specs.RoundsRun.{IsReady, KeysAskAs, RunsOn}
@@ -85,11 +85,11 @@ module _ {I J : Type 0} {D : I → Type 0} {E : J → Type 0} (loads_all : LoadA
   same_agent old new is = ap (λ (c : Caller). record new.agent { caller = c }) is
 
   -- a round without a call outside, which leaves all but seats and counts as they were
-  runs_quiet : (past : Past) (old new : Session I J D E) (call later : BulkCall) → HasRun cache past old call → IsBetween cache past new later → later.targets ≡ call.targets → later.most ≡ call.most
+  runs_quiet : (past : Past) (old new : Session I J D E) (call later : BulkCall) → HasRun cache past old call → IsBetween cache past new later → later.targets ≡ call.targets → later.most ≡ call.most → KeepsCause call.cause later.cause
       → new.agent ≡ record old.agent { counts = new.agent.counts } → IsRound past.caller cache.config.stripes (ops_of call.targets.now) old.seats.items new.seats.items call.progress.items later.progress.items [] → Runs past old call new later
-  runs_quiet past old new call later run between targets most agent round = record {
+  runs_quiet past old new call later run between targets most keeps agent round = record {
     rounds = [];
-    run = run_more cache past old new call later [] targets round (subst (λ p. IsBetween cache p new later) (sym (no_more past)) between) run;
+    run = run_more cache past old new call later [] targets round keeps (subst (λ p. IsBetween cache p new later) (sym (no_more past)) between) run;
     calls = (ap (λ a. a.hands.outside.loader) agent, ap (λ a. a.hands.outside.writer) agent);
     types = (ap (λ a. option_map (λ b. b.vtable) a.hands.outside.loader) agent, ap (λ a. option_map (λ b. b.vtable) a.hands.outside.writer) agent);
     agent = same_agent old new (ap (λ a. a.caller) agent);
@@ -100,7 +100,7 @@ module _ {I J : Type 0} {D : I → Type 0} {E : J → Type 0} (loads_all : LoadA
   pub quiet_round : (past : Past) (old mid new : Session I J D E) (call begun later : BulkCall) → HasRun cache past old call → HasStarted cache past old mid begun → Advances old mid call begun → begun.tickets.items ≡ []
       → IsBetween cache past new later → Advances mid new begun later → Runs past old call new later
   quiet_round past old mid new call begun later run started one none between two =
-      runs_quiet past old new call later run between (two.targets ∙ one.targets) (two.most ∙ one.most) (two.agent ∙ ap (λ (a : Agent I J D E). record a { counts = new.agent.counts }) one.agent)
+      runs_quiet past old new call later run between (two.targets ∙ one.targets) (two.most ∙ one.most) (keeps_both call.cause begun.cause later.cause one.cause two.cause) (two.agent ∙ ap (λ (a : Agent I J D E). record a { counts = new.agent.counts }) one.agent)
       (round_of cache past old mid new call begun later [] run.between started one.targets one.goes two.goes (omega arith) (sym (ap (λ ts. reserved_keys (map reserved_by ts)) none)))
 
   pub answered_call : (past : Past) (old mid after : Session I J D E) (call begun filled noted : BulkCall) (outside : OutsideState) (v : Vec TicketClaim) (answers : Answers) (fault : Option Refusal) → IsReady call outside → HasStarted cache past old mid begun
@@ -134,10 +134,13 @@ module _ {I J : Type 0} {D : I → Type 0} {E : J → Type 0} (loads_all : LoadA
       subst (λ (s : Session I J D E). GoesOn s.seats.items new.seats.items begun.progress.items later.progress.items) asked.rest
       (subst (λ ps. GoesOn after.seats.items new.seats.items ps later.progress.items) here
       (goes_both after.seats.items late.seats.items new.seats.items noted.progress.items committed.progress.items later.progress.items two.goes three.goes)) in
+      let filled_so : KeepsCause begun.cause noted.cause = subst (λ (x : BulkCall). KeepsCause begun.cause x.cause) (sym (note ∙ ap (λ (x : BulkCall). record x { cause = option_or x.cause fault }) with)) (keeps_or begun.cause fault) in
+      let keeps : KeepsCause call.cause later.cause =
+      keeps_both call.cause noted.cause later.cause (keeps_both call.cause begun.cause noted.cause one.cause filled_so) (keeps_both noted.cause committed.cause later.cause two.cause three.cause) in
       let keys : asked_in (r ∷ []) ≡ reserved_keys (map reserved_by begun.tickets.items) = append-nil (keys_asked r) ∙ keys_are outside.kind (map reserved_by begun.tickets.items) r a.asked in
       record {
         rounds = r ∷ [];
-        run = run_more cache past old new call later (r ∷ []) targets (round_of cache past old mid new call begun later (r ∷ []) run.between started one.targets one.goes goes (omega arith) keys) between run;
+        run = run_more cache past old new call later (r ∷ []) targets (round_of cache past old mid new call begun later (r ∷ []) run.between started one.targets one.goes goes (omega arith) keys) keeps between run;
         calls = (
           after.agent.hands.outside.loader,
           after.agent.hands.outside.writer,
@@ -168,9 +171,9 @@ module _ {I J : Type 0} {D : I → Type 0} {E : J → Type 0} (loads_all : LoadA
   }
 
   pub runs_refused : (past : Past) (old mid : Session I J D E) (call between later : BulkCall) → later ≡ record between { progress = later.progress; cause = later.cause } → later.progress.items ≡ map refused_if_waiting between.progress.items
-      → IsNoted between.cause (failures later.progress.items) later.cause → Runs past old call mid between → Runs past old call mid later
-  runs_refused past old mid call between later rest is noted one =
+      → IsNoted between.cause (failures later.progress.items) later.cause → (one : Runs past old call mid between) → (one.rounds ≡ [] → ⊥) → Runs past old call mid later
+  runs_refused past old mid call between later rest is noted one some =
       let now = one.run in
       let then = with_rounds past one.rounds in
       runs_both past old mid mid call between later one
-      (runs_quiet then mid mid between later now (refused_call cache then mid between later rest is noted now.between) (ap (λ (x : BulkCall). x.targets) rest) (ap (λ (x : BulkCall). x.most) rest) refl (refused_round cache then mid between later is now.between))
+      (runs_quiet then mid mid between later now (refused_call cache then mid between later rest is noted (some_more past.rounds one.rounds some) now.between) (ap (λ (x : BulkCall). x.targets) rest) (ap (λ (x : BulkCall). x.most) rest) (keeps_noted between.cause later.cause (failures later.progress.items) noted) refl (refused_round cache then mid between later is now.between))

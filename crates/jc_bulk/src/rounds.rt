@@ -1,5 +1,5 @@
 //! All rounds of a bulk call.
-ghost use Rattle.std.specs.Prelude.{◌≡◌, ◌≤◌, [], IfSome, IfOk, None};
+ghost use Rattle.std.specs.Prelude.{◌≡◌, ◌≤◌, [], IfNone, IfSome, IfErr, IfOk, None};
 ghost use Rattle.jc_rounds.specs.Underway.{IsOver, Past};
 ghost use Rattle.jc_rounds.specs.Running.{HasRun};
 ghost use Rattle.jc_bulk.specs.Outside.{no_asks};
@@ -63,7 +63,8 @@ fn run_round<R: Wait>(
     requires run { (past : Past) × HasRun cache.now past session.old call.old }
     ensures left { IfSome result (λ left. left ≡ outside) }
     ensures runs { (past : Past) → HasRun cache.now past session.old call.old
-        → RunsOn loads_all load_state writes_all deletes_all write_state cache.now past session.old call.old session.new call.new }
+        → (runs : RunsOn loads_all load_state writes_all deletes_all write_state cache.now past session.old call.old session.new call.new)
+        × IfNone result (runs.rounds ≡ [] → ⊥) }
 {
     call.start(rt, cache, session);
     if call.tickets.len() == 0 {
@@ -86,7 +87,8 @@ fn ready(
     left: Option<OutsideCall>,
 ) -> Result<OutsideCall, AllocError>
     requires { IfSome left (λ call. (call.kind ≡ kind) × (call.items ≡ []) × (most ≤ call.room)) }
-    ensures { IfOk result (λ call. (call.kind ≡ kind) × (call.items ≡ []) × (most ≤ call.room)) }
+    ensures ok { IfOk result (λ call. (call.kind ≡ kind) × (call.items ≡ []) × (most ≤ call.room)) }
+    ensures err { IfErr result (λ failed. left ≡ None) }
 {
     match left {
         Some(outside) => Ok(outside),

@@ -5,7 +5,7 @@ ghost use Rattle.std.specs.Cmp.Lexicographic.{pointwise};
 ghost use Rattle.jc_types.specs.Stripes.{stripe_of};
 ghost use Rattle.jc_model.specs.Cache.{Bytes};
 ghost use Rattle.jc_cache.specs.Sessions.{MayCall};
-ghost use Rattle.jc_bulk.specs.Bulk.{FailsInPart, HasLooked, IsLookedAt, IsSweepRefused, OnlyLooks, Succeeds};
+ghost use Rattle.jc_bulk.specs.Bulk.{FailsInPart, HasLooked, IsLookedAt, IsSweepRefused, LooksFirst, OnlyLooks, Succeeds};
 ghost use Rattle.jc_rounds.specs.Seats.{view_at};
 ghost use Rattle.jc_bulk.specs.Targets.{clear_ops, remove_ops};
 
@@ -41,13 +41,13 @@ pub fn remove_every<R: Wait>(
     requires may { MayCall cache.now session.old }
     ensures may { MayCall cache.now session.new }
     ensures ok { IfOk result (λ done. (keys : List Bytes)
-        × HasLooked cache.now.config.stripes session.old.seats.items session.new.seats.items keys
-        × Succeeds loads_all load_state writes_all deletes_all write_state
-        cache.now session.old (remove_ops keys) session.new) }
+        × LooksFirst cache.now.config.stripes session.old keys
+        (λ looked. Succeeds loads_all load_state writes_all deletes_all write_state
+        cache.now looked (remove_ops keys) session.new)) }
     ensures err { IfErr result (λ fault. ((keys : List Bytes)
-        × HasLooked cache.now.config.stripes session.old.seats.items session.new.seats.items keys
-        × FailsInPart loads_all load_state writes_all deletes_all write_state
-        cache.now session.old (remove_ops keys) fault.cause fault.failed.entries session.new
+        × LooksFirst cache.now.config.stripes session.old keys
+        (λ looked. FailsInPart loads_all load_state writes_all deletes_all write_state
+        cache.now looked (remove_ops keys) fault.cause fault.failed.entries session.new)
         × (fault.found.entries ≡ []))
         ⊎ IsSweepRefused session.old fault.cause fault.failed.entries fault.found.entries session.new) }
 {
@@ -79,13 +79,13 @@ pub fn clear<R: Wait>(
     ensures may { MayCall cache.now session.new }
     ensures outside { session.new.agent.hands.outside ≡ session.old.agent.hands.outside }
     ensures ok { IfOk result (λ done. (keys : List Bytes)
-        × HasLooked cache.now.config.stripes session.old.seats.items session.new.seats.items keys
-        × Succeeds loads_all load_state writes_all deletes_all write_state
-        cache.now session.old (clear_ops keys) session.new) }
+        × LooksFirst cache.now.config.stripes session.old keys
+        (λ looked. Succeeds loads_all load_state writes_all deletes_all write_state
+        cache.now looked (clear_ops keys) session.new)) }
     ensures err { IfErr result (λ fault. ((keys : List Bytes)
-        × HasLooked cache.now.config.stripes session.old.seats.items session.new.seats.items keys
-        × FailsInPart loads_all load_state writes_all deletes_all write_state
-        cache.now session.old (clear_ops keys) fault.cause fault.failed.entries session.new
+        × LooksFirst cache.now.config.stripes session.old keys
+        (λ looked. FailsInPart loads_all load_state writes_all deletes_all write_state
+        cache.now looked (clear_ops keys) fault.cause fault.failed.entries session.new)
         × (fault.found.entries ≡ []))
         ⊎ IsSweepRefused session.old fault.cause fault.failed.entries fault.found.entries session.new) }
 {

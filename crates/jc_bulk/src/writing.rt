@@ -24,11 +24,12 @@ use std::sync::Wait;
 /// stripe has as many reservations as may be, is put off to a later round. Without write-through a key is over at once. With it,
 /// the writer is then called once (`writeAll`), for all keys that the round has reserved; a key that it leaves in the collection
 /// failed, and every other one is committed. Each key is one step of its stripe, with the number of this one call, and no change
-/// is asked for twice. Between two rounds the call waits for a change, with no reservation out.
+/// is asked for twice. Between two rounds the call waits for a change, with no reservation out. A call that meets no other call's
+/// reservation, and has at most [`RESERVATIONS_MAX`](jc_types::RESERVATIONS_MAX) keys in each stripe, calls the writer once, if at all.
 ///
 /// An `Err` names each key that failed, with its fault (`WriterFailed`) or its refusal; every other key is put. A key is refused with
-/// `HistoryFull` if its stripe's history is near full or a number is at its end, and with `OutOfMemory` if the memory of a later
-/// round could not be taken. The cause is the first fault or refusal that the call met; a writer that failed and left no key gives
+/// `HistoryFull` if its stripe's history is near full or a number is at its end, and with `OutOfMemory` if, once the writer was
+/// called, the memory of a later round could not be taken. The cause is the first fault or refusal that the call met; a writer that failed and left no key gives
 /// an `Err` that names none. Or the call is refused whole, and nothing changes: there are more than
 /// [`BULK_KEYS_MAX`] keys (`TooManyKeys`), or the memory for the first round and the results could not be
 /// taken (`OutOfMemory`).

@@ -40,6 +40,7 @@ use Rattle.jc_rounds.specs.Answers.{AreAnswers, RunState, key_run, reservations_
 use Rattle.jc_rounds.specs.Asking.{AsksFor, reserved_keys}
 use Rattle.jc_rounds.specs.KeyProgress.{is_reserved}
 use Rattle.jc_rounds.specs.Keys.{IsTicketFor}
+use Rattle.jc_rounds.proofs.Failures.{keeps_both}
 use Rattle.jc_rounds.specs.Rounds.{IsShown, KeyRun, ProcessAll, ProcessRound, Round, keys_asked}
 use Rattle.jc_rounds.specs.SoFar.{GoesOn}
 use Rattle.jc_rounds.specs.Targets.{ops_of, ops_with}
@@ -146,6 +147,7 @@ module _ {I J P Z : Type 0} {D : I → Type 0} {E : J → Type 0} {F : P → Typ
           agent = agent_by old.agent new.agent (ap (λ (a : Agent I J D E). a.caller) two.agent ∙ ap (λ (a : Agent I J D E). a.caller) one.agent);
           targets = two.targets ∙ one.targets;
           most = two.most ∙ one.most;
+          cause = keeps_both call.cause begun.cause later.cause one.cause two.cause;
           types = (subst (KeepsType old.agent.hands.outside.loader) (sym loader) refl, subst (KeepsType old.agent.hands.outside.writer) (sym writer) refl);
           processor_type = refl;
         };
@@ -157,6 +159,7 @@ module _ {I J P Z : Type 0} {D : I → Type 0} {E : J → Type 0} {F : P → Typ
               round = round_of cache past old mid new call begun later [] between started one.targets one.goes two.goes (omega arith) (sym (ap (λ ts. reserved_keys (map reserved_by ts)) none));
               between = subst (λ rs. IsBetween cache (record past { rounds = rs }) new later) (sym (append-nil past.rounds)) (picks past (nobody_asked cache past old mid begun started none));
             };
+        spent = λ past between. tt;
       }
 
   module _ (old mid told done new : Session I J D E) (call begun committed later : BulkCall) (v : Vec TicketClaim) (processor p : DynBox P Z F) (answers : Answers) where
@@ -203,6 +206,7 @@ module _ {I J P Z : Type 0} {D : I → Type 0} {E : J → Type 0} {F : P → Typ
             agent = agent_by old.agent new.agent (ap (λ (a : Agent I J D E). a.caller) three.agent ∙ ap (λ (a : Agent I J D E). a.caller) two.agent ∙ ap (λ (s : Session I J D E). s.agent.caller) has.rest ∙ ap (λ (a : Agent I J D E). a.caller) one.agent);
             targets = three.targets ∙ two.targets ∙ one.targets;
             most = three.most ∙ two.most ∙ one.most;
+            cause = keeps_both call.cause begun.cause later.cause one.cause (keeps_both begun.cause committed.cause later.cause two.cause three.cause);
             types = (
               subst (λ h. KeepsType h.outside.loader new.agent.hands.outside.loader) from (subst (λ h. KeepsType mid.agent.hands.outside.loader h.outside.loader) (sym to) is.types.0),
               subst (λ h. KeepsType h.outside.writer new.agent.hands.outside.writer) from (subst (λ h. KeepsType mid.agent.hands.outside.writer h.outside.writer) (sym to) is.types.1),
@@ -227,4 +231,5 @@ module _ {I J P Z : Type 0} {D : I → Type 0} {E : J → Type 0} {F : P → Typ
                     (omega arith) (append-nil (keys_asked (ProcessAll is.round)) ∙ keys);
                 between = picks (with_round past (ProcessAll is.round)) (commits (with_round past (ProcessAll is.round)) (ProcessAll is.round) (answered_round past invoked one started some kept has));
               };
+          spent = λ past between none. cc;
         }

@@ -6,7 +6,7 @@
 --     may_more         another round may be made
 --     made_past        what the call has behind it after a round
 use Rattle.std.specs.declared.dyn_box.DynBox.{DynBox}
-use Rattle.std.proofs.Common.{◌≡◌, ◌++◌, ℕ, List, [], ◌∷◌, append-nil, append_assoc, map, Bool, Option, refl, sym, ap, subst, ◌∙◌}
+use Rattle.std.proofs.Common.{◌≡◌, ◌++◌, ℕ, List, [], ◌∷◌, append-nil, append_assoc, map, Bool, Option, None, refl, sym, ap, subst, ◌∙◌}
 use Rattle.std.proofs.lemmas.List.{map-append}
 use Rattle.jc_model.specs.Cache.{Bytes}
 use Rattle.jc_outside.specs.Calling.{LoadRelation}
@@ -23,7 +23,8 @@ use Rattle.jc_rounds.specs.Running.{HasRun, with_rounds}
 use Rattle.jc_rounds.specs.Targets.{ops_of}
 use Rattle.jc_rounds.specs.Underway.{IsBetween, Past}
 use Rattle.jc_rounds.proofs.Asked.{types_on}
-use Rattle.jc_rounds.proofs.Started.{run_more}
+use Rattle.jc_rounds.proofs.Failures.{keeps_both, keeps_itself, keeps_noted}
+use Rattle.jc_rounds.proofs.Started.{run_more, some_more, spent_none}
 use Rattle.jc_rounds.proofs.Whole.{refused_call, refused_round}
 use Rattle.jc_invoke.specs.declared.room.RoundRoom.{RoundRoom}
 use Rattle.jc_invoke.specs.InvokeRounds.{HasMadeRound, HasMadeRounds, MayMakeRound}
@@ -49,6 +50,10 @@ module _ {P L W : Type 0} (processes : ProcessRelation P) (process_state : P →
 both_rounds : (before : List Round) (rounds more : List ProcessRound) → (before ++ map ProcessAll rounds) ++ map ProcessAll more ≡ before ++ map ProcessAll (rounds ++ more)
 both_rounds before rounds more = append_assoc before (map ProcessAll rounds) (map ProcessAll more) ∙ ap (λ rs. before ++ rs) (sym (map-append ProcessAll rounds more))
 
+some_mapped : (rounds : List ProcessRound) → (rounds ≡ [] → ⊥) → map ProcessAll rounds ≡ [] → ⊥
+some_mapped [] some is = some refl
+some_mapped (r ∷ rounds) some is = cc
+
 module _ {I J : Type 0} {D : I → Type 0} {E : J → Type 0} (cache : CacheState) (past : Past) (session : Session I J D E) (call : BulkCall) where
   ran_by : (rs ss : List Round) → rs ≡ ss → HasRun cache (record past { rounds = rs }) session call → HasRun cache (record past { rounds = ss }) session call
   ran_by rs ss same run = subst (λ xs. HasRun cache (record past { rounds = xs }) session call) same run
@@ -67,7 +72,7 @@ module _ {I J P Z : Type 0} {D : I → Type 0} {E : J → Type 0} {F : P → Typ
 
   pub rounds_begin : (session : Session I J D E) (call : BulkCall) (processor : DynBox P Z F) → Made session call processor session call processor
   rounds_begin session call processor = record {
-    continues = record { agent = refl; targets = refl; most = refl; types = (refl, refl); processor_type = refl };
+    continues = record { agent = refl; targets = refl; most = refl; cause = keeps_itself call.cause; types = (refl, refl); processor_type = refl };
     made = λ past run. ([], (refl, refl, refl), ran_by cache past session call past.rounds (past.rounds ++ []) (sym (append-nil past.rounds)) run);
   }
 
@@ -80,6 +85,7 @@ module _ {I J P Z : Type 0} {D : I → Type 0} {E : J → Type 0} {F : P → Typ
           agent = agent_by old.agent new.agent (ap (λ (x : Agent I J D E). x.caller) b.agent ∙ ap (λ (x : Agent I J D E). x.caller) a.agent);
           targets = b.targets ∙ a.targets;
           most = b.most ∙ a.most;
+          cause = keeps_both call.cause begun.cause later.cause a.cause b.cause;
           types = types_on old.agent mid.agent new.agent a.types b.types;
           processor_type = b.processor_type ∙ a.processor_type;
         };
@@ -91,32 +97,39 @@ module _ {I J P Z : Type 0} {D : I → Type 0} {E : J → Type 0} {F : P → Typ
               calls_then processes process_state (boxed loads) (boxed load_state) (boxed writes_all) (boxed deletes_all) (boxed write_state) args cache.config.write_through before.0 next.rounds processor p q
                   old.agent.hands.outside.loader mid.agent.hands.outside.loader new.agent.hands.outside.loader old.agent.hands.outside.writer mid.agent.hands.outside.writer new.agent.hands.outside.writer before.1 next.asked,
               ran_by cache past new later ((past.rounds ++ map ProcessAll before.0) ++ map ProcessAll next.rounds) (past.rounds ++ map ProcessAll (before.0 ++ next.rounds)) (both_rounds past.rounds before.0 next.rounds)
-                  (run_more cache here mid new begun later (map ProcessAll next.rounds) b.targets next.round next.between before.2),
+                  (run_more cache here mid new begun later (map ProcessAll next.rounds) b.targets next.round b.cause next.between before.2),
             );
       }
 
-  pub rounds_refused : (old new : Session I J D E) (call begun later : BulkCall) (processor p : DynBox P Z F) → later.progress.items ≡ map refused_if_waiting begun.progress.items → IsNoted begun.cause (failures later.progress.items) later.cause
-      → later ≡ record begun { progress = later.progress; cause = later.cause } → Made old call processor new begun p → Made old call processor new later p
-  rounds_refused old new call begun later processor p is noted rest many =
-      let a = many.continues in
+  -- the last round has asked, and the memory for one more could not be taken
+  pub rounds_refused : (old mid new : Session I J D E) (call begun last later : BulkCall) (processor p q : DynBox P Z F) (left : Option RoundRoom) → left ≡ None → later.progress.items ≡ map refused_if_waiting last.progress.items
+      → IsNoted last.cause (failures later.progress.items) later.cause → later ≡ record last { progress = later.progress; cause = later.cause } → Made old call processor mid begun p → MadeOne mid begun p new last q left → Made old call processor new later q
+  rounds_refused old mid new call begun last later processor p q left none is noted rest many one =
+      let all = rounds_more old mid new call begun last processor p q left many one in
+      let a = all.continues in
       let targets = ap (λ (x : BulkCall). x.targets) rest in
+      let keeps = keeps_noted last.cause later.cause (failures later.progress.items) noted in
       record {
         continues = record {
           agent = a.agent;
           targets = targets ∙ a.targets;
           most = ap (λ (x : BulkCall). x.most) rest ∙ a.most;
+          cause = keeps_both call.cause last.cause later.cause a.cause keeps;
           types = a.types;
           processor_type = a.processor_type;
         };
         made = λ past run.
-            let before = many.made past run in
+            let before = all.made past run in
+            let first = many.made past run in
+            let next = one.made (with_rounds past (map ProcessAll first.0)) first.2.between in
+            let some = some_more first.0 next.rounds (spent_none left next.rounds none (one.spent (with_rounds past (map ProcessAll first.0)) first.2.between)) in
             let here = with_rounds past (map ProcessAll before.0) in
             let nothing = append-nil (past.rounds ++ map ProcessAll before.0) in
-            let between = refused_call cache here new begun later rest is noted before.2.between in (
+            let between = refused_call cache here new last later rest is noted (some_more past.rounds (map ProcessAll before.0) (some_mapped before.0 some)) before.2.between in (
               before.0,
               before.1,
               ran_by cache past new later ((past.rounds ++ map ProcessAll before.0) ++ []) (past.rounds ++ map ProcessAll before.0) nothing
-                  (run_more cache here new new begun later [] targets (refused_round cache here new begun later is before.2.between)
+                  (run_more cache here new new last later [] targets (refused_round cache here new last later is before.2.between) keeps
                   (subst (λ xs. IsBetween cache (record past { rounds = xs }) new later) (sym nothing) between) before.2),
             );
       }

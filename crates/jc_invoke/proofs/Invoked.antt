@@ -78,7 +78,7 @@ module _ {I J P Z : Type 0} {D : I → Type 0} {E : J → Type 0} {F : P → Typ
         made.0,
         record {
           carried = subst (λ ops. IsCarriedOut cache old ops (key_ends ops later.progress.items) (map ProcessAll made.0) new) (targets_later many are)
-              (carried_out cache after old new later refl refl late from.continues.agent made.2);
+              (carried_out cache after old new later refl refl late from.continues.agent made.2).0;
           calls = made.1;
           types = from.continues.types;
           processor_type = from.continues.processor_type;

@@ -1,13 +1,14 @@
 -- The rounds of a call with many keys, each with a processor.
 --     IsInvoked      each operation of the call is an `Invoke`
 --     MayMakeRound   the call has nothing out, runs a processor at each key, and has the memory for what a round asks outside
---     Continues      rounds of the call: of its session only seats, counts and hands have changed, and the loader, the writer and the processor are of the same types
+--     Continues      rounds of the call: of its session only seats, counts and hands have changed, a cause that was noted stays, and the
+--                    loader, the writer and the processor are of the same types
 --     HaveAsked      these rounds have asked this outside, one after the other
 --     IsRoundMade    one round of the call, which has asked this outside, if it has asked
 --     HasMadeRound   one round of the call, whatever it has behind it, and the memory that is left if it has asked nobody
 --     HasMadeRounds  the same of all rounds
 use Rattle.std.specs.declared.dyn_box.DynBox.{DynBox}
-use Rattle.std.specs.Prelude.{◌≡◌, ℕ, List, map, Option, IfSome}
+use Rattle.std.specs.Prelude.{◌≡◌, ℕ, List, [], map, Option, IfNone, IfSome}
 use Rattle.jc_model.specs.Cache.{Bytes}
 use Rattle.jc_model.specs.declared.event.Op.TheVariants.{Invoke}
 use Rattle.jc_outside.specs.Calling.{LoadRelation}
@@ -18,6 +19,7 @@ use Rattle.jc_engine.specs.Asking.{KeepsTypes}
 use Rattle.jc_cache.specs.Caches.{CacheState}
 use Rattle.jc_cache.specs.declared.session.Session.{Session}
 use Rattle.jc_rounds.specs.declared.bulk_call.BulkCall.{BulkCall}
+use Rattle.jc_rounds.specs.KeyProgress.{KeepsCause}
 use Rattle.jc_rounds.specs.Rounds.{ProcessAll, ProcessRound}
 use Rattle.jc_rounds.specs.Running.{HasRun, IsRound, with_rounds}
 use Rattle.jc_rounds.specs.Targets.{ops_of, ops_with}
@@ -41,6 +43,7 @@ module _ {I J P Z : Type 0} {D : I → Type 0} {E : J → Type 0} {F : P → Typ
     pub agent : new.agent ≡ record old.agent { counts = new.agent.counts; hands = new.agent.hands }
     pub targets : call'.targets ≡ call.targets
     pub most : call'.most ≡ call.most
+    pub cause : KeepsCause call.cause call'.cause
     pub types : KeepsTypes old.agent new.agent
     pub processor_type : processor'.vtable ≡ processor.vtable
 
@@ -65,6 +68,7 @@ module _ {I J P Z : Type 0} {D : I → Type 0} {E : J → Type 0} {F : P → Typ
     pub left_is : IfSome left (λ room. IsRoomFor call.most cache.config.write_through room)
     pub continues : Continues old call processor new call' processor'
     pub made : (past : Past) → IsBetween cache past old call → IsRoundMade past
+    pub spent : (past : Past) (between : IsBetween cache past old call) → IfNone left ((made past between).rounds ≡ [] → ⊥)
 
   pub record HasMadeRounds : Type 0 where
     pub continues : Continues old call processor new call' processor'

@@ -1,5 +1,5 @@
 //! All rounds of a call with many keys, each with a processor.
-ghost use Rattle.std.specs.Prelude.{◌≡◌, ℕ, Bool, IfOk, IfSome};
+ghost use Rattle.std.specs.Prelude.{◌≡◌, ℕ, Bool, IfErr, IfOk, IfSome, None};
 ghost use Rattle.jc_rounds.specs.Underway.{IsOver};
 ghost use Rattle.jc_invoke.specs.InvokeRounds.{HasMadeRound, HasMadeRounds, MayMakeRound};
 ghost use Rattle.jc_invoke.specs.RoundRooms.{IsRoomFor};
@@ -92,7 +92,8 @@ fn next_room(
     left: Option<RoundRoom>,
 ) -> Result<RoundRoom, AllocError>
     requires { IfSome left (λ room. IsRoomFor keys through room) }
-    ensures { IfOk result (λ room. IsRoomFor keys through room) }
+    ensures ok { IfOk result (λ room. IsRoomFor keys through room) }
+    ensures err { IfErr result (λ failed. left ≡ None) }
 {
     match left {
         Some(room) => Ok(room),

@@ -6,6 +6,7 @@
 --     noted_all        all that has failed is noted
 --     cause_met        so is a cause that was noted
 --     met_fault        a fault of the writer is noted
+--     keeps_itself, keeps_same, keeps_both, keeps_noted, keeps_or    a cause that was noted stays
 use Rattle.std.proofs.Common.{◌≡◌, ◌<◌, ◌+◌, ◌++◌, ◌⊎◌, inl, inr, ℕ, zero, suc, List, [], ◌∷◌, append-nil, length, get_or, take, Option, None, Some, Result, slice_get, refl, sym, ap, ◌∙◌, subst, arith}
 use Rattle.std.proofs.lemmas.List.{take_more}
 use Rattle.std.proofs.lemmas.List.Elements.{filter_map-append}
@@ -15,7 +16,7 @@ use Rattle.jc_types.specs.declared.refusal.Refusal.{Refusal}
 use Rattle.jc_model.specs.declared.event.Reply.{Reply}
 use Rattle.jc_rounds.specs.declared.progress.Progress.{Progress}
 use Rattle.jc_rounds.specs.declared.progress.Progress.TheVariants as progress
-use Rattle.jc_rounds.specs.KeyProgress.{IsCauseIn, IsMet, IsNoted, StayEnded, failures, failure_at, refusal_in}
+use Rattle.jc_rounds.specs.KeyProgress.{IsCauseIn, IsMet, IsNoted, KeepsCause, StayEnded, failures, failure_at, refusal_in}
 use Rattle.jc_rounds.proofs.SoFar.{among_more}
 
 -- 1. One more.
@@ -37,7 +38,7 @@ among_none r h = omega (arith, h.1.0)
 -- 2. What has failed stays so.
 
 -- the place of a key that has failed
-ended_there : (ps : List Progress) (r : Refusal) → IsAmong (failures ps) r → (place : ℕ) × (e : Result Reply Refusal) × (slice_get ps place ≡ Some (progress.Ended e)) × (refusal_in e ≡ Some r)
+pub ended_there : (ps : List Progress) (r : Refusal) → IsAmong (failures ps) r → (place : ℕ) × (e : Result Reply Refusal) × (slice_get ps place ≡ Some (progress.Ended e)) × (refusal_in e ≡ Some r)
 ended_there [] r h = absurd (among_none r h)
 ended_there (p ∷ ps) r h = by p (among_cons (failure_at p) (failures ps) r h) (ended_there ps r)
   where
@@ -49,7 +50,7 @@ ended_there (p ∷ ps) r h = by p (among_cons (failure_at p) (failures ps) r h) 
     by progress.Joined (inl is) rest = let bad : None ≡ Some r = is in cc
     by (progress.Ended e) (inl is) rest = (0, e, refl, is)
 
-failed_there : (ps : List Progress) (place : ℕ) (e : Result Reply Refusal) (r : Refusal) → slice_get ps place ≡ Some (progress.Ended e) → refusal_in e ≡ Some r → IsAmong (failures ps) r
+pub failed_there : (ps : List Progress) (place : ℕ) (e : Result Reply Refusal) (r : Refusal) → slice_get ps place ≡ Some (progress.Ended e) → refusal_in e ≡ Some r → IsAmong (failures ps) r
 failed_there [] place e r at is = cc
 failed_there (p ∷ ps) zero e r at is = let same : p ≡ progress.Ended e = cc in cons_among (failure_at p) (failures ps) r (inl (ap failure_at same ∙ is))
 failed_there (p ∷ ps) (suc place) e r at is = cons_among (failure_at p) (failures ps) r (inr (failed_there ps place e r at is))
@@ -112,3 +113,25 @@ met_fault (Some c) fault ps faults met = by (among_either (failures ps) faults c
 met_fault None None ps faults met = append-nil faults ∙ met
 met_fault None (Some f) ps faults met =
     among_after (failures ps) (faults ++ f ∷ []) f (among_after faults (f ∷ []) f (zero, (omega arith, refl)))
+
+-- 5. A cause stays.
+
+pub keeps_itself : (c : Option Refusal) → KeepsCause c c
+keeps_itself None = tt
+keeps_itself (Some c) = refl
+
+pub keeps_same : (c d : Option Refusal) → d ≡ c → KeepsCause c d
+keeps_same None d is = tt
+keeps_same (Some c) d is = is
+
+pub keeps_both : (a b c : Option Refusal) → KeepsCause a b → KeepsCause b c → KeepsCause a c
+keeps_both None b c one two = tt
+keeps_both (Some a) b c one two = subst (λ x. KeepsCause x c) one two
+
+pub keeps_noted : (c d : Option Refusal) (rs : List Refusal) → IsNoted c rs d → KeepsCause c d
+keeps_noted None d rs noted = tt
+keeps_noted (Some c) d rs noted = noted
+
+pub keeps_or : (c fault : Option Refusal) → KeepsCause c (option_or c fault)
+keeps_or None fault = tt
+keeps_or (Some c) fault = refl

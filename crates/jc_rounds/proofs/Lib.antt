@@ -14,7 +14,9 @@ pub mod Failures
 pub mod OnCall
 pub mod Answering
 pub mod Loops
+pub mod Causes
 pub mod Started
+pub mod Once
 pub mod Whole
 pub mod OutsideCalls
 pub mod CallerLemmas

@@ -25,7 +25,7 @@ use Rattle.jc_rounds.specs.SoFar.{AreHeldBack, AreIn, IsHeldAt}
 use Rattle.jc_rounds.specs.Starting.{IsFull}
 use Rattle.jc_rounds.specs.Targets.{ops_of}
 use Rattle.jc_rounds.specs.Underway.{Advances, HasCommitted, HasStarted, IsAnswered, IsBetween, IsCommitting, IsCommittingNext, IsOn, IsPicking, IsPickingNext, IsStarting, Past, are_fresh, reserved_by}
-use Rattle.jc_rounds.proofs.Failures.{cause_met, noted_all}
+use Rattle.jc_rounds.proofs.Failures.{cause_met, keeps_both, keeps_noted, noted_all}
 use Rattle.jc_rounds.proofs.Held.{full_by, held_next, not_held}
 use Rattle.jc_rounds.proofs.OnCall.{on_by}
 use Rattle.jc_rounds.proofs.Out.{none_in, nothing_out}
@@ -66,9 +66,9 @@ module _ {I J : Type 0} {D : I → Type 0} {E : J → Type 0} where
         is,
       )
 
-  pub noted_advances : (old new : Session I J D E) (call mid later : BulkCall) → later ≡ record mid { cause = later.cause } → Advances old new call mid → Advances old new call later
-  noted_advances old new call mid later rest a =
-      subst (Advances old new call) (sym rest) (record { goes = a.goes; agent = a.agent; targets = a.targets; most = a.most })
+  pub noted_advances : (old new : Session I J D E) (call mid later : BulkCall) → later ≡ record mid { cause = later.cause } → IsNoted mid.cause (failures mid.progress.items) later.cause → Advances old new call mid → Advances old new call later
+  noted_advances old new call mid later rest noted a =
+      subst (Advances old new call) (sym rest) (record { goes = a.goes; agent = a.agent; targets = a.targets; most = a.most; cause = keeps_both call.cause mid.cause later.cause a.cause (keeps_noted mid.cause later.cause (failures mid.progress.items) noted) })
 
   -- other tickets or joins, and as much room
   pub re_ticket : (cache : CacheState) (past : Past) (session : Session I J D E) (call : BulkCall) (v : Vec TicketClaim) (ts : List TicketClaim) (js : List JoinClaim) → vec_capacity v ≡ vec_capacity call.tickets → IsOn cache past session call ts js → IsOn cache past session (record call { tickets = v }) ts js

@@ -53,7 +53,7 @@ use Rattle.jc_rounds.specs.SoFar.{AreSettledFrom, AreUnder, GoesOn, IsHeldAt, Is
 use Rattle.jc_rounds.specs.Targets.{ops_of}
 use Rattle.jc_rounds.specs.Underway.{Advances, HasRoom, IsCommitting, IsCommittingNext, IsFresh, IsOn, IsPicking, IsPickingNext, IsStarting, KeepsRoom, Past, are_fresh, reserved_by}
 use Rattle.jc_rounds.proofs.Asked.{asked_set, unasked_at}
-use Rattle.jc_rounds.proofs.Failures.{among_after, among_either, failures_stay}
+use Rattle.jc_rounds.proofs.Failures.{among_after, among_either, failures_stay, keeps_both, keeps_itself, keeps_same}
 use Rattle.jc_rounds.proofs.Held.{goes_both, goes_itself, goes_set, held_at, kept_held, set_there}
 use Rattle.jc_rounds.proofs.SoFar.{among_more}
 use Rattle.jc_rounds.proofs.Underway.{committed_on, first_join, first_ticket, picked_not_joined, picked_on, place_near, settled_set, stay_set, started_on, under_set}
@@ -124,7 +124,7 @@ module _ {I J : Type 0} {D : I → Type 0} {E : J → Type 0} (cache : CacheStat
       )
 
 pub advances_itself : {I J : Type 0} {D : I → Type 0} {E : J → Type 0} (session : Session I J D E) (call : BulkCall) → Advances session session call call
-advances_itself session call = record { goes = goes_itself session.seats.items call.progress.items; agent = refl; targets = refl; most = refl }
+advances_itself session call = record { goes = goes_itself session.seats.items call.progress.items; agent = refl; targets = refl; most = refl; cause = keeps_itself call.cause }
 
 pub advances_both : {I J : Type 0} {D : I → Type 0} {E : J → Type 0} (a b c : Session I J D E) (x y z : BulkCall) → Advances a b x y → Advances b c y z → Advances a c x z
 advances_both a b c x y z one two = record {
@@ -132,6 +132,7 @@ advances_both a b c x y z one two = record {
   agent = two.agent ∙ (λ i. record (one.agent i) { counts = c.agent.counts });
   targets = two.targets ∙ one.targets;
   most = two.most ∙ one.most;
+  cause = keeps_both x.cause y.cause z.cause one.cause two.cause;
 }
 
 all_then : (rounds : List Round) (ts : List TicketClaim) (t : TicketClaim) → are_fresh rounds ts → IsFresh rounds t → are_fresh rounds (ts ++ t ∷ [])
@@ -185,6 +186,7 @@ module _ {I J : Type 0} {D : I → Type 0} {E : J → Type 0} (cache : CacheStat
     agent = phase.agent ∙ ap (λ k. record old.agent { counts = k }) (sym (ap (λ (a : Agent I J D E). a.counts) phase.agent));
     targets = same.targets;
     most = same.most;
+    cause = keeps_same call.cause later.cause same.cause;
   }
 
   -- 3. First phases.

@@ -175,7 +175,15 @@ at_more config caller rounds more u w key op (Ended (Ok reply)) none at = record
   there = at.there;
   behind = at.behind;
 }
-at_more config caller rounds more u w key op (Ended (Err refusal)) none at = (at.0, asked_more rounds more key at.1 (none (Err refusal) refl), at.2)
+at_more config caller rounds more u w key op (Ended (Err refusal)) none at = (
+  at.0,
+  asked_more rounds more key at.1 (none (Err refusal) refl),
+  ⊎_elim (λ memory. inl (memory.0, some_more rounds memory.1)) (λ full. inr full) at.2,
+)
+  where
+    some_more : (rs : List Round) → (rs ≡ [] → ⊥) → rs ++ more ≡ [] → ⊥
+    some_more [] some = absurd (some refl)
+    some_more (r ∷ rs) some = λ none. cc
 
 -- 3. All keys.
 
@@ -210,7 +218,7 @@ pub or_true : (a b : Bool) → b ≡ true → (a || b) ≡ true
 or_true true b is = refl
 or_true false b is = is
 
-among_at : (targets : List (Bytes × Op)) (i : ℕ) (key : Bytes) (op : Op) → slice_get targets i ≡ Some (key, op) → is_among (keys_of targets) key ≡ true
+pub among_at : (targets : List (Bytes × Op)) (i : ℕ) (key : Bytes) (op : Op) → slice_get targets i ≡ Some (key, op) → is_among (keys_of targets) key ≡ true
 among_at [] i key op at = cc
 among_at (t ∷ targets) zero key op at =
     ap (λ k. pointwise ◌==◌ key k || is_among (keys_of targets) key) (ap (λ (u : Bytes × Op). u.0) (same_Some t (key, op) at)) ∙ ap (λ b. b || is_among (keys_of targets) key) (nat_list_eq_equiv.refl key)

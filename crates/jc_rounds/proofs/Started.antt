@@ -2,8 +2,9 @@
 --     held_less              keys that were put off in each round, of fewer keys
 --     none_run               before the first round
 --     run_more               one round more
---     started_since          the same, since an earlier view
-use Rattle.std.proofs.Common.{◌≡◌, ◌⊎◌, ⊎_elim, inl, inr, ◌≤◌, ◌++◌, ℕ, List, [], ◌∷◌, append-nil, length, slice_get, true, true≢false, Some, refl, sym, ap, ◌∙◌, subst, arith}
+--     some_more              rounds after which one has asked have asked
+--     spent_more, spent_none  nothing is left to ask outside with: one of the rounds so far has asked
+use Rattle.std.proofs.Common.{◌≡◌, ◌⊎◌, ⊎_elim, inl, inr, ◌≤◌, ◌++◌, ℕ, List, [], ◌∷◌, append-nil, length, slice_get, true, true≢false, IfNone, Option, None, Some, refl, sym, ap, ◌∙◌, subst, arith}
 use Rattle.std.proofs.lemmas.List.Concat.{flat_map-append}
 use Rattle.std.proofs.lemmas.List.Folds.{list_any-append}
 use Rattle.std.specs.List.{IsAmong}
@@ -17,11 +18,14 @@ use Rattle.jc_rounds.specs.declared.progress.Progress.{Progress}
 use Rattle.jc_rounds.specs.declared.progress.Progress.TheVariants.{Waiting}
 use Rattle.jc_rounds.specs.Keys.{IsHeldBack}
 use Rattle.jc_rounds.specs.Seats.{view_of}
-use Rattle.jc_rounds.proofs.SeatPhases.{Seated}
+use Rattle.jc_rounds.proofs.SeatPhases.{Seated, grown_on}
 use Rattle.jc_cache.specs.Caches.{CacheState}
 use Rattle.jc_cache.specs.declared.session.Session.{Session}
 use Rattle.jc_rounds.specs.declared.bulk_call.BulkCall.{BulkCall}
 use Rattle.jc_rounds.specs.Rounds.{Round, asked_in, keys_asked}
+use Rattle.jc_rounds.specs.Causes.{IsFirst}
+use Rattle.jc_rounds.specs.KeyProgress.{KeepsCause}
+use Rattle.jc_rounds.proofs.Causes.{first_more}
 use Rattle.jc_rounds.specs.Running.{HasRun, HeldInEach, IsRound, with_rounds}
 use Rattle.jc_rounds.specs.SoFar.{AreHeldBack, GoesOn}
 use Rattle.jc_rounds.specs.Starting.{EachStartsAll, HasStartedAll, IsFull, RoundEnd, calls_of, seats_after}
@@ -57,15 +61,15 @@ module _ (caller : Caller) (stripes : ℕ) (targets : List (Bytes × Op)) where
   held_more old [] e ps here held = (here, tt)
   held_more old (f ∷ es) e ps here held = (held.0, held_more f.seats es e ps here held.1)
 
-  starts_more : (old : List Seated) (es : List RoundEnd) (e : RoundEnd) (ps : List Progress) → length e.calls ≤ 1
+  starts_more : (old : List Seated) (es : List RoundEnd) (e : RoundEnd) (ps : List Progress) → length e.calls ≤ 1 → ((i : ℕ) → HasGrown (view_at (seats_after old es) i) (view_at e.seats i))
       → ((place : ℕ) (key : Bytes) (op : Op) → slice_get targets place ≡ Some (key, op) → is_among (asked_in e.calls) key ≡ true → slice_get ps place ≡ Some Waiting)
       → HeldInEach caller stripes targets old es ps → EachStartsAll caller stripes targets old es → EachStartsAll caller stripes targets old (es ++ e ∷ [])
-  starts_more old [] e ps few waited held each = (few, (λ key op among asked. absurd (true≢false (sym asked))), tt)
-  starts_more old (f ∷ es) e ps few waited held each = (each.0, (λ key op among asked. by key op among (either_asked (calls_of es) e.calls key (ap (λ cs. is_among (asked_in cs) key) (sym (calls_more es e)) ∙ asked))), starts_more f.seats es e ps few waited held.1 each.2)
+  starts_more old [] e ps few grown waited held each = (few, grown, (λ key op among asked. absurd (true≢false (sym asked))), tt)
+  starts_more old (f ∷ es) e ps few grown waited held each = (each.0, each.1, (λ key op among asked. by key op among (either_asked (calls_of es) e.calls key (ap (λ cs. is_among (asked_in cs) key) (sym (calls_more es e)) ∙ asked))), starts_more f.seats es e ps few grown waited held.1 each.3)
     where
       by : (key : Bytes) (op : Op) → IsAmong targets (key, op) → (is_among (asked_in (calls_of es)) key ≡ true) ⊎ (is_among (asked_in e.calls) key ≡ true)
           → IsFull stripes targets (length (asked_in f.calls)) ⊎ IsHeldBack caller (view_of stripes old key) (view_of stripes f.seats key) key op
-      by key op among (inl before) = each.1 key op among before
+      by key op among (inl before) = each.2 key op among before
       by key op among (inr now) = let at = place_among targets (key, op) among in held.0 at.0 at.1 key op Waiting at.2 (waited at.0 key op at.2 now) refl
 
 -- the call goes on by a round
@@ -75,12 +79,13 @@ module _ {I J : Type 0} {D : I → Type 0} {E : J → Type 0} where
     between = between;
     started = record { ends = []; calls_are = sym none; seats_are = first; each = tt };
     held = tt;
+    first = tt;
   }
 
   pub run_more : (cache : CacheState) (past : Past) (old new : Session I J D E) (call later : BulkCall) (calls : List Round) → later.targets ≡ call.targets
       → IsRound past.caller cache.config.stripes (ops_of call.targets.now) old.seats.items new.seats.items call.progress.items later.progress.items calls
-      → IsBetween cache (with_rounds past calls) new later → HasRun cache past old call → HasRun cache (with_rounds past calls) new later
-  run_more cache past old new call later calls same round between run =
+      → KeepsCause call.cause later.cause → IsBetween cache (with_rounds past calls) new later → HasRun cache past old call → HasRun cache (with_rounds past calls) new later
+  run_more cache past old new call later calls same round keeps between run =
       let caller = past.caller in
       let n = cache.config.stripes in
       let es = run.started.ends in
@@ -92,34 +97,28 @@ module _ {I J : Type 0} {D : I → Type 0} {E : J → Type 0} where
           ends = es ++ e ∷ [];
           calls_are = calls_more es e ∙ ap (λ cs. cs ++ calls) run.started.calls_are;
           seats_are = seats_more past.first es e;
-          each = subst (λ t. EachStartsAll caller n t past.first (es ++ e ∷ [])) goes (starts_more caller n (ops_of call.targets.now) past.first es e call.progress.items round.few round.waited run.held run.started.each);
+          each = subst (λ t. EachStartsAll caller n t past.first (es ++ e ∷ [])) goes (starts_more caller n (ops_of call.targets.now) past.first es e call.progress.items round.few
+              (subst (λ (seats : List Seated). (i : ℕ) → HasGrown (view_at seats i) (view_at new.seats.items i)) (sym run.started.seats_are) round.goes.grown) round.waited run.held run.started.each);
         };
         held = subst (λ t. HeldInEach caller n t past.first (es ++ e ∷ []) later.progress.items) goes
             (held_more caller n (ops_of call.targets.now) past.first es e later.progress.items
             (subst (λ (seats : List Seated). AreHeldBack (IsFull n (ops_of call.targets.now) (length (asked_in calls))) (length (ops_of call.targets.now)) caller n (ops_of call.targets.now) seats new.seats.items later.progress.items) (sym run.started.seats_are) round.held)
             (held_less caller n (ops_of call.targets.now) past.first es old.seats.items new.seats.items call.progress.items later.progress.items round.goes run.held));
+        first = first_more cache.config caller n (ops_of later.targets.now) [] es e (past.rounds ++ calls) past.first later.progress.items call.cause later.cause (ap (λ rs. rs ++ calls) run.started.calls_are) keeps
+            between.on.under.so_far between.cause (subst (λ t. IsFirst caller n t [] es call.cause) goes run.first);
       }
     where
       ops_same : (call later : BulkCall) → later.targets ≡ call.targets → ops_of call.targets.now ≡ ops_of later.targets.now
       ops_same call later same = ap (λ t. ops_of t.now) (sym same)
 
--- the same, since an earlier view
-starts_since : (caller : Caller) (stripes : ℕ) (targets : List (Bytes × Op)) (old mid : List Seated) (es : List RoundEnd) → ((i : ℕ) → HasGrown (view_at old i) (view_at mid i)) → EachStartsAll caller stripes targets mid es → EachStartsAll caller stripes targets old es
-starts_since caller stripes targets old mid [] grown each = tt
-starts_since caller stripes targets old mid (e ∷ es) grown each = (
-  each.0,
-  λ key op among asked. ⊎_elim (λ full. inl full) (λ back. inr (held_since caller (view_of stripes old key) (view_of stripes mid key) (view_of stripes e.seats key) key op (grown (stripe_of key stripes)) back)) (each.1 key op among asked),
-  each.2,
-)
+pub some_more : {A : Type 0} (xs ys : List A) → (ys ≡ [] → ⊥) → xs ++ ys ≡ [] → ⊥
+some_more [] ys some is = some is
+some_more (x ∷ xs) ys some is = cc
 
-pub started_since : (caller : Caller) (stripes : ℕ) (targets : List (Bytes × Op)) (old mid new : List Seated) (rounds : List Round) → ((i : ℕ) → HasGrown (view_at old i) (view_at mid i)) → HasStartedAll caller stripes targets mid new rounds → HasStartedAll caller stripes targets old new rounds
-started_since caller stripes targets old mid new rounds grown has = by has.ends has.calls_are has.seats_are has.each
-  where
-    by : (es : List RoundEnd) → calls_of es ≡ rounds → seats_after mid es ≡ new → EachStartsAll caller stripes targets mid es → HasStartedAll caller stripes targets old new rounds
-    by [] calls seats each = record {
-      ends = record { calls = []; seats = new } ∷ [];
-      calls_are = calls;
-      seats_are = refl;
-      each = (omega arith, (λ key op among asked. absurd (true≢false (sym asked))), tt);
-    }
-    by (e ∷ es) calls seats each = record { ends = e ∷ es; calls_are = calls; seats_are = seats; each = starts_since caller stripes targets old mid (e ∷ es) grown each }
+pub spent_more : {A B : Type 0} (left : Option A) (xs ys : List B) → IfNone left (ys ≡ [] → ⊥) → IfNone left (xs ++ ys ≡ [] → ⊥)
+spent_more None xs ys spent = some_more xs ys spent
+spent_more (Some l) xs ys spent = tt
+
+pub spent_none : {A B : Type 0} (left : Option A) (xs : List B) → left ≡ None → IfNone left (xs ≡ [] → ⊥) → xs ≡ [] → ⊥
+spent_none None xs none spent = spent
+spent_none (Some l) xs none spent = cc

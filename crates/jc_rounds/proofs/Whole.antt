@@ -49,7 +49,7 @@ use Rattle.jc_rounds.specs.KeyProgress.{IsMet}
 use Rattle.jc_rounds.specs.Recorded.{former_steps, steps_of}
 use Rattle.jc_rounds.specs.Seats.{HasGrown}
 use Rattle.jc_rounds.specs.SoFar.{AreHeldBack, is_due}
-use Rattle.jc_rounds.specs.Starting.{HasStartedAll, IsRoomFor}
+use Rattle.jc_rounds.specs.Starting.{AsksAtMostOnce, HasStartedAll, IsRoomFor}
 use Rattle.jc_rounds.proofs.Failures.{cause_met}
 use Rattle.std.proofs.lemmas.List.Elements.{filter_map-append}
 use Rattle.std.specs.Global.{Vec}
@@ -62,6 +62,7 @@ use Rattle.jc_rounds.specs.Ends.{KeyEnd, key_end, key_ends, key_ops}
 use Rattle.jc_rounds.specs.KeyProgress.{IsCauseIn, IsNoted, StayEnded, all_waiting, failures, is_held_back, is_joined, is_reserved, is_settled, refused_if_waiting}
 use Rattle.jc_rounds.specs.Keys.{HasEnded, IsAt, IsJoinFor, IsTicketFor, WasRefused}
 use Rattle.jc_rounds.specs.Rounds.{Round, asked_in, faults_in, keys_asked, round_fault}
+use Rattle.jc_rounds.specs.Causes.{IsFirst}
 use Rattle.jc_rounds.specs.Running.{HasRun, IsCarriedOut, IsNearFull, IsRound, WasNearFull}
 use Rattle.jc_rounds.specs.SoFar.{GoesOn, IsUnderway}
 use Rattle.jc_rounds.specs.Starting.{IsFull}
@@ -74,6 +75,7 @@ use Rattle.jc_rounds.proofs.OnCall.{met_stay}
 use Rattle.jc_rounds.proofs.Out.{none_are, none_in}
 use Rattle.jc_rounds.proofs.SeatPhases.{Seated, grown_itself, view_there}
 use Rattle.jc_rounds.proofs.SoFar.{opens, waiting_there}
+use Rattle.jc_rounds.proofs.Once.{at_most_once}
 use Rattle.jc_rounds.proofs.Underway.{as_many, settled_by}
 use Rattle.jc_rounds.specs.Seats.{view_at, view_of}
 
@@ -120,7 +122,7 @@ refused_near : (config : Config) (caller : Caller) (rounds : List Round) (v w : 
 refused_near config caller rounds v w key op (Ok reply) has is = let bad : Ok reply ≡ Err HistoryFull = is in cc
 refused_near config caller rounds v w key op (Err refusal) has is =
     let same : refusal ≡ HistoryFull = cc in
-    ⊎_elim (λ memory. absurd (let bad : OutOfMemory ≡ HistoryFull = sym memory ∙ same in cc)) (λ full. near_full caller v w key op (subst (WasRefused caller v w key op) same full.1)) has.2
+    ⊎_elim (λ memory. absurd (let bad : OutOfMemory ≡ HistoryFull = sym memory.0 ∙ same in cc)) (λ full. near_full caller v w key op (subst (WasRefused caller v w key op) same full.1)) has.2
 
 -- 2. Ends.
 
@@ -341,20 +343,20 @@ module _ {I J : Type 0} {D : I → Type 0} {E : J → Type 0} where
   }
 
   -- a key that waits was not asked for
-  refused_here : (cache : CacheState) (past : Past) (session : Session I J D E) (call : BulkCall) → IsBetween cache past session call → (place : ℕ) (key : Bytes) (op : Op) (p : Progress) → slice_get (ops_of call.targets.now) place ≡ Some (key, op) → slice_get call.progress.items place ≡ Some p
+  refused_here : (cache : CacheState) (past : Past) (session : Session I J D E) (call : BulkCall) → (past.rounds ≡ [] → ⊥) → IsBetween cache past session call → (place : ℕ) (key : Bytes) (op : Op) (p : Progress) → slice_get (ops_of call.targets.now) place ≡ Some (key, op) → slice_get call.progress.items place ≡ Some p
       → IsAt cache.config past.caller past.rounds (view_of cache.config.stripes past.first key) (view_of cache.config.stripes session.seats.items key) key op (refused_if_waiting p)
-  refused_here cache past session call between place key op p at there = by p there (between.on.under.so_far.each place key op p at there)
+  refused_here cache past session call some between place key op p at there = by p there (between.on.under.so_far.each place key op p at there)
     where
       by : (p : Progress) → slice_get call.progress.items place ≡ Some p → IsAt cache.config past.caller past.rounds (view_of cache.config.stripes past.first key) (view_of cache.config.stripes session.seats.items key) key op p
           → IsAt cache.config past.caller past.rounds (view_of cache.config.stripes past.first key) (view_of cache.config.stripes session.seats.items key) key op (refused_if_waiting p)
-      by Waiting there so = (so, unasked_at cache.config (ops_of call.targets.now) past.rounds call.progress.items place key op Waiting at there refl between.on.asked, inl refl)
+      by Waiting there so = (so, unasked_at cache.config (ops_of call.targets.now) past.rounds call.progress.items place key op Waiting at there refl between.on.asked, inl (refl, some))
       by Reserved there so = so
       by Joined there so = so
       by (Ended e) there so = so
 
   pub refused_call : (cache : CacheState) (past : Past) (session : Session I J D E) (call later : BulkCall) → later ≡ record call { progress = later.progress; cause = later.cause } → later.progress.items ≡ map refused_if_waiting call.progress.items
-      → IsNoted call.cause (failures later.progress.items) later.cause → IsBetween cache past session call → IsBetween cache past session later
-  refused_call cache past session call later rest is noted between =
+      → IsNoted call.cause (failures later.progress.items) later.cause → (past.rounds ≡ [] → ⊥) → IsBetween cache past session call → IsBetween cache past session later
+  refused_call cache past session call later rest is noted some between =
       let u = between.on.under in
       let ops = ops_of call.targets.now in
       let ps = call.progress.items in
@@ -376,7 +378,7 @@ module _ {I J : Type 0} {D : I → Type 0} {E : J → Type 0} where
               many = as_many refused_if_waiting ps ∙ u.so_far.many;
               each = λ place key op r at there.
                   let from = map_from ps place r there in
-                  subst (IsAt cache.config past.caller past.rounds (view_of n past.first key) (view_of n session.seats.items key) key op) (sym from.2) (refused_here cache past session call between place key op from.0 at from.1);
+                  subst (IsAt cache.config past.caller past.rounds (view_of n past.first key) (view_of n session.seats.items key) key op) (sym from.2) (refused_here cache past session call some between place key op from.0 at from.1);
               others = u.so_far.others;
             };
             calls_are = none_are is_reserved (IsTicketFor past.caller cache.config) ops (map refused_if_waiting ps)
@@ -411,7 +413,9 @@ module _ {I J : Type 0} {D : I → Type 0} {E : J → Type 0} where
   -- 5. The call
 
   pub carried_out : (cache : CacheState) (past : Past) (old new : Session I J D E) (call : BulkCall) → past.caller ≡ (next_call old).agent.caller → past.first ≡ old.seats.items → IsOver call → new.agent ≡ record (next_call old).agent { counts = new.agent.counts; hands = new.agent.hands }
-      → HasRun cache past new call → IsCarriedOut cache old (ops_of call.targets.now) (key_ends (ops_of call.targets.now) call.progress.items) past.rounds new
+      → HasRun cache past new call
+      → (carried : IsCarriedOut cache old (ops_of call.targets.now) (key_ends (ops_of call.targets.now) call.progress.items) past.rounds new)
+      × IsFirst (next_call old).agent.caller cache.config.stripes (ops_of call.targets.now) [] carried.started.ends call.cause
   carried_out cache past old new call caller_is first_is late left run =
       let u = run.between.on.under in
       let ops = ops_of call.targets.now in
@@ -424,7 +428,10 @@ module _ {I J : Type 0} {D : I → Type 0} {E : J → Type 0} where
       λ i key op ended at there.
       subst (λ (s : List Seated). HasEnded cache.config (next_call old).agent.caller past.rounds (view_of n s key) (view_of n new.seats.items key) key op ended) first_is
       (subst (λ (c : Caller). HasEnded cache.config c past.rounds (view_of n past.first key) (view_of n new.seats.items key) key op ended) caller_is (u.so_far.each i key op (Ended ended) at there)) in
-      record {
+      let started : (has : HasStartedAll (next_call old).agent.caller n ops old.seats.items new.seats.items past.rounds) × IsFirst (next_call old).agent.caller n ops [] has.ends call.cause =
+      subst (λ (s : List Seated). (has : HasStartedAll (next_call old).agent.caller n ops s new.seats.items past.rounds) × IsFirst (next_call old).agent.caller n ops [] has.ends call.cause) first_is
+      (subst (λ (c : Caller). (has : HasStartedAll c n ops past.first new.seats.items past.rounds) × IsFirst c n ops [] has.ends call.cause) caller_is (run.started, run.first)) in (
+        record {
         targets_are = ops_are ops ps u.so_far.many over;
         grown = subst (λ (s : List Seated). (i : ℕ) → HasGrown (view_at s i) (view_at new.seats.items i)) first_is u.so_far.grown;
         each = all_ended (λ key op ended. HasEnded cache.config (next_call old).agent.caller past.rounds (view_of n old.seats.items key) (view_of n new.seats.items key) key op ended) ops ps each;
@@ -434,7 +441,10 @@ module _ {I J : Type 0} {D : I → Type 0} {E : J → Type 0} where
         former = subst (λ (s : List Seated). (i : ℕ) → former_steps (next_call old).agent.caller (view_at new.seats.items i).own ≡ former_steps (next_call old).agent.caller (view_at s i).own) first_is
             (subst (λ (c : Caller). (i : ℕ) → former_steps c (view_at new.seats.items i).own ≡ former_steps c (view_at past.first i).own) caller_is u.so_far.former);
         asked = run.between.on.asked.asked;
-        started = subst (λ (s : List Seated). HasStartedAll (next_call old).agent.caller n ops s new.seats.items past.rounds) first_is
-            (subst (λ (c : Caller). HasStartedAll c n ops past.first new.seats.items past.rounds) caller_is run.started);
+        started = started.0;
+        once = subst (λ (s : List Seated). AsksAtMostOnce (next_call old).agent.caller n ops s new.seats.items past.rounds) first_is
+            (subst (λ (c : Caller). AsksAtMostOnce c n ops past.first new.seats.items past.rounds) caller_is (at_most_once past.caller n ops cache.config past.first new.seats.items past.rounds run.between.on.asked.asked run.started));
         left = left;
-      }
+        },
+        started.1,
+      )

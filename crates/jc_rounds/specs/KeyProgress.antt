@@ -13,9 +13,10 @@
 --     failures             these, of all keys
 --     IsCauseIn            there is a cause exactly if there are such, and it is one of them
 --     IsMet                a cause that was noted is one of them, or of these faults of the writer; without one the writer has not failed
+--     KeepsCause           a cause that was noted before stays
 --     IsNoted              a cause that was noted before stays; without one, there is one exactly if there are such, and it is one
 --     refused_if_waiting   a key that waits is refused, since the allocation of a later round failed; any other is as it was
-use Rattle.std.specs.Prelude.{◌≡◌, ◌⊎◌, ◌++◌, ℕ, zero, suc, List, [], ◌∷◌, length, Bool, true, false, Option, None, Some, Result, Ok, Err, slice_get}
+use Rattle.std.specs.Prelude.{◌≡◌, ◌⊎◌, ◌++◌, ℕ, zero, suc, List, [], ◌∷◌, length, Bool, true, false, Option, None, Some, IfSome, Result, Ok, Err, slice_get}
 use Rattle.std.specs.List.{IsAmong, filter_map}
 use Rattle.jc_types.specs.declared.refusal.Refusal.{Refusal}
 use Rattle.jc_types.specs.declared.refusal.Refusal.TheVariants.{OutOfMemory}
@@ -96,6 +97,9 @@ failures progress = filter_map failure_at progress
 abbrev pub IsCauseIn : Option Refusal → List Refusal → Type 0
 IsCauseIn None refusals = refusals ≡ []
 IsCauseIn (Some cause) refusals = IsAmong refusals cause
+
+abbrev pub KeepsCause : Option Refusal → Option Refusal → Type 0
+KeepsCause before after = IfSome before (λ cause. after ≡ Some cause)
 
 -- a cause that was noted stays
 abbrev pub IsNoted : Option Refusal → List Refusal → Option Refusal → Type 0

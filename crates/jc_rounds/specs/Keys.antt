@@ -6,7 +6,8 @@
 --                    it is in the front, which is the whole history of the noted state, behind the former front
 --     WasRefused     the stripe was in a state, between the former front and the present one, in which this is the first refusal of the
 --                    call at this key
---     HasEnded       the key's end: the call has made its one step there; or it was refused, has none, and no round asked for the key
+--     HasEnded       the key's end: the call has made its one step there; or it was refused, has none, and no round asked for the key; for want
+--                    of memory only after a round that asked outside
 --     IsAt           the key is so far: it has no step of the call yet, or has ended
 --     IsEarly        the call's number isn't the last one
 --     IsTicketFor    a reservation of the call for this key, which asks whom the operation asks first, in a cache of this shape
@@ -93,7 +94,7 @@ abbrev pub HasEnded : Config → Caller → List Round → View → View → Byt
 HasEnded config caller rounds before after key op (Ok reply) = HasStep config caller rounds before after key op reply
 HasEnded config caller rounds before after key op (Err refusal) =
     (steps_of caller key after.own ≡ []) × (is_among (asked_in rounds) key ≡ false)
-    × ((refusal ≡ OutOfMemory) ⊎ ((refusal ≡ HistoryFull) × WasRefused caller before after key op refusal))
+    × ((refusal ≡ OutOfMemory) × (rounds ≡ [] → ⊥) ⊎ ((refusal ≡ HistoryFull) × WasRefused caller before after key op refusal))
 
 -- 2. On the way.
 

@@ -11,5 +11,6 @@ pub mod Asking
 pub mod Starting
 pub mod Answers
 pub mod OutsideCalls
+pub mod Causes
 pub mod Underway
 pub mod Running

@@ -2,7 +2,8 @@
 --     HeldInEach     each key that is held back now was put off in each of these rounds
 --     IsRound        one round of the session's current call, which has asked this outside, if it has asked: each key that it leaves waiting was
 --                    put off, and it has asked for keys that waited before it
---     HasRun         the call with nothing out, after rounds of which each started every key that it could
+--     HasRun         the call with nothing out, after rounds of which each started every key that it could; its cause is one of the first that
+--                    it met
 --     near_places    how many places of a history may be held by promises, and how many one step more needs
 --     IsNearFull     the present generation's history has hardly any place left, or a number has come to its end
 --     WasNearFull    so was the stripe in a state between the former front and the present one
@@ -28,13 +29,14 @@ use Rattle.jc_rounds.specs.declared.bulk_call.BulkCall.{BulkCall}
 use Rattle.jc_rounds.specs.declared.progress.Progress.{Progress}
 use Rattle.jc_rounds.specs.declared.progress.Progress.TheVariants.{Waiting}
 use Rattle.jc_rounds.specs.Asking.{AsksEachOnce}
+use Rattle.jc_rounds.specs.Causes.{IsFirst}
 use Rattle.jc_rounds.specs.Ends.{KeyEnd, key_ops}
 use Rattle.jc_rounds.specs.Keys.{HasEnded}
 use Rattle.jc_rounds.specs.Recorded.{former_steps, steps_of}
 use Rattle.jc_rounds.specs.Rounds.{Round, asked_in}
 use Rattle.jc_rounds.specs.Seats.{HasGrown, view_at, view_of}
 use Rattle.jc_rounds.specs.SoFar.{AreHeldBack, GoesOn, is_due}
-use Rattle.jc_rounds.specs.Starting.{HasStartedAll, IsFull, RoundEnd}
+use Rattle.jc_rounds.specs.Starting.{AsksAtMostOnce, HasStartedAll, IsFull, RoundEnd}
 use Rattle.jc_rounds.specs.Targets.{ops_of}
 use Rattle.jc_rounds.specs.Underway.{IsBetween, Past}
 
@@ -60,6 +62,7 @@ pub record HasRun {I J : Type 0} {D : I → Type 0} {E : J → Type 0} (cache : 
   pub between : IsBetween cache past session call
   pub started : HasStartedAll past.caller cache.config.stripes (ops_of call.targets.now) past.first session.seats.items past.rounds
   pub held : HeldInEach past.caller cache.config.stripes (ops_of call.targets.now) past.first started.ends call.progress.items
+  pub first : IsFirst past.caller cache.config.stripes (ops_of call.targets.now) [] started.ends call.cause
 
 -- 2. The call.
 
@@ -87,4 +90,5 @@ pub record IsCarriedOut {I J : Type 0} {D : I → Type 0} {E : J → Type 0} (ca
   pub former : (i : ℕ) → former_steps (next_call old).agent.caller (view_at new.seats.items i).own ≡ former_steps (next_call old).agent.caller (view_at old.seats.items i).own
   pub asked : AsksEachOnce cache.config targets rounds
   pub started : HasStartedAll (next_call old).agent.caller cache.config.stripes targets old.seats.items new.seats.items rounds
+  pub once : AsksAtMostOnce (next_call old).agent.caller cache.config.stripes targets old.seats.items new.seats.items rounds
   pub left : new.agent ≡ record (next_call old).agent { counts = new.agent.counts; hands = new.agent.hands }

@@ -8,6 +8,8 @@
 --     seats_after     what the session has seen after these rounds
 --     EachStartsAll   each of these rounds starts all it can: each key that a later one asks for, it has put off
 --     HasStartedAll   what a call has asked outside was asked in such rounds
+--     IsLeftAlone     none of the keys met another call's reservation or load, or a stripe with as many calls at work as may be
+--     AsksAtMostOnce  a call that was left alone, with no more keys than all stripes may have reserved, asks outside once, if at all
 use Rattle.std.specs.Prelude.{◌≡◌, ◌≤◌, ◌<◌, ◌*◌, ◌⊎◌, ℕ, List, [], ◌∷◌, length, true}
 use Rattle.std.specs.List.{IsAmong, flat_map}
 use Rattle.atomic_table.specs.Seated.{TableId}
@@ -20,7 +22,7 @@ use Rattle.jc_model.specs.declared.event.Op.TheVariants.{Get}
 use Rattle.jc_lock.specs.declared.view.View.{View}
 use Rattle.jc_rounds.specs.Keys.{IsHeldBack}
 use Rattle.jc_rounds.specs.Rounds.{Round, asked_in}
-use Rattle.jc_rounds.specs.Seats.{view_of}
+use Rattle.jc_rounds.specs.Seats.{HasGrown, view_at, view_of}
 
 -- `most` is how many of them a stripe may have out
 abbrev pub IsRoomFor : ℕ → ℕ → ℕ → ℕ → Type 0
@@ -50,7 +52,7 @@ module _ (caller : Caller) (stripes : ℕ) (targets : List (Bytes × Op)) where
   abbrev pub EachStartsAll : List (TableId × View) → List RoundEnd → Type 0
   EachStartsAll old [] = Unit {0}
   EachStartsAll old (e ∷ es) =
-      (length e.calls ≤ 1)
+      (length e.calls ≤ 1) × ((i : ℕ) → HasGrown (view_at old i) (view_at e.seats i))
       × ((key : Bytes) (op : Op) → IsAmong targets (key, op) → is_among (asked_in (calls_of es)) key ≡ true → IsPutOff (length (asked_in e.calls)) old e.seats key op)
       × EachStartsAll e.seats es
 
@@ -59,3 +61,9 @@ module _ (caller : Caller) (stripes : ℕ) (targets : List (Bytes × Op)) where
     pub calls_are : calls_of ends ≡ rounds
     pub seats_are : seats_after old ends ≡ new
     pub each : EachStartsAll old ends
+
+  abbrev pub IsLeftAlone : List (TableId × View) → List (TableId × View) → Type 0
+  IsLeftAlone old new = (key : Bytes) (op : Op) → IsAmong targets (key, op) → IsHeldBack caller (view_of stripes old key) (view_of stripes new key) key op → ⊥
+
+  abbrev pub AsksAtMostOnce : List (TableId × View) → List (TableId × View) → List Round → Type 0
+  AsksAtMostOnce old new rounds = length targets ≤ RESERVATIONS_MAX * stripes → IsLeftAlone old new → length rounds ≤ 1

@@ -7,7 +7,8 @@
 --     IsOn          the session's current call, with this past, which has these tickets and joins out
 --     IsBetween     the same with nothing out, as between two rounds: its cause is one of the faults and refusals that it has met
 --     IsPickingNext      the same with the next join taken out
---     Advances      phases of the call: what has ended stays so, and of the session only its seats and its counts have changed
+--     Advances      phases of the call: what has ended stays so, and so does a cause that was noted; of the session only its seats and its
+--                   counts have changed
 --     HasStarted    the first phases of a round were made: each key that waits was put off, and nobody was asked yet
 --     IsStarting    the first phases are being made, and are at this place
 --     IsAnswered    the tickets' asks were answered in a round of the call
@@ -38,7 +39,7 @@ use Rattle.jc_rounds.specs.declared.bulk_call.Rooms.{Rooms}
 use Rattle.jc_rounds.specs.declared.targets.Targets.{Targets}
 use Rattle.jc_rounds.specs.Answers.{AreAnswers}
 use Rattle.jc_rounds.specs.Asking.{HasAsked}
-use Rattle.jc_rounds.specs.KeyProgress.{IsCauseIn, IsMet, StillWaits, all_waiting, failures, is_joined, is_reserved}
+use Rattle.jc_rounds.specs.KeyProgress.{IsCauseIn, IsMet, KeepsCause, StillWaits, all_waiting, failures, is_joined, is_reserved}
 use Rattle.jc_rounds.specs.Rounds.{Round, asked_in, faults_in}
 use Rattle.jc_rounds.specs.SoFar.{AreHeldBack, AreSettledFrom, AreUnder, GoesOn, IsUnderway}
 use Rattle.jc_rounds.specs.Starting.{IsFull, IsRoomFor}
@@ -151,6 +152,7 @@ pub record Advances {I J : Type 0} {D : I → Type 0} {E : J → Type 0} (old ne
   pub agent : new.agent ≡ record old.agent { counts = new.agent.counts }
   pub targets : later.targets ≡ call.targets
   pub most : later.most ≡ call.most
+  pub cause : KeepsCause call.cause later.cause
 
 pub record HasRoom (call : BulkCall) : Type 0 where
   pub tickets : length call.tickets.items < call.most

@@ -1,7 +1,7 @@
 use Rattle.std.proofs.Common.{◌≤◌, subst, sym}
 use Rattle.jc_rounds.specs.Targets.{ops_of}
 use Rattle.jc_rounds.specs.Running.{with_rounds}
-use Rattle.jc_rounds.proofs.CallerLemmas.{refused_over}
+use Rattle.jc_rounds.proofs.CallerLemmas.{refused_over, spent_more, spent_none}
 use Rattle.jc_bulk.specs.RoundsRun.{KeysAskAs}
 use Rattle.jc_bulk.proofs.RoundsOn.{left_empty, left_most, left_ready, runs_both, runs_refused}
 use Rattle.jc_bulk.proofs.rounds.run_rounds.Goals as goal
@@ -9,7 +9,7 @@ use Rattle.jc_bulk.proofs.rounds.run_rounds.Goals as goal
 pub loop-init : goal.loop-init
 loop-init g c =
     let r = c.requires.run in
-    let one = c.run_round-left.ensures.runs r.0 r.1 in
+    let one = (c.run_round-left.ensures.runs r.0 r.1).0 in
     record {
       left = left_most c.kind-kind.result _ _ c.run_round-left.result one.most (left_ready c.kind-kind.result _ c.args.outside c.run_round-left.result c.run_round-left.ensures.left (sym c.kind-kind.ensures, c.requires.ready.none, c.requires.ready.room));
       keys = subst (λ k. KeysAskAs k (ops_of c.run_round-left.new.call.targets.now)) (sym c.kind-kind.ensures) (subst (λ t. KeysAskAs c.args.outside.kind (ops_of t.now)) (sym one.targets) c.requires.ready.kind);
@@ -19,14 +19,14 @@ loop-init g c =
 pub wait-requires : goal.wait-requires
 wait-requires g c =
     let r = c.requires.run in
-    let so_far = c.loop.invariant.runs r.0 r.1 in
+    let so_far = (c.loop.invariant.runs r.0 r.1).0 in
     (with_rounds r.0 so_far.rounds, so_far.run.between)
 
 pub end_left-requires : goal.end_left-requires
 end_left-requires g c = left_empty c.kind-kind.result c.loop.call.most c.loop.left c.loop.invariant.left
 
 pub returns-then-not-wait-clause-runs : goal.returns-then-not-wait-clause-runs
-returns-then-not-wait-clause-runs g c = c.loop.invariant.runs
+returns-then-not-wait-clause-runs g c past run = (c.loop.invariant.runs past run).0
 
 pub ready-requires : goal.ready-requires
 ready-requires g c = left_most c.kind-kind.result c.loop.call.most c.most.result c.loop.left c.most.ensures c.loop.invariant.left
@@ -41,22 +41,25 @@ run_round-left-requires-in-Ok-clause-ready g c = record {
 pub run_round-left-requires-in-Ok-clause-run : goal.run_round-left-requires-in-Ok-clause-run
 run_round-left-requires-in-Ok-clause-run g c =
     let r = c.requires.run in
-    let so_far = c.loop.invariant.runs r.0 r.1 in
+    let so_far = (c.loop.invariant.runs r.0 r.1).0 in
     (with_rounds r.0 so_far.rounds, so_far.run)
 
 pub loop-preserved : goal.loop-preserved
 loop-preserved g c =
     let r = c.requires.run in
-    let so_far = c.loop.invariant.runs r.0 r.1 in
-    let one = c.run_round-left-in-Ok.ensures.runs (with_rounds r.0 so_far.rounds) so_far.run in
+    let so_far = (c.loop.invariant.runs r.0 r.1).0 in
+    let one = (c.run_round-left-in-Ok.ensures.runs (with_rounds r.0 so_far.rounds) so_far.run).0 in
     record {
       left = left_most c.kind-kind.result _ _ c.run_round-left-in-Ok.result one.most
           (left_ready c.kind-kind.result _ c.in-Ok.outside c.run_round-left-in-Ok.result c.run_round-left-in-Ok.ensures.left (c.in-Ok.ensures.0, c.in-Ok.ensures.1, subst (λ n. n ≤ c.in-Ok.outside.room) c.most.ensures c.in-Ok.ensures.2));
       keys = subst (λ t. KeysAskAs c.kind-kind.result (ops_of t.now)) (sym one.targets) c.loop.invariant.keys;
       runs = λ past run.
-          let before = c.loop.invariant.runs past run in
-          runs_both (λ v. (goal.CacheLoader-dyn g v).loads_all v.1) (λ v. (goal.CacheLoader-dyn g v).load_state v.1) (λ v. (goal.CacheWriter-dyn g v).writes_all v.1) (λ v. (goal.CacheWriter-dyn g v).deletes_all v.1) (λ v. (goal.CacheWriter-dyn g v).write_state v.1)
-          c.args.cache.now past c.args.session.now c.loop.session c.run_round-left-in-Ok.new.session c.args.call.now c.loop.call c.run_round-left-in-Ok.new.call before (c.run_round-left-in-Ok.ensures.runs (with_rounds past before.rounds) before.run);
+          let before = (c.loop.invariant.runs past run).0 in
+          let next = c.run_round-left-in-Ok.ensures.runs (with_rounds past before.rounds) before.run in (
+            runs_both (λ v. (goal.CacheLoader-dyn g v).loads_all v.1) (λ v. (goal.CacheLoader-dyn g v).load_state v.1) (λ v. (goal.CacheWriter-dyn g v).writes_all v.1) (λ v. (goal.CacheWriter-dyn g v).deletes_all v.1) (λ v. (goal.CacheWriter-dyn g v).write_state v.1)
+                c.args.cache.now past c.args.session.now c.loop.session c.run_round-left-in-Ok.new.session c.args.call.now c.loop.call c.run_round-left-in-Ok.new.call before next.0,
+            spent_more c.run_round-left-in-Ok.result before.rounds next.0.rounds next.1,
+          );
     }
 
 pub returns-in-Err-clause-over : goal.returns-in-Err-clause-over
@@ -65,4 +68,5 @@ returns-in-Err-clause-over g c = refused_over c.loop.call c.refuse_rest.new.self
 pub returns-in-Err-clause-runs : goal.returns-in-Err-clause-runs
 returns-in-Err-clause-runs g c past run =
     runs_refused (λ v. (goal.CacheLoader-dyn g v).loads_all v.1) (λ v. (goal.CacheLoader-dyn g v).load_state v.1) (λ v. (goal.CacheWriter-dyn g v).writes_all v.1) (λ v. (goal.CacheWriter-dyn g v).deletes_all v.1) (λ v. (goal.CacheWriter-dyn g v).write_state v.1)
-    c.args.cache.now past c.args.session.now c.loop.session c.args.call.now c.loop.call c.refuse_rest.new.self c.refuse_rest.ensures.rest c.refuse_rest.ensures.progress c.refuse_rest.ensures.cause (c.loop.invariant.runs past run)
+    c.args.cache.now past c.args.session.now c.loop.session c.args.call.now c.loop.call c.refuse_rest.new.self c.refuse_rest.ensures.rest c.refuse_rest.ensures.progress c.refuse_rest.ensures.cause (c.loop.invariant.runs past run).0
+    (spent_none c.loop.left (c.loop.invariant.runs past run).0.rounds c.in-Err.ensures (c.loop.invariant.runs past run).1)

@@ -1,4 +1,4 @@
-use Rattle.std.proofs.Common.{◌≡◌, ◌≤◌, [], IfSome}
+use Rattle.std.proofs.Common.{◌≡◌, ◌≤◌, [], IfNone, IfSome}
 use Rattle.jc_rounds.specs.Running.{HasRun}
 use Rattle.jc_rounds.specs.Targets.{ops_of}
 use Rattle.jc_rounds.specs.Underway.{Past}
@@ -11,7 +11,8 @@ invariant-loop g l = record {
   left : IfSome l.left (λ call. (call.kind ≡ l.kind) × (call.items ≡ []) × (l.call.most ≤ call.room));
   keys : KeysAskAs l.kind (ops_of l.call.targets.now);
   runs : (past : Past) → HasRun l.fn.cache past l.fn.session l.fn.call
-      → RunsOn (λ v. (goal.CacheLoader-dyn g v).loads_all v.1) (λ v. (goal.CacheLoader-dyn g v).load_state v.1)
+      → (runs : RunsOn (λ v. (goal.CacheLoader-dyn g v).loads_all v.1) (λ v. (goal.CacheLoader-dyn g v).load_state v.1)
       (λ v. (goal.CacheWriter-dyn g v).writes_all v.1) (λ v. (goal.CacheWriter-dyn g v).deletes_all v.1) (λ v. (goal.CacheWriter-dyn g v).write_state v.1)
-      l.fn.cache past l.fn.session l.fn.call l.session l.call;
+      l.fn.cache past l.fn.session l.fn.call l.session l.call)
+      × IfNone l.left (runs.rounds ≡ [] → ⊥);
 }

@@ -1,4 +1,5 @@
 use Rattle.std.proofs.Common.{refl, arith}
+use Rattle.jc_rounds.proofs.Failures.{keeps_itself}
 use Rattle.jc_rounds.proofs.Held.{goes_itself}
 use Rattle.jc_rounds.proofs.Loops.{commit_from, commit_noted, commit_over, noted_advances}
 use Rattle.jc_rounds.proofs.OnCall.{advances_both}
@@ -6,7 +7,7 @@ use Rattle.jc_rounds.proofs.bulk_call.BulkCall.commit.Goals as goal
 
 pub loop-place-init : goal.loop-place-init
 loop-place-init g c = record {
-  advances = record { goes = goes_itself c.args.session.now.seats.items c.args.self.now.progress.items; agent = refl; targets = refl; most = refl };
+  advances = record { goes = goes_itself c.args.session.now.seats.items c.args.self.now.progress.items; agent = refl; targets = refl; most = refl; cause = keeps_itself c.args.self.now.cause };
   committed = λ past round answered. commit_from c.args.cache.now past round c.args.session.now c.args.self.now c.reverse.new.self c.args.answers c.reverse.ensures.items c.reverse.ensures.capacity answered;
 }
 
@@ -29,7 +30,7 @@ end-requires g c =
     )
 
 pub returns-clause-advances : goal.returns-clause-advances
-returns-clause-advances g c = noted_advances _ _ _ _ _ c.note_failures.ensures.rest c.loop-place.invariant.advances
+returns-clause-advances g c = noted_advances _ _ _ _ _ c.note_failures.ensures.rest c.note_failures.ensures.cause c.loop-place.invariant.advances
 
 pub returns-clause-committed : goal.returns-clause-committed
 returns-clause-committed g c past round answered =

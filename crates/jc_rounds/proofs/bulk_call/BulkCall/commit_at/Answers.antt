@@ -19,7 +19,7 @@ commit_ticket-requires-clause-answered g c =
     let r = c.requires.answered in (r.0, r.1, next_commit c.args.cache.now r.0 r.1 c.args.session.now c.args.self.now c.pop.new.self c.in-Some.ticket c.args.answers.now c.args.place c.in-Some.ensures.items c.in-Some.ensures.capacity r.2)
 
 pub returns-in-Some-clause-advances : goal.returns-in-Some-clause-advances
-returns-in-Some-clause-advances g c = let a = c.commit_ticket.ensures.advances in record { goes = a.goes; agent = a.agent; targets = a.targets; most = a.most }
+returns-in-Some-clause-advances g c = let a = c.commit_ticket.ensures.advances in record { goes = a.goes; agent = a.agent; targets = a.targets; most = a.most; cause = a.cause }
 
 pub returns-in-Some-clause-committed : goal.returns-in-Some-clause-committed
 returns-in-Some-clause-committed g c past round next =

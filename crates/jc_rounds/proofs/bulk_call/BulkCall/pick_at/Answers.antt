@@ -19,7 +19,7 @@ pick_join-requires-clause-picking g c =
     let r = c.requires.picking in (r.0, next_pick c.args.cache.now r.0 c.args.session.now c.args.self.now c.pop.new.self c.in-Some.join c.args.place c.in-Some.ensures.items c.in-Some.ensures.capacity r.1)
 
 pub returns-in-Some-clause-advances : goal.returns-in-Some-clause-advances
-returns-in-Some-clause-advances g c = let a = c.pick_join.ensures.advances in record { goes = a.goes; agent = a.agent; targets = a.targets; most = a.most }
+returns-in-Some-clause-advances g c = let a = c.pick_join.ensures.advances in record { goes = a.goes; agent = a.agent; targets = a.targets; most = a.most; cause = a.cause }
 
 pub returns-in-Some-clause-picking : goal.returns-in-Some-clause-picking
 returns-in-Some-clause-picking g c past next =

@@ -1,4 +1,5 @@
 use Rattle.std.proofs.Common.{refl, arith}
+use Rattle.jc_rounds.proofs.Failures.{keeps_itself}
 use Rattle.jc_rounds.proofs.Held.{goes_itself}
 use Rattle.jc_rounds.proofs.Loops.{noted_advances, pick_from, pick_noted, pick_over}
 use Rattle.jc_rounds.proofs.OnCall.{advances_both}
@@ -6,7 +7,7 @@ use Rattle.jc_rounds.proofs.bulk_call.BulkCall.pick_up.Goals as goal
 
 pub loop-place-init : goal.loop-place-init
 loop-place-init g c = record {
-  advances = record { goes = goes_itself c.args.session.now.seats.items c.args.self.now.progress.items; agent = refl; targets = refl; most = refl };
+  advances = record { goes = goes_itself c.args.session.now.seats.items c.args.self.now.progress.items; agent = refl; targets = refl; most = refl; cause = keeps_itself c.args.self.now.cause };
   picking = λ past committed. pick_from c.args.cache.now past c.args.session.now c.args.self.now c.reverse.new.self c.reverse.ensures.items c.reverse.ensures.capacity committed;
 }
 
@@ -20,7 +21,7 @@ loop-place-preserved g c = record {
 }
 
 pub returns-clause-advances : goal.returns-clause-advances
-returns-clause-advances g c = noted_advances _ _ _ _ _ c.note_failures.ensures.rest c.loop-place.invariant.advances
+returns-clause-advances g c = noted_advances _ _ _ _ _ c.note_failures.ensures.rest c.note_failures.ensures.cause c.loop-place.invariant.advances
 
 pub returns-clause-between : goal.returns-clause-between
 returns-clause-between g c past committed =

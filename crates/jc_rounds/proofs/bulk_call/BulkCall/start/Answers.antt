@@ -22,7 +22,7 @@ loop-place-preserved g c = record {
 }
 
 pub returns-clause-advances : goal.returns-clause-advances
-returns-clause-advances g c = noted_advances _ _ _ _ _ c.note_failures.ensures.rest c.loop-place.invariant.advances
+returns-clause-advances g c = noted_advances _ _ _ _ _ c.note_failures.ensures.rest c.note_failures.ensures.cause c.loop-place.invariant.advances
 
 pub returns-clause-started : goal.returns-clause-started
 returns-clause-started g c past between =

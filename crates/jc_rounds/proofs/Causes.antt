@@ -1,0 +1,117 @@
+-- The cause that a call tells is one of the first that it met.
+--     first_kept    so it stays when the call goes on
+--     first_more    and by one round more
+use Rattle.std.proofs.Common.{◌≡◌, ◌⊎◌, ⊎_elim, inl, inr, ◌++◌, ℕ, zero, suc, List, [], ◌∷◌, length, append-nil, append_assoc, Option, None, Some, Result, Ok, Err, slice_get, refl, sym, ap, ◌∙◌, subst, arith}
+use Rattle.std.proofs.lemmas.Option.{same_Some}
+use Rattle.std.specs.List.{IsAmong}
+use Rattle.jc_types.specs.declared.caller.Caller.{Caller}
+use Rattle.jc_types.specs.declared.config.Config.{Config}
+use Rattle.jc_types.specs.declared.refusal.Refusal.{Refusal}
+use Rattle.jc_model.specs.Cache.{Bytes}
+use Rattle.jc_model.specs.declared.event.Event.TheVariants.{Step}
+use Rattle.jc_model.specs.declared.event.Op.{Op}
+use Rattle.jc_model.specs.declared.event.Out.{Out}
+use Rattle.jc_model.specs.declared.event.Reply.{Reply}
+use Rattle.jc_model.specs.declared.event.Reply.TheVariants as reply
+use Rattle.jc_rounds.specs.declared.progress.Progress.{Progress}
+use Rattle.jc_rounds.specs.declared.progress.Progress.TheVariants.{Waiting, Reserved, Joined, Ended}
+use Rattle.jc_rounds.specs.Causes.{HasFailed, HasMet, IsFirst, IsRefused}
+use Rattle.jc_rounds.specs.KeyProgress.{IsCauseIn, KeepsCause, failures, refusal_in}
+use Rattle.jc_rounds.specs.Keys.{HasEnded, IsAt}
+use Rattle.jc_rounds.specs.Recorded.{steps_of}
+use Rattle.jc_rounds.specs.Rounds.{Round, faults_in}
+use Rattle.jc_rounds.specs.Seats.{view_of}
+use Rattle.jc_rounds.specs.SoFar.{IsSoFar}
+use Rattle.jc_rounds.specs.Starting.{RoundEnd, calls_of}
+use Rattle.jc_rounds.proofs.Asked.{among_there, place_among, some_there}
+use Rattle.jc_rounds.proofs.Failures.{among_after, among_either, ended_there, failed_there}
+use Rattle.jc_rounds.proofs.SeatPhases.{Seated}
+use Rattle.jc_rounds.proofs.SoFar.{among_more}
+
+same_reply : (caller : Caller) (op op' : Op) (key : Bytes) (out out' : Out) (shared shared' : Option ℕ) (r r' : Reply) → Step caller op key out shared r ∷ [] ≡ Step caller op' key out' shared' r' ∷ [] → r ≡ r'
+same_reply caller op op' key out out' shared shared' r r' is = cc
+
+target_there : (ps : List Progress) (targets : List (Bytes × Op)) (place : ℕ) (p : Progress) → length targets ≡ length ps → slice_get ps place ≡ Some p → (t : Bytes × Op) × (slice_get targets place ≡ Some t)
+target_there [] targets place p many there = cc
+target_there (q ∷ ps) [] place p many there = cc
+target_there (q ∷ ps) (t ∷ targets) zero p many there = (t, refl)
+target_there (q ∷ ps) (t ∷ targets) (suc place) p many there = target_there ps targets place p (omega (arith, many)) there
+
+module _ (config : Config) (caller : Caller) (stripes : ℕ) (targets : List (Bytes × Op)) where
+  -- a key's fault that the session has seen is a failure
+  failed_so : (rounds : List Round) (first now : List Seated) (ps : List Progress) (fault : Refusal) → IsSoFar config caller stripes targets rounds first now ps → HasFailed caller stripes targets now fault → IsAmong (failures ps) fault
+  failed_so rounds first now ps fault so (key, op, out, shared, among, one) =
+      let at = place_among targets (key, op) among in
+      let p = some_there targets ps at.0 (key, op) so.many at.2 in
+      by at.0 p.0 p.1 (so.each at.0 key op p.0 at.2 p.1)
+    where
+      by : (place : ℕ) (p : Progress) → slice_get ps place ≡ Some p → IsAt config caller rounds (view_of stripes first key) (view_of stripes now key) key op p → IsAmong (failures ps) fault
+      by place Waiting there none = (let bad = sym one ∙ none in cc)
+      by place Reserved there none = (let bad = sym one ∙ none in cc)
+      by place Joined there none = (let bad = sym one ∙ none in cc)
+      by place (Ended (Err refusal)) there ended = (let bad = sym one ∙ ended.0 in cc)
+      by place (Ended (Ok r)) there ended =
+          let same : r ≡ reply.Fault fault = same_reply caller op op key ended.out out ended.shared_with shared r (reply.Fault fault) (sym ended.one ∙ one) in
+          failed_there ps place (Ok r) fault there (ap (λ (x : Reply). refusal_in (Ok x)) same)
+
+  -- a failure is a key's fault that the session has seen, or a refusal
+  so_failed : (rounds : List Round) (first now : List Seated) (ps : List Progress) (fault : Refusal) → IsSoFar config caller stripes targets rounds first now ps → IsAmong (failures ps) fault → IsRefused fault ⊎ HasFailed caller stripes targets now fault
+  so_failed rounds first now ps fault so among =
+      let e = ended_there ps fault among in
+      let t = target_at e.0 e.1 e.2 in
+      by t.0 t.1 e.1 (among_there targets e.0 (t.0, t.1) t.2) e.3 (so.each e.0 t.0 t.1 (Ended e.1) t.2 e.2)
+    where
+      target_at : (place : ℕ) (e : Result Reply Refusal) → slice_get ps place ≡ Some (Ended e) → (key : Bytes) × (op : Op) × (slice_get targets place ≡ Some (key, op))
+      target_at place e there = let t = target_there ps targets place (Ended e) (sym so.many) there in (t.0.0, t.0.1, t.1)
+
+      by : (key : Bytes) (op : Op) (e : Result Reply Refusal) → IsAmong targets (key, op) → refusal_in e ≡ Some fault → HasEnded config caller rounds (view_of stripes first key) (view_of stripes now key) key op e
+          → IsRefused fault ⊎ HasFailed caller stripes targets now fault
+      by key op (Err refusal) there is ended =
+          let same : refusal ≡ fault = same_Some refusal fault is in
+          inl (subst IsRefused same (⊎_elim (λ memory. inr memory.0) (λ full. inl full.0) ended.2))
+      by key op (Ok (reply.Fault f)) there is ended =
+          let same : f ≡ fault = same_Some f fault is in
+          inr (key, op, ended.out, ended.shared_with, there, ended.one ∙ ap (λ x. Step caller op key ended.out ended.shared_with (reply.Fault x) ∷ []) same)
+      by key op (Ok (reply.Value value)) there is ended = cc
+      by key op (Ok (reply.Flag flag)) there is ended = cc
+      by key op (Ok reply.Unit) there is ended = cc
+
+  -- between two rounds
+  told_now : (rounds : List Round) (first now : List Seated) (ps : List Progress) (cause : Option Refusal) → IsSoFar config caller stripes targets rounds first now ps → IsCauseIn cause (failures ps ++ faults_in rounds)
+      → (fault : Refusal) → HasMet caller stripes targets rounds now fault → (f : Refusal) × (cause ≡ Some f) × (IsRefused f ⊎ HasMet caller stripes targets rounds now f)
+  told_now rounds first now ps cause so noted fault met = by cause noted (among met)
+    where
+      among : HasMet caller stripes targets rounds now fault → IsAmong (failures ps ++ faults_in rounds) fault
+      among (inl writer) = among_after (failures ps) (faults_in rounds) fault writer
+      among (inr key) = among_more (failures ps) (faults_in rounds) fault (failed_so rounds first now ps fault so key)
+
+      by : (c : Option Refusal) → IsCauseIn c (failures ps ++ faults_in rounds) → IsAmong (failures ps ++ faults_in rounds) fault → (f : Refusal) × (c ≡ Some f) × (IsRefused f ⊎ HasMet caller stripes targets rounds now f)
+      by None none is = absurd (let bad = subst (λ rs. IsAmong rs fault) none is in let near = bad.1.0 in omega arith)
+      by (Some f) noted is =
+          (f, refl, ⊎_elim (λ key. ⊎_elim (λ refused. inl refused) (λ failed. inr (inr failed)) (so_failed rounds first now ps f so key)) (λ writer. inr (inl writer)) (among_either (failures ps) (faults_in rounds) f noted))
+
+pub first_kept : (caller : Caller) (stripes : ℕ) (targets : List (Bytes × Op)) (before : List Round) (es : List RoundEnd) (cause later : Option Refusal) → KeepsCause cause later → IsFirst caller stripes targets before es cause → IsFirst caller stripes targets before es later
+first_kept caller stripes targets before [] cause later keeps is = tt
+first_kept caller stripes targets before (e ∷ es) cause later keeps is = (
+  λ fault met. let f = is.0 fault met in (f.0, kept cause keeps f.0 f.1, f.2),
+  first_kept caller stripes targets (before ++ e.calls) es cause later keeps is.1,
+)
+  where
+    kept : (c : Option Refusal) → KeepsCause c later → (f : Refusal) → c ≡ Some f → later ≡ Some f
+    kept None keeps f is = cc
+    kept (Some c) keeps f is = keeps ∙ is
+
+module _ (config : Config) (caller : Caller) (stripes : ℕ) (targets : List (Bytes × Op)) where
+  pub first_more : (before : List Round) (es : List RoundEnd) (e : RoundEnd) (rounds : List Round) (first : List Seated) (ps : List Progress) (cause later : Option Refusal) → (before ++ calls_of es) ++ e.calls ≡ rounds → KeepsCause cause later
+      → IsSoFar config caller stripes targets rounds first e.seats ps → IsCauseIn later (failures ps ++ faults_in rounds) → IsFirst caller stripes targets before es cause → IsFirst caller stripes targets before (es ++ e ∷ []) later
+  first_more before [] e rounds first ps cause later is keeps so noted was = (
+    λ fault met.
+        let here : before ++ e.calls ≡ rounds = ap (λ rs. rs ++ e.calls) (sym (append-nil before)) ∙ is in
+        let f = told_now config caller stripes targets rounds first e.seats ps later so noted fault (subst (λ rs. HasMet caller stripes targets rs e.seats fault) here met) in
+        (f.0, f.1, subst (λ rs. IsRefused f.0 ⊎ HasMet caller stripes targets rs e.seats f.0) (sym here) f.2),
+    tt,
+  )
+  first_more before (x ∷ es) e rounds first ps cause later is keeps so noted was = (
+    (first_kept caller stripes targets before (x ∷ es) cause later keeps was).0,
+    first_more (before ++ x.calls) es e rounds first ps cause later (ap (λ rs. rs ++ e.calls) (append_assoc before x.calls (calls_of es)) ∙ is) keeps so noted was.1,
+  )

@@ -1,0 +1,156 @@
+-- A call that was left alone asks outside once, if at all.
+--     seats_grow      from one round's end to a later one's every front grows
+--     are_keys        the keys that rounds ask for are keys of the call
+--     few_asked       so they are no more than the call has
+--     at_most_once    with no more keys than all stripes may have reserved, the second round that asks would ask for a key that the first
+--                     one has put off
+use Rattle.std.proofs.Common.{◌≡◌, ◌==◌, ◌||◌, ◌⊎◌, ⊎_elim, inl, inr, ◌≤◌, ◌+◌, ◌*◌, ◌++◌, ℕ, List, [], ◌∷◌, All, length, length-append, map, true, Option, refl, sym, ap, ◌∙◌, subst, arith}
+use Rattle.std.proofs.lemmas.Cmp.{nat_list_eq_equiv}
+use Rattle.std.proofs.lemmas.List.Concat.{flat_map-append}
+use Rattle.std.proofs.lemmas.List.Folds.{list_any-append}
+use Rattle.std.proofs.lemmas.List.Elements.{All-head, All-tail}
+use Rattle.std.proofs.lemmas.Map.Made.{length-le_from_is_member}
+use Rattle.std.specs.List.{IsAmong}
+use Rattle.std.specs.Map.{keys_of}
+use Rattle.std.specs.Cmp.Lexicographic.{pointwise, same_text}
+use Rattle.jc_types.specs.Stripes.{stripe_of}
+use Rattle.jc_types.specs.declared.caller.Caller.{Caller}
+use Rattle.jc_types.specs.declared.config.Config.{Config}
+use Rattle.jc_types.specs.declared.limits.TheConstants.{JOINERS_MAX, RESERVATIONS_MAX}
+use Rattle.jc_model.specs.Batches.{is_among}
+use Rattle.jc_model.specs.Cache.{Bytes}
+use Rattle.jc_model.specs.declared.event.Op.{Op}
+use Rattle.jc_rounds.specs.Asking.{AsksEachOnce, AsksFor}
+use Rattle.jc_batch.specs.Changes.{changes_of}
+use Rattle.jc_model.specs.declared.event.Change.{Change}
+use Rattle.jc_rounds.specs.Keys.{IsHeldBack}
+use Rattle.jc_stripe.specs.Refusals.{first_asked}
+use Rattle.jc_stripe.specs.Tickets.{asks_loader, asks_processor, change_asked}
+use Rattle.jc_rounds.specs.Rounds.{IsShown, KeyRun, LoadAll, ProcessAll, Round, WriteAll, asked_in, keys_asked}
+use Rattle.jc_rounds.specs.Seats.{HasGrown, view_at, view_of}
+use Rattle.jc_rounds.specs.Starting.{AsksAtMostOnce, EachStartsAll, HasStartedAll, IsFull, IsLeftAlone, RoundEnd, calls_of, seats_after}
+use Rattle.jc_rounds.proofs.Asked.{or_other, place_among}
+use Rattle.jc_rounds.proofs.SoFar.{among_at}
+use Rattle.jc_rounds.proofs.Underway.{as_many}
+use Rattle.jc_rounds.proofs.Held.{held_later, held_since}
+use Rattle.jc_rounds.proofs.SeatPhases.{Seated, grown_itself, grown_on}
+
+-- 1. Fronts.
+
+pub seats_grow : (caller : Caller) (stripes : ℕ) (targets : List (Bytes × Op)) (old : List Seated) (es : List RoundEnd) → EachStartsAll caller stripes targets old es → (i : ℕ) → HasGrown (view_at old i) (view_at (seats_after old es) i)
+seats_grow caller stripes targets old [] each i = grown_itself (view_at old i)
+seats_grow caller stripes targets old (e ∷ es) each i =
+    grown_on (view_at old i) (view_at e.seats i) (view_at (seats_after e.seats es) i) (each.1 i) (seats_grow caller stripes targets e.seats es each.3 i)
+
+-- 2. Keys.
+
+among_mapped : {X : Type 0} (f : X → Bytes) (P : X → Type 0) (xs : List X) (key : Bytes) → All P xs → is_among (map f xs) key ≡ true → (x : X) × P x × (key ≡ f x)
+among_mapped f P [] key all is = cc
+among_mapped {X} f P (x ∷ xs) key all is = ⊎_elim (λ here. (x, All-head P x xs all, same_text key (f x) (sym here))) (λ there. among_mapped f P xs key (All-tail P x xs all) there) (or_other (pointwise ◌==◌ key (f x)) (is_among (map f xs) key) is)
+
+all_itself : (keys : List Bytes) → map (λ (key : Bytes). key) keys ≡ keys
+all_itself [] = refl
+all_itself (k ∷ keys) = ap (λ ks. k ∷ ks) (all_itself keys)
+
+is_key : (targets : List (Bytes × Op)) (key : Bytes) (op : Op) → IsAmong targets (key, op) → is_among (keys_of targets) key ≡ true
+is_key targets key op among = let at = place_among targets (key, op) among in among_at targets at.0 key op at.2
+
+all_after : {X : Type 0} (P : X → Type 0) (xs ys : List X) → All P (xs ++ ys) → All P ys
+all_after P [] ys all = all
+all_after P (x ∷ xs) ys all = all_after P xs ys (All-tail P x (xs ++ ys) all)
+
+module _ (config : Config) (targets : List (Bytes × Op)) where
+  -- what AsksFor says of each key of a round
+  abbrev LoadsFor : Bytes → Type 0
+  LoadsFor key = (op : Op) × (entry : Option Bytes) × IsAmong targets (key, op) × (asks_loader (first_asked config op entry) ≡ true)
+
+  abbrev WritesFor : Bytes × Option Change → Type 0
+  WritesFor c = (op : Op) × (entry : Option Bytes) × IsAmong targets (c.0, op) × (c.1 ≡ change_asked (first_asked config op entry))
+
+  abbrev RunsFor : KeyRun → Type 0
+  RunsFor run = (op : Op) × (entry : Option Bytes) × IsAmong targets (run.key, op) × (asks_processor (first_asked config op entry) ≡ true) × IsShown (first_asked config op entry) run
+
+  one_key : (round : Round) (key : Bytes) → AsksFor config targets round → is_among (keys_asked round) key ≡ true → (op : Op) × IsAmong targets (key, op)
+  one_key (LoadAll r) key for is =
+      let x : (k : Bytes) × LoadsFor k × (key ≡ k) = among_mapped (λ (k : Bytes). k) LoadsFor r.keys key for (ap (λ ks. is_among ks key) (all_itself r.keys) ∙ is) in
+      (x.1.0, subst (λ k. IsAmong targets (k, x.1.0)) (sym x.2) x.1.2)
+  one_key (WriteAll r) key for is =
+      let x : (c : Bytes × Option Change) × WritesFor c × (key ≡ c.0) = among_mapped (λ (c : Bytes × Option Change). c.0) WritesFor (changes_of r.batch) key for is in
+      (x.1.0, subst (λ k. IsAmong targets (k, x.1.0)) (sym x.2) x.1.2)
+  one_key (ProcessAll r) key for is =
+      let x : (run : KeyRun) × RunsFor run × (key ≡ run.key) = among_mapped (λ (run : KeyRun). run.key) RunsFor r.runs key for is in
+      (x.1.0, subst (λ k. IsAmong targets (k, x.1.0)) (sym x.2) x.1.2)
+
+  pub are_keys : (rounds : List Round) (key : Bytes) → All (AsksFor config targets) rounds → is_among (asked_in rounds) key ≡ true → (op : Op) × IsAmong targets (key, op)
+  are_keys [] key each is = cc
+  are_keys (r ∷ rounds) key each is =
+      ⊎_elim (λ here. one_key r key (All-head (AsksFor config targets) r rounds each) here) (λ there. are_keys rounds key (All-tail (AsksFor config targets) r rounds each) there)
+      (or_other (is_among (keys_asked r) key) (is_among (asked_in rounds) key) (sym (list_any-append (pointwise ◌==◌ key) (keys_asked r) (asked_in rounds)) ∙ is))
+
+  pub few_asked : (rounds : List Round) → AsksEachOnce config targets rounds → length (asked_in rounds) ≤ length targets
+  few_asked rounds asks =
+      subst (λ n. length (asked_in rounds) ≤ n) (as_many (λ (t : Bytes × Op). t.0) targets)
+      (length-le_from_is_member nat_list_eq_equiv (asked_in rounds) (keys_of targets) asks.once (λ key is. let at = are_keys rounds key asks.each is in is_key targets key at.0 at.1))
+
+-- 3. The call.
+
+-- a round that asks has a key
+some_key : (round : Round) (rounds : List Round) → (keys_asked round ≡ [] → ⊥) → (key : Bytes) × (is_among (asked_in (round ∷ rounds)) key ≡ true)
+some_key round rounds some = by (keys_asked round) refl
+  where
+    by : (keys : List Bytes) → keys_asked round ≡ keys → (key : Bytes) × (is_among (asked_in (round ∷ rounds)) key ≡ true)
+    by [] is = absurd (some is)
+    by (k ∷ keys) is = (k, ap (λ ks. is_among (ks ++ asked_in rounds) k) is ∙ (λ i. nat_list_eq_equiv.refl k i || is_among (keys ++ asked_in rounds) k))
+
+module _ (caller : Caller) (stripes : ℕ) (targets : List (Bytes × Op)) (config : Config) where
+  -- after a round that has asked, no round asks
+  none_later : (old new : List Seated) (e : RoundEnd) (es : List RoundEnd) → seats_after e.seats es ≡ new → EachStartsAll caller stripes targets old (e ∷ es) → All (AsksFor config targets) (calls_of es) → All (λ (r : Round). keys_asked r ≡ [] → ⊥) (calls_of es)
+      → length (asked_in e.calls) ≤ RESERVATIONS_MAX * stripes → length targets ≤ RESERVATIONS_MAX * stripes → IsLeftAlone caller stripes targets old new → length (calls_of es) ≤ 0
+  none_later old new e es last each asks some few all alone = by (calls_of es) refl asks some
+    where
+      never : (key : Bytes) (op : Op) → IsAmong targets (key, op) → IsFull stripes targets (length (asked_in e.calls)) ⊎ IsHeldBack caller (view_of stripes old key) (view_of stripes e.seats key) key op → ⊥
+      never key op among (inl (inl full)) = omega (arith, full, few)
+      never key op among (inl (inr full)) = (let many = full.0 in omega (arith, many, all))
+      never key op among (inr back) =
+          alone key op among
+          (held_later caller (view_of stripes old key) (view_of stripes e.seats key) (view_of stripes new key) key op
+          (subst (λ (seats : List Seated). HasGrown (view_of stripes e.seats key) (view_of stripes seats key)) last (seats_grow caller stripes targets e.seats es each.3 (stripe_of key stripes))) back)
+
+      by : (rounds : List Round) → calls_of es ≡ rounds → All (AsksFor config targets) rounds → All (λ (r : Round). keys_asked r ≡ [] → ⊥) rounds → length rounds ≤ 0
+      by [] is asks some = omega arith
+      by (r ∷ rounds) is asks some =
+          let key = some_key r rounds (All-head (λ (x : Round). keys_asked x ≡ [] → ⊥) r rounds some) in
+          let at = are_keys config targets (r ∷ rounds) key.0 asks key.1 in
+          absurd (never key.0 at.0 at.1 (each.2 key.0 at.0 at.1 (ap (λ rs. is_among (asked_in rs) key.0) is ∙ key.1)))
+
+  once_from : (old new : List Seated) (es : List RoundEnd) → seats_after old es ≡ new → EachStartsAll caller stripes targets old es → All (AsksFor config targets) (calls_of es) → All (λ (r : Round). keys_asked r ≡ [] → ⊥) (calls_of es)
+      → length (asked_in (calls_of es)) ≤ RESERVATIONS_MAX * stripes → length targets ≤ RESERVATIONS_MAX * stripes → IsLeftAlone caller stripes targets old new → length (calls_of es) ≤ 1
+  once_from old new [] last each asks some few all alone = omega arith
+  once_from old new (e ∷ es) last each asks some few all alone =
+      by e.calls refl
+      (once_from e.seats new es last each.3 asks_later some_later (omega (arith, keys, few)) all
+      (λ key op among back. alone key op among (held_since caller (view_of stripes old key) (view_of stripes e.seats key) (view_of stripes new key) key op (each.1 (stripe_of key stripes)) back)))
+    where
+      keys : length (asked_in (calls_of (e ∷ es))) ≡ length (asked_in e.calls) + length (asked_in (calls_of es))
+      keys = ap length (flat_map-append keys_asked e.calls (calls_of es)) ∙ length-append (asked_in e.calls) (asked_in (calls_of es))
+
+      asks_later : All (AsksFor config targets) (calls_of es)
+      asks_later = all_after (AsksFor config targets) e.calls (calls_of es) asks
+
+      some_later : All (λ (r : Round). keys_asked r ≡ [] → ⊥) (calls_of es)
+      some_later = all_after (λ (r : Round). keys_asked r ≡ [] → ⊥) e.calls (calls_of es) some
+
+      by : (calls : List Round) → e.calls ≡ calls → length (calls_of es) ≤ 1 → length (e.calls ++ calls_of es) ≤ 1
+      by [] is later = subst (λ rs. length (rs ++ calls_of es) ≤ 1) (sym is) later
+      by (r ∷ rs) is later =
+          let none = none_later old new e es last each asks_later some_later (omega (arith, keys, few)) all alone in
+          let n = length-append e.calls (calls_of es) in
+          let one = each.0 in
+          omega (arith, none, n, one)
+
+  pub at_most_once : (old new : List Seated) (rounds : List Round) → AsksEachOnce config targets rounds → HasStartedAll caller stripes targets old new rounds → AsksAtMostOnce caller stripes targets old new rounds
+  at_most_once old new rounds asks started all alone =
+      let few : length (asked_in rounds) ≤ RESERVATIONS_MAX * stripes = (let n = few_asked config targets rounds asks in omega (arith, n, all)) in
+      let here : AsksEachOnce config targets (calls_of started.ends) = subst (AsksEachOnce config targets) (sym started.calls_are) asks in
+      subst (λ rs. length rs ≤ 1) started.calls_are
+      (once_from old new started.ends started.seats_are started.each here.each here.some (subst (λ rs. length (asked_in rs) ≤ RESERVATIONS_MAX * stripes) (sym started.calls_are) few) all alone)
