@@ -5,11 +5,10 @@
 --     looked_none, looked_next  no stripe, and one stripe more
 --     apart_next                the keys still differ, and are of the stripes that were looked at
 --     sweep_ok, sweep_err       a call that is carried out for the keys that were found
-use Rattle.std.proofs.Common.{◌≡◌, ◌==◌, ◌&&◌, ◌⊎◌, ⊎_elim, inl, inr, ◌+◌, ◌++◌, ℕ, zero, suc, List, [], ◌∷◌, length, Bool, true, false, nat_lt, None, Some, Err, slice_get, refl, sym, ap, subst, ◌∙◌, arith}
+use Rattle.std.proofs.Common.{◌≡◌, ◌==◌, ◌&&◌, ◌⊎◌, ⊎_elim, inl, inr, ◌+◌, ◌++◌, ℕ, zero, suc, List, [], ◌∷◌, length, Bool, true, false, nat_lt, None, Some, slice_get, refl, sym, ap, subst, ◌∙◌, arith}
 use Rattle.std.proofs.lemmas.Bool.{and_parts}
 use Rattle.std.proofs.lemmas.Bool.Decides.{nat_tests}
 use Rattle.std.proofs.lemmas.List.{append-nil, append_assoc, length-append}
-use Rattle.std.proofs.lemmas.List.Elements.{All-weaker}
 use Rattle.std.proofs.lemmas.List.Folds.{list_all-append}
 use Rattle.std.proofs.lemmas.Map.Keys.{IsDistinct-cons, IsDistinct-head, IsDistinct-tail}
 use Rattle.std.proofs.lemmas.Option.{same_Some}
@@ -18,8 +17,6 @@ use Rattle.std.specs.Cmp.Lexicographic.{pointwise, same_text}
 use Rattle.jc_types.proofs.CallerLemmas.{all_imply}
 use Rattle.jc_types.specs.Stripes.{stripe_of}
 use Rattle.jc_types.specs.declared.refusal.Refusal.{Refusal}
-use Rattle.jc_types.specs.declared.refusal.Refusal.TheVariants.{HistoryFull}
-use Rattle.jc_types.specs.declared.caller.Caller.{Caller}
 use Rattle.jc_model.specs.Cache.{Bytes}
 use Rattle.jc_model.specs.declared.event.Op.{Op}
 use Rattle.jc_outside.specs.CallingAll.{LoadAllRelation, WriteAllRelation, DeleteAllRelation}
@@ -34,23 +31,12 @@ use Rattle.jc_lock.specs.declared.view.View.{View}
 use Rattle.jc_session.specs.Counting.{one_more}
 use Rattle.jc_session.specs.declared.counts.Counted.TheVariants.{Nothing}
 use Rattle.jc_cache.specs.Caches.{CacheState}
-use Rattle.jc_cache.specs.Calls.{next_call}
 use Rattle.jc_cache.specs.PhaseCalls.{PhaseAt}
 use Rattle.jc_cache.specs.Sessions.{IsOf, MayCall}
 use Rattle.jc_cache.specs.declared.session.Session.{Session}
-use Rattle.jc_rounds.specs.declared.progress.Progress.TheVariants.{Ended}
-use Rattle.jc_session.specs.Boxed.{boxed}
-use Rattle.jc_session.specs.declared.agent.Agent.{Agent}
-use Rattle.jc_engine.specs.Asking.{KeepsTypes}
-use Rattle.jc_bulk.specs.Outside.{CallsInRounds}
-use Rattle.jc_bulk.specs.Bulk.{FailsInPart, HasLooked, IsBulkCall, IsLookedAt, IsOutOfMemory, IsSweepRefused, OnlyLooks, Succeeds}
-use Rattle.jc_rounds.specs.Running.{IsCarriedOut, WasNearFull}
-use Rattle.jc_rounds.specs.Ends.{KeyEnd}
-use Rattle.jc_rounds.specs.Keys.{HasEnded}
-use Rattle.jc_rounds.specs.Recorded.{former_steps}
-use Rattle.jc_rounds.specs.Rounds.{Round}
-use Rattle.jc_rounds.specs.Seats.{HasGrown, view_at, view_of}
-use Rattle.jc_rounds.proofs.CallerLemmas.{Seated, all_early, at_since, front_found, grown_itself, grown_on, grown_phase, seen_own, started_since, view_set, view_there}
+use Rattle.jc_bulk.specs.Bulk.{FailsInPart, HasLooked, IsLookedAt, IsOutOfMemory, IsSweepRefused, OnlyLooks, Succeeds, LooksFirst}
+use Rattle.jc_rounds.specs.Seats.{HasGrown, view_at}
+use Rattle.jc_rounds.proofs.CallerLemmas.{Seated, all_early, front_found, grown_itself, grown_on, grown_phase, seen_own, view_set, view_there}
 
 -- 1. Keys of one stripe, behind those of lower stripes.
 

@@ -2,10 +2,10 @@
 --     calls_on        the calls outside of two lists of rounds
 --     quiet_round     a round that has asked nobody
 --     answered_call, asking_round    one that has asked
---     runs_both       rounds after rounds
+--     runs_then       rounds after rounds
 --     ready_later, left_ready    what the next round asks outside with
 --     runs_refused    and then each key that waits is refused
-use Rattle.std.proofs.Common.{◌≡◌, ◌≤◌, ◌++◌, append-nil, append_assoc, List, [], ◌∷◌, map, length, IfSome, Option, None, Some, option_map, slice_get, ℕ, refl, sym, ap, ◌∙◌, subst, arith}
+use Rattle.std.proofs.Common.{◌≡◌, ◌≤◌, ◌++◌, append-nil, append_assoc, List, [], ◌∷◌, map, length, IfNone, IfSome, Option, None, Some, option_map, slice_get, ℕ, refl, sym, ap, ◌∙◌, subst, arith}
 use Rattle.std.specs.Global.{Vec}
 use Rattle.std.specs.Option.{option_or}
 use Rattle.jc_types.specs.declared.caller.Caller.{Caller}
@@ -27,7 +27,7 @@ use Rattle.jc_rounds.specs.Running.{HasRun, IsRound, with_rounds}
 use Rattle.jc_rounds.specs.SoFar.{GoesOn}
 use Rattle.jc_rounds.specs.Targets.{ops_of}
 use Rattle.jc_rounds.specs.Underway.{Advances, HasStarted, IsAnswered, IsBetween, Past, reserved_by, with_round}
-use Rattle.jc_rounds.proofs.CallerLemmas.{among_there, asked_call, goes_both, keeps_both, keeps_noted, keeps_or, refused_call, refused_round, round_of, run_more, some_more}
+use Rattle.jc_rounds.proofs.CallerLemmas.{among_there, asked_call, goes_both, keeps_both, keeps_noted, keeps_or, refused_call, refused_round, round_of, run_more, some_more, some_one, spent_more}
 use Rattle.jc_bulk.specs.declared.outside.Kind.{Kind}
 use Rattle.jc_bulk.specs.Outside.{Answered, CallsInRounds, CallsOnce, IsFilled, OutsideState}
 use Rattle.jc_bulk.specs.RoundsRun.{IsReady, KeysAskAs, RunsOn}
@@ -123,7 +123,7 @@ module _ {I J : Type 0} {D : I → Type 0} {E : J → Type 0} (loads_all : LoadA
   pub asking_round : (past : Past) (old mid after late new : Session I J D E) (call begun filled noted committed later : BulkCall) (outside : OutsideState) (v : Vec TicketClaim) (answers : Answers) (fault : Option Refusal) → HasRun cache past old call
       → HasStarted cache past old mid begun → Advances old mid call begun → filled ≡ record begun { tickets = v } → noted ≡ record filled { cause = option_or filled.cause fault }
       → (asked : HasAsked mid after (Answered loads_all load_state writes_all deletes_all write_state mid outside.kind begun.tickets.items answers fault after)) → Advances after late noted committed → Advances late new committed later
-      → IsBetween cache (with_round past asked.asked.round) new later → Runs past old call new later
+      → IsBetween cache (with_round past asked.asked.round) new later → (runs : Runs past old call new later) × (runs.rounds ≡ [] → ⊥)
   asking_round past old mid after late new call begun filled noted committed later outside v answers fault run started one with note asked two three between =
       let a = asked.asked in
       let r = a.round in
@@ -138,7 +138,7 @@ module _ {I J : Type 0} {D : I → Type 0} {E : J → Type 0} (loads_all : LoadA
       let keeps : KeepsCause call.cause later.cause =
       keeps_both call.cause noted.cause later.cause (keeps_both call.cause begun.cause noted.cause one.cause filled_so) (keeps_both noted.cause committed.cause later.cause two.cause three.cause) in
       let keys : asked_in (r ∷ []) ≡ reserved_keys (map reserved_by begun.tickets.items) = append-nil (keys_asked r) ∙ keys_are outside.kind (map reserved_by begun.tickets.items) r a.asked in
-      record {
+      (record {
         rounds = r ∷ [];
         run = run_more cache past old new call later (r ∷ []) targets (round_of cache past old mid new call begun later (r ∷ []) run.between started one.targets one.goes goes (omega arith) keys) keeps between run;
         calls = (
@@ -155,11 +155,11 @@ module _ {I J : Type 0} {D : I → Type 0} {E : J → Type 0} (loads_all : LoadA
         agent = same_agent old new (ap (λ g. g.caller) three.agent ∙ ap (λ g. g.caller) two.agent ∙ ap (λ (s : Session I J D E). s.agent.caller) asked.rest ∙ ap (λ g. g.caller) one.agent);
         targets = targets;
         most = most;
-      }
+      }, λ none. some_one r none)
 
   -- 3. Rounds after rounds.
 
-  pub runs_both : (past : Past) (old mid new : Session I J D E) (call between later : BulkCall) (one : Runs past old call mid between) → Runs (with_rounds past one.rounds) mid between new later → Runs past old call new later
+  runs_both : (past : Past) (old mid new : Session I J D E) (call between later : BulkCall) (one : Runs past old call mid between) → Runs (with_rounds past one.rounds) mid between new later → Runs past old call new later
   runs_both past old mid new call between later one two = record {
     rounds = one.rounds ++ two.rounds;
     run = subst (λ p. HasRun cache p new later) (more_rounds past one.rounds two.rounds) two.run;
@@ -169,6 +169,11 @@ module _ {I J : Type 0} {D : I → Type 0} {E : J → Type 0} (loads_all : LoadA
     targets = two.targets ∙ one.targets;
     most = two.most ∙ one.most;
   }
+
+  pub runs_then : {X : Type 0} (left : Option X) (past : Past) (old mid new : Session I J D E) (call between later : BulkCall) (one : Runs past old call mid between) → (two : Runs (with_rounds past one.rounds) mid between new later) × IfNone left (two.rounds ≡ [] → ⊥)
+      → (runs : Runs past old call new later) × IfNone left (runs.rounds ≡ [] → ⊥)
+  unfolding runs_both
+  runs_then left past old mid new call between later one two = (runs_both past old mid new call between later one two.0, spent_more left one.rounds two.0.rounds two.1)
 
   pub runs_refused : (past : Past) (old mid : Session I J D E) (call between later : BulkCall) → later ≡ record between { progress = later.progress; cause = later.cause } → later.progress.items ≡ map refused_if_waiting between.progress.items
       → IsNoted between.cause (failures later.progress.items) later.cause → (one : Runs past old call mid between) → (one.rounds ≡ [] → ⊥) → Runs past old call mid later

@@ -41,6 +41,7 @@ use Rattle.jc_rounds.specs.Asking.{AsksFor, reserved_keys}
 use Rattle.jc_rounds.specs.KeyProgress.{is_reserved}
 use Rattle.jc_rounds.specs.Keys.{IsTicketFor}
 use Rattle.jc_rounds.proofs.Failures.{keeps_both}
+use Rattle.jc_rounds.proofs.Started.{some_one}
 use Rattle.jc_rounds.specs.Rounds.{IsShown, KeyRun, ProcessAll, ProcessRound, Round, keys_asked}
 use Rattle.jc_rounds.specs.SoFar.{GoesOn}
 use Rattle.jc_rounds.specs.Targets.{ops_of, ops_with}
@@ -231,5 +232,5 @@ module _ {I J P Z : Type 0} {D : I → Type 0} {E : J → Type 0} {F : P → Typ
                     (omega arith) (append-nil (keys_asked (ProcessAll is.round)) ∙ keys);
                 between = picks (with_round past (ProcessAll is.round)) (commits (with_round past (ProcessAll is.round)) (ProcessAll is.round) (answered_round past invoked one started some kept has));
               };
-          spent = λ past between none. cc;
+          spent = λ past between none. some_one is.round none;
         }

@@ -104,6 +104,7 @@ module _ {I J P Z : Type 0} {D : I → Type 0} {E : J → Type 0} {F : P → Typ
   -- the last round has asked, and the memory for one more could not be taken
   pub rounds_refused : (old mid new : Session I J D E) (call begun last later : BulkCall) (processor p q : DynBox P Z F) (left : Option RoundRoom) → left ≡ None → later.progress.items ≡ map refused_if_waiting last.progress.items
       → IsNoted last.cause (failures later.progress.items) later.cause → later ≡ record last { progress = later.progress; cause = later.cause } → Made old call processor mid begun p → MadeOne mid begun p new last q left → Made old call processor new later q
+  unfolding rounds_more
   rounds_refused old mid new call begun last later processor p q left none is noted rest many one =
       let all = rounds_more old mid new call begun last processor p q left many one in
       let a = all.continues in

@@ -6,7 +6,7 @@ pub use Rattle.jc_rounds.proofs.KeyEnds.{entries_more, entries_new, entries_whol
 pub use Rattle.jc_rounds.proofs.Loops.{no_items}
 pub use Rattle.jc_rounds.proofs.SeatPhases.{Seated, front_found, grown_itself, grown_on, grown_phase, seen_own, view_set, view_there}
 pub use Rattle.jc_rounds.proofs.SoFar.{at_since, key_at}
-pub use Rattle.jc_rounds.proofs.Started.{none_run, run_more, some_more, spent_more, spent_none}
+pub use Rattle.jc_rounds.proofs.Started.{none_run, run_more, some_more, some_one, spent_more, spent_none}
 pub use Rattle.jc_rounds.proofs.TargetOps.{same_keys, same_op}
 pub use Rattle.jc_rounds.proofs.Underway.{as_many, last_first}
 pub use Rattle.jc_rounds.proofs.Whole.{all_early, asked_call, carried_out, may_again, nobody_asked, opens_call, refused_call, refused_over, refused_round, round_of}

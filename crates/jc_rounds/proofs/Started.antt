@@ -2,7 +2,7 @@
 --     held_less              keys that were put off in each round, of fewer keys
 --     none_run               before the first round
 --     run_more               one round more
---     some_more              rounds after which one has asked have asked
+--     some_one, some_more    rounds after which one has asked have asked
 --     spent_more, spent_none  nothing is left to ask outside with: one of the rounds so far has asked
 use Rattle.std.proofs.Common.{◌≡◌, ◌⊎◌, ⊎_elim, inl, inr, ◌≤◌, ◌++◌, ℕ, List, [], ◌∷◌, append-nil, length, slice_get, true, true≢false, IfNone, Option, None, Some, refl, sym, ap, ◌∙◌, subst, arith}
 use Rattle.std.proofs.lemmas.List.Concat.{flat_map-append}
@@ -114,6 +114,9 @@ module _ {I J : Type 0} {D : I → Type 0} {E : J → Type 0} where
 pub some_more : {A : Type 0} (xs ys : List A) → (ys ≡ [] → ⊥) → xs ++ ys ≡ [] → ⊥
 some_more [] ys some is = some is
 some_more (x ∷ xs) ys some is = cc
+
+pub some_one : {A : Type 0} (x : A) → x ∷ [] ≡ [] → ⊥
+some_one x is = cc
 
 pub spent_more : {A B : Type 0} (left : Option A) (xs ys : List B) → IfNone left (ys ≡ [] → ⊥) → IfNone left (xs ++ ys ≡ [] → ⊥)
 spent_more None xs ys spent = some_more xs ys spent

@@ -67,7 +67,7 @@ returns-clause-runs g c past run =
     let answered = answered_call (λ v. (goal.CacheLoader-dyn g v).loads_all v.1) (λ v. (goal.CacheLoader-dyn g v).load_state v.1) (λ v. (goal.CacheWriter-dyn g v).writes_all v.1) (λ v. (goal.CacheWriter-dyn g v).deletes_all v.1) (λ v. (goal.CacheWriter-dyn g v).write_state v.1)
     c.args.cache.now past c.args.session.now c.start.new.session c.ask_for-answers.new.session c.args.call.now c.start.new.self _ c.note.new.self c.args.outside c.ask_for-answers.new.tickets c.ask_for-answers.result.0 c.ask_for-answers.result.1 c.requires.ready
     started one (λ none. c.if-len-eq0.false (c.len.ensures ∙ c.start.new.self.tickets.ok.0 ∙ ap length none)) c.ask_for-answers.ensures.tickets refl c.note.ensures asked in
-    (asking_round (λ v. (goal.CacheLoader-dyn g v).loads_all v.1) (λ v. (goal.CacheLoader-dyn g v).load_state v.1) (λ v. (goal.CacheWriter-dyn g v).writes_all v.1) (λ v. (goal.CacheWriter-dyn g v).deletes_all v.1) (λ v. (goal.CacheWriter-dyn g v).write_state v.1)
+    asking_round (λ v. (goal.CacheLoader-dyn g v).loads_all v.1) (λ v. (goal.CacheLoader-dyn g v).load_state v.1) (λ v. (goal.CacheWriter-dyn g v).writes_all v.1) (λ v. (goal.CacheWriter-dyn g v).deletes_all v.1) (λ v. (goal.CacheWriter-dyn g v).write_state v.1)
     c.args.cache.now past c.args.session.now c.start.new.session c.ask_for-answers.new.session c.commit.new.session c.pick_up-2.new.session c.args.call.now c.start.new.self _ c.note.new.self c.commit.new.self c.pick_up-2.new.self c.args.outside c.ask_for-answers.new.tickets
     c.ask_for-answers.result.0 c.ask_for-answers.result.1 run started one refl c.note.ensures asked c.commit.ensures.advances c.pick_up-2.ensures.advances
-    (c.pick_up-2.ensures.between (with_round past asked.asked.round) (c.commit.ensures.committed (with_round past asked.asked.round) asked.asked.round answered)), λ none. cc)
+    (c.pick_up-2.ensures.between (with_round past asked.asked.round) (c.commit.ensures.committed (with_round past asked.asked.round) asked.asked.round answered))

@@ -1,9 +1,9 @@
 use Rattle.std.proofs.Common.{◌≤◌, subst, sym}
 use Rattle.jc_rounds.specs.Targets.{ops_of}
 use Rattle.jc_rounds.specs.Running.{with_rounds}
-use Rattle.jc_rounds.proofs.CallerLemmas.{refused_over, spent_more, spent_none}
+use Rattle.jc_rounds.proofs.CallerLemmas.{refused_over, spent_none}
 use Rattle.jc_bulk.specs.RoundsRun.{KeysAskAs}
-use Rattle.jc_bulk.proofs.RoundsOn.{left_empty, left_most, left_ready, runs_both, runs_refused}
+use Rattle.jc_bulk.proofs.RoundsOn.{left_empty, left_most, left_ready, runs_refused, runs_then}
 use Rattle.jc_bulk.proofs.rounds.run_rounds.Goals as goal
 
 pub loop-init : goal.loop-init
@@ -33,9 +33,9 @@ ready-requires g c = left_most c.kind-kind.result c.loop.call.most c.most.result
 
 pub run_round-left-requires-in-Ok-clause-ready : goal.run_round-left-requires-in-Ok-clause-ready
 run_round-left-requires-in-Ok-clause-ready g c = record {
-  none = c.in-Ok.ensures.1;
-  kind = subst (λ k. KeysAskAs k (ops_of c.loop.call.targets.now)) (sym c.in-Ok.ensures.0) c.loop.invariant.keys;
-  room = subst (λ n. n ≤ c.in-Ok.outside.room) c.most.ensures c.in-Ok.ensures.2;
+  none = c.in-Ok.ensures.ok.1;
+  kind = subst (λ k. KeysAskAs k (ops_of c.loop.call.targets.now)) (sym c.in-Ok.ensures.ok.0) c.loop.invariant.keys;
+  room = subst (λ n. n ≤ c.in-Ok.outside.room) c.most.ensures c.in-Ok.ensures.ok.2;
 }
 
 pub run_round-left-requires-in-Ok-clause-run : goal.run_round-left-requires-in-Ok-clause-run
@@ -51,15 +51,13 @@ loop-preserved g c =
     let one = (c.run_round-left-in-Ok.ensures.runs (with_rounds r.0 so_far.rounds) so_far.run).0 in
     record {
       left = left_most c.kind-kind.result _ _ c.run_round-left-in-Ok.result one.most
-          (left_ready c.kind-kind.result _ c.in-Ok.outside c.run_round-left-in-Ok.result c.run_round-left-in-Ok.ensures.left (c.in-Ok.ensures.0, c.in-Ok.ensures.1, subst (λ n. n ≤ c.in-Ok.outside.room) c.most.ensures c.in-Ok.ensures.2));
+          (left_ready c.kind-kind.result _ c.in-Ok.outside c.run_round-left-in-Ok.result c.run_round-left-in-Ok.ensures.left (c.in-Ok.ensures.ok.0, c.in-Ok.ensures.ok.1, subst (λ n. n ≤ c.in-Ok.outside.room) c.most.ensures c.in-Ok.ensures.ok.2));
       keys = subst (λ t. KeysAskAs c.kind-kind.result (ops_of t.now)) (sym one.targets) c.loop.invariant.keys;
       runs = λ past run.
           let before = (c.loop.invariant.runs past run).0 in
-          let next = c.run_round-left-in-Ok.ensures.runs (with_rounds past before.rounds) before.run in (
-            runs_both (λ v. (goal.CacheLoader-dyn g v).loads_all v.1) (λ v. (goal.CacheLoader-dyn g v).load_state v.1) (λ v. (goal.CacheWriter-dyn g v).writes_all v.1) (λ v. (goal.CacheWriter-dyn g v).deletes_all v.1) (λ v. (goal.CacheWriter-dyn g v).write_state v.1)
-                c.args.cache.now past c.args.session.now c.loop.session c.run_round-left-in-Ok.new.session c.args.call.now c.loop.call c.run_round-left-in-Ok.new.call before next.0,
-            spent_more c.run_round-left-in-Ok.result before.rounds next.0.rounds next.1,
-          );
+          runs_then (λ v. (goal.CacheLoader-dyn g v).loads_all v.1) (λ v. (goal.CacheLoader-dyn g v).load_state v.1) (λ v. (goal.CacheWriter-dyn g v).writes_all v.1) (λ v. (goal.CacheWriter-dyn g v).deletes_all v.1) (λ v. (goal.CacheWriter-dyn g v).write_state v.1)
+          c.args.cache.now c.run_round-left-in-Ok.result past c.args.session.now c.loop.session c.run_round-left-in-Ok.new.session c.args.call.now c.loop.call c.run_round-left-in-Ok.new.call before
+          (c.run_round-left-in-Ok.ensures.runs (with_rounds past before.rounds) before.run);
     }
 
 pub returns-in-Err-clause-over : goal.returns-in-Err-clause-over
@@ -69,4 +67,4 @@ pub returns-in-Err-clause-runs : goal.returns-in-Err-clause-runs
 returns-in-Err-clause-runs g c past run =
     runs_refused (λ v. (goal.CacheLoader-dyn g v).loads_all v.1) (λ v. (goal.CacheLoader-dyn g v).load_state v.1) (λ v. (goal.CacheWriter-dyn g v).writes_all v.1) (λ v. (goal.CacheWriter-dyn g v).deletes_all v.1) (λ v. (goal.CacheWriter-dyn g v).write_state v.1)
     c.args.cache.now past c.args.session.now c.loop.session c.args.call.now c.loop.call c.refuse_rest.new.self c.refuse_rest.ensures.rest c.refuse_rest.ensures.progress c.refuse_rest.ensures.cause (c.loop.invariant.runs past run).0
-    (spent_none c.loop.left (c.loop.invariant.runs past run).0.rounds c.in-Err.ensures (c.loop.invariant.runs past run).1)
+    (spent_none c.loop.left (c.loop.invariant.runs past run).0.rounds c.in-Err.ensures.err (c.loop.invariant.runs past run).1)

@@ -56,7 +56,7 @@ loop-preserved g c =
           (λ v. (goal.CacheWriter-dyn g v).writes_all v.1) (λ v. (goal.CacheWriter-dyn g v).deletes_all v.1) (λ v. (goal.CacheWriter-dyn g v).write_state v.1)
           (λ b. (goal.EntryProcessor-dyn g (b.vtable, b.value)).processes b.value) (λ b. (goal.EntryProcessor-dyn g (b.vtable, b.value)).process_state b.value)
           c.args.processing.now.args.now c.args.cache.now c.loop.session c.run_round-left.new.session c.loop.call c.run_round-left.new.call c.loop.processing.processor.now c.run_round-left.new.processing.processor.now c.loop.room c.in-Ok.next c.run_round-left.result c.loop.invariant.may one
-          (subst (λ n. IsRoomFor n c.args.cache.now.config.write_through c.in-Ok.next) c.most.ensures (subst (λ x. IsRoomFor c.most.result x.write_through c.in-Ok.next) c.config.ensures.config c.in-Ok.ensures));
+          (subst (λ n. IsRoomFor n c.args.cache.now.config.write_through c.in-Ok.next) c.most.ensures (subst (λ x. IsRoomFor c.most.result x.write_through c.in-Ok.next) c.config.ensures.config c.in-Ok.ensures.ok));
       made = rounds_more (λ v. (goal.CacheLoader-dyn g v).loads v.1) (λ v. (goal.CacheLoader-dyn g v).load_state v.1)
           (λ v. (goal.CacheWriter-dyn g v).writes_all v.1) (λ v. (goal.CacheWriter-dyn g v).deletes_all v.1) (λ v. (goal.CacheWriter-dyn g v).write_state v.1)
           (λ b. (goal.EntryProcessor-dyn g (b.vtable, b.value)).processes b.value) (λ b. (goal.EntryProcessor-dyn g (b.vtable, b.value)).process_state b.value)
@@ -79,7 +79,7 @@ returns-in-Err-clause-made g c =
     (λ v. (goal.CacheWriter-dyn g v).writes_all v.1) (λ v. (goal.CacheWriter-dyn g v).deletes_all v.1) (λ v. (goal.CacheWriter-dyn g v).write_state v.1)
     (λ b. (goal.EntryProcessor-dyn g (b.vtable, b.value)).processes b.value) (λ b. (goal.EntryProcessor-dyn g (b.vtable, b.value)).process_state b.value)
     c.args.processing.now.args.now c.args.cache.now c.args.session.now c.loop.session c.run_round-left.new.session c.args.call.now c.loop.call c.run_round-left.new.call c.refuse_rest.new.self
-    c.args.processing.now.processor.now c.loop.processing.processor.now c.run_round-left.new.processing.processor.now c.run_round-left.result c.in-Err.ensures
+    c.args.processing.now.processor.now c.loop.processing.processor.now c.run_round-left.new.processing.processor.now c.run_round-left.result c.in-Err.ensures.err
     c.refuse_rest.ensures.progress c.refuse_rest.ensures.cause c.refuse_rest.ensures.rest c.loop.invariant.made one
 
 pub returns-in-Err-clause-same : goal.returns-in-Err-clause-same
