@@ -8,14 +8,14 @@
 --     asked_set                         the key at a place goes on
 --     asked_more, asked_on              one round more, for the keys that are reserved
 --     types_on                          the loader and the writer stay of their types
-use Rattle.std.proofs.Common.{◌≡◌, ◌==◌, ◌||◌, ◌⊎◌, ⊎_elim, inl, inr, ◌<◌, ◌++◌, ℕ, zero, suc, List, [], ◌∷◌, append-nil, length, map, set, slice_get, Bool, true, false, true≢false, MatchBool, Some, refl, sym, ap, ◌∙◌, subst, arith}
+use Rattle.std.proofs.Common.{◌≡◌, ◌==◌, ◌||◌, ◌⊎◌, ⊎_elim, inl, inr, ◌<◌, ◌++◌, ℕ, zero, suc, List, [], ◌∷◌, append-nil, length, map, cond, set, slice_get, Bool, true, false, true≢false, MatchBool, Some, refl, sym, ap, ◌∙◌, subst, arith}
 use Rattle.std.proofs.lemmas.Cmp.{nat_list_eq_equiv}
 use Rattle.std.proofs.lemmas.List.Concat.{flat_map-append}
 use Rattle.std.proofs.lemmas.List.Elements.{All-append, All-cons, All-nil}
 use Rattle.std.proofs.lemmas.List.Folds.{list_any-append}
 use Rattle.std.proofs.lemmas.Map.Keys.{IsDistinct-cons, IsDistinct-head, IsDistinct-tail}
 use Rattle.std.proofs.lemmas.Option.{same_Some}
-use Rattle.std.specs.List.{All, AllByRecursion, IsAmong, IsDistinct}
+use Rattle.std.specs.List.{All, AllByRecursion, IsAmong, IsDistinct, filter}
 use Rattle.std.specs.Map.{keys_of}
 use Rattle.std.specs.Cmp.Lexicographic.{pointwise}
 use Rattle.jc_types.specs.declared.caller.Caller.{Caller}
@@ -37,7 +37,7 @@ use Rattle.jc_rounds.proofs.SeatPhases.{Seated}
 use Rattle.jc_rounds.proofs.SoFar.{or_parts}
 use Rattle.jc_outside.proofs.CallerLemmas.{at_place}
 use Rattle.jc_rounds.specs.declared.progress.Progress.TheVariants.{Waiting, Reserved, Joined}
-use Rattle.jc_rounds.specs.Asking.{AsksFor, HasAsked, reserved_keys}
+use Rattle.jc_rounds.specs.Asking.{AsksFor, HasAsked, IsInOrder, reserved_keys}
 use Rattle.jc_rounds.specs.KeyProgress.{is_held_back, is_reserved}
 use Rattle.jc_rounds.specs.Rounds.{Round, asked_in, keys_asked}
 use Rattle.jc_rounds.specs.SoFar.{AreIn, IsSoFar, IsUnderway}
@@ -190,11 +190,49 @@ all_out {X} has fits (t ∷ ts) (p ∷ ps) (x ∷ xs) are = by (has p) refl are 
     by true is here f h = ((zero, t.0, t.1, p, refl, refl, is, here.0), all_map (IsOutAt has fits ts ps) (IsOutAt has fits (t ∷ ts) (p ∷ ps)) xs later (f here.1))
     by false is rest f h = all_map (IsOutAt has fits ts ps) (IsOutAt has fits (t ∷ ts) (p ∷ ps)) (x ∷ xs) later (h rest)
 
+-- the keys that are reserved, in the order of the call's
+skip_key : (key : Bytes) (ks ts : List Bytes) → AllByRecursion (λ k. pointwise ◌==◌ key k ≡ false) ts → filter (is_among (key ∷ ks)) ts ≡ filter (is_among ks) ts
+skip_key key ks [] apart = refl
+skip_key key ks (t ∷ ts) apart = λ i. cond (same i) (t ∷ skip_key key ks ts apart.1 i) (skip_key key ks ts apart.1 i)
+  where
+    same : is_among (key ∷ ks) t ≡ is_among ks t
+    same = λ i. (nat_list_eq_equiv.symm t key ∙ apart.0) i || is_among ks t
+
+none_in_order : (ts : List Bytes) → [] ≡ filter (is_among []) ts
+none_in_order [] = refl
+none_in_order (t ∷ ts) = none_in_order ts
+
+pub in_order : (caller : Caller) (config : Config) (ts : List (Bytes × Op)) (ps : List Progress) (xs : List Reservation) → IsDistinct (pointwise ◌==◌) (keys_of ts) → AreIn is_reserved (IsTicketFor caller config) ts ps xs
+    → reserved_keys xs ≡ filter (is_among (reserved_keys xs)) (keys_of ts)
+in_order caller config [] ps xs d are = ap reserved_keys are
+in_order caller config (t ∷ ts) [] xs d are = subst (λ ys. reserved_keys ys ≡ filter (is_among (reserved_keys ys)) (keys_of (t ∷ ts))) (sym are) (none_in_order (keys_of (t ∷ ts)))
+in_order caller config (t ∷ ts) (p ∷ ps) [] d are = none_in_order (keys_of (t ∷ ts))
+in_order caller config (t ∷ ts) (p ∷ ps) (x ∷ xs) d are =
+    by (is_reserved p) are (λ rest. in_order caller config ts ps xs (IsDistinct-tail (pointwise ◌==◌) t.0 (keys_of ts) d) rest)
+    (λ rest. in_order caller config ts ps (x ∷ xs) (IsDistinct-tail (pointwise ◌==◌) t.0 (keys_of ts) d) rest)
+  where
+    apart : AllByRecursion (λ k. pointwise ◌==◌ t.0 k ≡ false) (keys_of ts)
+    apart = IsDistinct-head (pointwise ◌==◌) t.0 (keys_of ts) d
+
+    here_first : (ks : List Bytes) → ks ≡ filter (is_among ks) (keys_of ts) → t.0 ∷ ks ≡ filter (is_among (t.0 ∷ ks)) (keys_of (t ∷ ts))
+    here_first ks is =
+        ap (λ zs. t.0 ∷ zs) (is ∙ sym (skip_key t.0 ks (keys_of ts) apart))
+        ∙ sym (λ i. cond (nat_list_eq_equiv.refl t.0 i || is_among ks t.0) (t.0 ∷ filter (is_among (t.0 ∷ ks)) (keys_of ts)) (filter (is_among (t.0 ∷ ks)) (keys_of ts)))
+
+    by : (b : Bool) → MatchBool b (IsTicketFor caller config t.0 t.1 x × AreIn is_reserved (IsTicketFor caller config) ts ps xs) (AreIn is_reserved (IsTicketFor caller config) ts ps (x ∷ xs))
+        → (AreIn is_reserved (IsTicketFor caller config) ts ps xs → reserved_keys xs ≡ filter (is_among (reserved_keys xs)) (keys_of ts))
+        → (AreIn is_reserved (IsTicketFor caller config) ts ps (x ∷ xs) → reserved_keys (x ∷ xs) ≡ filter (is_among (reserved_keys (x ∷ xs))) (keys_of ts))
+        → reserved_keys (x ∷ xs) ≡ filter (is_among (reserved_keys (x ∷ xs))) (keys_of (t ∷ ts))
+    by true here f h = subst (λ k. k ∷ reserved_keys xs ≡ filter (is_among (k ∷ reserved_keys xs)) (keys_of (t ∷ ts))) (sym here.0.key_is) (here_first (reserved_keys xs) (f here.1))
+    by false later f h =
+        h later
+        ∙ sym (λ i. cond (none_of caller config t.0 ts ps (x ∷ xs) apart later i) (t.0 ∷ filter (is_among (reserved_keys (x ∷ xs))) (keys_of ts)) (filter (is_among (reserved_keys (x ∷ xs))) (keys_of ts)))
+
 -- 4. What was asked for.
 
 pub none_asked : (config : Config) (targets : List (Bytes × Op)) (ps : List Progress) → HasAsked config targets [] ps
 none_asked config targets ps = record {
-  asked = record { each = All-nil (AsksFor config targets); some = All-nil (λ (r : Round). keys_asked r ≡ [] → ⊥); once = none_twice };
+  asked = record { each = All-nil (AsksFor config targets); some = All-nil (λ (r : Round). keys_asked r ≡ [] → ⊥); once = none_twice; ordered = All-nil (IsInOrder targets) };
   over = λ place key op at among. absurd (true≢false (sym among));
 }
 
@@ -255,6 +293,8 @@ asked_more caller config targets rounds round ps calls d many are some new keys 
         (All-cons (λ (r : Round). keys_asked r ≡ [] → ⊥) round [] (λ nothing. some (no_keys calls (sym keys ∙ nothing))) (All-nil (λ (r : Round). keys_asked r ≡ [] → ⊥)));
     once = subst (IsDistinct (pointwise ◌==◌)) (sym all_keys)
         (distinct_more (asked_in rounds) (reserved_keys calls) a.asked.once (distinct_reserved caller config targets ps calls d are) (mapped_by (λ (r : Reservation). r.key) (λ y. is_among (asked_in rounds) y ≡ false) calls new));
+    ordered = All-append (IsInOrder targets) rounds (round ∷ []) a.asked.ordered
+        (All-cons (IsInOrder targets) round [] (keys ∙ in_order caller config targets ps calls d are ∙ ap (λ ks. filter (is_among ks) (keys_of targets)) (sym keys)) (All-nil (IsInOrder targets)));
   };
   over = λ place key op at among.
       let p = some_there targets ps place (key, op) many at in

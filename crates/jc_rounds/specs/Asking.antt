@@ -1,10 +1,12 @@
 -- Which keys a call asks for outside.
 --     reserved_keys  the keys of these reservations, in their order
 --     AsksFor        a round asks for keys of the call alone, and only for what their operations ask for
---     AsksEachOnce   the rounds of a call that ask: each asks for some key, and no key is asked for twice
+--     IsInOrder      a round asks for its keys in the order of the call's
+--     AsksEachOnce   the rounds of a call that ask: each asks for some key, in order, and no key is asked for twice
 --     HasAsked       the same of a call that is under way: each key that was asked for is reserved or over
 use Rattle.std.specs.Prelude.{◌≡◌, ◌==◌, ℕ, List, [], All, true, false, Option, Some, slice_get, map}
-use Rattle.std.specs.List.{IsAmong, IsDistinct}
+use Rattle.std.specs.List.{IsAmong, IsDistinct, filter}
+use Rattle.std.specs.Map.{keys_of}
 use Rattle.std.specs.Cmp.Lexicographic.{pointwise}
 use Rattle.jc_types.specs.declared.config.Config.{Config}
 use Rattle.jc_model.specs.Batches.{is_among}
@@ -30,10 +32,14 @@ AsksFor config targets (WriteAll r) =
 AsksFor config targets (ProcessAll r) =
     All (λ (run : KeyRun). (op : Op) × (entry : Option Bytes) × IsAmong targets (run.key, op) × (asks_processor (first_asked config op entry) ≡ true) × IsShown (first_asked config op entry) run) r.runs
 
+abbrev pub IsInOrder : List (Bytes × Op) → Round → Type 0
+IsInOrder targets round = keys_asked round ≡ filter (is_among (keys_asked round)) (keys_of targets)
+
 pub record AsksEachOnce (config : Config) (targets : List (Bytes × Op)) (rounds : List Round) : Type 0 where
   pub each : All (AsksFor config targets) rounds
   pub some : All (λ (r : Round). keys_asked r ≡ [] → ⊥) rounds
   pub once : IsDistinct (pointwise ◌==◌) (asked_in rounds)
+  pub ordered : All (IsInOrder targets) rounds
 
 pub record HasAsked (config : Config) (targets : List (Bytes × Op)) (rounds : List Round) (progress : List Progress) : Type 0 where
   pub asked : AsksEachOnce config targets rounds

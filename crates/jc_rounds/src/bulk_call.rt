@@ -1,5 +1,5 @@
 //! A call with many keys, while it is under way.
-ghost use Rattle.std.specs.Prelude.{ℕ, false, ◌≡◌, ◌==◌, ◌≤◌, ◌<◌, ◌⊎◌, ◌*◌, [], map, length, vec_capacity, Some, None, slice_get, IfOk, IfNone, IfSome};
+ghost use Rattle.std.specs.Prelude.{ℕ, false, true, ◌≡◌, ◌==◌, ◌≤◌, ◌<◌, ◌⊎◌, ◌*◌, [], map, length, vec_capacity, Some, None, slice_get, IfOk, IfNone, IfSome};
 ghost use Rattle.std.specs.List.{IsDistinct};
 ghost use Rattle.std.specs.Map.{keys_of};
 ghost use Rattle.std.specs.Option.{option_or};
@@ -90,7 +90,8 @@ impl<'a> BulkCall<'a> {
     /// Conditions: nothing of the call is out.
     pub fn wait<R: Wait>(&self, rt: &R, cache: &Cache, session: &Session) -> bool
         requires { (past : Past) × IsBetween cache.now past session.now self.now }
-        ensures { result ≡ false → IsOver self.now }
+        ensures over { result ≡ false → IsOver self.now }
+        ensures waits { result ≡ true → (place : ℕ) × StillWaits self.now.progress.items place }
     {
         match first_waiting(&self.progress) {
             Some(place) => {
