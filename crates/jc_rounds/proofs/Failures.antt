@@ -1,6 +1,6 @@
 -- The first failure that a bulk call meets.
 --     failures_stay    what has failed stays among the failures
---     failure_there    a key that failed, at its place
+--     first_there      the first key that failed, at its place
 --     failures_more    the failures, by one key more
 --     none_failed      and if it hasn't failed
 --     noted_all        all that has failed is noted
@@ -16,7 +16,7 @@ use Rattle.jc_types.specs.declared.refusal.Refusal.{Refusal}
 use Rattle.jc_model.specs.declared.event.Reply.{Reply}
 use Rattle.jc_rounds.specs.declared.progress.Progress.{Progress}
 use Rattle.jc_rounds.specs.declared.progress.Progress.TheVariants as progress
-use Rattle.jc_rounds.specs.KeyProgress.{IsCauseIn, IsMet, IsNoted, KeepsCause, StayEnded, failures, failure_at, refusal_in}
+use Rattle.jc_rounds.specs.KeyProgress.{IsCauseIn, IsMet, IsNoted, KeepsCause, StayEnded, first_of, failures, failure_at, refusal_in}
 use Rattle.jc_rounds.proofs.SoFar.{among_more}
 
 -- 1. One more.
@@ -62,10 +62,14 @@ failures_stay ps later r stay h =
 
 -- 3. The first one.
 
-pub failure_there : (ps : List Progress) (i : ℕ) (d : Progress) (r : Refusal) → i < length ps → failure_at (get_or ps i d) ≡ Some r → IsAmong (failures ps) r
-failure_there [] i d r near is = absurd (omega (arith, near))
-failure_there (e ∷ ps) zero d r near is = cons_among (failure_at e) (failures ps) r (inl is)
-failure_there (e ∷ ps) (suc i) d r near is = cons_among (failure_at e) (failures ps) r (inr (failure_there ps i d r (omega (arith, near)) is))
+pub first_there : (ps : List Progress) (i : ℕ) (d : Progress) (r : Refusal) → i < length ps → failure_at (get_or ps i d) ≡ Some r → failures (take i ps) ≡ [] → Some r ≡ first_of (failures ps)
+first_there [] i d r near is none = absurd (omega (arith, near))
+first_there (e ∷ ps) zero d r near is none = ap (λ (o : Option Refusal). first_of (cons_option o (failures ps))) (sym is)
+first_there (e ∷ ps) (suc i) d r near is none = by (failure_at e) refl none (first_there ps i d r (omega (arith, near)) is)
+  where
+    by : (o : Option Refusal) → failure_at e ≡ o → cons_option o (failures (take i ps)) ≡ [] → (failures (take i ps) ≡ [] → Some r ≡ first_of (failures ps)) → Some r ≡ first_of (failures (e ∷ ps))
+    by (Some x) it none later = cc
+    by None it none later = later none ∙ ap (λ (o : Option Refusal). first_of (cons_option o (failures ps))) (sym it)
 
 pub none_failed : (ps : List Progress) (i : ℕ) (d : Progress) → i < length ps → failure_at (get_or ps i d) ≡ None → failures (take i ps) ≡ [] → failures (take (i + 1) ps) ≡ []
 none_failed ps i d near is none =
@@ -93,9 +97,13 @@ nothing_after : (xs ys : List Refusal) → xs ++ ys ≡ [] → ys ≡ []
 nothing_after [] ys is = is
 nothing_after (x ∷ xs) ys is = cc
 
+first_cause : (rs : List Refusal) → IsCauseIn (first_of rs) rs
+first_cause [] = refl
+first_cause (r ∷ rs) = (zero, (omega arith, refl))
+
 -- all that has failed is noted
 pub noted_all : (c d : Option Refusal) (ps : List Progress) (faults : List Refusal) → IsMet c ps faults → IsNoted c (failures ps) d → IsCauseIn d (failures ps ++ faults)
-noted_all None d ps faults met noted = subst (λ rs. IsCauseIn d (failures ps ++ rs)) (sym met) (subst (IsCauseIn d) (sym (append-nil (failures ps))) noted)
+noted_all None d ps faults met noted = subst (λ rs. IsCauseIn d (failures ps ++ rs)) (sym met) (subst (IsCauseIn d) (sym (append-nil (failures ps))) (subst (λ o. IsCauseIn o (failures ps)) (sym noted) (first_cause (failures ps))))
 noted_all (Some c) d ps faults met noted = subst (λ e. IsCauseIn e (failures ps ++ faults)) (sym noted) met
 
 -- and so is what was noted

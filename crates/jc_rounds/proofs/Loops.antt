@@ -1,5 +1,5 @@
 -- The loops of a round over the keys of a call.
---     note_on, noted_advances    all failures are noted
+--     noted_since, note_on, noted_advances    all failures are noted
 --     start_from, start_more, start_over       the first phases: before the first key, one key more, after the last one
 --     start_else, start_past                   a key for which there is no room, and one that doesn't wait
 --     commit_noted, commit_from, next_commit, commit_none, commit_past, commit_over    the last phases
@@ -47,6 +47,10 @@ none_mapped [] is = refl
 none_mapped (t ∷ ts) is = cc
 
 -- 1. What has failed is noted.
+
+pub noted_since : (call mid later : BulkCall) → mid.cause ≡ call.cause → later ≡ record mid { cause = later.cause } → IsNoted mid.cause (failures mid.progress.items) later.cause → IsNoted call.cause (failures later.progress.items) later.cause
+noted_since call mid later same rest noted =
+    subst (λ c. IsNoted c (failures later.progress.items) later.cause) same (subst (λ ps. IsNoted mid.cause (failures ps) later.cause) (sym (ap (λ (x : BulkCall). x.progress.items) rest)) noted)
 
 module _ {I J : Type 0} {D : I → Type 0} {E : J → Type 0} where
   pub note_on : (cache : CacheState) (past : Past) (session : Session I J D E) (call later : BulkCall) (ts : List TicketClaim) (js : List JoinClaim) → later ≡ record call { cause = later.cause } → IsNoted call.cause (failures call.progress.items) later.cause

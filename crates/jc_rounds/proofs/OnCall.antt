@@ -3,6 +3,7 @@
 --     met_stay, met_all    what a cause that was noted is among, once keys have ended, and once all failures are noted
 --     may_start, may_commit, may_pick    the session may make its next phase at a key
 --     advances_itself, advances_both, advances_by    no phase, two, and one
+--     unnoted_itself, unnoted_both, unnoted_by       the same, of what hasn't been noted
 --     on_by             the call goes on, as its keys go on
 --     starting_on       a first phase
 --     committing_on     a commit
@@ -51,7 +52,7 @@ use Rattle.jc_rounds.specs.Recorded.{steps_of}
 use Rattle.jc_types.specs.declared.caller.Caller.{Caller}
 use Rattle.jc_rounds.specs.SoFar.{AreSettledFrom, AreUnder, GoesOn, IsHeldAt, IsKept, IsPicked, IsUnderway}
 use Rattle.jc_rounds.specs.Targets.{ops_of}
-use Rattle.jc_rounds.specs.Underway.{Advances, HasRoom, IsCommitting, IsCommittingNext, IsFresh, IsOn, IsPicking, IsPickingNext, IsStarting, KeepsRoom, Past, are_fresh, reserved_by}
+use Rattle.jc_rounds.specs.Underway.{Advances, AdvancesUnnoted, HasRoom, IsCommitting, IsCommittingNext, IsFresh, IsOn, IsPicking, IsPickingNext, IsStarting, KeepsRoom, Past, are_fresh, reserved_by}
 use Rattle.jc_rounds.proofs.Asked.{asked_set, unasked_at}
 use Rattle.jc_rounds.proofs.Failures.{among_after, among_either, failures_stay, keeps_both, keeps_itself, keeps_same}
 use Rattle.jc_rounds.proofs.Held.{goes_both, goes_itself, goes_set, held_at, kept_held, set_there}
@@ -135,6 +136,12 @@ advances_both a b c x y z one two = record {
   cause = keeps_both x.cause y.cause z.cause one.cause two.cause;
 }
 
+pub unnoted_itself : {I J : Type 0} {D : I → Type 0} {E : J → Type 0} (session : Session I J D E) (call : BulkCall) → AdvancesUnnoted session session call call
+unnoted_itself session call = record { advances = advances_itself session call; cause = refl }
+
+pub unnoted_both : {I J : Type 0} {D : I → Type 0} {E : J → Type 0} (a b c : Session I J D E) (x y z : BulkCall) → AdvancesUnnoted a b x y → AdvancesUnnoted b c y z → AdvancesUnnoted a c x z
+unnoted_both a b c x y z one two = record { advances = advances_both a b c x y z one.advances two.advances; cause = two.cause ∙ one.cause }
+
 all_then : (rounds : List Round) (ts : List TicketClaim) (t : TicketClaim) → are_fresh rounds ts → IsFresh rounds t → are_fresh rounds (ts ++ t ∷ [])
 all_then rounds [] t all one = (one, tt)
 all_then rounds (x ∷ ts) t all one = (all.0, all_then rounds ts t all.1 one)
@@ -188,6 +195,10 @@ module _ {I J : Type 0} {D : I → Type 0} {E : J → Type 0} (cache : CacheStat
     most = same.most;
     cause = keeps_same call.cause later.cause same.cause;
   }
+
+  pub unnoted_by : (counted : Counted) (key : Bytes) (Made : Type 0) (place : ℕ) (q p : Progress) → later.progress.items ≡ set call.progress.items place p → slice_get call.progress.items place ≡ Some q
+      → ((e : Result Reply Refusal) → q ≡ Ended e → ⊥) → (is_held_back p ≡ true → is_held_back q ≡ true) → IsKeyPhase cache old key counted new Made → AdvancesUnnoted old new call later
+  unnoted_by counted key Made place q p is there unended held phase = record { advances = advances_by counted key Made place q p is there unended held phase; cause = same.cause }
 
   -- 3. First phases.
 

@@ -13,8 +13,9 @@
 --     failures             these, of all keys
 --     IsCauseIn            there is a cause exactly if there are such, and it is one of them
 --     IsMet                a cause that was noted is one of them, or of these faults of the writer; without one the writer has not failed
+--     first_of             the first of these, if there is one
 --     KeepsCause           a cause that was noted before stays
---     IsNoted              a cause that was noted before stays; without one, there is one exactly if there are such, and it is one
+--     IsNoted              a cause that was noted before stays; without one, it is the first of these, if there are such
 --     refused_if_waiting   a key that waits is refused, since the allocation of a later round failed; any other is as it was
 use Rattle.std.specs.Prelude.{◌≡◌, ◌⊎◌, ◌++◌, ℕ, zero, suc, List, [], ◌∷◌, length, Bool, true, false, Option, None, Some, IfSome, Result, Ok, Err, slice_get}
 use Rattle.std.specs.List.{IsAmong, filter_map}
@@ -98,12 +99,16 @@ abbrev pub IsCauseIn : Option Refusal → List Refusal → Type 0
 IsCauseIn None refusals = refusals ≡ []
 IsCauseIn (Some cause) refusals = IsAmong refusals cause
 
+abbrev pub first_of : List Refusal → Option Refusal
+first_of [] = None
+first_of (r ∷ rs) = Some r
+
 abbrev pub KeepsCause : Option Refusal → Option Refusal → Type 0
 KeepsCause before after = IfSome before (λ cause. after ≡ Some cause)
 
 -- a cause that was noted stays
 abbrev pub IsNoted : Option Refusal → List Refusal → Option Refusal → Type 0
-IsNoted None refusals cause = IsCauseIn cause refusals
+IsNoted None refusals cause = cause ≡ first_of refusals
 IsNoted (Some noted) refusals cause = cause ≡ Some noted
 
 -- `faults` are those that the writer has returned

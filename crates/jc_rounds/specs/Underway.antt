@@ -9,6 +9,7 @@
 --     IsPickingNext      the same with the next join taken out
 --     Advances      phases of the call: what has ended stays so, and so does a cause that was noted; of the session only its seats and its
 --                   counts have changed
+--     AdvancesUnnoted    such phases, before what they have met is noted
 --     HasStarted    the first phases of a round were made: each key that waits was put off, and nobody was asked yet
 --     IsStarting    the first phases are being made, and are at this place
 --     IsAnswered    the tickets' asks were answered in a round of the call
@@ -153,6 +154,10 @@ pub record Advances {I J : Type 0} {D : I → Type 0} {E : J → Type 0} (old ne
   pub targets : later.targets ≡ call.targets
   pub most : later.most ≡ call.most
   pub cause : KeepsCause call.cause later.cause
+
+pub record AdvancesUnnoted {I J : Type 0} {D : I → Type 0} {E : J → Type 0} (old new : Session I J D E) (call later : BulkCall) : Type 0 where
+  pub advances : Advances old new call later
+  pub cause : later.cause ≡ call.cause
 
 pub record HasRoom (call : BulkCall) : Type 0 where
   pub tickets : length call.tickets.items < call.most

@@ -5,7 +5,7 @@ ghost use Rattle.std.specs.Map.{keys_of};
 ghost use Rattle.std.specs.Option.{option_or};
 ghost use Rattle.std.specs.Cmp.Lexicographic.{pointwise};
 ghost use Rattle.jc_types.specs.declared.limits.TheConstants.{JOINERS_MAX, RESERVATIONS_MAX};
-ghost use Rattle.jc_rounds.specs.KeyProgress.{IsCauseIn, IsNoted, StillWaits, all_waiting, failures, refused_if_waiting};
+ghost use Rattle.jc_rounds.specs.KeyProgress.{IsNoted, StillWaits, all_waiting, failures, first_of, refused_if_waiting};
 ghost use Rattle.jc_rounds.specs.Starting.{IsRoomFor};
 ghost use Rattle.jc_rounds.specs.Targets.{ops_of};
 ghost use Rattle.jc_rounds.specs.Underway.{AreRooms, IsBetween, IsNew, IsOver, Past};
@@ -227,7 +227,7 @@ fn first_waiting(progress: &[Progress]) -> Option<usize>
 
 /// The first of the faults and refusals that keys have ended in, if there is one.
 fn first_failure(progress: &[Progress]) -> Option<Refusal>
-    ensures { IsCauseIn result (failures progress.now) }
+    ensures { result ≡ first_of (failures progress.now) }
 {
     for one in progress {
         if let Some(refusal) = one.failure() {

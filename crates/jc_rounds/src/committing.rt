@@ -2,7 +2,8 @@
 ghost use Rattle.std.specs.Prelude.{◌≡◌, ◌<◌, ◌+◌, length, slice_get, reverse, Some, ◌∷◌};
 ghost use Rattle.jc_rounds.specs.declared.progress.Progress.TheVariants.{Reserved};
 ghost use Rattle.jc_rounds.specs.Rounds.{Round};
-ghost use Rattle.jc_rounds.specs.Underway.{Advances, HasCommitted, IsAnswered, IsCommitting, IsCommittingNext, Past};
+ghost use Rattle.jc_rounds.specs.KeyProgress.{IsNoted, failures};
+ghost use Rattle.jc_rounds.specs.Underway.{Advances, AdvancesUnnoted, HasCommitted, IsAnswered, IsCommitting, IsCommittingNext, Past};
 
 use crate::answers::Answers;
 use crate::bulk_call::BulkCall;
@@ -27,6 +28,7 @@ impl<'a> BulkCall<'a> {
     )
         requires answered { (past : Past) × (round : Round) × IsAnswered cache.now past round session.old self.old answers }
         ensures advances { Advances session.old session.new self.old self.new }
+        ensures cause { IsNoted self.old.cause (failures self.new.progress.items) self.new.cause }
         ensures committed { (past : Past) (round : Round) → IsAnswered cache.now past round session.old self.old answers
             → HasCommitted cache.now past session.new self.new }
     {
@@ -51,7 +53,7 @@ impl<'a> BulkCall<'a> {
         requires place { place < length self.old.progress.items }
         requires answered { (past : Past) × (round : Round)
             × IsCommitting cache.now past round session.old self.old answers.old place }
-        ensures advances { Advances session.old session.new self.old self.new }
+        ensures advances { AdvancesUnnoted session.old session.new self.old self.new }
         ensures committed { (past : Past) (round : Round)
             → IsCommitting cache.now past round session.old self.old answers.old place
             → IsCommitting cache.now past round session.new self.new answers.new (place + 1) }
@@ -77,7 +79,7 @@ impl<'a> BulkCall<'a> {
         requires there { slice_get self.old.progress.items place ≡ Some Reserved }
         requires answered { (past : Past) × (round : Round)
             × IsCommittingNext cache.now past round session.old self.old ticket answers.old place }
-        ensures advances { Advances session.old session.new self.old self.new }
+        ensures advances { AdvancesUnnoted session.old session.new self.old self.new }
         ensures committed { (past : Past) (round : Round)
             → IsCommittingNext cache.now past round session.old self.old ticket answers.old place
             → IsCommitting cache.now past round session.new self.new answers.new (place + 1) }

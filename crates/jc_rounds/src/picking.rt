@@ -3,7 +3,8 @@ ghost use Rattle.std.specs.Prelude.{◌≡◌, ◌<◌, ◌+◌, length, slice_g
 ghost use Rattle.jc_rounds.specs.declared.progress.Progress.TheVariants.{Joined};
 ghost use Rattle.jc_rounds.specs.Keys.{IsPickedUp};
 ghost use Rattle.jc_rounds.specs.SoFar.{IsPicked};
-ghost use Rattle.jc_rounds.specs.Underway.{Advances, HasCommitted, IsBetween, IsPicking, IsPickingNext, Past};
+ghost use Rattle.jc_rounds.specs.KeyProgress.{IsNoted, failures};
+ghost use Rattle.jc_rounds.specs.Underway.{Advances, AdvancesUnnoted, HasCommitted, IsBetween, IsPicking, IsPickingNext, Past};
 
 use crate::bulk_call::BulkCall;
 use crate::key::pick_key;
@@ -22,6 +23,7 @@ impl<'a> BulkCall<'a> {
     pub fn pick_up<R: Wait>(&mut self, rt: &R, cache: &Cache, session: &mut Session)
         requires committed { (past : Past) × HasCommitted cache.now past session.old self.old }
         ensures advances { Advances session.old session.new self.old self.new }
+        ensures cause { IsNoted self.old.cause (failures self.new.progress.items) self.new.cause }
         ensures between { (past : Past) → HasCommitted cache.now past session.old self.old
             → IsBetween cache.now past session.new self.new }
     {
@@ -36,7 +38,7 @@ impl<'a> BulkCall<'a> {
     fn pick_at<R: Wait>(&mut self, rt: &R, cache: &Cache, session: &mut Session, place: usize)
         requires place { place < length self.old.progress.items }
         requires picking { (past : Past) × IsPicking cache.now past session.old self.old place }
-        ensures advances { Advances session.old session.new self.old self.new }
+        ensures advances { AdvancesUnnoted session.old session.new self.old self.new }
         ensures picking { (past : Past) → IsPicking cache.now past session.old self.old place
             → IsPicking cache.now past session.new self.new (place + 1) }
     {
@@ -59,7 +61,7 @@ impl<'a> BulkCall<'a> {
     )
         requires there { slice_get self.old.progress.items place ≡ Some Joined }
         requires picking { (past : Past) × IsPickingNext cache.now past session.old self.old join place }
-        ensures advances { Advances session.old session.new self.old self.new }
+        ensures advances { AdvancesUnnoted session.old session.new self.old self.new }
         ensures picking { (past : Past) → IsPickingNext cache.now past session.old self.old join place
             → IsPicking cache.now past session.new self.new (place + 1) }
     {

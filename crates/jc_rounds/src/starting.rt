@@ -4,7 +4,8 @@ ghost use Rattle.jc_rounds.specs.declared.progress.Progress.TheVariants.{Waiting
 ghost use Rattle.jc_rounds.specs.SoFar.{IsHeldAt, IsKept};
 ghost use Rattle.jc_rounds.specs.Starting.{IsFull};
 ghost use Rattle.jc_rounds.specs.Targets.{ops_of};
-ghost use Rattle.jc_rounds.specs.Underway.{Advances, HasStarted, HasRoom, IsBetween, IsStarting, KeepsRoom, Past};
+ghost use Rattle.jc_rounds.specs.KeyProgress.{IsNoted, failures};
+ghost use Rattle.jc_rounds.specs.Underway.{Advances, AdvancesUnnoted, HasStarted, HasRoom, IsBetween, IsStarting, KeepsRoom, Past};
 
 use crate::bulk_call::BulkCall;
 use crate::key::start_key;
@@ -22,6 +23,7 @@ impl<'a> BulkCall<'a> {
     pub fn start<R: Wait>(&mut self, rt: &R, cache: &Cache, session: &mut Session)
         requires between { (past : Past) × IsBetween cache.now past session.old self.old }
         ensures advances { Advances session.old session.new self.old self.new }
+        ensures cause { IsNoted self.old.cause (failures self.new.progress.items) self.new.cause }
         ensures started { (past : Past) → IsBetween cache.now past session.old self.old
             → HasStarted cache.now past session.old session.new self.new }
     {
@@ -35,7 +37,7 @@ impl<'a> BulkCall<'a> {
     fn start_at<R: Wait>(&mut self, rt: &R, cache: &Cache, session: &mut Session, place: usize)
         requires place { place < length self.old.progress.items }
         requires starting { (past : Past) × IsStarting cache.now past session.old self.old place }
-        ensures advances { Advances session.old session.new self.old self.new }
+        ensures advances { AdvancesUnnoted session.old session.new self.old self.new }
         ensures starting { (past : Past) → IsStarting cache.now past session.old self.old place
             → IsStarting cache.now past session.new self.new (place + 1)
             × (length self.old.tickets.items ≤ length self.new.tickets.items)
@@ -55,7 +57,7 @@ impl<'a> BulkCall<'a> {
         requires waits { slice_get self.old.progress.items place ≡ Some Waiting }
         requires room { HasRoom self.old }
         requires starting { (past : Past) × IsStarting cache.now past session.old self.old place }
-        ensures advances { Advances session.old session.new self.old self.new }
+        ensures advances { AdvancesUnnoted session.old session.new self.old self.new }
         ensures starting { (past : Past) → IsStarting cache.now past session.old self.old place
             → IsStarting cache.now past session.new self.new (place + 1)
             × (length self.old.tickets.items ≤ length self.new.tickets.items)

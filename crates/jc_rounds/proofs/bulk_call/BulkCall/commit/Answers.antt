@@ -1,13 +1,13 @@
 use Rattle.std.proofs.Common.{refl, arith}
 use Rattle.jc_rounds.proofs.Failures.{keeps_itself}
 use Rattle.jc_rounds.proofs.Held.{goes_itself}
-use Rattle.jc_rounds.proofs.Loops.{commit_from, commit_noted, commit_over, noted_advances}
-use Rattle.jc_rounds.proofs.OnCall.{advances_both}
+use Rattle.jc_rounds.proofs.Loops.{commit_from, commit_noted, commit_over, noted_advances, noted_since}
+use Rattle.jc_rounds.proofs.OnCall.{unnoted_both}
 use Rattle.jc_rounds.proofs.bulk_call.BulkCall.commit.Goals as goal
 
 pub loop-place-init : goal.loop-place-init
 loop-place-init g c = record {
-  advances = record { goes = goes_itself c.args.session.now.seats.items c.args.self.now.progress.items; agent = refl; targets = refl; most = refl; cause = keeps_itself c.args.self.now.cause };
+  advances = record { advances = record { goes = goes_itself c.args.session.now.seats.items c.args.self.now.progress.items; agent = refl; targets = refl; most = refl; cause = keeps_itself c.args.self.now.cause }; cause = refl };
   committed = λ past round answered. commit_from c.args.cache.now past round c.args.session.now c.args.self.now c.reverse.new.self c.args.answers c.reverse.ensures.items c.reverse.ensures.capacity answered;
 }
 
@@ -16,7 +16,7 @@ commit_at-requires-clause-answered g c = let r = c.requires.answered in (r.0, r.
 
 pub loop-place-preserved : goal.loop-place-preserved
 loop-place-preserved g c = record {
-  advances = advances_both _ _ _ _ _ _ c.loop-place.invariant.advances c.commit_at.ensures.advances;
+  advances = unnoted_both _ _ _ _ _ _ c.loop-place.invariant.advances c.commit_at.ensures.advances;
   committed = λ past round answered. c.commit_at.ensures.committed past round (c.loop-place.invariant.committed past round answered);
 }
 
@@ -26,14 +26,17 @@ end-requires g c =
       c.args.cache.now.config,
       r.1,
       (commit_over c.args.cache.now r.0 r.1 c.loop-place.session c.loop-place.self c.loop-place.left c.loop-place.place
-          (let many = c.loop-place.invariant.advances.goes.stay.many in omega (arith, many, c.args.self.now.progress.ok.0, c.len-place-end.ensures, c.loop-place-test.false)) (c.loop-place.invariant.committed r.0 r.1 r.2)).1,
+          (let many = c.loop-place.invariant.advances.advances.goes.stay.many in omega (arith, many, c.args.self.now.progress.ok.0, c.len-place-end.ensures, c.loop-place-test.false)) (c.loop-place.invariant.committed r.0 r.1 r.2)).1,
     )
 
 pub returns-clause-advances : goal.returns-clause-advances
-returns-clause-advances g c = noted_advances _ _ _ _ _ c.note_failures.ensures.rest c.note_failures.ensures.cause c.loop-place.invariant.advances
+returns-clause-advances g c = noted_advances _ _ _ _ _ c.note_failures.ensures.rest c.note_failures.ensures.cause c.loop-place.invariant.advances.advances
 
 pub returns-clause-committed : goal.returns-clause-committed
 returns-clause-committed g c past round answered =
     let over = commit_over c.args.cache.now past round c.loop-place.session c.loop-place.self c.loop-place.left c.loop-place.place
-    (let many = c.loop-place.invariant.advances.goes.stay.many in omega (arith, many, c.args.self.now.progress.ok.0, c.len-place-end.ensures, c.loop-place-test.false)) (c.loop-place.invariant.committed past round answered) in
+    (let many = c.loop-place.invariant.advances.advances.goes.stay.many in omega (arith, many, c.args.self.now.progress.ok.0, c.len-place-end.ensures, c.loop-place-test.false)) (c.loop-place.invariant.committed past round answered) in
     commit_noted c.args.cache.now past c.loop-place.session c.loop-place.self c.note_failures.new.self c.note_failures.ensures.rest c.note_failures.ensures.cause over.0 over.2
+
+pub returns-clause-cause : goal.returns-clause-cause
+returns-clause-cause g c = noted_since c.args.self.now c.loop-place.self c.note_failures.new.self c.loop-place.invariant.advances.cause c.note_failures.ensures.rest c.note_failures.ensures.cause

@@ -1,9 +1,9 @@
 use Rattle.jc_rounds.specs.Rounds.{Round}
-use Rattle.jc_rounds.specs.Underway.{Advances, IsAnswered, IsCommitting, Past}
+use Rattle.jc_rounds.specs.Underway.{AdvancesUnnoted, IsAnswered, IsCommitting, Past}
 use Rattle.jc_rounds.proofs.bulk_call.BulkCall.commit.Given as goal
 
 abbrev pub invariant-loop-place : goal.invariant-loop-place
 invariant-loop-place g l = record {
-  advances : Advances l.fn.session l.session l.fn.self l.self;
+  advances : AdvancesUnnoted l.fn.session l.session l.fn.self l.self;
   committed : (past : Past) (round : Round) → IsAnswered l.fn.cache past round l.fn.session l.fn.self l.fn.answers → IsCommitting l.fn.cache past round l.session l.self l.left l.place;
 }

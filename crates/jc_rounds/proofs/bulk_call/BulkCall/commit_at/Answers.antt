@@ -1,5 +1,6 @@
 use Rattle.std.proofs.Common.{Some, ap, sym, ◌∙◌}
 use Rattle.jc_rounds.proofs.Loops.{commit_none, commit_past, next_commit, no_items}
+use Rattle.jc_rounds.proofs.OnCall.{unnoted_itself}
 use Rattle.jc_rounds.proofs.Underway.{reserved_is, there_by}
 use Rattle.jc_rounds.proofs.bulk_call.BulkCall.commit_at.Goals as goal
 
@@ -19,7 +20,7 @@ commit_ticket-requires-clause-answered g c =
     let r = c.requires.answered in (r.0, r.1, next_commit c.args.cache.now r.0 r.1 c.args.session.now c.args.self.now c.pop.new.self c.in-Some.ticket c.args.answers.now c.args.place c.in-Some.ensures.items c.in-Some.ensures.capacity r.2)
 
 pub returns-in-Some-clause-advances : goal.returns-in-Some-clause-advances
-returns-in-Some-clause-advances g c = let a = c.commit_ticket.ensures.advances in record { goes = a.goes; agent = a.agent; targets = a.targets; most = a.most; cause = a.cause }
+returns-in-Some-clause-advances g c = let a = c.commit_ticket.ensures.advances in record { advances = record { goes = a.advances.goes; agent = a.advances.agent; targets = a.advances.targets; most = a.advances.most; cause = a.advances.cause }; cause = a.cause }
 
 pub returns-in-Some-clause-committed : goal.returns-in-Some-clause-committed
 returns-in-Some-clause-committed g c past round next =
@@ -29,3 +30,6 @@ pub returns-else-is_reserved-clause-committed : goal.returns-else-is_reserved-cl
 returns-else-is_reserved-clause-committed g c past round next =
     commit_past c.args.cache.now past round c.args.session.now c.args.self.now c.args.answers.now c.args.place c.index.result.now
     (there_by c.args.self.now.progress.items c.args.place c.index.result.now c.requires.place c.index.ensures) (sym c.is_reserved.ensures ∙ c.if-is_reserved.false) next
+
+pub returns-else-is_reserved-clause-advances : goal.returns-else-is_reserved-clause-advances
+returns-else-is_reserved-clause-advances g c = unnoted_itself c.args.session.now c.args.self.now

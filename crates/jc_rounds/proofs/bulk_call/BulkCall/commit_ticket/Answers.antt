@@ -1,6 +1,6 @@
 use Rattle.std.proofs.Common.{Ok, refl}
 use Rattle.jc_rounds.specs.declared.progress.Progress.TheVariants.{Ended, Reserved}
-use Rattle.jc_rounds.proofs.OnCall.{advances_by, committing_on, may_commit, near_in}
+use Rattle.jc_rounds.proofs.OnCall.{committing_on, may_commit, near_in, unnoted_by}
 use Rattle.jc_rounds.proofs.bulk_call.BulkCall.commit_ticket.Goals as goal
 
 pub commit_next-reply-requires-clause-may : goal.commit_next-reply-requires-clause-may
@@ -16,7 +16,7 @@ pub returns-clause-advances : goal.returns-clause-advances
 returns-clause-advances g c =
     let r = c.requires.answered in
     let phase = (c.commit_next-reply.ensures r.1 _ r.2.answered).1 in
-    advances_by c.args.cache.now r.0 c.args.session.now c.commit_next-reply.new.session c.args.self.now _ (record { targets = refl; most = refl; cause = refl; tickets_room = refl; joins_room = refl })
+    unnoted_by c.args.cache.now r.0 c.args.session.now c.commit_next-reply.new.session c.args.self.now _ (record { targets = refl; most = refl; cause = refl; tickets_room = refl; joins_room = refl })
     _ c.args.ticket.reservation.key _ c.args.place Reserved (Ended (Ok c.commit_next-reply.result)) refl c.requires.there (λ e bad. cc) (λ bad. cc) phase
 
 pub returns-clause-committed : goal.returns-clause-committed

@@ -1,5 +1,6 @@
 use Rattle.std.proofs.Common.{Some, ap, sym, ◌∙◌}
 use Rattle.jc_rounds.proofs.Loops.{next_pick, no_items, pick_none, pick_past}
+use Rattle.jc_rounds.proofs.OnCall.{unnoted_itself}
 use Rattle.jc_rounds.proofs.Underway.{joined_is, there_by}
 use Rattle.jc_rounds.proofs.bulk_call.BulkCall.pick_at.Goals as goal
 
@@ -19,7 +20,7 @@ pick_join-requires-clause-picking g c =
     let r = c.requires.picking in (r.0, next_pick c.args.cache.now r.0 c.args.session.now c.args.self.now c.pop.new.self c.in-Some.join c.args.place c.in-Some.ensures.items c.in-Some.ensures.capacity r.1)
 
 pub returns-in-Some-clause-advances : goal.returns-in-Some-clause-advances
-returns-in-Some-clause-advances g c = let a = c.pick_join.ensures.advances in record { goes = a.goes; agent = a.agent; targets = a.targets; most = a.most; cause = a.cause }
+returns-in-Some-clause-advances g c = let a = c.pick_join.ensures.advances in record { advances = record { goes = a.advances.goes; agent = a.advances.agent; targets = a.advances.targets; most = a.advances.most; cause = a.advances.cause }; cause = a.cause }
 
 pub returns-in-Some-clause-picking : goal.returns-in-Some-clause-picking
 returns-in-Some-clause-picking g c past next =
@@ -29,3 +30,6 @@ pub returns-else-is_joined-clause-picking : goal.returns-else-is_joined-clause-p
 returns-else-is_joined-clause-picking g c past next =
     pick_past c.args.cache.now past c.args.session.now c.args.self.now c.args.place c.index.result.now
     (there_by c.args.self.now.progress.items c.args.place c.index.result.now c.requires.place c.index.ensures) (sym c.is_joined.ensures ∙ c.if-is_joined.false) next
+
+pub returns-else-is_joined-clause-advances : goal.returns-else-is_joined-clause-advances
+returns-else-is_joined-clause-advances g c = unnoted_itself c.args.session.now c.args.self.now

@@ -1,6 +1,6 @@
 use Rattle.std.proofs.Common.{refl}
 use Rattle.jc_rounds.specs.declared.progress.Progress.TheVariants.{Joined}
-use Rattle.jc_rounds.proofs.OnCall.{advances_by, may_pick, near_in, picking_on}
+use Rattle.jc_rounds.proofs.OnCall.{may_pick, near_in, picking_on, unnoted_by}
 use Rattle.jc_rounds.proofs.bulk_call.BulkCall.pick_join.Goals as goal
 
 pub pick_key-picked-requires-clause-may : goal.pick_key-picked-requires-clause-may
@@ -14,7 +14,7 @@ index_mut-requires g c = near_in c.args.self.now.progress c.args.place Joined c.
 
 pub returns-clause-advances : goal.returns-clause-advances
 returns-clause-advances g c =
-    advances_by c.args.cache.now c.requires.picking.0 c.args.session.now c.pick_key-picked.new.session c.args.self.now _ (record { targets = refl; most = refl; cause = refl; tickets_room = refl; joins_room = refl })
+    unnoted_by c.args.cache.now c.requires.picking.0 c.args.session.now c.pick_key-picked.new.session c.args.self.now _ (record { targets = refl; most = refl; cause = refl; tickets_room = refl; joins_room = refl })
     _ c.args.join.key _ c.args.place Joined c.after_pick_up.result refl c.requires.there (λ e bad. cc) (λ held. refl) c.pick_key-picked.ensures.phase
 
 pub returns-clause-picking : goal.returns-clause-picking

@@ -1,13 +1,13 @@
 use Rattle.std.proofs.Common.{refl, arith}
 use Rattle.jc_rounds.proofs.Failures.{keeps_itself}
 use Rattle.jc_rounds.proofs.Held.{goes_itself}
-use Rattle.jc_rounds.proofs.Loops.{noted_advances, pick_from, pick_noted, pick_over}
-use Rattle.jc_rounds.proofs.OnCall.{advances_both}
+use Rattle.jc_rounds.proofs.Loops.{noted_advances, noted_since, pick_from, pick_noted, pick_over}
+use Rattle.jc_rounds.proofs.OnCall.{unnoted_both}
 use Rattle.jc_rounds.proofs.bulk_call.BulkCall.pick_up.Goals as goal
 
 pub loop-place-init : goal.loop-place-init
 loop-place-init g c = record {
-  advances = record { goes = goes_itself c.args.session.now.seats.items c.args.self.now.progress.items; agent = refl; targets = refl; most = refl; cause = keeps_itself c.args.self.now.cause };
+  advances = record { advances = record { goes = goes_itself c.args.session.now.seats.items c.args.self.now.progress.items; agent = refl; targets = refl; most = refl; cause = keeps_itself c.args.self.now.cause }; cause = refl };
   picking = λ past committed. pick_from c.args.cache.now past c.args.session.now c.args.self.now c.reverse.new.self c.reverse.ensures.items c.reverse.ensures.capacity committed;
 }
 
@@ -16,16 +16,19 @@ pick_at-requires-clause-picking g c = let r = c.requires.committed in (r.0, c.lo
 
 pub loop-place-preserved : goal.loop-place-preserved
 loop-place-preserved g c = record {
-  advances = advances_both _ _ _ _ _ _ c.loop-place.invariant.advances c.pick_at.ensures.advances;
+  advances = unnoted_both _ _ _ _ _ _ c.loop-place.invariant.advances c.pick_at.ensures.advances;
   picking = λ past committed. c.pick_at.ensures.picking past (c.loop-place.invariant.picking past committed);
 }
 
 pub returns-clause-advances : goal.returns-clause-advances
-returns-clause-advances g c = noted_advances _ _ _ _ _ c.note_failures.ensures.rest c.note_failures.ensures.cause c.loop-place.invariant.advances
+returns-clause-advances g c = noted_advances _ _ _ _ _ c.note_failures.ensures.rest c.note_failures.ensures.cause c.loop-place.invariant.advances.advances
 
 pub returns-clause-between : goal.returns-clause-between
 returns-clause-between g c past committed =
     let last = c.loop-place.invariant.picking past committed in
     let over = pick_over c.args.cache.now past c.loop-place.session c.loop-place.self c.loop-place.place
-    (let many = c.loop-place.invariant.advances.goes.stay.many in omega (arith, many, c.args.self.now.progress.ok.0, c.len-place-end.ensures, c.loop-place-test.false)) last in
+    (let many = c.loop-place.invariant.advances.advances.goes.stay.many in omega (arith, many, c.args.self.now.progress.ok.0, c.len-place-end.ensures, c.loop-place-test.false)) last in
     pick_noted c.args.cache.now past c.loop-place.session c.loop-place.self c.note_failures.new.self c.note_failures.ensures.rest c.note_failures.ensures.cause last.no_tickets over.0 over.1
+
+pub returns-clause-cause : goal.returns-clause-cause
+returns-clause-cause g c = noted_since c.args.self.now c.loop-place.self c.note_failures.new.self c.loop-place.invariant.advances.cause c.note_failures.ensures.rest c.note_failures.ensures.cause

@@ -1,8 +1,8 @@
-use Rattle.jc_rounds.specs.Underway.{Advances, HasCommitted, IsPicking, Past}
+use Rattle.jc_rounds.specs.Underway.{AdvancesUnnoted, HasCommitted, IsPicking, Past}
 use Rattle.jc_rounds.proofs.bulk_call.BulkCall.pick_up.Given as goal
 
 abbrev pub invariant-loop-place : goal.invariant-loop-place
 invariant-loop-place g l = record {
-  advances : Advances l.fn.session l.session l.fn.self l.self;
+  advances : AdvancesUnnoted l.fn.session l.session l.fn.self l.self;
   picking : (past : Past) → HasCommitted l.fn.cache past l.fn.session l.fn.self → IsPicking l.fn.cache past l.session l.self l.place;
 }

@@ -1,11 +1,11 @@
 use Rattle.std.proofs.Common.{arith}
-use Rattle.jc_rounds.proofs.Loops.{noted_advances, start_from, start_more, start_over}
-use Rattle.jc_rounds.proofs.OnCall.{advances_both, advances_itself}
+use Rattle.jc_rounds.proofs.Loops.{noted_advances, noted_since, start_from, start_more, start_over}
+use Rattle.jc_rounds.proofs.OnCall.{unnoted_both, unnoted_itself}
 use Rattle.jc_rounds.proofs.bulk_call.BulkCall.start.Goals as goal
 
 pub loop-place-init : goal.loop-place-init
 loop-place-init g c = record {
-  advances = advances_itself c.args.session.now c.args.self.now;
+  advances = unnoted_itself c.args.session.now c.args.self.now;
   starting = λ past between. (start_from c.args.cache.now past c.args.session.now c.args.self.now between, λ place less. absurd (omega (arith, less)));
 }
 
@@ -14,18 +14,21 @@ start_at-requires-clause-starting g c = let r = c.requires.between in (r.0, (c.l
 
 pub loop-place-preserved : goal.loop-place-preserved
 loop-place-preserved g c = record {
-  advances = advances_both _ _ _ _ _ _ c.loop-place.invariant.advances c.start_at.ensures.advances;
+  advances = unnoted_both _ _ _ _ _ _ c.loop-place.invariant.advances c.start_at.ensures.advances;
   starting = λ past between.
       let now = c.loop-place.invariant.starting past between in
       let next = c.start_at.ensures.starting past now.0 in
-      (next.0, start_more c.args.cache.now past _ _ _ _ _ _ c.loop-place.place c.loop-place.invariant.advances c.start_at.ensures.advances now.1 next.1 next.2);
+      (next.0, start_more c.args.cache.now past _ _ _ _ _ _ c.loop-place.place c.loop-place.invariant.advances.advances c.start_at.ensures.advances.advances now.1 next.1 next.2);
 }
 
 pub returns-clause-advances : goal.returns-clause-advances
-returns-clause-advances g c = noted_advances _ _ _ _ _ c.note_failures.ensures.rest c.note_failures.ensures.cause c.loop-place.invariant.advances
+returns-clause-advances g c = noted_advances _ _ _ _ _ c.note_failures.ensures.rest c.note_failures.ensures.cause c.loop-place.invariant.advances.advances
 
 pub returns-clause-started : goal.returns-clause-started
 returns-clause-started g c past between =
     let now = c.loop-place.invariant.starting past between in
-    start_over c.args.cache.now past c.args.session.now c.loop-place.session c.args.self.now c.loop-place.self c.note_failures.new.self c.loop-place.place c.loop-place.invariant.advances c.note_failures.ensures.rest c.note_failures.ensures.cause
-    (let many = c.loop-place.invariant.advances.goes.stay.many in omega (arith, many, c.args.self.now.progress.ok.0, c.len-place-end.ensures, c.loop-place-test.false)) now.0 now.1
+    start_over c.args.cache.now past c.args.session.now c.loop-place.session c.args.self.now c.loop-place.self c.note_failures.new.self c.loop-place.place c.loop-place.invariant.advances.advances c.note_failures.ensures.rest c.note_failures.ensures.cause
+    (let many = c.loop-place.invariant.advances.advances.goes.stay.many in omega (arith, many, c.args.self.now.progress.ok.0, c.len-place-end.ensures, c.loop-place-test.false)) now.0 now.1
+
+pub returns-clause-cause : goal.returns-clause-cause
+returns-clause-cause g c = noted_since c.args.self.now c.loop-place.self c.note_failures.new.self c.loop-place.invariant.advances.cause c.note_failures.ensures.rest c.note_failures.ensures.cause

@@ -1,9 +1,9 @@
-use Rattle.jc_rounds.specs.Underway.{Advances, IsBetween, IsStarting, Past}
+use Rattle.jc_rounds.specs.Underway.{AdvancesUnnoted, IsBetween, IsStarting, Past}
 use Rattle.jc_rounds.proofs.Loops.{Held}
 use Rattle.jc_rounds.proofs.bulk_call.BulkCall.start.Given as goal
 
 abbrev pub invariant-loop-place : goal.invariant-loop-place
 invariant-loop-place g l = record {
-  advances : Advances l.fn.session l.session l.fn.self l.self;
+  advances : AdvancesUnnoted l.fn.session l.session l.fn.self l.self;
   starting : (past : Past) → IsBetween l.fn.cache past l.fn.session l.fn.self → IsStarting l.fn.cache past l.session l.self l.place × Held l.fn.cache past l.fn.session l.session l.self l.place;
 }

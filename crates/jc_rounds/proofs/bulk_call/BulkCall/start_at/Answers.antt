@@ -1,5 +1,6 @@
 use Rattle.std.proofs.Common.{Some, ⊎_elim, inr, ap, sym, ◌∙◌}
 use Rattle.jc_rounds.proofs.Loops.{start_else, start_past}
+use Rattle.jc_rounds.proofs.OnCall.{unnoted_itself}
 use Rattle.jc_rounds.proofs.Underway.{there_by, waiting_is}
 use Rattle.jc_rounds.proofs.bulk_call.BulkCall.start_at.Goals as goal
 
@@ -22,3 +23,9 @@ pub returns-else-is_waiting-clause-starting : goal.returns-else-is_waiting-claus
 returns-else-is_waiting-clause-starting g c past starting =
     start_past c.args.cache.now past c.args.session.now c.args.self.now c.args.place c.index.result.now
     (there_by c.args.self.now.progress.items c.args.place c.index.result.now c.requires.place c.index.ensures) (sym c.is_waiting.ensures ∙ c.if-is_waiting.false) starting
+
+pub returns-else-has_room-clause-advances : goal.returns-else-has_room-clause-advances
+returns-else-has_room-clause-advances g c = unnoted_itself c.args.session.now c.args.self.now
+
+pub returns-else-is_waiting-clause-advances : goal.returns-else-is_waiting-clause-advances
+returns-else-is_waiting-clause-advances g c = unnoted_itself c.args.session.now c.args.self.now

@@ -1,7 +1,7 @@
 use Rattle.std.proofs.Common.{◌<◌, refl, ap, sym, set, subst, vec_len}
 use Rattle.jc_rounds.specs.declared.bulk_call.BulkCall.{BulkCall}
 use Rattle.jc_rounds.specs.declared.progress.Progress.TheVariants.{Waiting}
-use Rattle.jc_rounds.proofs.OnCall.{advances_by, held_by, kept_more, may_start, near_in, progress_kept, same_kept, starting_on}
+use Rattle.jc_rounds.proofs.OnCall.{held_by, kept_more, may_start, near_in, progress_kept, same_kept, starting_on, unnoted_by}
 use Rattle.jc_rounds.proofs.bulk_call.BulkCall.start_waiting.Goals as goal
 
 pub start_key-begun-requires-clause-may : goal.start_key-begun-requires-clause-may
@@ -14,7 +14,7 @@ index_mut-requires g c = subst (λ (x : BulkCall). c.args.place < vec_len x.prog
 pub returns-clause-advances : goal.returns-clause-advances
 returns-clause-advances g c =
     let later = c.keep-progress.new.self in
-    advances_by c.args.cache.now c.requires.starting.0 c.args.session.now c.start_key-begun.new.session c.args.self.now _ (same_kept c.args.self.now later _ c.keep-progress.ensures.rest)
+    unnoted_by c.args.cache.now c.requires.starting.0 c.args.session.now c.start_key-begun.new.session c.args.self.now _ (same_kept c.args.self.now later _ c.keep-progress.ensures.rest)
     _ c.key.result.now _ c.args.place Waiting c.keep-progress.result (ap (λ ps. set ps c.args.place c.keep-progress.result) (progress_kept c.args.self.now later c.keep-progress.ensures.rest)) c.requires.waits (λ e bad. cc) (λ held. refl) c.start_key-begun.ensures
 
 pub returns-clause-starting : goal.returns-clause-starting
