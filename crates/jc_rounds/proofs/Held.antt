@@ -8,10 +8,15 @@
 --     held_after                           phases that leave no other key held back
 --     not_held                             a settled key that doesn't wait isn't held back
 --     fewer_out                            if some key isn't such, fewer are out than there are keys
---     full_by                              there is no room: the round is full
-use Rattle.std.proofs.Common.{◌≡◌, ◌⊎◌, ⊎_elim, inl, inr, ◌<◌, ◌≤◌, ◌+◌, ℕ, zero, suc, List, [], ◌∷◌, length, set, slice_get, Bool, true, false, true≢false, MatchBool, if◌then◌else◌, Some, Result, Err, refl, sym, ap, ◌∙◌, subst, arith}
+--     full_by, full_later                  there is no room: the round is full, and stays so
+--     have_more                            each key that has joined a load has done so since before the round, by one key more
+use Rattle.std.proofs.Common.{◌≡◌, ◌==◌, ◌*◌, ◌⊎◌, ⊎_elim, inl, inr, ◌<◌, ◌≤◌, ◌+◌, ℕ, zero, suc, List, [], ◌∷◌, length, set, slice_get, Bool, true, false, true≢false, MatchBool, if◌then◌else◌, Some, Result, Err, refl, sym, ap, ◌∙◌, subst, arith}
 use Rattle.std.proofs.lemmas.Option.{same_Some}
-use Rattle.std.specs.List.{IsAmong}
+use Rattle.std.proofs.lemmas.Map.Keys.{IsDistinct-cons, IsDistinct-head, IsDistinct-tail}
+use Rattle.std.specs.List.{AllByRecursion, IsAmong, IsDistinct}
+use Rattle.std.specs.Map.{keys_of}
+use Rattle.std.specs.Cmp.Lexicographic.{pointwise}
+use Rattle.jc_stripe.proofs.CallerLemmas.{none_twice}
 use Rattle.jc_types.specs.Stripes.{stripe_of}
 use Rattle.jc_types.specs.Refusals.{is_put_off}
 use Rattle.jc_types.specs.declared.caller.Caller.{Caller}
@@ -34,12 +39,12 @@ use Rattle.jc_rounds.specs.KeyProgress.{is_held_back, is_joined, is_settled, is_
 use Rattle.jc_rounds.specs.Keys.{HasBegun, HasJoined, IsHeldBack, IsJoinFor}
 use Rattle.jc_rounds.specs.Seats.{HasGrown, view_at, view_of}
 use Rattle.jc_rounds.specs.SoFar.{AreHeldBack, AreIn, GoesOn, IsHeldAt, IsKept}
-use Rattle.jc_rounds.specs.Starting.{IsFull, IsRoomFor}
+use Rattle.jc_rounds.specs.Starting.{AreManyJoined, HaveJoined, IsFull, IsRoomFor}
 use Rattle.jc_rounds.specs.Keys.{IsTicketFor}
 use Rattle.jc_rounds.specs.KeyProgress.{is_reserved}
 use Rattle.jc_types.specs.declared.limits.TheConstants.{JOINERS_MAX, RESERVATIONS_MAX}
 use Rattle.jc_stripe.specs.Tickets.{TicketClaim}
-use Rattle.jc_rounds.proofs.Asked.{among_there, in_head}
+use Rattle.jc_rounds.proofs.Asked.{among_there}
 use Rattle.jc_rounds.proofs.Out.{is_no}
 use Rattle.jc_rounds.proofs.SeatPhases.{Seated, grown_itself, grown_on}
 use Rattle.jc_rounds.proofs.SoFar.{refused_later, refused_since}
@@ -179,11 +184,58 @@ module _ {X : Type 0} (has : Progress → Bool) (fits : Bytes → Op → X → T
       by true here f h = let n = f here.1 in omega arith
       by false rest f h = let n = h rest in omega arith
 
+-- the keys that have joined loads
+abbrev joined_keys : List (Bytes × Op) → List Progress → List Bytes
+joined_keys [] ps = []
+joined_keys (t ∷ ts) [] = []
+joined_keys (t ∷ ts) (Waiting ∷ ps) = joined_keys ts ps
+joined_keys (t ∷ ts) (Reserved ∷ ps) = joined_keys ts ps
+joined_keys (t ∷ ts) (Joined ∷ ps) = t.0 ∷ joined_keys ts ps
+joined_keys (t ∷ ts) (Ended e ∷ ps) = joined_keys ts ps
+
+many_keys : {X : Type 0} (fits : Bytes → Op → X → Type 0) (ts : List (Bytes × Op)) (ps : List Progress) (xs : List X) → AreIn is_joined fits ts ps xs → length xs ≤ length (joined_keys ts ps)
+many_keys fits [] ps xs are = let n = ap length are in omega arith
+many_keys fits (t ∷ ts) [] xs are = let n = ap length are in omega arith
+many_keys fits (t ∷ ts) (Waiting ∷ ps) [] are = omega arith
+many_keys fits (t ∷ ts) (Reserved ∷ ps) [] are = omega arith
+many_keys fits (t ∷ ts) (Joined ∷ ps) [] are = omega arith
+many_keys fits (t ∷ ts) (Ended e ∷ ps) [] are = omega arith
+many_keys fits (t ∷ ts) (Waiting ∷ ps) (x ∷ xs) are = many_keys fits ts ps (x ∷ xs) are
+many_keys fits (t ∷ ts) (Reserved ∷ ps) (x ∷ xs) are = many_keys fits ts ps (x ∷ xs) are
+many_keys fits (t ∷ ts) (Joined ∷ ps) (x ∷ xs) are = let n = many_keys fits ts ps xs are.1 in omega (arith, n)
+many_keys fits (t ∷ ts) (Ended e ∷ ps) (x ∷ xs) are = many_keys fits ts ps (x ∷ xs) are
+
+apart_joined : (key : Bytes) (ts : List (Bytes × Op)) (ps : List Progress) → AllByRecursion (λ k. pointwise ◌==◌ key k ≡ false) (keys_of ts) → AllByRecursion (λ k. pointwise ◌==◌ key k ≡ false) (joined_keys ts ps)
+apart_joined key [] ps apart = tt
+apart_joined key (t ∷ ts) [] apart = tt
+apart_joined key (t ∷ ts) (Waiting ∷ ps) apart = apart_joined key ts ps apart.1
+apart_joined key (t ∷ ts) (Reserved ∷ ps) apart = apart_joined key ts ps apart.1
+apart_joined key (t ∷ ts) (Joined ∷ ps) apart = (apart.0, apart_joined key ts ps apart.1)
+apart_joined key (t ∷ ts) (Ended e ∷ ps) apart = apart_joined key ts ps apart.1
+
+distinct_joined : (ts : List (Bytes × Op)) (ps : List Progress) → IsDistinct (pointwise ◌==◌) (keys_of ts) → IsDistinct (pointwise ◌==◌) (joined_keys ts ps)
+distinct_joined [] ps d = none_twice
+distinct_joined (t ∷ ts) [] d = none_twice
+distinct_joined (t ∷ ts) (Waiting ∷ ps) d = distinct_joined ts ps (IsDistinct-tail (pointwise ◌==◌) t.0 (keys_of ts) d)
+distinct_joined (t ∷ ts) (Reserved ∷ ps) d = distinct_joined ts ps (IsDistinct-tail (pointwise ◌==◌) t.0 (keys_of ts) d)
+distinct_joined (t ∷ ts) (Joined ∷ ps) d =
+    IsDistinct-cons (pointwise ◌==◌) t.0 (joined_keys ts ps) (apart_joined t.0 ts ps (IsDistinct-head (pointwise ◌==◌) t.0 (keys_of ts) d)) (distinct_joined ts ps (IsDistinct-tail (pointwise ◌==◌) t.0 (keys_of ts) d))
+distinct_joined (t ∷ ts) (Ended e ∷ ps) d = distinct_joined ts ps (IsDistinct-tail (pointwise ◌==◌) t.0 (keys_of ts) d)
+
+all_joined : (Q : Bytes → Type 0) (ts : List (Bytes × Op)) (ps : List Progress) → ((place : ℕ) (key : Bytes) (op : Op) → slice_get ts place ≡ Some (key, op) → slice_get ps place ≡ Some Joined → Q key) → AllByRecursion Q (joined_keys ts ps)
+all_joined Q [] ps h = tt
+all_joined Q (t ∷ ts) [] h = tt
+all_joined Q (t ∷ ts) (Waiting ∷ ps) h = all_joined Q ts ps (λ place. h (suc place))
+all_joined Q (t ∷ ts) (Reserved ∷ ps) h = all_joined Q ts ps (λ place. h (suc place))
+all_joined Q (t ∷ ts) (Joined ∷ ps) h = (h zero t.0 t.1 refl refl, all_joined Q ts ps (λ place. h (suc place)))
+all_joined Q (t ∷ ts) (Ended e ∷ ps) h = all_joined Q ts ps (λ place. h (suc place))
+
 -- no room: the key at this place waits, so it is neither reserved nor has it joined a load
-pub full_by : (caller : Caller) (config : Config) (before : Bytes → View) (stripes : ℕ) (ts : List (Bytes × Op)) (ps : List Progress) (calls : List Reservation) (joins : List JoinClaim) (most room place asked : ℕ) → length ps ≡ length ts → slice_get ps place ≡ Some Waiting
+pub full_by : (caller : Caller) (config : Config) (before : Bytes → View) (stripes : ℕ) (ts : List (Bytes × Op)) (ps : List Progress) (a b : List Seated) (calls : List Reservation) (joins : List JoinClaim) (most room place asked : ℕ) → IsDistinct (pointwise ◌==◌) (keys_of ts)
+    → length ps ≡ length ts → slice_get ps place ≡ Some Waiting → HaveJoined stripes ts a b ps
     → AreIn is_reserved (IsTicketFor caller config) ts ps calls → AreIn is_joined (λ key op join. IsJoinFor caller (before key) key op join) ts ps joins → IsRoomFor RESERVATIONS_MAX (length ts) stripes most → IsRoomFor JOINERS_MAX (length ts) stripes room
-    → asked ≡ length calls → (most ≤ asked) ⊎ (room ≤ length joins) → IsFull stripes ts asked
-full_by caller config before stripes ts ps calls joins most room place asked many waits are joined most_is room_is same full = by full most_is room_is
+    → asked ≡ length calls → (most ≤ asked) ⊎ (room ≤ length joins) → IsFull stripes ts a b asked
+full_by caller config before stripes ts ps a b calls joins most room place asked d many waits have are joined most_is room_is same full = by full most_is room_is
   where
     fewer : length calls < length ts
     fewer = fewer_out is_reserved (IsTicketFor caller config) ts ps calls place Waiting many waits refl are
@@ -191,14 +243,50 @@ full_by caller config before stripes ts ps calls joins most room place asked man
     fewer_joined : length joins < length ts
     fewer_joined = fewer_out is_joined (λ key op join. IsJoinFor caller (before key) key op join) ts ps joins place Waiting many waits refl joined
 
-    a_get : (js : List JoinClaim) → AreIn is_joined (λ key op join. IsJoinFor caller (before key) key op join) ts ps js → 0 < length js → (key : Bytes) × IsAmong ts (key, Get)
-    a_get [] are some = absurd (omega arith)
-    a_get (j ∷ js) are some =
-        let head = in_head is_joined (λ key op join. IsJoinFor caller (before key) key op join) ts ps j js are in
-        (head.1, among_there ts head.0 (head.1, Get) (head.3 ∙ ap (λ o. Some (head.1, o)) head.4.op_is))
+    many_joined : JOINERS_MAX * stripes < length joins → AreManyJoined stripes ts a b
+    many_joined more = record {
+      joined = joined_keys ts ps;
+      distinct = distinct_joined ts ps d;
+      many = (let n = many_keys (λ key op join. IsJoinFor caller (before key) key op join) ts ps joins joined in omega (arith, more, n));
+      each = all_joined (λ (key : Bytes). IsAmong ts (key, Get) × HasJoined (view_of stripes a key) (view_of stripes b key) key Get) ts ps
+          (λ i key op at there. let h = have i key op at there in (among_there ts i (key, Get) (at ∙ ap (λ o. Some (key, o)) h.0), subst (HasJoined (view_of stripes a key) (view_of stripes b key) key) h.0 h.1));
+    }
 
-    by : (most ≤ asked) ⊎ (room ≤ length joins) → IsRoomFor RESERVATIONS_MAX (length ts) stripes most → IsRoomFor JOINERS_MAX (length ts) stripes room → IsFull stripes ts asked
+    by : (most ≤ asked) ⊎ (room ≤ length joins) → IsRoomFor RESERVATIONS_MAX (length ts) stripes most → IsRoomFor JOINERS_MAX (length ts) stripes room → IsFull stripes ts a b asked
     by (inl none) (inl all) rooms = absurd (omega (arith, fewer, none, all, same))
     by (inl none) (inr more) rooms = inl (omega (arith, none, more))
     by (inr none) mosts (inl all) = absurd (omega (arith, fewer_joined, none, all))
-    by (inr none) mosts (inr more) = inr (omega (arith, fewer_joined, none, more), a_get joins joined (omega (arith, none, more)))
+    by (inr none) mosts (inr more) = inr (many_joined (omega (arith, none, more)))
+
+-- a round stays full in a later view
+all_later : (stripes : ℕ) (ts : List (Bytes × Op)) (a b c : List Seated) → ((i : ℕ) → HasGrown (view_at b i) (view_at c i)) → (keys : List Bytes)
+    → AllByRecursion (λ (key : Bytes). IsAmong ts (key, Get) × HasJoined (view_of stripes a key) (view_of stripes b key) key Get) keys → AllByRecursion (λ (key : Bytes). IsAmong ts (key, Get) × HasJoined (view_of stripes a key) (view_of stripes c key) key Get) keys
+all_later stripes ts a b c grown [] all = tt
+all_later stripes ts a b c grown (k ∷ keys) all = ((all.0.0, joined_later (view_of stripes a k) (view_of stripes b k) (view_of stripes c k) k Get (grown (stripe_of k stripes)) all.0.1), all_later stripes ts a b c grown keys all.1)
+
+pub full_later : (stripes : ℕ) (ts : List (Bytes × Op)) (a b c : List Seated) (m n : ℕ) → m ≤ n → ((i : ℕ) → HasGrown (view_at b i) (view_at c i)) → IsFull stripes ts a b m → IsFull stripes ts a c n
+full_later stripes ts a b c m n more grown (inl many) = inl (omega (arith, many, more))
+full_later stripes ts a b c m n more grown (inr j) = inr (record { joined = j.joined; distinct = j.distinct; many = j.many; each = all_later stripes ts a b c grown j.joined j.each })
+
+-- a first phase, at the key of a place
+pub have_more : (caller : Caller) (config : Config) (stripes : ℕ) (ts : List (Bytes × Op)) (a b c : List Seated) (ps : List Progress) (i : ℕ) (k : Bytes) (o : Op) (begin : Begun) (p : Progress) (xs xs' : List TicketClaim) (joins joins' : List JoinClaim)
+    → slice_get ts i ≡ Some (k, o) → ((j : ℕ) → HasGrown (view_at a j) (view_at b j)) → ((j : ℕ) → HasGrown (view_at b j) (view_at c j)) → HasBegun caller config (view_of stripes b k) (view_of stripes c k) k o begin → IsKept begin p xs xs' joins joins'
+    → HaveJoined stripes ts a b ps → HaveJoined stripes ts a c (set ps i p)
+have_more caller config stripes ts a b c ps i k o begin p xs xs' joins joins' at one two has kept have place key op there is = by (set_get ps i place p Joined is)
+  where
+    joins_now : (b' : Begun) → HasBegun caller config (view_of stripes b k) (view_of stripes c k) k o b' → IsKept b' p xs xs' joins joins' → Joined ≡ p → (o ≡ Get) × HasJoined (view_of stripes b k) (view_of stripes c k) k o
+    joins_now (begun.Joined join) has kept is = (has.1.op_is, has.2)
+    joins_now (begun.Done done) has kept is = (let bad = is ∙ kept.0 in cc)
+    joins_now (begun.Asks ticket) has kept is = (let bad = is ∙ kept.0 in cc)
+    joins_now (begun.Refused refusal) has kept is = absurd (not_joined refusal (is_put_off refusal) (is ∙ kept.0))
+      where
+        not_joined : (refusal : Refusal) (t : Bool) → Joined ≡ (if t then Waiting else Ended (Err refusal)) → ⊥
+        not_joined refusal true bad = cc
+        not_joined refusal false bad = cc
+
+    by : ((place ≡ i) × (Joined ≡ p)) ⊎ ((place ≡ i → ⊥) × (slice_get ps place ≡ Some Joined)) → (op ≡ Get) × HasJoined (view_of stripes a key) (view_of stripes c key) key op
+    by (inl here) =
+        let same : (k, o) ≡ (key, op) = same_Some (k, o) (key, op) (sym at ∙ ap (slice_get ts) (sym here.0) ∙ there) in
+        let now = joins_now begin has kept here.1 in
+        subst (λ (u : Bytes × Op). (u.1 ≡ Get) × HasJoined (view_of stripes a u.0) (view_of stripes c u.0) u.0 u.1) same (now.0, joined_since (view_of stripes a k) (view_of stripes b k) (view_of stripes c k) k o (one (stripe_of k stripes)) now.1)
+    by (inr other) = let h = have place key op there other.1 in (h.0, joined_later (view_of stripes a key) (view_of stripes b key) (view_of stripes c key) key op (two (stripe_of key stripes)) h.1)

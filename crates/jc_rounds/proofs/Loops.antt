@@ -1,10 +1,10 @@
 -- The loops of a round over the keys of a call.
 --     noted_since, note_on, noted_advances    all failures are noted
---     start_from, start_more, start_over       the first phases: before the first key, one key more, after the last one
+--     start_from, none_joined, start_more, start_over       the first phases: before the first key, one key more, after the last one
 --     start_else, start_past                   a key for which there is no room, and one that doesn't wait
 --     commit_noted, commit_from, next_commit, commit_none, commit_past, commit_over    the last phases
 --     pick_noted, pick_from, next_pick, pick_none, pick_past, pick_over              the pick-ups
-use Rattle.std.proofs.Common.{◌≡◌, ◌⊎◌, inl, inr, ◌≤◌, ◌+◌, ◌++◌, ℕ, List, [], ◌∷◌, length, map, reverse, slice_get, false, true≢false, Some, vec_capacity, vec_len, refl, sym, ap, subst, ◌∙◌, arith}
+use Rattle.std.proofs.Common.{◌≡◌, ⊎_elim, inl, inr, ◌≤◌, ◌+◌, ◌++◌, ℕ, List, [], ◌∷◌, length, map, reverse, slice_get, false, true≢false, Some, vec_capacity, vec_len, refl, sym, ap, subst, ◌∙◌, arith}
 use Rattle.std.proofs.lemmas.List.{reverse-reverse}
 use Rattle.std.specs.Global.{Vec}
 use Rattle.jc_model.specs.Cache.{Bytes}
@@ -17,16 +17,16 @@ use Rattle.jc_rounds.specs.declared.bulk_call.BulkCall.{BulkCall}
 use Rattle.jc_rounds.specs.declared.progress.Progress.{Progress}
 use Rattle.jc_rounds.specs.declared.progress.Progress.TheVariants.{Waiting, Reserved, Joined}
 use Rattle.jc_rounds.specs.Answers.{AreAnswers}
-use Rattle.jc_rounds.specs.KeyProgress.{IsCauseIn, IsNoted, failures, is_joined, is_reserved, is_waiting}
+use Rattle.jc_rounds.specs.KeyProgress.{IsCauseIn, IsNoted, StillWaits, failures, is_joined, is_reserved, is_waiting}
 use Rattle.jc_rounds.specs.Keys.{IsJoinFor, IsTicketFor}
 use Rattle.jc_rounds.specs.Rounds.{Round, faults_in}
 use Rattle.jc_rounds.specs.Seats.{view_of}
 use Rattle.jc_rounds.specs.SoFar.{AreHeldBack, AreIn, IsHeldAt}
-use Rattle.jc_rounds.specs.Starting.{IsFull}
+use Rattle.jc_rounds.specs.Starting.{HaveJoined, IsFull}
 use Rattle.jc_rounds.specs.Targets.{ops_of}
-use Rattle.jc_rounds.specs.Underway.{Advances, HasCommitted, HasStarted, IsAnswered, IsBetween, IsCommitting, IsCommittingNext, IsOn, IsPicking, IsPickingNext, IsStarting, Past, are_fresh, reserved_by}
+use Rattle.jc_rounds.specs.Underway.{Advances, HasCommitted, HasNoRoom, HasStarted, IsAnswered, IsBetween, IsCommitting, IsCommittingNext, IsOn, IsPicking, IsPickingNext, IsStarting, KeepsJoined, Past, are_fresh, reserved_by}
 use Rattle.jc_rounds.proofs.Failures.{cause_met, keeps_both, keeps_noted, noted_all}
-use Rattle.jc_rounds.proofs.Held.{full_by, held_next, not_held}
+use Rattle.jc_rounds.proofs.Held.{full_by, full_later, held_next, not_held}
 use Rattle.jc_rounds.proofs.OnCall.{on_by}
 use Rattle.jc_rounds.proofs.Out.{none_in, nothing_out}
 use Rattle.jc_rounds.proofs.Underway.{as_many, last_first, none_at_all, settled_by, settled_next, under_next}
@@ -37,10 +37,6 @@ no_items v none = none_long v.items (sym v.ok.0 ∙ none)
     none_long : {X : Type 0} (xs : List X) → length xs ≡ 0 → xs ≡ []
     none_long [] is = refl
     none_long (x ∷ xs) is = absurd (omega arith)
-
-full_more : (stripes : ℕ) (ops : List (Bytes × Op)) (m n : ℕ) → m ≤ n → IsFull stripes ops m → IsFull stripes ops n
-full_more stripes ops m n more (inl many) = inl (omega (arith, many, more))
-full_more stripes ops m n more (inr joins) = inr joins
 
 none_mapped : (ts : List TicketClaim) → map reserved_by ts ≡ [] → ts ≡ []
 none_mapped [] is = refl
@@ -87,7 +83,7 @@ module _ {I J : Type 0} {D : I → Type 0} {E : J → Type 0} where
 
   abbrev pub Held : CacheState → Past → Session I J D E → Session I J D E → BulkCall → ℕ → Type 0
   Held cache past old new call end =
-      AreHeldBack (IsFull cache.config.stripes (ops_of call.targets.now) (length call.tickets.items)) end past.caller cache.config.stripes (ops_of call.targets.now) old.seats.items new.seats.items call.progress.items
+      AreHeldBack (IsFull cache.config.stripes (ops_of call.targets.now) old.seats.items new.seats.items (length call.tickets.items)) end past.caller cache.config.stripes (ops_of call.targets.now) old.seats.items new.seats.items call.progress.items
 
   pub start_from : (cache : CacheState) (past : Past) (session : Session I J D E) (call : BulkCall) → IsBetween cache past session call → IsStarting cache past session call 0
   start_from cache past session call between =
@@ -100,37 +96,58 @@ module _ {I J : Type 0} {D : I → Type 0} {E : J → Type 0} where
         settled = λ i p le at. settled_by p (none_in is_reserved _ ops call.progress.items u.so_far.many u.calls_are i p at) (none_in is_joined _ ops call.progress.items u.so_far.many u.joins_are i p at);
       }
 
+  -- nothing has joined a load before the first phases
+  pub none_joined : (cache : CacheState) (past : Past) (session : Session I J D E) (call : BulkCall) → IsBetween cache past session call → HaveJoined cache.config.stripes (ops_of call.targets.now) session.seats.items session.seats.items call.progress.items
+  none_joined cache past session call between place key op at there =
+      let u = between.on.under in
+      absurd (true≢false (none_in is_joined _ (ops_of call.targets.now) call.progress.items u.so_far.many u.joins_are place Joined there))
+
+  -- one key more
   pub start_more : (cache : CacheState) (past : Past) (a b c : Session I J D E) (x y z : BulkCall) (place : ℕ) → Advances a b x y → Advances b c y z → Held cache past a b y place → length y.tickets.items ≤ length z.tickets.items
-      → IsHeldAt (IsFull cache.config.stripes (ops_of z.targets.now) (length z.tickets.items)) place past.caller cache.config.stripes (ops_of z.targets.now) b.seats.items c.seats.items z.progress.items → Held cache past a c z (place + 1)
-  start_more cache past a b c x y z place one two held more here =
-      held_next (IsFull cache.config.stripes (ops_of z.targets.now) (length y.tickets.items)) (IsFull cache.config.stripes (ops_of z.targets.now) (length z.tickets.items)) place past.caller cache.config.stripes (ops_of z.targets.now)
-      a.seats.items b.seats.items c.seats.items x.progress.items y.progress.items z.progress.items (full_more cache.config.stripes (ops_of z.targets.now) (length y.tickets.items) (length z.tickets.items) more) one.goes two.goes
-      (subst (λ t. AreHeldBack (IsFull cache.config.stripes (ops_of t.now) (length y.tickets.items)) place past.caller cache.config.stripes (ops_of t.now) a.seats.items b.seats.items y.progress.items) (sym two.targets) held) here
+      → HaveJoined cache.config.stripes (ops_of z.targets.now) a.seats.items c.seats.items z.progress.items → IsStarting cache past c z (place + 1)
+      → IsHeldAt (StillWaits z.progress.items place × HasNoRoom z) place past.caller cache.config.stripes (ops_of z.targets.now) b.seats.items c.seats.items z.progress.items → Held cache past a c z (place + 1)
+  start_more cache past a b c x y z place one two held more have starting here =
+      held_next (IsFull n ops a.seats.items b.seats.items (length y.tickets.items)) (IsFull n ops a.seats.items c.seats.items (length z.tickets.items)) place past.caller n ops
+      a.seats.items b.seats.items c.seats.items x.progress.items y.progress.items z.progress.items (full_later n ops a.seats.items b.seats.items c.seats.items (length y.tickets.items) (length z.tickets.items) more two.goes.grown) one.goes two.goes
+      (subst (λ t. AreHeldBack (IsFull n (ops_of t.now) a.seats.items b.seats.items (length y.tickets.items)) place past.caller n (ops_of t.now) a.seats.items b.seats.items y.progress.items) (sym two.targets) held)
+      (λ key op p at there is. ⊎_elim (λ none. inl (full none)) (λ back. inr back) (here key op p at there is))
+    where
+      n : ℕ
+      n = cache.config.stripes
+
+      ops : List (Bytes × Op)
+      ops = ops_of z.targets.now
+
+      full : StillWaits z.progress.items place × HasNoRoom z → IsFull n ops a.seats.items c.seats.items (length z.tickets.items)
+      full none =
+          let on = starting.on in
+          full_by past.caller cache.config (view_of n past.first) n ops z.progress.items a.seats.items c.seats.items (map reserved_by z.tickets.items) z.joins.items
+          z.most (vec_capacity z.joins) place (length z.tickets.items) on.distinct on.under.so_far.many none.0 have on.under.calls_are on.under.joins_are on.most on.joins_room (sym (as_many reserved_by z.tickets.items)) none.1
 
   -- there is no room for the key at this place
-  pub start_else : (cache : CacheState) (past : Past) (session : Session I J D E) (call : BulkCall) (place : ℕ) → slice_get call.progress.items place ≡ Some Waiting → (call.most ≤ length call.tickets.items) ⊎ (vec_capacity call.joins ≤ length call.joins.items)
+  pub start_else : (cache : CacheState) (past : Past) (session : Session I J D E) (call : BulkCall) (place : ℕ) → slice_get call.progress.items place ≡ Some Waiting → HasNoRoom call
       → IsStarting cache past session call place
       → IsStarting cache past session call (place + 1) × (length call.tickets.items ≤ length call.tickets.items)
-      × IsHeldAt (IsFull cache.config.stripes (ops_of call.targets.now) (length call.tickets.items)) place past.caller cache.config.stripes (ops_of call.targets.now) session.seats.items session.seats.items call.progress.items
-  start_else cache past session call place waits full starting =
-      let u = starting.on.under in (
-        record { on = starting.on; fresh = starting.fresh; few = starting.few; settled = settled_next call.progress.items place starting.settled },
-        omega arith,
-        λ key op p at there held. inl (full_by past.caller cache.config (view_of cache.config.stripes past.first) cache.config.stripes (ops_of call.targets.now) call.progress.items (map reserved_by call.tickets.items) call.joins.items
-            call.most (vec_capacity call.joins) place (length call.tickets.items) u.so_far.many waits u.calls_are u.joins_are starting.on.most starting.on.joins_room (sym (as_many reserved_by call.tickets.items)) full),
-      )
+      × IsHeldAt (StillWaits call.progress.items place × HasNoRoom call) place past.caller cache.config.stripes (ops_of call.targets.now) session.seats.items session.seats.items call.progress.items × KeepsJoined cache session session call call
+  start_else cache past session call place waits full starting = (
+    record { on = starting.on; fresh = starting.fresh; few = starting.few; settled = settled_next call.progress.items place starting.settled },
+    omega arith,
+    (λ key op p at there held. inl (waits, full)),
+    λ start grown have. have,
+  )
 
   -- the key at this place doesn't wait
   pub start_past : (cache : CacheState) (past : Past) (session : Session I J D E) (call : BulkCall) (place : ℕ) (q : Progress) → slice_get call.progress.items place ≡ Some q → is_waiting q ≡ false → IsStarting cache past session call place
       → IsStarting cache past session call (place + 1) × (length call.tickets.items ≤ length call.tickets.items)
-      × IsHeldAt (IsFull cache.config.stripes (ops_of call.targets.now) (length call.tickets.items)) place past.caller cache.config.stripes (ops_of call.targets.now) session.seats.items session.seats.items call.progress.items
+      × IsHeldAt (StillWaits call.progress.items place × HasNoRoom call) place past.caller cache.config.stripes (ops_of call.targets.now) session.seats.items session.seats.items call.progress.items × KeepsJoined cache session session call call
   start_past cache past session call place q here isnt starting = (
     record { on = starting.on; fresh = starting.fresh; few = starting.few; settled = settled_next call.progress.items place starting.settled },
     omega arith,
-    λ key op p at there held. absurd (
+    (λ key op p at there held. absurd (
         let same : q ≡ p = (let is : Some q ≡ Some p = sym here ∙ there in cc) in
         not_held p (ap is_waiting (sym same) ∙ isnt) (starting.settled place p (omega arith) there) held
-        ),
+        )),
+    λ start grown have. have,
   )
 
   pub start_over : (cache : CacheState) (past : Past) (old new : Session I J D E) (call mid later : BulkCall) (place : ℕ) → Advances old new call mid → later ≡ record mid { cause = later.cause } → IsNoted mid.cause (failures mid.progress.items) later.cause → length mid.progress.items ≤ place

@@ -5,7 +5,7 @@
 --     advances_itself, advances_both, advances_by    no phase, two, and one
 --     unnoted_itself, unnoted_both, unnoted_by       the same, of what hasn't been noted
 --     on_by             the call goes on, as its keys go on
---     starting_on       a first phase
+--     starting_on, held_by, kept_joined       a first phase
 --     committing_on     a commit
 --     picking_on        a pick-up
 use Rattle.std.proofs.Common.{◌≡◌, ◌==◌, ◌⊎◌, inl, inr, ◌<◌, ◌≤◌, ◌+◌, ◌++◌, ℕ, List, [], ◌∷◌, length, map, set, reverse, slice_get, true, false, Option, None, Some, Result, Ok, vec_capacity, vec_len, refl, sym, ap, subst, ◌∙◌, arith}
@@ -15,7 +15,7 @@ use Rattle.std.specs.List.{IsAmong, IsDistinct}
 use Rattle.std.specs.Map.{keys_of}
 use Rattle.std.specs.Cmp.Lexicographic.{pointwise}
 use Rattle.jc_types.specs.declared.limits.TheConstants.{JOINERS_MAX, RESERVATIONS_MAX}
-use Rattle.jc_rounds.specs.Starting.{IsRoomFor}
+use Rattle.jc_rounds.specs.Starting.{HaveJoined, IsRoomFor}
 use Rattle.jc_types.specs.declared.config.Config.{Config}
 use Rattle.jc_types.specs.declared.refusal.Refusal.{Refusal}
 use Rattle.jc_model.specs.Batches.{is_among}
@@ -52,10 +52,10 @@ use Rattle.jc_rounds.specs.Recorded.{steps_of}
 use Rattle.jc_types.specs.declared.caller.Caller.{Caller}
 use Rattle.jc_rounds.specs.SoFar.{AreSettledFrom, AreUnder, GoesOn, IsHeldAt, IsKept, IsPicked, IsUnderway}
 use Rattle.jc_rounds.specs.Targets.{ops_of}
-use Rattle.jc_rounds.specs.Underway.{Advances, AdvancesUnnoted, HasRoom, IsCommitting, IsCommittingNext, IsFresh, IsOn, IsPicking, IsPickingNext, IsStarting, KeepsRoom, Past, are_fresh, reserved_by}
+use Rattle.jc_rounds.specs.Underway.{Advances, AdvancesUnnoted, HasRoom, IsCommitting, IsCommittingNext, IsFresh, IsOn, IsPicking, IsPickingNext, IsStarting, KeepsJoined, KeepsRoom, Past, are_fresh, reserved_by}
 use Rattle.jc_rounds.proofs.Asked.{asked_set, unasked_at}
 use Rattle.jc_rounds.proofs.Failures.{among_after, among_either, failures_stay, keeps_both, keeps_itself, keeps_same}
-use Rattle.jc_rounds.proofs.Held.{goes_both, goes_itself, goes_set, held_at, kept_held, set_there}
+use Rattle.jc_rounds.proofs.Held.{goes_both, goes_itself, goes_set, have_more, held_at, kept_held, set_there}
 use Rattle.jc_rounds.proofs.SoFar.{among_more}
 use Rattle.jc_rounds.proofs.Underway.{committed_on, first_join, first_ticket, picked_not_joined, picked_on, place_near, settled_set, stay_set, started_on, under_set}
 
@@ -235,6 +235,16 @@ module _ {I J : Type 0} {D : I → Type 0} {E : J → Type 0} (cache : CacheStat
       (subst (IsHeldAt ⊥ place past.caller n (ops_of call.targets.now) old.seats.items new.seats.items) (sym is)
       (held_at past.caller n (ops_of call.targets.now) old.seats.items new.seats.items (set call.progress.items place p) place (key, op) p at (set_there call.progress.items place p (place_near call.progress.items place Waiting waits))
       (kept_held past.caller cache.config (view_of n old.seats.items key) (view_of n new.seats.items key) key op b p call.tickets.items later.tickets.items call.joins.items later.joins.items has kept)))
+
+  pub kept_joined : (place : ℕ) (key : Bytes) (op : Op) (b : Begun) (p : Progress) → later.progress.items ≡ set call.progress.items place p → slice_get (ops_of call.targets.now) place ≡ Some (key, op)
+      → IsKept b p call.tickets.items later.tickets.items call.joins.items later.joins.items
+      → IsKeyPhase cache old key (counted_begun b) new (HasBegun old.agent.caller cache.config (view_of cache.config.stripes old.seats.items key) (view_of cache.config.stripes new.seats.items key) key op b)
+      → KeepsJoined cache old new call later
+  kept_joined place key op b p is at kept phase start grown have =
+      let n = cache.config.stripes in
+      subst (λ t. HaveJoined n (ops_of t.now) start new.seats.items later.progress.items) (sym same.targets)
+      (subst (HaveJoined n (ops_of call.targets.now) start new.seats.items) (sym is)
+      (have_more old.agent.caller cache.config n (ops_of call.targets.now) start old.seats.items new.seats.items call.progress.items place key op b p call.tickets.items later.tickets.items call.joins.items later.joins.items at grown phase.moves.grown phase.made kept have))
 
   -- 4. Last phases.
 

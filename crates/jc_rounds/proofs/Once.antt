@@ -4,26 +4,27 @@
 --     few_asked       so they are no more than the call has
 --     at_most_once    with no more keys than all stripes may have reserved, the second round that asks would ask for a key that the first
 --                     one has put off
-use Rattle.std.proofs.Common.{◌≡◌, ◌==◌, ◌||◌, ◌⊎◌, ⊎_elim, inl, inr, ◌≤◌, ◌+◌, ◌*◌, ◌++◌, ℕ, List, [], ◌∷◌, All, length, length-append, map, true, Option, refl, sym, ap, ◌∙◌, subst, arith}
+use Rattle.std.proofs.Common.{◌≡◌, ◌==◌, ◌||◌, ◌⊎◌, ⊎_elim, inl, inr, ◌≤◌, ◌<◌, ◌+◌, ◌*◌, ◌++◌, ℕ, List, [], ◌∷◌, All, length, length-append, map, true, Option, refl, sym, ap, ◌∙◌, subst, arith}
 use Rattle.std.proofs.lemmas.Cmp.{nat_list_eq_equiv}
 use Rattle.std.proofs.lemmas.List.Concat.{flat_map-append}
 use Rattle.std.proofs.lemmas.List.Folds.{list_any-append}
 use Rattle.std.proofs.lemmas.List.Elements.{All-head, All-tail}
 use Rattle.std.proofs.lemmas.Map.Made.{length-le_from_is_member}
-use Rattle.std.specs.List.{IsAmong}
+use Rattle.std.specs.List.{AllByRecursion, IsAmong}
 use Rattle.std.specs.Map.{keys_of}
 use Rattle.std.specs.Cmp.Lexicographic.{pointwise, same_text}
 use Rattle.jc_types.specs.Stripes.{stripe_of}
 use Rattle.jc_types.specs.declared.caller.Caller.{Caller}
 use Rattle.jc_types.specs.declared.config.Config.{Config}
-use Rattle.jc_types.specs.declared.limits.TheConstants.{JOINERS_MAX, RESERVATIONS_MAX}
+use Rattle.jc_types.specs.declared.limits.TheConstants.{RESERVATIONS_MAX}
 use Rattle.jc_model.specs.Batches.{is_among}
 use Rattle.jc_model.specs.Cache.{Bytes}
 use Rattle.jc_model.specs.declared.event.Op.{Op}
 use Rattle.jc_rounds.specs.Asking.{AsksEachOnce, AsksFor}
 use Rattle.jc_batch.specs.Changes.{changes_of}
 use Rattle.jc_model.specs.declared.event.Change.{Change}
-use Rattle.jc_rounds.specs.Keys.{IsHeldBack}
+use Rattle.jc_model.specs.declared.event.Op.TheVariants.{Get}
+use Rattle.jc_rounds.specs.Keys.{HasJoined, IsHeldBack}
 use Rattle.jc_stripe.specs.Refusals.{first_asked}
 use Rattle.jc_stripe.specs.Tickets.{asks_loader, asks_processor, change_asked}
 use Rattle.jc_rounds.specs.Rounds.{IsShown, KeyRun, LoadAll, ProcessAll, Round, WriteAll, asked_in, keys_asked}
@@ -105,16 +106,23 @@ some_key round rounds some = by (keys_asked round) refl
 module _ (caller : Caller) (stripes : ℕ) (targets : List (Bytes × Op)) (config : Config) where
   -- after a round that has asked, no round asks
   none_later : (old new : List Seated) (e : RoundEnd) (es : List RoundEnd) → seats_after e.seats es ≡ new → EachStartsAll caller stripes targets old (e ∷ es) → All (AsksFor config targets) (calls_of es) → All (λ (r : Round). keys_asked r ≡ [] → ⊥) (calls_of es)
-      → length (asked_in e.calls) ≤ RESERVATIONS_MAX * stripes → length targets ≤ RESERVATIONS_MAX * stripes → IsLeftAlone caller stripes targets old new → length (calls_of es) ≤ 0
-  none_later old new e es last each asks some few all alone = by (calls_of es) refl asks some
+      → length (asked_in e.calls) ≤ RESERVATIONS_MAX * stripes → IsLeftAlone caller stripes targets old new → length (calls_of es) ≤ 0
+  none_later old new e es last each asks some few alone = by (calls_of es) refl asks some
     where
-      never : (key : Bytes) (op : Op) → IsAmong targets (key, op) → IsFull stripes targets (length (asked_in e.calls)) ⊎ IsHeldBack caller (view_of stripes old key) (view_of stripes e.seats key) key op → ⊥
-      never key op among (inl (inl full)) = omega (arith, full, few)
-      never key op among (inl (inr full)) = (let many = full.0 in omega (arith, many, all))
-      never key op among (inr back) =
+      held_on : (key : Bytes) (op : Op) → IsAmong targets (key, op) → IsHeldBack caller (view_of stripes old key) (view_of stripes e.seats key) key op → ⊥
+      held_on key op among back =
           alone key op among
           (held_later caller (view_of stripes old key) (view_of stripes e.seats key) (view_of stripes new key) key op
           (subst (λ (seats : List Seated). HasGrown (view_of stripes e.seats key) (view_of stripes seats key)) last (seats_grow caller stripes targets e.seats es each.3 (stripe_of key stripes))) back)
+
+      none_joins : (keys : List Bytes) → 0 < length keys → AllByRecursion (λ (key : Bytes). IsAmong targets (key, Get) × HasJoined (view_of stripes old key) (view_of stripes e.seats key) key Get) keys → ⊥
+      none_joins [] many all = omega (arith, many)
+      none_joins (k ∷ keys) many all = held_on k Get all.0.0 (inr all.0.1)
+
+      never : (key : Bytes) (op : Op) → IsAmong targets (key, op) → IsFull stripes targets old e.seats (length (asked_in e.calls)) ⊎ IsHeldBack caller (view_of stripes old key) (view_of stripes e.seats key) key op → ⊥
+      never key op among (inl (inl full)) = omega (arith, full, few)
+      never key op among (inl (inr full)) = none_joins full.joined (let many = full.many in omega (arith, many)) full.each
+      never key op among (inr back) = held_on key op among back
 
       by : (rounds : List Round) → calls_of es ≡ rounds → All (AsksFor config targets) rounds → All (λ (r : Round). keys_asked r ≡ [] → ⊥) rounds → length rounds ≤ 0
       by [] is asks some = omega arith
@@ -124,11 +132,11 @@ module _ (caller : Caller) (stripes : ℕ) (targets : List (Bytes × Op)) (confi
           absurd (never key.0 at.0 at.1 (each.2 key.0 at.0 at.1 (ap (λ rs. is_among (asked_in rs) key.0) is ∙ key.1)))
 
   once_from : (old new : List Seated) (es : List RoundEnd) → seats_after old es ≡ new → EachStartsAll caller stripes targets old es → All (AsksFor config targets) (calls_of es) → All (λ (r : Round). keys_asked r ≡ [] → ⊥) (calls_of es)
-      → length (asked_in (calls_of es)) ≤ RESERVATIONS_MAX * stripes → length targets ≤ RESERVATIONS_MAX * stripes → IsLeftAlone caller stripes targets old new → length (calls_of es) ≤ 1
-  once_from old new [] last each asks some few all alone = omega arith
-  once_from old new (e ∷ es) last each asks some few all alone =
+      → length (asked_in (calls_of es)) ≤ RESERVATIONS_MAX * stripes → IsLeftAlone caller stripes targets old new → length (calls_of es) ≤ 1
+  once_from old new [] last each asks some few alone = omega arith
+  once_from old new (e ∷ es) last each asks some few alone =
       by e.calls refl
-      (once_from e.seats new es last each.3 asks_later some_later (omega (arith, keys, few)) all
+      (once_from e.seats new es last each.3 asks_later some_later (omega (arith, keys, few))
       (λ key op among back. alone key op among (held_since caller (view_of stripes old key) (view_of stripes e.seats key) (view_of stripes new key) key op (each.1 (stripe_of key stripes)) back)))
     where
       keys : length (asked_in (calls_of (e ∷ es))) ≡ length (asked_in e.calls) + length (asked_in (calls_of es))
@@ -143,7 +151,7 @@ module _ (caller : Caller) (stripes : ℕ) (targets : List (Bytes × Op)) (confi
       by : (calls : List Round) → e.calls ≡ calls → length (calls_of es) ≤ 1 → length (e.calls ++ calls_of es) ≤ 1
       by [] is later = subst (λ rs. length (rs ++ calls_of es) ≤ 1) (sym is) later
       by (r ∷ rs) is later =
-          let none = none_later old new e es last each asks_later some_later (omega (arith, keys, few)) all alone in
+          let none = none_later old new e es last each asks_later some_later (omega (arith, keys, few)) alone in
           let n = length-append e.calls (calls_of es) in
           let one = each.0 in
           omega (arith, none, n, one)
@@ -153,4 +161,4 @@ module _ (caller : Caller) (stripes : ℕ) (targets : List (Bytes × Op)) (confi
       let few : length (asked_in rounds) ≤ RESERVATIONS_MAX * stripes = (let n = few_asked config targets rounds asks in omega (arith, n, all)) in
       let here : AsksEachOnce config targets (calls_of started.ends) = subst (AsksEachOnce config targets) (sym started.calls_are) asks in
       subst (λ rs. length rs ≤ 1) started.calls_are
-      (once_from old new started.ends started.seats_are started.each here.each here.some (subst (λ rs. length (asked_in rs) ≤ RESERVATIONS_MAX * stripes) (sym started.calls_are) few) all alone)
+      (once_from old new started.ends started.seats_are started.each here.each here.some (subst (λ rs. length (asked_in rs) ≤ RESERVATIONS_MAX * stripes) (sym started.calls_are) few) alone)

@@ -70,7 +70,7 @@ use Rattle.jc_rounds.specs.Targets.{ops_of}
 use Rattle.jc_rounds.specs.Underway.{HasCommitted, HasStarted, IsBetween, IsNew, IsOn, IsOver, Past, are_fresh, reserved_by, with_round}
 use Rattle.jc_rounds.proofs.Asked.{asked_more, asked_on, new_key, none_asked, some_there, unasked_at}
 use Rattle.jc_rounds.proofs.Failures.{met_fault, noted_all}
-use Rattle.jc_rounds.proofs.Held.{goes_both, held_after}
+use Rattle.jc_rounds.proofs.Held.{full_later, goes_both, held_after}
 use Rattle.jc_rounds.proofs.OnCall.{met_stay}
 use Rattle.jc_rounds.proofs.Out.{none_are, none_in}
 use Rattle.jc_rounds.proofs.SeatPhases.{Seated, grown_itself, view_there}
@@ -248,8 +248,9 @@ module _ {I J : Type 0} {D : I → Type 0} {E : J → Type 0} where
   round_of cache past old mid new call begun later calls between started same one two few keys = record {
     few = few;
     goes = goes_both old.seats.items mid.seats.items new.seats.items call.progress.items begun.progress.items later.progress.items one two;
-    held = held_after (IsFull n ops (length begun.tickets.items)) (IsFull n ops (length (asked_in calls))) (length ops) past.caller n ops old.seats.items mid.seats.items new.seats.items begun.progress.items later.progress.items
-        (subst (IsFull n ops) many) two (subst (λ t. AreHeldBack (IsFull n (ops_of t.now) (length begun.tickets.items)) (length (ops_of t.now)) past.caller n (ops_of t.now) old.seats.items mid.seats.items begun.progress.items) same started.held);
+    held = held_after (IsFull n ops old.seats.items mid.seats.items (length begun.tickets.items)) (IsFull n ops old.seats.items new.seats.items (length (asked_in calls))) (length ops) past.caller n ops old.seats.items mid.seats.items new.seats.items begun.progress.items
+        later.progress.items (full_later n ops old.seats.items mid.seats.items new.seats.items (length begun.tickets.items) (length (asked_in calls)) (omega (arith, many)) two.grown) two
+        (subst (λ t. AreHeldBack (IsFull n (ops_of t.now) old.seats.items mid.seats.items (length begun.tickets.items)) (length (ops_of t.now)) past.caller n (ops_of t.now) old.seats.items mid.seats.items begun.progress.items) same started.held);
     waited = λ place key op at asked.
         let p = some_there ops call.progress.items place (key, op) between.on.under.so_far.many at in
         p.1 ∙ ap Some (by place key op at asked p.0 p.1 (settled_by p.0 (none_in is_reserved _ ops call.progress.items between.on.under.so_far.many between.on.under.calls_are place p.0 p.1) (none_in is_joined _ ops call.progress.items between.on.under.so_far.many between.on.under.joins_are place p.0 p.1)));

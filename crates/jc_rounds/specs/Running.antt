@@ -46,13 +46,13 @@ module _ (caller : Caller) (stripes : ℕ) (targets : List (Bytes × Op)) where
   abbrev pub HeldInEach : List (TableId × View) → List RoundEnd → List Progress → Type 0
   HeldInEach old [] progress = Unit {0}
   HeldInEach old (e ∷ es) progress =
-      AreHeldBack (IsFull stripes targets (length (asked_in e.calls))) (length targets) caller stripes targets old e.seats progress × HeldInEach e.seats es progress
+      AreHeldBack (IsFull stripes targets old e.seats (length (asked_in e.calls))) (length targets) caller stripes targets old e.seats progress × HeldInEach e.seats es progress
 
   -- `calls` is what it has asked outside
   pub record IsRound (old new : List (TableId × View)) (progress later : List Progress) (calls : List Round) : Type 0 where
     pub few : length calls ≤ 1
     pub goes : GoesOn old new progress later
-    pub held : AreHeldBack (IsFull stripes targets (length (asked_in calls))) (length targets) caller stripes targets old new later
+    pub held : AreHeldBack (IsFull stripes targets old new (length (asked_in calls))) (length targets) caller stripes targets old new later
     pub waited : (place : ℕ) (key : Bytes) (op : Op) → slice_get targets place ≡ Some (key, op) → is_among (asked_in calls) key ≡ true → slice_get progress place ≡ Some Waiting
 
 abbrev pub with_rounds : Past → List Round → Past

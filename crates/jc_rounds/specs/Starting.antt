@@ -1,7 +1,8 @@
 -- A round starts every key that it can.
 --     IsRoomFor       room for as many of these keys, or for one more than all stripes may have out
---     IsFull          a round has asked for more keys than all stripes may have reserved; or there are more keys than may join loads, and
---                     some may join one
+--     AreManyJoined   between these views more keys have joined loads than all stripes may have joiners
+--     IsFull          a round has asked for more keys than all stripes may have reserved, or so many keys have joined loads in it
+--     HaveJoined      each key that has joined a load has done so between these views
 --     IsPutOff        a key that a round leaves waiting: it was put off in it, or has joined a load that was given back, or the round was full
 --     RoundEnd        what a round has asked outside, if it has asked, and what the session has seen of each stripe after it
 --     calls_of        what these rounds have asked outside
@@ -10,8 +11,9 @@
 --     HasStartedAll   what a call has asked outside was asked in such rounds
 --     IsLeftAlone     none of the keys met another call's reservation or load, or a stripe with as many calls at work as may be
 --     AsksAtMostOnce  a call that was left alone, with no more keys than all stripes may have reserved, asks outside once, if at all
-use Rattle.std.specs.Prelude.{◌≡◌, ◌≤◌, ◌<◌, ◌*◌, ◌⊎◌, ℕ, List, [], ◌∷◌, length, true}
-use Rattle.std.specs.List.{IsAmong, flat_map}
+use Rattle.std.specs.Prelude.{◌≡◌, ◌==◌, ◌≤◌, ◌<◌, ◌*◌, ◌⊎◌, ℕ, List, [], ◌∷◌, length, true, Some, slice_get}
+use Rattle.std.specs.List.{AllByRecursion, IsAmong, IsDistinct, flat_map}
+use Rattle.std.specs.Cmp.Lexicographic.{pointwise}
 use Rattle.atomic_table.specs.Seated.{TableId}
 use Rattle.jc_types.specs.declared.caller.Caller.{Caller}
 use Rattle.jc_types.specs.declared.limits.TheConstants.{JOINERS_MAX, RESERVATIONS_MAX}
@@ -20,7 +22,9 @@ use Rattle.jc_model.specs.Cache.{Bytes}
 use Rattle.jc_model.specs.declared.event.Op.{Op}
 use Rattle.jc_model.specs.declared.event.Op.TheVariants.{Get}
 use Rattle.jc_lock.specs.declared.view.View.{View}
-use Rattle.jc_rounds.specs.Keys.{IsHeldBack}
+use Rattle.jc_rounds.specs.declared.progress.Progress.{Progress}
+use Rattle.jc_rounds.specs.declared.progress.Progress.TheVariants.{Joined}
+use Rattle.jc_rounds.specs.Keys.{HasJoined, IsHeldBack}
 use Rattle.jc_rounds.specs.Rounds.{Round, asked_in}
 use Rattle.jc_rounds.specs.Seats.{HasGrown, view_at, view_of}
 
@@ -28,11 +32,19 @@ use Rattle.jc_rounds.specs.Seats.{HasGrown, view_at, view_of}
 abbrev pub IsRoomFor : ℕ → ℕ → ℕ → ℕ → Type 0
 IsRoomFor most keys stripes room = (keys ≤ room) ⊎ (most * stripes < room)
 
--- `asked` is for how many keys the round has asked
-abbrev pub IsFull : ℕ → List (Bytes × Op) → ℕ → Type 0
-IsFull stripes targets asked =
-    (RESERVATIONS_MAX * stripes < asked)
-    ⊎ ((JOINERS_MAX * stripes < length targets) × ((key : Bytes) × IsAmong targets (key, Get)))
+pub record AreManyJoined (stripes : ℕ) (targets : List (Bytes × Op)) (old new : List (TableId × View)) : Type 0 where
+  pub joined : List Bytes
+  pub distinct : IsDistinct (pointwise ◌==◌) joined
+  pub many : JOINERS_MAX * stripes < length joined
+  pub each : AllByRecursion (λ (key : Bytes). IsAmong targets (key, Get) × HasJoined (view_of stripes old key) (view_of stripes new key) key Get) joined
+
+-- `old` and `new` are the seats before and after the round, `asked` is for how many keys it has asked
+abbrev pub IsFull : ℕ → List (Bytes × Op) → List (TableId × View) → List (TableId × View) → ℕ → Type 0
+IsFull stripes targets old new asked = (RESERVATIONS_MAX * stripes < asked) ⊎ AreManyJoined stripes targets old new
+
+abbrev pub HaveJoined : ℕ → List (Bytes × Op) → List (TableId × View) → List (TableId × View) → List Progress → Type 0
+HaveJoined stripes targets old new progress = (place : ℕ) (key : Bytes) (op : Op) → slice_get targets place ≡ Some (key, op) → slice_get progress place ≡ Some Joined
+    → (op ≡ Get) × HasJoined (view_of stripes old key) (view_of stripes new key) key op
 
 pub record RoundEnd : Type 0 where
   pub calls : List Round
@@ -47,7 +59,7 @@ seats_after old (e ∷ es) = seats_after e.seats es
 
 module _ (caller : Caller) (stripes : ℕ) (targets : List (Bytes × Op)) where
   abbrev pub IsPutOff : ℕ → List (TableId × View) → List (TableId × View) → Bytes → Op → Type 0
-  IsPutOff asked old new key op = IsFull stripes targets asked ⊎ IsHeldBack caller (view_of stripes old key) (view_of stripes new key) key op
+  IsPutOff asked old new key op = IsFull stripes targets old new asked ⊎ IsHeldBack caller (view_of stripes old key) (view_of stripes new key) key op
 
   abbrev pub EachStartsAll : List (TableId × View) → List RoundEnd → Type 0
   EachStartsAll old [] = Unit {0}

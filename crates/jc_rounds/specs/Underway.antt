@@ -17,10 +17,12 @@
 --     IsCommittingNext   the same with the next ticket taken out
 --     HasCommitted  the last phases were made: no key is reserved
 --     IsPicking     the pick-ups are being made, and are at this place
+--     HasNoRoom     nothing more may be out
+--     KeepsJoined   a first phase: each key that has joined a load has done so since before the round
 --     HasRoom       one more key may be reserved or join a load: there is room for that
 --     KeepsRoom     only the tickets and the joins have changed, and there is as much room for them
 --     IsOver        no key waits
-use Rattle.std.specs.Prelude.{◌≡◌, ◌==◌, ◌≤◌, ◌<◌, ℕ, List, [], ◌∷◌, ◌++◌, length, map, reverse, true, false, None, nat_lt, vec_capacity}
+use Rattle.std.specs.Prelude.{◌≡◌, ◌==◌, ◌⊎◌, ◌≤◌, ◌<◌, ℕ, List, [], ◌∷◌, ◌++◌, length, map, reverse, true, false, None, nat_lt, vec_capacity}
 use Rattle.std.specs.List.{AllByRecursion, IsAmong, IsDistinct}
 use Rattle.std.specs.Map.{keys_of}
 use Rattle.std.specs.Cmp.Lexicographic.{pointwise}
@@ -43,7 +45,8 @@ use Rattle.jc_rounds.specs.Asking.{HasAsked}
 use Rattle.jc_rounds.specs.KeyProgress.{IsCauseIn, IsMet, KeepsCause, StillWaits, all_waiting, failures, is_joined, is_reserved}
 use Rattle.jc_rounds.specs.Rounds.{Round, asked_in, faults_in}
 use Rattle.jc_rounds.specs.SoFar.{AreHeldBack, AreSettledFrom, AreUnder, GoesOn, IsUnderway}
-use Rattle.jc_rounds.specs.Starting.{IsFull, IsRoomFor}
+use Rattle.jc_rounds.specs.Seats.{HasGrown, view_at}
+use Rattle.jc_rounds.specs.Starting.{HaveJoined, IsFull, IsRoomFor}
 use Rattle.jc_rounds.specs.Targets.{ops_of}
 
 pub record Past : Type 0 where
@@ -109,7 +112,7 @@ module _ {I J : Type 0} {D : I → Type 0} {E : J → Type 0} (cache : CacheStat
     pub on : IsOn new call call.tickets.items call.joins.items
     pub fresh : are_fresh past.rounds call.tickets.items
     pub few : length call.tickets.items ≤ call.most
-    pub held : AreHeldBack (IsFull cache.config.stripes (ops_of call.targets.now) (length call.tickets.items)) (length (ops_of call.targets.now)) past.caller cache.config.stripes (ops_of call.targets.now) old.seats.items new.seats.items call.progress.items
+    pub held : AreHeldBack (IsFull cache.config.stripes (ops_of call.targets.now) old.seats.items new.seats.items (length call.tickets.items)) (length (ops_of call.targets.now)) past.caller cache.config.stripes (ops_of call.targets.now) old.seats.items new.seats.items call.progress.items
 
   -- 2. Last phases. The tickets stand in the other order.
 
@@ -158,6 +161,14 @@ pub record Advances {I J : Type 0} {D : I → Type 0} {E : J → Type 0} (old ne
 pub record AdvancesUnnoted {I J : Type 0} {D : I → Type 0} {E : J → Type 0} (old new : Session I J D E) (call later : BulkCall) : Type 0 where
   pub advances : Advances old new call later
   pub cause : later.cause ≡ call.cause
+
+abbrev pub HasNoRoom : BulkCall → Type 0
+HasNoRoom call = (call.most ≤ length call.tickets.items) ⊎ (vec_capacity call.joins ≤ length call.joins.items)
+
+-- `start` is what the session had seen before the round
+abbrev pub KeepsJoined : {I J : Type 0} {D : I → Type 0} {E : J → Type 0} → CacheState → Session I J D E → Session I J D E → BulkCall → BulkCall → Type 0
+KeepsJoined cache old new call later = (start : List (TableId × View)) → ((i : ℕ) → HasGrown (view_at start i) (view_at old.seats.items i))
+    → HaveJoined cache.config.stripes (ops_of call.targets.now) start old.seats.items call.progress.items → HaveJoined cache.config.stripes (ops_of later.targets.now) start new.seats.items later.progress.items
 
 pub record HasRoom (call : BulkCall) : Type 0 where
   pub tickets : length call.tickets.items < call.most

@@ -2,10 +2,9 @@
 ghost use Rattle.std.specs.Prelude.{◌≡◌, ◌⊎◌, ◌<◌, ◌≤◌, ◌+◌, true, false, length, slice_get, vec_capacity, Some};
 ghost use Rattle.jc_rounds.specs.declared.progress.Progress.TheVariants.{Waiting};
 ghost use Rattle.jc_rounds.specs.SoFar.{IsHeldAt, IsKept};
-ghost use Rattle.jc_rounds.specs.Starting.{IsFull};
 ghost use Rattle.jc_rounds.specs.Targets.{ops_of};
-ghost use Rattle.jc_rounds.specs.KeyProgress.{IsNoted, failures};
-ghost use Rattle.jc_rounds.specs.Underway.{Advances, AdvancesUnnoted, HasStarted, HasRoom, IsBetween, IsStarting, KeepsRoom, Past};
+ghost use Rattle.jc_rounds.specs.KeyProgress.{IsNoted, StillWaits, failures};
+ghost use Rattle.jc_rounds.specs.Underway.{Advances, AdvancesUnnoted, HasNoRoom, HasRoom, HasStarted, IsBetween, IsStarting, KeepsJoined, KeepsRoom, Past};
 
 use crate::bulk_call::BulkCall;
 use crate::key::start_key;
@@ -41,9 +40,10 @@ impl<'a> BulkCall<'a> {
         ensures starting { (past : Past) → IsStarting cache.now past session.old self.old place
             → IsStarting cache.now past session.new self.new (place + 1)
             × (length self.old.tickets.items ≤ length self.new.tickets.items)
-            × IsHeldAt (IsFull cache.now.config.stripes (ops_of self.new.targets.now) (length self.new.tickets.items))
+            × IsHeldAt (StillWaits self.new.progress.items place × HasNoRoom self.new)
             place past.caller cache.now.config.stripes (ops_of self.new.targets.now)
-            session.old.seats.items session.new.seats.items self.new.progress.items }
+            session.old.seats.items session.new.seats.items self.new.progress.items
+            × KeepsJoined cache.now session.old session.new self.old self.new }
     {
         if self.progress[place].is_waiting() {
             if self.has_room() {
@@ -62,7 +62,8 @@ impl<'a> BulkCall<'a> {
             → IsStarting cache.now past session.new self.new (place + 1)
             × (length self.old.tickets.items ≤ length self.new.tickets.items)
             × IsHeldAt ⊥ place past.caller cache.now.config.stripes (ops_of self.new.targets.now)
-            session.old.seats.items session.new.seats.items self.new.progress.items }
+            session.old.seats.items session.new.seats.items self.new.progress.items
+            × KeepsJoined cache.now session.old session.new self.old self.new }
     {
         let _types: Option<&(Key, Reply, Value)> = None;
         let key = *self.targets.key(place);
@@ -74,8 +75,7 @@ impl<'a> BulkCall<'a> {
 
     /// Whether one more call may be begun: if it reserves its key, or joins a load, there is room for that.
     fn has_room(&self) -> bool
-        ensures full { result ≡ false → (self.now.most ≤ length self.now.tickets.items)
-            ⊎ (vec_capacity self.now.joins ≤ length self.now.joins.items) }
+        ensures full { result ≡ false → HasNoRoom self.now }
         ensures room { result ≡ true → HasRoom self.now }
     {
         self.tickets.len() < self.most && self.joins.len() < self.joins.capacity()

@@ -1,12 +1,12 @@
 use Rattle.std.proofs.Common.{arith}
-use Rattle.jc_rounds.proofs.Loops.{noted_advances, noted_since, start_from, start_more, start_over}
+use Rattle.jc_rounds.proofs.Loops.{none_joined, noted_advances, noted_since, start_from, start_more, start_over}
 use Rattle.jc_rounds.proofs.OnCall.{unnoted_both, unnoted_itself}
 use Rattle.jc_rounds.proofs.bulk_call.BulkCall.start.Goals as goal
 
 pub loop-place-init : goal.loop-place-init
 loop-place-init g c = record {
   advances = unnoted_itself c.args.session.now c.args.self.now;
-  starting = λ past between. (start_from c.args.cache.now past c.args.session.now c.args.self.now between, λ place less. absurd (omega (arith, less)));
+  starting = λ past between. (start_from c.args.cache.now past c.args.session.now c.args.self.now between, (λ place less. absurd (omega (arith, less))), none_joined c.args.cache.now past c.args.session.now c.args.self.now between);
 }
 
 pub start_at-requires-clause-starting : goal.start_at-requires-clause-starting
@@ -18,7 +18,8 @@ loop-place-preserved g c = record {
   starting = λ past between.
       let now = c.loop-place.invariant.starting past between in
       let next = c.start_at.ensures.starting past now.0 in
-      (next.0, start_more c.args.cache.now past _ _ _ _ _ _ c.loop-place.place c.loop-place.invariant.advances.advances c.start_at.ensures.advances.advances now.1 next.1 next.2);
+      let have = next.3 c.args.session.now.seats.items c.loop-place.invariant.advances.advances.goes.grown now.2 in
+      (next.0, start_more c.args.cache.now past _ _ _ _ _ _ c.loop-place.place c.loop-place.invariant.advances.advances c.start_at.ensures.advances.advances now.1 next.1 have next.0 next.2, have);
 }
 
 pub returns-clause-advances : goal.returns-clause-advances

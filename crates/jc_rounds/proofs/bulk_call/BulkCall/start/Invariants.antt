@@ -1,3 +1,5 @@
+use Rattle.jc_rounds.specs.Starting.{HaveJoined}
+use Rattle.jc_rounds.specs.Targets.{ops_of}
 use Rattle.jc_rounds.specs.Underway.{AdvancesUnnoted, IsBetween, IsStarting, Past}
 use Rattle.jc_rounds.proofs.Loops.{Held}
 use Rattle.jc_rounds.proofs.bulk_call.BulkCall.start.Given as goal
@@ -5,5 +7,6 @@ use Rattle.jc_rounds.proofs.bulk_call.BulkCall.start.Given as goal
 abbrev pub invariant-loop-place : goal.invariant-loop-place
 invariant-loop-place g l = record {
   advances : AdvancesUnnoted l.fn.session l.session l.fn.self l.self;
-  starting : (past : Past) → IsBetween l.fn.cache past l.fn.session l.fn.self → IsStarting l.fn.cache past l.session l.self l.place × Held l.fn.cache past l.fn.session l.session l.self l.place;
+  starting : (past : Past) → IsBetween l.fn.cache past l.fn.session l.fn.self → IsStarting l.fn.cache past l.session l.self l.place × Held l.fn.cache past l.fn.session l.session l.self l.place
+      × HaveJoined l.fn.cache.config.stripes (ops_of l.self.targets.now) l.fn.session.seats.items l.session.seats.items l.self.progress.items;
 }

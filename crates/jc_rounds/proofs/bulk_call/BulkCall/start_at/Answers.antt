@@ -11,7 +11,7 @@ start_waiting-requires-clause-waits g c =
 pub returns-then-has_room-clause-starting : goal.returns-then-has_room-clause-starting
 returns-then-has_room-clause-starting g c past starting =
     let s = c.start_waiting.ensures.starting past starting in
-    (s.0, s.1, λ key op p at there is. ⊎_elim (λ never. absurd never) (λ back. inr back) (s.2 key op p at there is))
+    (s.0, s.1, (λ key op p at there is. ⊎_elim (λ never. absurd never) (λ back. inr back) (s.2 key op p at there is)), s.3)
 
 pub returns-else-has_room-clause-starting : goal.returns-else-has_room-clause-starting
 returns-else-has_room-clause-starting g c past starting =

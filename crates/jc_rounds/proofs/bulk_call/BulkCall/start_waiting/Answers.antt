@@ -1,7 +1,7 @@
 use Rattle.std.proofs.Common.{◌<◌, refl, ap, sym, set, subst, vec_len}
 use Rattle.jc_rounds.specs.declared.bulk_call.BulkCall.{BulkCall}
 use Rattle.jc_rounds.specs.declared.progress.Progress.TheVariants.{Waiting}
-use Rattle.jc_rounds.proofs.OnCall.{held_by, kept_more, may_start, near_in, progress_kept, same_kept, starting_on, unnoted_by}
+use Rattle.jc_rounds.proofs.OnCall.{held_by, kept_joined, kept_more, may_start, near_in, progress_kept, same_kept, starting_on, unnoted_by}
 use Rattle.jc_rounds.proofs.bulk_call.BulkCall.start_waiting.Goals as goal
 
 pub start_key-begun-requires-clause-may : goal.start_key-begun-requires-clause-may
@@ -27,4 +27,5 @@ returns-clause-starting g c past starting =
       starting_on c.args.cache.now past c.args.session.now c.start_key-begun.new.session c.args.self.now _ same c.args.place c.key.result.now c.op-op.result c.start_key-begun.result p is at c.requires.waits c.requires.room c.keep-progress.ensures.kept c.start_key-begun.ensures starting,
       (kept_more c.start_key-begun.result p c.args.self.now.tickets.items mid.tickets.items c.args.self.now.joins.items mid.joins.items c.keep-progress.ensures.kept).0,
       held_by c.args.cache.now past c.args.session.now c.start_key-begun.new.session c.args.self.now _ same c.args.place c.key.result.now c.op-op.result c.start_key-begun.result p is at c.requires.waits c.keep-progress.ensures.kept c.start_key-begun.ensures starting,
+      kept_joined c.args.cache.now past c.args.session.now c.start_key-begun.new.session c.args.self.now _ same c.args.place c.key.result.now c.op-op.result c.start_key-begun.result p is at c.keep-progress.ensures.kept c.start_key-begun.ensures,
     )
