@@ -36,5 +36,5 @@ pub use jc_stripe::{
 pub use jc_types::{Config, Key, Refusal, Value};
 pub use owner::CacheOwner;
 pub use reopening::{ReopenFault, Reopened};
-pub use serving::{Service, serve};
+pub use serving::{Service, serve, work_all};
 pub use session::Session;

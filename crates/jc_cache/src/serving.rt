@@ -17,16 +17,11 @@ pub trait Service<R: Wait, X> {
         requires { Unit {0} };
 }
 
-/// Has this client do its work.
-fn work_by<R: Wait, X, S: Service<R, X>>(rt: &R, service: &S, client: Client<'_>) -> X
-    requires { Unit {0} }
-{
-    let mut client = client;
-    service.work(rt, &mut client)
-}
-
-/// Has each of these clients do its work, on a thread of its own if one can be made. An `Err` says that an allocation failed.
-fn work_all<R: Threads + Wait + Sync, X: Send + Drop, S: Service<R, X> + Sync>(
+/// Has each of these clients do its work, on a thread of its own if one can be made, and waits until all have ended. What they have
+/// returned comes back, in the order of the clients. The clients are dropped after their work: [`CacheOwner::end`] is what ends the cache.
+///
+/// An `Err` says that an allocation failed; then some of them may not have worked. It may wait, as long as the work does.
+pub fn work_all<R: Threads + Wait + Sync, X: Send + Drop, S: Service<R, X> + Sync>(
     rt: &R,
     service: &S,
     clients: Vec<Client<'_>>,
@@ -69,4 +64,12 @@ pub fn serve<R: Threads + Wait + Sync, X: Send + Drop, S: Service<R, X> + Sync>(
         Ok(closed) => Ok((closed, returned)),
         Err(fault) => Err(fault.refusal),
     }
+}
+
+/// Has this client do its work.
+fn work_by<R: Wait, X, S: Service<R, X>>(rt: &R, service: &S, client: Client<'_>) -> X
+    requires { Unit {0} }
+{
+    let mut client = client;
+    service.work(rt, &mut client)
 }

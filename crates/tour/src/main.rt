@@ -83,6 +83,6 @@ fn call_all<R: Print + Threads + Wait + Sync>(
     if let Some(guide) = clients.pop() {
         visiting::visit(rt, alloc, guide)?;
     }
-    let steps = working::work_all(rt, alloc, clients)?;
+    let steps = working::work(rt, alloc, clients)?;
     ending::show_steps(rt, &NAMES, &steps)
 }

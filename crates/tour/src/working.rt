@@ -1,10 +1,10 @@
 //! Workers, each with a client of its own, who call one cache on threads of their own.
 use crate::NAMES;
-use jc_cache::{Client, EntryProcessor, Key, Refusal, Value};
+use jc_cache::{Client, EntryProcessor, Key, Refusal, Service, Value, work_all};
 use jc_store::Increment;
 use std::alloc::Global;
 use std::sync::Wait;
-use std::thread::{self, Threads};
+use std::thread::Threads;
 
 /// How many rounds each worker makes.
 const ROUNDS: u32 = 25;
@@ -13,6 +13,7 @@ const ROUNDS: u32 = 25;
 /// each puts at its own.
 #[derive(Drop)]
 struct Shared {
+    alloc: Global,
     names: Vec<Key>,
     plum: Key,
     counter: Key,
@@ -27,6 +28,7 @@ impl Shared {
             names.push(Key::new(name.as_bytes())?)?;
         }
         Ok(Shared {
+            alloc,
             names,
             plum: Key::new(b"plum")?,
             counter: Key::new(b"counter")?,
@@ -35,40 +37,33 @@ impl Shared {
     }
 }
 
+impl<R: Wait> Service<R, Result<u64, Refusal>> for Shared {
+    /// One worker's work: what all get at first is loaded once, by the first who asks. It ends at the first call that is refused or
+    /// fails. It returns how many steps the worker has made.
+    fn work(&self, rt: &R, client: &mut Client<'_>) -> Result<u64, Refusal> {
+        let Some(name) = self.names.get(client.caller().session as usize) else {
+            return Err(Refusal::TooManySessions);
+        };
+        let Ok(increment) = Box::new(self.alloc, Increment) else {
+            return Err(Refusal::OutOfMemory);
+        };
+        let mut increment: Box<dyn EntryProcessor + Send + Drop> = increment;
+        client.get(rt, &self.plum)?;
+        for _ in 0..ROUNDS {
+            make_round(rt, self, name, client, &mut increment)?;
+        }
+        Ok(client.own())
+    }
+}
+
 /// All workers work, each on a thread of its own. It says how many steps each has made, or why it ended too soon.
-pub fn work_all<R: Threads + Wait + Sync>(
+pub fn work<R: Threads + Wait + Sync>(
     rt: &R,
     alloc: Global,
     clients: Vec<Client<'_>>,
 ) -> anyhow::Result<Vec<Result<u64, Refusal>>> {
     let shared = Shared::new(alloc)?;
-    Ok(thread::map_vec(
-        rt,
-        clients,
-        &|client: Client<'_>| { work(rt, alloc, &shared, client) },
-    )?)
-}
-
-/// One worker's work: what all get at first is loaded once, by the first who asks. It ends at the first call that is refused or fails.
-fn work<R: Wait>(
-    rt: &R,
-    alloc: Global,
-    shared: &Shared,
-    client: Client<'_>,
-) -> Result<u64, Refusal> {
-    let mut client = client;
-    let Some(name) = shared.names.get(client.caller().session as usize) else {
-        return Err(Refusal::TooManySessions);
-    };
-    let Ok(increment) = Box::new(alloc, Increment) else {
-        return Err(Refusal::OutOfMemory);
-    };
-    let mut increment: Box<dyn EntryProcessor + Send + Drop> = increment;
-    client.get(rt, &shared.plum)?;
-    for _ in 0..ROUNDS {
-        make_round(rt, shared, name, &mut client, &mut increment)?;
-    }
-    Ok(client.own())
+    Ok(work_all(rt, &shared, clients)?)
 }
 
 /// One round of a worker: it counts at the key that all have, and puts and gets at its own.
