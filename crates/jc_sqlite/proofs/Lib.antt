@@ -1,0 +1,2 @@
+mod Batches
+pub mod CallerLemmas

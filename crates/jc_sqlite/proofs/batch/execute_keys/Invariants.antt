@@ -1,0 +1,8 @@
+use Rattle.std.proofs.Common.{◌≡◌}
+use Rattle.jc_sqlite.specs.Batch.{key_row}
+use Rattle.jc_sqlite.proofs.Batches.{UnderWay, in_transaction}
+use Rattle.jc_sqlite.proofs.batch.execute_keys.Given as goal
+
+abbrev pub invariant-loop-key : goal.invariant-loop-key
+invariant-loop-key g l =
+    UnderWay g.S.Store l.sql key_row l.keys.keys l.key-iterator (in_transaction l.fn.conn) l.transaction.conn.now × (l.transaction.conn.ghost_name ≡ l.initial.transaction.conn.ghost_name)

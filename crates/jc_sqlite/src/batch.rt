@@ -1,0 +1,88 @@
+//! Batches: a statement for each entry, or for each key, in one transaction.
+ghost use Rattle.std.specs.Prelude.{◌≡◌, map, IsTrue, OnOk, OnErr};
+ghost use Rattle.sqlite.specs.Effect.{Database};
+ghost use Rattle.sqlite.specs.State.{HasCleanDisk, Survives, ExecutesInside};
+ghost use Rattle.sqlite.specs.Held.{state};
+ghost use Rattle.jc_sqlite.specs.Batch.{RanAll, entry_row, key_row};
+
+use indexmap::{IndexMap, IndexSet};
+use jc_types::{Key, Value};
+use sqlite::{Alter, Connection, Error, ErrorCode, Transaction, params};
+
+/// A transaction is open already, which no function of this crate leaves.
+const IN_TRANSACTION: Error = Error::SqliteFailure(ErrorCode::TransactionState);
+
+/// Runs a statement with the key and the value of each entry, or for none of them.
+pub(crate) fn execute_entries<S: Alter>(
+    conn: &mut Connection<S>,
+    sql: &str,
+    entries: &IndexMap<Key, Value>,
+) -> Result<(), Error>
+    ensures all { HasCleanDisk (state S.Store conn.new)
+        → OnOk result (RanAll S.Store sql.now (map entry_row entries.now.entries) conn.old (state S.Store conn.new).committed) }
+    ensures none { HasCleanDisk (state S.Store conn.new) → IsTrue (state S.Store conn.new).is_open
+        → OnErr result (((state S.Store conn.new).now ≡ (state S.Store conn.old).now) × ((state S.Store conn.new).committed ≡ (state S.Store conn.old).committed)) }
+    ensures crash { Survives (state S.Store conn.old) (state S.Store conn.new)
+        (λ trees. (db : Database) × RanAll S.Store sql.now (map entry_row entries.now.entries) conn.old db × (trees ≡ db.trees)) }
+{
+    if !conn.is_autocommit() {
+        return Err(IN_TRANSACTION);
+    }
+    let mut transaction = conn.transaction();
+    for (key, value) in entries.iter() {
+        execute_entry(&mut transaction, sql, key, value)?;
+    }
+    transaction.commit()
+}
+
+/// Runs a statement with each key, or for none of them.
+pub(crate) fn execute_keys<S: Alter>(
+    conn: &mut Connection<S>,
+    sql: &str,
+    keys: &IndexSet<Key>,
+) -> Result<(), Error>
+    ensures all { HasCleanDisk (state S.Store conn.new)
+        → OnOk result (RanAll S.Store sql.now (map key_row keys.now.keys) conn.old (state S.Store conn.new).committed) }
+    ensures none { HasCleanDisk (state S.Store conn.new) → IsTrue (state S.Store conn.new).is_open
+        → OnErr result (((state S.Store conn.new).now ≡ (state S.Store conn.old).now) × ((state S.Store conn.new).committed ≡ (state S.Store conn.old).committed)) }
+    ensures crash { Survives (state S.Store conn.old) (state S.Store conn.new)
+        (λ trees. (db : Database) × RanAll S.Store sql.now (map key_row keys.now.keys) conn.old db × (trees ≡ db.trees)) }
+{
+    if !conn.is_autocommit() {
+        return Err(IN_TRANSACTION);
+    }
+    let mut transaction = conn.transaction();
+    for key in keys.iter() {
+        execute_key(&mut transaction, sql, key)?;
+    }
+    transaction.commit()
+}
+
+/// Runs a statement with a key and a value inside a transaction.
+fn execute_entry<S: Alter>(
+    transaction: &mut Transaction<'_, S>,
+    sql: &str,
+    key: &Key,
+    value: &Value,
+) -> Result<usize, Error>
+    ensures same { transaction.new.conn.ghost_name ≡ transaction.old.conn.ghost_name }
+    ensures runs { HasCleanDisk (state S.Store transaction.new.conn.now) → IsTrue (state S.Store transaction.old.conn.now).in_transaction
+        → ExecutesInside 0 sql.now (entry_row (key.now, value.now)) (state S.Store transaction.old.conn.now) (state S.Store transaction.new.conn.now) result }
+    ensures survives { Survives (state S.Store transaction.old.conn.now) (state S.Store transaction.new.conn.now) (λ _. ⊥) }
+{
+    transaction.execute(sql, params![key.bytes(), value.bytes()])
+}
+
+/// Runs a statement with a key inside a transaction.
+fn execute_key<S: Alter>(
+    transaction: &mut Transaction<'_, S>,
+    sql: &str,
+    key: &Key,
+) -> Result<usize, Error>
+    ensures same { transaction.new.conn.ghost_name ≡ transaction.old.conn.ghost_name }
+    ensures runs { HasCleanDisk (state S.Store transaction.new.conn.now) → IsTrue (state S.Store transaction.old.conn.now).in_transaction
+        → ExecutesInside 0 sql.now (key_row key.now) (state S.Store transaction.old.conn.now) (state S.Store transaction.new.conn.now) result }
+    ensures survives { Survives (state S.Store transaction.old.conn.now) (state S.Store transaction.new.conn.now) (λ _. ⊥) }
+{
+    transaction.execute(sql, params![key.bytes()])
+}

@@ -1,0 +1,52 @@
+//! The database, which all of its loaders and writers share.
+use crate::shared::Shared;
+use crate::table;
+use sqlite::{Connection, Error};
+use std::alloc::{AllocError, Global};
+use std::sync::{Arc, Mutex, Wait};
+
+/// A SQLite file with a table of keys and values, behind a cache.
+///
+/// The table is `entry`, with the columns `key` and `value`, both `BLOB NOT NULL`, and `key` its primary key. Any program that
+/// reads SQLite reads it, as `sqlite3`, once this database is dropped: until then the file is locked. Beside the file there may
+/// be a second one, whose name ends in `-wal`; the two belong together.
+///
+/// A file has one connection at a time. So all loaders and writers of a database share its connection, behind a lock: calls of
+/// different sessions wait for one another here, whatever the cache lets run side by side. A service that loads much makes few
+/// calls for many keys: a `load_all` is one query, a `write_all` or a `delete_all` one transaction.
+#[derive(Drop)]
+pub struct Database {
+    shared: Arc<Mutex<Shared>, Global>,
+}
+
+impl Database {
+    /// Opens a file, or makes it, and makes the table if it isn't there.
+    ///
+    /// Errors: `DatabaseBusy` if the file is open already, in this process or another; `CannotOpen` if it can't be opened or made;
+    /// `NotADatabase` or `DatabaseCorrupt` if it is no database; and what a read or a write of the file may fail with. A file that
+    /// is no database is left as it is, maybe with an empty second file beside it.
+    pub fn open(rt: &HostRuntime, path: &str) -> Result<Database, Error> {
+        let mut connection = Connection::open(rt, path)?;
+        table::create(&mut connection)?;
+        Ok(Database {
+            shared: Arc::new(rt.alloc(), Mutex::new(Shared::new(connection)))?,
+        })
+    }
+
+    /// How many entries the table has. It waits for the lock. An `Err` has the failure's code.
+    pub fn entry_count(&self, rt: &impl Wait) -> Result<u64, u32> {
+        self.shared.lock(rt).entry_count()
+    }
+
+    /// The last failure of a loader or a writer of this database, or none if none has failed. A later success leaves it. It waits
+    /// for the lock.
+    ///
+    /// Its text is what it displays, as `database or disk is full`. A call of the cache has its code alone.
+    pub fn last_error(&self, rt: &impl Wait) -> Option<Error> {
+        self.shared.lock(rt).last_error()
+    }
+
+    pub(crate) fn share(&self) -> Result<Arc<Mutex<Shared>, Global>, AllocError> {
+        Arc::try_clone(&self.shared)
+    }
+}

@@ -1,0 +1,19 @@
+//! A loader and a writer over a SQLite file: a table of keys and values.
+//!
+//! [`Database`] is the file. Each session brings a [`DatabaseLoader`] and a [`DatabaseWriter`] of it (JSR 107, "Integration"), which
+//! share the database's one connection behind a lock. A failure is its code, one of [`code`]'s constants, and its text is kept:
+//! [`Database::last_error`]. The statements themselves, over any connection, are in [`table`].
+#![tactic(auto)]
+
+mod batch;
+pub mod code;
+mod database;
+mod loader;
+mod shared;
+pub mod table;
+mod writer;
+
+pub use code::code_of;
+pub use database::Database;
+pub use loader::DatabaseLoader;
+pub use writer::DatabaseWriter;

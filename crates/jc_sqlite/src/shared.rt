@@ -1,0 +1,106 @@
+//! What all loaders and writers of a database share, behind a lock.
+ghost use Rattle.std.specs.Prelude.{◌<◌, IfErr};
+ghost use Rattle.jc_sqlite.specs.Leaving.{LeavesAllOrNone};
+
+use crate::code::code_of;
+use crate::table;
+use indexmap::{IndexMap, IndexSet};
+use jc_outside::Answers;
+use jc_types::{Key, Value};
+use sqlite::{Connection, Error, File, FileStore};
+use std::alloc::Global;
+
+/// The one connection to the file, and the last failure. Each call keeps its failure, and returns the failure's code.
+#[derive(Drop)]
+pub struct Shared {
+    connection: Connection<FileStore<File>>,
+    last_error: Option<Error>,
+}
+
+impl Shared {
+    pub(crate) fn new(connection: Connection<FileStore<File>>) -> Shared {
+        Shared {
+            connection,
+            last_error: None,
+        }
+    }
+
+    pub(crate) fn last_error(&self) -> Option<Error> {
+        self.last_error
+    }
+
+    pub(crate) fn entry_count(&mut self) -> Result<u64, u32>
+        ensures { IfErr result (λ code. 0 < code) }
+    {
+        match table::entry_count(&mut self.connection) {
+            Ok(count) => Ok(count),
+            Err(error) => Err(self.failed(error)),
+        }
+    }
+
+    pub(crate) fn load(&mut self, key: &Key) -> Result<Option<Value>, u32>
+        ensures { IfErr result (λ code. 0 < code) }
+    {
+        match table::load(&mut self.connection, key) {
+            Ok(found) => Ok(found),
+            Err(error) => Err(self.failed(error)),
+        }
+    }
+
+    pub(crate) fn load_all(
+        &mut self,
+        alloc: Global,
+        keys: &[Key],
+        answers: &mut Answers,
+    ) -> Result<(), u32>
+        ensures { IfErr result (λ code. 0 < code) }
+    {
+        match table::load_all(alloc, &mut self.connection, keys, answers) {
+            Ok(()) => Ok(()),
+            Err(error) => Err(self.failed(error)),
+        }
+    }
+
+    pub(crate) fn write(&mut self, key: &Key, value: &Value) -> Result<(), u32>
+        ensures { IfErr result (λ code. 0 < code) }
+    {
+        match table::write(&mut self.connection, key, value) {
+            Ok(()) => Ok(()),
+            Err(error) => Err(self.failed(error)),
+        }
+    }
+
+    pub(crate) fn delete(&mut self, key: &Key) -> Result<(), u32>
+        ensures { IfErr result (λ code. 0 < code) }
+    {
+        match table::delete(&mut self.connection, key) {
+            Ok(()) => Ok(()),
+            Err(error) => Err(self.failed(error)),
+        }
+    }
+
+    pub(crate) fn write_all(&mut self, entries: &mut IndexMap<Key, Value>) -> Result<(), u32>
+        ensures { LeavesAllOrNone entries.old.entries result entries.new.entries }
+    {
+        match table::write_all(&mut self.connection, entries) {
+            Ok(()) => Ok(()),
+            Err(error) => Err(self.failed(error)),
+        }
+    }
+
+    pub(crate) fn delete_all(&mut self, keys: &mut IndexSet<Key>) -> Result<(), u32>
+        ensures { LeavesAllOrNone keys.old.keys result keys.new.keys }
+    {
+        match table::delete_all(&mut self.connection, keys) {
+            Ok(()) => Ok(()),
+            Err(error) => Err(self.failed(error)),
+        }
+    }
+
+    fn failed(&mut self, error: Error) -> u32
+        ensures { 0 < result }
+    {
+        self.last_error = Some(error);
+        code_of(error)
+    }
+}
