@@ -1,0 +1,116 @@
+//! A service that counts how often each user came. Four workers count side by side, each on a thread of its own, through a cache before a
+//! SQLite file, which is the store of record. Started again, the service goes on from what the file has.
+#![tactic(auto)]
+
+mod counting;
+mod desk;
+
+use indexmap::IndexSet;
+use jc_cache::{CacheLoader, CacheOwner, CacheWriter, Client, Config, Key, Outside};
+use jc_sqlite::{Database, DatabaseLoader, DatabaseWriter};
+use std::alloc::Global;
+use std::sync::Wait;
+use std::thread::Threads;
+
+/// The store of record.
+const PATH: &str = "visits.db";
+
+/// The shape of the cache.
+const CONFIG: Config = Config {
+    stripes: 2,
+    capacity: 64,
+    history: 1_000,
+    read_through: true,
+    write_through: true,
+};
+
+/// How many clients there are: four workers, and the desk.
+const CLIENTS: usize = 5;
+
+/// Who comes to each worker, one after the other.
+const VISITORS: [&str; 8] = ["ann", "ben", "ann", "cid", "dot", "ann", "ben", "eve"];
+
+fn main(rt: HostRuntime) -> anyhow::Result<()> {
+    let alloc = rt.alloc();
+    let database = Database::open(&rt, PATH)?;
+
+    // Each session has a loader and a writer of its own.
+    let mut outside = Vec::new(alloc);
+    for _ in 0..CLIENTS {
+        let loader: Box<dyn CacheLoader + Send + Drop> = Box::new(
+            alloc,
+            DatabaseLoader::new(rt, alloc, &database)?,
+        )?;
+        let writer: Box<dyn CacheWriter + Send + Drop> = Box::new(
+            alloc,
+            DatabaseWriter::new(rt, &database)?,
+        )?;
+        outside.push(Outside {
+            loader: Some(loader),
+            writer: Some(writer),
+        })?;
+    }
+    let served = serve(&rt, alloc, outside);
+    show_error(&rt, &database)?;
+    served
+}
+
+/// A cache is opened, all clients call it, and it is ended.
+fn serve<R: Print + Threads + Wait + Sync>(
+    rt: &R,
+    alloc: Global,
+    outside: Vec<Outside>,
+) -> anyhow::Result<()> {
+    let mut owner = CacheOwner::living(alloc, &CONFIG)?;
+    let sessions = owner.enlist_all(alloc, outside)?;
+    let clients = owner.clients(alloc, sessions)?;
+    call_all(rt, alloc, clients)?;
+    match owner.end(alloc) {
+        Ok(_) => Ok(()),
+        Err(fault) => Err(fault.refusal.into()),
+    }
+}
+
+/// The desk enters new users, the workers count who comes, and the desk reports. An `Err` says why a call failed.
+fn call_all<R: Print + Threads + Wait + Sync>(
+    rt: &R,
+    alloc: Global,
+    clients: Vec<Client<'_>>,
+) -> anyhow::Result<()> {
+    let visitors = visitors(alloc)?;
+    let users = users(alloc, &visitors)?;
+    let mut workers = clients;
+    let Some(desk) = workers.pop() else {
+        return Ok(());
+    };
+    let desk = desk::open(rt, alloc, desk, &users)?;
+    let counted = counting::count(rt, alloc, workers, &visitors);
+    desk::close(rt, alloc, desk, &users)?;
+    counted
+}
+
+/// The visitors, as keys.
+fn visitors(alloc: Global) -> anyhow::Result<Vec<Key>> {
+    let mut visitors = Vec::new(alloc);
+    for name in &VISITORS {
+        visitors.push(Key::new(name.as_bytes())?)?;
+    }
+    Ok(visitors)
+}
+
+/// Each of the visitors once.
+fn users(alloc: Global, visitors: &[Key]) -> anyhow::Result<IndexSet<Key>> {
+    let mut users = IndexSet::new(alloc);
+    for visitor in visitors {
+        users.insert(*visitor)?;
+    }
+    Ok(users)
+}
+
+/// Shows the last failure of the database, if any. A call of the cache has its code alone.
+fn show_error(rt: &(impl Print + Wait), database: &Database) -> anyhow::Result<()> {
+    if let Some(error) = database.last_error(rt) {
+        println!(rt; "the database: {error}")?;
+    }
+    Ok(())
+}
