@@ -137,25 +137,27 @@ module _ {I J : Type 0} {D : I → Type 0} {E : J → Type 0} (loads_all : LoadA
       let filled_so : KeepsCause begun.cause noted.cause = subst (λ (x : BulkCall). KeepsCause begun.cause x.cause) (sym (note ∙ ap (λ (x : BulkCall). record x { cause = option_or x.cause fault }) with)) (keeps_or begun.cause fault) in
       let keeps : KeepsCause call.cause later.cause =
       keeps_both call.cause noted.cause later.cause (keeps_both call.cause begun.cause noted.cause one.cause filled_so) (keeps_both noted.cause committed.cause later.cause two.cause three.cause) in
-      let keys : asked_in (r ∷ []) ≡ reserved_keys (map reserved_by begun.tickets.items) = append-nil (keys_asked r) ∙ keys_are outside.kind (map reserved_by begun.tickets.items) r a.asked in
-      (record {
-        rounds = r ∷ [];
-        run = run_more cache past old new call later (r ∷ []) targets (round_of cache past old mid new call begun later (r ∷ []) run.between started one.targets one.goes goes (omega arith) keys) keeps between run;
-        calls = (
-          after.agent.hands.outside.loader,
-          after.agent.hands.outside.writer,
-          subst (λ h. CallsOnce (boxed loads_all) (boxed load_state) (boxed writes_all) (boxed deletes_all) (boxed write_state) h.loader h.writer r after.agent.hands.outside.loader after.agent.hands.outside.writer)
-              (ap (λ g. g.hands.outside) one.agent) a.calls,
-          (ap (λ g. g.hands.outside.loader) three.agent ∙ ap (λ g. g.hands.outside.loader) two.agent, ap (λ g. g.hands.outside.writer) three.agent ∙ ap (λ g. g.hands.outside.writer) two.agent),
-        );
-        types = (
-          ap (λ g. option_map (λ b. b.vtable) g.hands.outside.loader) (three.agent ∙ ap (λ (g : Agent I J D E). record g { counts = new.agent.counts }) two.agent) ∙ a.types.0 ∙ ap (λ g. option_map (λ b. b.vtable) g.hands.outside.loader) one.agent,
-          ap (λ g. option_map (λ b. b.vtable) g.hands.outside.writer) (three.agent ∙ ap (λ (g : Agent I J D E). record g { counts = new.agent.counts }) two.agent) ∙ a.types.1 ∙ ap (λ g. option_map (λ b. b.vtable) g.hands.outside.writer) one.agent,
-        );
-        agent = same_agent old new (ap (λ g. g.caller) three.agent ∙ ap (λ g. g.caller) two.agent ∙ ap (λ (s : Session I J D E). s.agent.caller) asked.rest ∙ ap (λ g. g.caller) one.agent);
-        targets = targets;
-        most = most;
-      }, λ none. some_one r none)
+      let keys : asked_in (r ∷ []) ≡ reserved_keys (map reserved_by begun.tickets.items) = append-nil (keys_asked r) ∙ keys_are outside.kind (map reserved_by begun.tickets.items) r a.asked in (
+        record {
+          rounds = r ∷ [];
+          run = run_more cache past old new call later (r ∷ []) targets (round_of cache past old mid new call begun later (r ∷ []) run.between started one.targets one.goes goes (omega arith) keys) keeps between run;
+          calls = (
+            after.agent.hands.outside.loader,
+            after.agent.hands.outside.writer,
+            subst (λ h. CallsOnce (boxed loads_all) (boxed load_state) (boxed writes_all) (boxed deletes_all) (boxed write_state) h.loader h.writer r after.agent.hands.outside.loader after.agent.hands.outside.writer)
+                (ap (λ g. g.hands.outside) one.agent) a.calls,
+            (ap (λ g. g.hands.outside.loader) three.agent ∙ ap (λ g. g.hands.outside.loader) two.agent, ap (λ g. g.hands.outside.writer) three.agent ∙ ap (λ g. g.hands.outside.writer) two.agent),
+          );
+          types = (
+            ap (λ g. option_map (λ b. b.vtable) g.hands.outside.loader) (three.agent ∙ ap (λ (g : Agent I J D E). record g { counts = new.agent.counts }) two.agent) ∙ a.types.0 ∙ ap (λ g. option_map (λ b. b.vtable) g.hands.outside.loader) one.agent,
+            ap (λ g. option_map (λ b. b.vtable) g.hands.outside.writer) (three.agent ∙ ap (λ (g : Agent I J D E). record g { counts = new.agent.counts }) two.agent) ∙ a.types.1 ∙ ap (λ g. option_map (λ b. b.vtable) g.hands.outside.writer) one.agent,
+          );
+          agent = same_agent old new (ap (λ g. g.caller) three.agent ∙ ap (λ g. g.caller) two.agent ∙ ap (λ (s : Session I J D E). s.agent.caller) asked.rest ∙ ap (λ g. g.caller) one.agent);
+          targets = targets;
+          most = most;
+        },
+        λ none. some_one r none,
+      )
 
   -- 3. Rounds after rounds.
 

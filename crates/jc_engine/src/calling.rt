@@ -32,7 +32,7 @@ use std::sync::Wait;
 /// speaks for the session; the stripe that a take finds is live, the session's own steps there let the call come, and if it has
 /// write-through on, the agent has a writer. The operation runs no processor.
 ///
-/// Out of line: a [`get`](crate::get) that is a hit shouldn't clear the room of a step and of what the loader answers.
+/// Out of line: a [`get`](crate::get_into) that is a hit shouldn't clear the room of a step and of what the loader answers.
 #[inline(never)]
 pub fn call<G: Gate, R: Wait>(
     rt: &R,

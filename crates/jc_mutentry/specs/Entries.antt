@@ -1,6 +1,7 @@
 -- An entry while a processor runs, and what the processor's calls make of it.
 --     EntryState      an entry: its value when the processor began, whether it may load, what the loader answered, the net effect
 --     new_entry       an entry before the first call
+--     is_keep         a net effect that leaves the entry as it was
 --     asks_load       whether a `getValue` now asks the loader
 --     IsAfter         an entry is after these calls, and they were answered so
 --     IsSameEntry     two states of one entry: it began with the same value, and the same leave to load

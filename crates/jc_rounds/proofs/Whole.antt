@@ -433,19 +433,19 @@ module _ {I J : Type 0} {D : I → Type 0} {E : J → Type 0} where
       subst (λ (s : List Seated). (has : HasStartedAll (next_call old).agent.caller n ops s new.seats.items past.rounds) × IsFirst (next_call old).agent.caller n ops [] has.ends call.cause) first_is
       (subst (λ (c : Caller). (has : HasStartedAll c n ops past.first new.seats.items past.rounds) × IsFirst c n ops [] has.ends call.cause) caller_is (run.started, run.first)) in (
         record {
-        targets_are = ops_are ops ps u.so_far.many over;
-        grown = subst (λ (s : List Seated). (i : ℕ) → HasGrown (view_at s i) (view_at new.seats.items i)) first_is u.so_far.grown;
-        each = all_ended (λ key op ended. HasEnded cache.config (next_call old).agent.caller past.rounds (view_of n old.seats.items key) (view_of n new.seats.items key) key op ended) ops ps each;
-        refused = all_ended (λ key op ended. ended ≡ Err HistoryFull → WasNearFull (next_call old).agent.caller (view_of n old.seats.items key) (view_of n new.seats.items key)) ops ps
-            (λ i key op ended at there. refused_near cache.config (next_call old).agent.caller past.rounds (view_of n old.seats.items key) (view_of n new.seats.items key) key op ended (each i key op ended at there));
-        others = subst (λ (c : Caller). (key : Bytes) (i : ℕ) → is_due n ops key i ≡ false → steps_of c key (view_at new.seats.items i).own ≡ []) caller_is u.so_far.others;
-        former = subst (λ (s : List Seated). (i : ℕ) → former_steps (next_call old).agent.caller (view_at new.seats.items i).own ≡ former_steps (next_call old).agent.caller (view_at s i).own) first_is
-            (subst (λ (c : Caller). (i : ℕ) → former_steps c (view_at new.seats.items i).own ≡ former_steps c (view_at past.first i).own) caller_is u.so_far.former);
-        asked = run.between.on.asked.asked;
-        started = started.0;
-        once = subst (λ (s : List Seated). AsksAtMostOnce (next_call old).agent.caller n ops s new.seats.items past.rounds) first_is
-            (subst (λ (c : Caller). AsksAtMostOnce c n ops past.first new.seats.items past.rounds) caller_is (at_most_once past.caller n ops cache.config past.first new.seats.items past.rounds run.between.on.asked.asked run.started));
-        left = left;
+          targets_are = ops_are ops ps u.so_far.many over;
+          grown = subst (λ (s : List Seated). (i : ℕ) → HasGrown (view_at s i) (view_at new.seats.items i)) first_is u.so_far.grown;
+          each = all_ended (λ key op ended. HasEnded cache.config (next_call old).agent.caller past.rounds (view_of n old.seats.items key) (view_of n new.seats.items key) key op ended) ops ps each;
+          refused = all_ended (λ key op ended. ended ≡ Err HistoryFull → WasNearFull (next_call old).agent.caller (view_of n old.seats.items key) (view_of n new.seats.items key)) ops ps
+              (λ i key op ended at there. refused_near cache.config (next_call old).agent.caller past.rounds (view_of n old.seats.items key) (view_of n new.seats.items key) key op ended (each i key op ended at there));
+          others = subst (λ (c : Caller). (key : Bytes) (i : ℕ) → is_due n ops key i ≡ false → steps_of c key (view_at new.seats.items i).own ≡ []) caller_is u.so_far.others;
+          former = subst (λ (s : List Seated). (i : ℕ) → former_steps (next_call old).agent.caller (view_at new.seats.items i).own ≡ former_steps (next_call old).agent.caller (view_at s i).own) first_is
+              (subst (λ (c : Caller). (i : ℕ) → former_steps c (view_at new.seats.items i).own ≡ former_steps c (view_at past.first i).own) caller_is u.so_far.former);
+          asked = run.between.on.asked.asked;
+          started = started.0;
+          once = subst (λ (s : List Seated). AsksAtMostOnce (next_call old).agent.caller n ops s new.seats.items past.rounds) first_is
+              (subst (λ (c : Caller). AsksAtMostOnce c n ops past.first new.seats.items past.rounds) caller_is (at_most_once past.caller n ops cache.config past.first new.seats.items past.rounds run.between.on.asked.asked run.started));
+          left = left;
         },
         started.1,
       )

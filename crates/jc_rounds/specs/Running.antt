@@ -2,6 +2,7 @@
 --     HeldInEach     each key that is held back now was put off in each of these rounds
 --     IsRound        one round of the session's current call, which has asked this outside, if it has asked: each key that it leaves waiting was
 --                    put off, and it has asked for keys that waited before it
+--     with_rounds    these rounds more
 --     HasRun         the call with nothing out, after rounds of which each started every key that it could; its cause is one of the first that
 --                    it met
 --     near_places    how many places of a history may be held by promises, and how many one step more needs

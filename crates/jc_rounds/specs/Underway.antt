@@ -1,7 +1,9 @@
 -- A call with many keys, between its phases.
 --     Past          what a call has behind it: who makes it, what the session had seen of each stripe before it, and its rounds that asked
 --     with_round    one round more
+--     reserved_by   a ticket's reservation
 --     IsFresh       a ticket for which nobody was asked, of a key for which none of these rounds asked
+--     are_fresh     all of these tickets are so
 --     AreRooms      the memory of the rounds of a call with so many keys, none of which was started
 --     IsNew         a call for these keys before its first round, with room for its rounds
 --     IsOn          the session's current call, with this past, which has these tickets and joins out

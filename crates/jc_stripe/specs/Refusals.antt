@@ -10,6 +10,7 @@
 --     load_of            the number of a reservation, if it asked the loader
 --     load_at            the same of a reservation that may not be there
 --     load_joined        the load that a call joins: a `Get` whose key is missing and is being loaded, with read-through on
+--     may_join           an operation whose call may join another call's load
 --     needs_free_key     a call can be started only if its key is free: it neither answers from the entry nor joins a load
 --     places_needed      the free places of the history that a call needs: `HIT_PLACES` if it answers from the entry or joins, and else `STEP_PLACES`
 --     last_number        the number at which a session's call numbers and a stripe's reservation numbers end
@@ -99,7 +100,6 @@ abbrev pub load_at : Option Reservation → Option ℕ
 load_at None = None
 load_at (Some r) = load_of r.first r.number
 
--- whether an operation may join a load
 abbrev pub may_join : Op → Bool
 may_join Get = true
 may_join ContainsKey = false

@@ -11,8 +11,8 @@ returns-then-len-eq0-clause-runs g c past run =
     let started = c.start.ensures.started past run.between in
     let none = no_items begun.tickets (sym c.len.ensures ∙ c.if-len-eq0.true) in (
       quiet_round (λ v. (goal.CacheLoader-dyn g v).loads_all v.1) (λ v. (goal.CacheLoader-dyn g v).load_state v.1) (λ v. (goal.CacheWriter-dyn g v).writes_all v.1) (λ v. (goal.CacheWriter-dyn g v).deletes_all v.1) (λ v. (goal.CacheWriter-dyn g v).write_state v.1)
-    c.args.cache.now past c.args.session.now c.start.new.session c.pick_up.new.session c.args.call.now begun c.pick_up.new.self run started c.start.ensures.advances none
-    (c.pick_up.ensures.between past (nobody_asked c.args.cache.now past c.args.session.now c.start.new.session begun started none)) c.pick_up.ensures.advances,
+          c.args.cache.now past c.args.session.now c.start.new.session c.pick_up.new.session c.args.call.now begun c.pick_up.new.self run started c.start.ensures.advances none
+          (c.pick_up.ensures.between past (nobody_asked c.args.cache.now past c.args.session.now c.start.new.session begun started none)) c.pick_up.ensures.advances,
       tt,
     )
 
