@@ -5,6 +5,10 @@
 //! given its keys, and answers by [`Answers`]; a writer is given its collection, and what it leaves there splits the batch's keys.
 //! Neither filling nor answering nor splitting takes memory. What a bulk call returns of its keys is filled in the same way
 //! ([`insert_new`]).
+//!
+//! Why it is so:
+//! - A batch is made with the room of its split, before the first phase of its round: nothing is lost for lack of memory after the writer
+//!   has changed the store.
 #![tactic(auto)]
 
 mod answers;

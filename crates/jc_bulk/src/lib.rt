@@ -7,6 +7,10 @@
 //! reserved is put off to a later round. All memory is taken before the first phase, but for the batch of a round after one that has asked.
 //!
 //! What fails is told in a [`BulkFault`]: the cause, each key that failed, and what was found.
+//!
+//! Why it is so:
+//! - Stated by what the session has seen, key by key, by places and filters of own steps: so the order in which joiners are picked up
+//!   doesn't matter.
 #![tactic(auto)]
 
 mod carrying;

@@ -4,6 +4,14 @@
 //! Threads share a cache by `&Cache`. Each has a session of its own, which it doesn't share: what a session has seen of the
 //! cache, contracts know. With it comes what a service needs of the crates below: keys and values, the shape of a cache,
 //! refusals, and the traits of its loader, writer and entry processors.
+//!
+//! Why it is so:
+//! - Phase calls take tickets, joins and done values as the stripe gives them: what is needed of the stripe is tested when it is taken. A
+//!   ticket of another cache is never out here.
+//! - That a session is of a cache is shown by its seats. A session's room is its list of seats.
+//! - `close` tests whether something is out, and only then takes memory. It answers `Busy` if somebody holds a stripe though all sessions
+//!   are there; nobody can, but the lock's rule doesn't say so.
+//! - Stripes are taken beside the door where no phase is made: look, meet, statistics, end of a generation, close.
 #![tactic(auto)]
 
 mod cache;

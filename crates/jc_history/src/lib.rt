@@ -3,6 +3,11 @@
 //! - [`history`] has the history.
 //! - `encoding` appends the bytes of an event, and `decoding` reads the event again.
 //! - `room` says how many bytes an event takes at most.
+//!
+//! Why it is so:
+//! - Each event is stored as bytes: its key and values and some thirty bytes. Room for the largest events is allocated when the history
+//!   is made: three values of 256 bytes, since by the operation table no step has more that differ (`Values.antt`); a reply that repeats
+//!   what came from outside is one byte. Room that grows would let a phase fail in the middle.
 #![tactic(auto)]
 
 mod decoding;

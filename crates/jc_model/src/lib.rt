@@ -10,6 +10,13 @@
 //! - [`legal`] is the slow checker of one stripe's history. It rests on `callers` (the callers' order),
 //!   `stripes` (the keys of one stripe), `listed` (an opening as a plain list) and `reader` (reading
 //!   event by event).
+//!
+//! Why it is so:
+//! - `Op` has all fourteen operations, and the meaning of an entry processor's calls is defined beside them: an operation adds code and
+//!   changes no definition. Twelve are calls by themselves; `Clear` and `LoadAll` are one key of a call of many keys.
+//! - A group is the step with everything that belongs to it; a history is a list of groups and is judged group by group, since whether an
+//!   eviction is lawful depends on its step.
+//! - A session's calls may have any rising numbers: a refused call uses its number up.
 #![tactic(auto)]
 
 pub mod batches;

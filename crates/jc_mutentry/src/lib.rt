@@ -1,4 +1,9 @@
 //! Entry processors: what they are asked, and what they did (JSR 107, "Entry Processors"; `javax.cache.processor`).
+//!
+//! Why it is so:
+//! - The definition of a processor's calls looks back in their list; the code keeps one state; so neither copies the other.
+//! - A session without a loader runs a processor with one that finds nothing: a second method of the trait, with a body, which no
+//!   processor writes.
 #![tactic(auto)]
 
 mod ask;

@@ -34,6 +34,11 @@
 //! the word and all claimers keep true between any two steps is `CountsClaims` in `specs/Rule.antt`. There are four kinds of
 //! step: the counter is made, a claimer is split, two are joined, a piece is claimed. They are proved one by one in
 //! `proofs/Steps.antt`. In the end one claimer has all claims, and all workers have ended: so each piece was claimed once.
+//!
+//! Why it is so:
+//! - A worker says which pieces it can do; a piece takes no memory. Its share is a list that rises. A worker's job is whatever its type
+//!   says. A tool is lent in a slice, of which everything is known afterwards. The list is halved for the threads, so the first worker
+//!   stays on the calling thread. A thread that can't be started is no error.
 #![tactic(auto)]
 
 mod counter;

@@ -6,6 +6,12 @@
 //! those that were reserved, and hands the answers in ([`BulkCall::commit`]); then the round waits for the loads that it has joined
 //! ([`BulkCall::pick_up`]). A key that another call has reserved is put off to a later round, before which the call pauses
 //! ([`BulkCall::wait`]).
+//!
+//! Why it is so:
+//! - Rounds are a struct, not a trait: a trait for what comes between would carry the processor's relations into calls without one.
+//!   Tickets and joins are two vectors with room for what all stripes may have out.
+//! - A round's room is for all its keys, or one more than all stripes may have reserved. What is asked outside is said twice: by the
+//!   steps, and by the rounds.
 #![tactic(auto)]
 
 mod answers;

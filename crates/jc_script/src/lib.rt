@@ -1,6 +1,12 @@
 //! Scripts: lines of commands for a world, and the transcript that they print.
 //!
 //! A script is bytes, and so is its transcript: one line for each thing that happened, up to the first line with a fault.
+//!
+//! Why it is so:
+//! - `not now` is one table, the same for one key and for many. A line of spaces is a `bad line`. After `apply N but` there is at least
+//!   one key, after `applyfail N C but` there may be none. A number has at most nine digits. At `begin` the number is tested before the
+//!   caller. `drop` of a joined call is `not now`. A script over the limit prints nothing.
+//! - Failures are noted by the streams (`Noted`), not by `run`: a contract over any reader can't say that a read failed.
 #![tactic(auto)]
 
 mod commands;

@@ -4,6 +4,10 @@
 //! (JSR 107, "Integration"). [`Counting`] is a loader or a writer that counts its calls, [`ScheduledLoader`] and
 //! [`ScheduledWriter`] are a loader and a writer with a fault at one of their calls, [`Increment`] is an entry processor that counts
 //! in the store.
+//!
+//! Why it is so:
+//! - What counts calls is a wrapper with the relations of what it wraps; so is what has a fault at one of its calls. They can't wrap a
+//!   box. A scheduled writer takes all memory before it hands a copy on.
 #![tactic(auto)]
 
 mod counting;

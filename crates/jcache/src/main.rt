@@ -1,4 +1,10 @@
 //! The program: a command line, the script that it plays, and threads that count.
+//!
+//! Why it is so:
+//! - The command line is what `clap`'s contract says of its words; a law computes it at the words that matter. A help text is put
+//!   together before it is written by one call. Help ends with what the statuses mean.
+//! - What threads bring is one value, a `Crew`: a boxed loader that waits is made only where the runtime is known. A thread that can't be
+//!   started leaves its work to another: the status is 0.
 #![tactic(auto)]
 
 mod commands;
