@@ -333,12 +333,13 @@ fn sweep<R: Abort + Wait>(
     requires { MayCall cache.now session.old }
     ensures { MayCall cache.now session.new }
 {
-    let returned = if random.below(2) == 0 {
-        clear(alloc, rt, cache, session)
+    if random.below(2) == 0 {
+        let returned = clear(alloc, rt, cache, session);
+        is_written(rt, returned, OwnFaults::of(failures));
     } else {
-        remove_every(alloc, rt, cache, session)
-    };
-    is_written(rt, returned, OwnFaults::of(failures));
+        let returned = remove_every(alloc, rt, cache, session);
+        is_written(rt, returned, OwnFaults::of(failures));
+    }
 }
 
 /// Makes a random call.
