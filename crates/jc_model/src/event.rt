@@ -47,6 +47,23 @@ pub enum Op {
     Invoke,
 }
 
+impl Op {
+    ghost use Rattle.std.specs.Prelude.{◌≡◌};
+
+    /// Makes this the other operation, in place. If both are a `get`, a `put`, a `remove(key)` or an `invoke`, only those bytes are
+    /// copied that count.
+    #[inline(always)]
+    pub fn copy_from(&mut self, op: &Op)
+        ensures { self.new ≡ op.now }
+    {
+        match (&mut *self, op) {
+            (Op::Get, Op::Get) | (Op::Remove, Op::Remove) | (Op::Invoke, Op::Invoke) => {}
+            (Op::Put(room), Op::Put(value)) => room.copy_from(value),
+            _ => *self = *op,
+        }
+    }
+}
+
 /// What the loader answered, for one key (`javax.cache.integration.CacheLoader`; JSR 107, "Integration").
 #[derive(Clone, Copy, Debug, PartialEq, Eq)]
 pub enum LoadAnswer {

@@ -151,13 +151,17 @@ pub(crate) fn first_asked(config: &Config, op: &Op, entry: &Option<Value>) -> Fi
     }
 }
 
-/// Whether there is anybody to ask, for which a call has to reserve its key.
-pub(crate) fn reserves(first: &First) -> bool
-    ensures { result ≡ reserves first.now }
+/// Whether there is anybody to ask, for which a call has to reserve its key. It copies no value, as [`first_asked`] does.
+#[inline(always)]
+pub(crate) fn asks_anybody(config: &Config, op: &Op, entry: &Option<Value>) -> bool
+    ensures { result ≡ reserves (first_asked config.now op.now entry.now) }
 {
-    match first {
-        First::Nobody => false,
-        First::Loader | First::Writer(_) | First::Processor { .. } => true,
+    if op.is_invoke() {
+        return true;
+    }
+    match op.loader_ask(config.read_through, entry) {
+        LoaderAsk::Never => change_for(config, op, entry, &ProcessAnswer::NotAsked).is_some(),
+        LoaderAsk::Always | LoaderAsk::IfWanted => true,
     }
 }
 

@@ -77,6 +77,19 @@ impl Reserved for Reservation {
     }
 }
 
+impl Reservation {
+    /// Makes this the reservation of a call. Whom it asks first stays.
+    #[inline(always)]
+    pub(crate) fn set_call(&mut self, caller: Caller, key: &Key, op: &Op, number: u64)
+        ensures { self.new ≡ record self.old { caller = caller; key = key.now; op = op.now; number = number } }
+    {
+        self.caller = caller;
+        self.key = *key;
+        self.op.copy_from(op);
+        self.number = number;
+    }
+}
+
 impl First {
     /// The change of the store that the writer is asked for, if it is asked first.
     fn change(&self) -> Option<Change>

@@ -19,7 +19,7 @@ use super::Stripe;
 use crate::appending::{append_group, make_step};
 use crate::begun::{Begun, StepDone};
 use crate::call_rules::{Found, first_asked, places_needed};
-use crate::ticket::{First, Join, Reservation, Ticket};
+use crate::ticket::{Join, Ticket};
 use jc_model::{Op, Out, Reply};
 use jc_types::{Caller, HIT_PLACES, Key, STEP_PLACES, Value};
 
@@ -75,20 +75,17 @@ impl Stripe {
         requires entry { entry.now ≡ entry_at self.old.cache key.now }
         ensures { Begins self.old caller key.now op.now result self.new }
     {
-        let first = first_asked(&self.config, op, entry);
-        let found = self.find(key, op, entry, &first);
+        let found = self.find(key, op, entry);
         if let Some(refusal) = self.refusal(caller, &found) {
             return Begun::Refused(refusal);
         }
         if let Some(load) = found.load {
             return Begun::Joined(self.join(caller, key, op, load));
         }
-        match first {
-            First::Nobody => Begun::Done(self.finish(caller, key, op, entry, &found)),
-            First::Loader | First::Writer(_) | First::Processor { .. } => {
-                Begun::Asks(self.reserve(caller, key, op, &first))
-            }
+        if found.asks {
+            return Begun::Asks(self.reserve(caller, key, op, entry));
         }
+        self.finish_now(caller, key, op, entry, &found)
     }
 
     /// A `get` that finds its entry, and says whether it did: the one look-up also makes the entry the most recently used, and the
@@ -125,29 +122,26 @@ impl Stripe {
         }
     }
 
-    /// Reserves a key, and keeps room in the history for its commit.
+    /// Reserves a key that has this entry, and keeps room in the history for its commit.
     #[inline(never)]
-    fn reserve(&mut self, caller: Caller, key: &Key, op: &Op, first: &First) -> Ticket
+    fn reserve(&mut self, caller: Caller, key: &Key, op: &Op, entry: &Option<Value>) -> Ticket
         requires free { first_refusal self.old caller key.now op.now ≡ None }
         requires alone { load_joined self.old key.now op.now ≡ None }
         requires needs { needs_reservation self.old key.now op.now ≡ true }
-        requires asks { first_asked self.old.config op.now (entry_at self.old.cache key.now) ≡ first.now }
+        requires entry { entry.now ≡ entry_at self.old.cache key.now }
         requires begins { MayBegin self.old caller key.now }
         ensures ticket { result ≡ record {
-          reservation = new_reservation self.old caller key.now op.now first.now;
+          reservation = new_reservation self.old caller key.now op.now (first_asked self.old.config op.now entry.now);
           asked = false;
           writer_asked = false;
         } }
-        ensures reserved { self.new ≡ with_reservation self.old (new_reservation self.old caller key.now op.now first.now) }
+        ensures reserved { self.new ≡ with_reservation self.old
+            (new_reservation self.old caller key.now op.now (first_asked self.old.config op.now entry.now)) }
     {
         let mut reservation = self.boxes.take();
-        *reservation = Reservation {
-            caller,
-            key: *key,
-            op: *op,
-            number: self.reservations.next_number(),
-            first: *first,
-        };
+        let room = &mut *reservation;
+        room.set_call(caller, key, op, self.reservations.next_number());
+        room.first = first_asked(&self.config, op, entry);
         let _ = self.history.promise(STEP_PLACES);
         let _ = self.reservations.reserve(&reservation);
         Ticket::new(reservation)
@@ -167,7 +161,27 @@ impl Stripe {
         Join::new(caller, key, load)
     }
 
-    /// Does a call at once that asks nobody.
+    /// Does a call at once that asks nobody. It is out of line: a call that reserves its key shouldn't clear the room of a step.
+    #[inline(never)]
+    fn finish_now(
+        &mut self,
+        caller: Caller,
+        key: &Key,
+        op: &Op,
+        entry: &Option<Value>,
+        found: &Found,
+    ) -> Begun
+        requires entry { entry.now ≡ entry_at self.old.cache key.now }
+        requires found { found.now ≡ found_at self.old key.now op.now }
+        requires free { first_refusal self.old caller key.now op.now ≡ None }
+        requires asks { first_asked self.old.config op.now (entry_at self.old.cache key.now) ≡ Nobody }
+        requires begins { MayBegin self.old caller key.now }
+        ensures { Begins self.old caller key.now op.now result self.new }
+    {
+        Begun::Done(self.finish(caller, key, op, entry, found))
+    }
+
+    /// The step of a call that asks nobody.
     fn finish(
         &mut self,
         caller: Caller,

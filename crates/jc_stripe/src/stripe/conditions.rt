@@ -9,7 +9,7 @@ ghost use Rattle.jc_stripe.specs.OwnSteps.{may_come_all};
 ghost use Rattle.jc_stripe.specs.Tests.{is_clear, asks_outside};
 
 use super::Stripe;
-use crate::call_rules::{first_asked, reserves};
+use crate::call_rules::asks_anybody;
 use crate::ticket::{First, Join, Reservation};
 use jc_history::History;
 use jc_inflight::Joiner;
@@ -138,7 +138,7 @@ impl Stripe {
     pub fn asks_outside(&self, key: &Key, op: &Op) -> bool
         ensures { result ≡ asks_outside self.now key.now op.now }
     {
-        reserves(&first_asked(&self.config, op, &self.entry(key)))
+        asks_anybody(&self.config, op, &self.entry(key))
     }
 
     /// Whether a ticket is out here: the stripe's reservation of the key is the ticket's, by its caller, operation,

@@ -4,25 +4,23 @@ ghost use Rattle.jc_types.specs.declared.limits.TheConstants.{RESERVATIONS_MAX, 
 ghost use Rattle.jc_model.specs.declared.event.Op.{Op};
 ghost use Rattle.jc_model.specs.Cache.{Bytes, entry_at};
 ghost use Rattle.jc_stripe.specs.State.{is_reserved, reservation_of};
-ghost use Rattle.jc_stripe.specs.Refusals.{has_room, full_refusal, first_asked, first_refusal, load_at};
+ghost use Rattle.jc_stripe.specs.Refusals.{has_room, full_refusal, first_refusal, load_at};
 ghost use Rattle.jc_stripe.specs.Finding.{found_at};
 
 use super::Stripe;
 use crate::call_rules::{
-    Found, answers_at_once, is_to_reserve, load_of, may_join, places_needed, reserves,
+    Found, answers_at_once, asks_anybody, is_to_reserve, load_of, may_join, places_needed,
 };
-use crate::ticket::First;
 use jc_model::Op;
 use jc_types::{Caller, JOINERS_MAX, Key, LAST_NUMBER, RESERVATIONS_MAX, Refusal, Value};
 
 impl Stripe {
-    /// What a call finds at its key, which has this entry, if it asks this one first.
-    pub(super) fn find(&self, key: &Key, op: &Op, entry: &Option<Value>, first: &First) -> Found
+    /// What a call finds at its key, which has this entry.
+    pub(super) fn find(&self, key: &Key, op: &Op, entry: &Option<Value>) -> Found
         requires entry { entry.now ≡ entry_at self.now.cache key.now }
-        requires asks { first.now ≡ first_asked self.now.config op.now (entry_at self.now.cache key.now) }
         ensures { result ≡ found_at self.now key.now op.now }
     {
-        let asks = reserves(first);
+        let asks = asks_anybody(&self.config, op, entry);
         if answers_at_once(&self.config, op, entry) {
             return Found {
                 load: None,
