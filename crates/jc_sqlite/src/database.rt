@@ -38,8 +38,8 @@ impl Database {
         self.shared.lock(rt).entry_count()
     }
 
-    /// The last failure of a loader or a writer of this database, or none if none has failed. A later success leaves it. It waits
-    /// for the lock.
+    /// The last failure of a loader or a writer of this database, or none if none has failed. A later success leaves it, and so
+    /// does a call that fails because an earlier failure has shut the connection. It waits for the lock.
     ///
     /// Its text is what it displays, as `database or disk is full`. A call of the cache has its code alone.
     pub fn last_error(&self, rt: &impl Wait) -> Option<Error> {

@@ -1,16 +1,17 @@
 //! What all loaders and writers of a database share, behind a lock.
-ghost use Rattle.std.specs.Prelude.{◌<◌, IfErr};
-ghost use Rattle.jc_sqlite.specs.Leaving.{LeavesAllOrNone};
+ghost use Rattle.std.specs.Prelude.{◌≡◌, ◌<◌, Some, IfErr};
+ghost use Rattle.jc_sqlite.specs.Leaving.{LeavesAllOrNone, error_to_keep};
 
 use crate::code::code_of;
 use crate::table;
 use indexmap::{IndexMap, IndexSet};
 use jc_outside::Answers;
 use jc_types::{Key, Value};
-use sqlite::{Connection, Error, File, FileStore};
+use sqlite::{Connection, Error, ErrorCode, File, FileStore};
 use std::alloc::Global;
 
-/// The one connection to the file, and the last failure. Each call keeps its failure, and returns the failure's code.
+/// The one connection to the file, and the last failure. Each call keeps its failure, and returns the failure's code. A call that fails
+/// because the connection is shut keeps what shut it.
 #[derive(Drop)]
 pub struct Shared {
     connection: Connection<FileStore<File>>,
@@ -98,9 +99,20 @@ impl Shared {
     }
 
     fn failed(&mut self, error: Error) -> u32
-        ensures { 0 < result }
+        ensures code { 0 < result }
+        ensures kept { self.new.last_error ≡ Some (error_to_keep self.old.last_error error) }
     {
-        self.last_error = Some(error);
+        self.last_error = Some(error_to_keep(self.last_error, error));
         code_of(error)
+    }
+}
+
+/// What is kept of a failure, beside what is kept already: a call on a connection that is shut leaves what shut it.
+fn error_to_keep(kept: Option<Error>, error: Error) -> Error
+    ensures { result ≡ error_to_keep kept error }
+{
+    match (kept, error) {
+        (Some(first), Error::SqliteFailure(ErrorCode::Closed)) => first,
+        _ => error,
     }
 }
