@@ -1,2 +1,3 @@
 mod Batches
 pub mod CallerLemmas
+mod Statements

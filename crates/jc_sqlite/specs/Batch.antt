@@ -1,21 +1,23 @@
--- `RunsOnce`: the statement ran with these parameters, or failed.
 -- `RanEach`: the statement ran once for each row of parameters, in their order, inside one transaction.
 -- `RanAll`: a whole batch ran so, from the connection before it, and left this database.
--- `entry_row`, `key_row`: the row of parameters of an entry, and that of a key.
--- `load_sql`, `write_sql`, `delete_sql`: the statements that look a key up, write an entry and delete what is at a key.
--- `IsInFirst`: the value is that of the first row, or there is neither.
-use Rattle.std.specs.Prelude.{◌≡◌, ℕ, true, List, [], ◌∷◌, Result, Ok, Err, Option, None, Some, codes}
-use Rattle.sqlite.specs.declared.types.Value.TheVariants.{Blob}
-use Rattle.sqlite.specs.Order.{Row, column}
+-- `FailsAt`: the statement failed at one of the rows, when it had run for those before it.
+-- `FailsAtEnd`: it ran for all rows, and the commit failed.
+-- `FailsInBatch`: why a batch failed, of these two, or because a transaction was open before it.
+-- `RunsAsOne`: a batch ran in one transaction: all of it or none, and if a failure of the disk shut the connection, or if the machine
+-- stopped at any moment, all or none of it is found when the file is opened again.
+use Rattle.std.specs.Prelude.{◌≡◌, ◌⊎◌, ℕ, true, List, [], ◌∷◌, ◌++◌, Result, Ok, Err, IsTrue, OnOk, OnErr, IfErr}
+use Rattle.sqlite.specs.declared.error.Error.{Error}
+use Rattle.sqlite.specs.declared.error.Error.TheVariants.{SqliteFailure}
+use Rattle.sqlite.specs.declared.error.ErrorCode.TheVariants.{TransactionState}
+use Rattle.sqlite.specs.Order.{Row}
 use Rattle.sqlite.specs.Store.{Ghosts}
 use Rattle.sqlite.specs.Effect.{Database}
-use Rattle.sqlite.specs.declared.error.Error.{Error}
-use Rattle.sqlite.specs.State.{State, Executes}
+use Rattle.sqlite.specs.State.{HasCleanDisk, Survives, Executes, ExecutesInside}
+use Rattle.sqlite.specs.Steps.{FailsToCommit}
 use Rattle.sqlite.specs.Held.{Held, state}
 
-abbrev pub RunsOnce : List ℕ → Row → State → State → Result (Unit {0}) Error → Type 0
-RunsOnce sql row old new (Ok done) = (count : ℕ) × Executes sql row old new (Ok count)
-RunsOnce sql row old new (Err e) = Executes sql row old new (Err e)
+abbrev pub in_transaction : {S : Type 0} → Held S → Held S
+in_transaction old = record old { in_transaction = true }
 
 abbrev pub RanEach : {S : Type 0} → Ghosts S → List ℕ → List Row → Held S → Held S → Type 0
 RanEach {S = S} g sql [] old new = new ≡ old
@@ -23,24 +25,31 @@ RanEach {S = S} g sql (row ∷ rows) old new = (mid : Held S) × (count : ℕ) �
 
 pub record RanAll {S : Type 0} (g : Ghosts S) (sql : List ℕ) (rows : List Row) (old : Held S) (db : Database) : Type 0 where
   pub last : Held S
-  pub ran : RanEach g sql rows (record old { in_transaction = true }) last
+  pub ran : RanEach g sql rows (in_transaction old) last
   pub is : db ≡ (state g last).now
 
-abbrev pub entry_row : List ℕ × List ℕ → Row
-entry_row entry = Blob entry.0 ∷ Blob entry.1 ∷ []
+pub record FailsAt {S : Type 0} (g : Ghosts S) (sql : List ℕ) (rows : List Row) (old : Held S) (e : Error) : Type 0 where
+  pub before : List Row
+  pub row : Row
+  pub after : List Row
+  pub split : rows ≡ before ++ row ∷ after
+  pub reached : Held S
+  pub next : Held S
+  pub ran : RanEach g sql before (in_transaction old) reached
+  pub fails : ExecutesInside 0 sql row (state g reached) (state g next) (Err e)
 
-abbrev pub key_row : List ℕ → Row
-key_row key = Blob key ∷ []
+pub record FailsAtEnd {S : Type 0} (g : Ghosts S) (sql : List ℕ) (rows : List Row) (old new : Held S) (e : Error) : Type 0 where
+  pub last : Held S
+  pub ran : RanEach g sql rows (in_transaction old) last
+  pub fails : FailsToCommit (state g last) (state g new) e
 
-abbrev pub load_sql : List ℕ
-load_sql = codes "SELECT value FROM entry WHERE key = ?1"
+abbrev pub FailsInBatch : {S : Type 0} → Ghosts S → List ℕ → List Row → Held S → Held S → Error → Type 0
+FailsInBatch g sql rows old new e = ((e ≡ SqliteFailure TransactionState) × (old.in_transaction ≡ true)) ⊎ (FailsAt g sql rows old e ⊎ FailsAtEnd g sql rows old new e)
 
-abbrev pub write_sql : List ℕ
-write_sql = codes "INSERT INTO entry (key, value) VALUES (?1, ?2) ON CONFLICT (key) DO UPDATE SET value = excluded.value"
-
-abbrev pub delete_sql : List ℕ
-delete_sql = codes "DELETE FROM entry WHERE key = ?1"
-
-abbrev pub IsInFirst : Option (List ℕ) → List Row → Type 0
-IsInFirst found [] = found ≡ None
-IsInFirst found (row ∷ rows) = (bytes : List ℕ) × (found ≡ Some bytes) × (column row 0 ≡ Blob bytes)
+pub record RunsAsOne {S : Type 0} (g : Ghosts S) (sql : List ℕ) (rows : List Row) (old new : Held S) (result : Result (Unit {0}) Error) : Type 0 where
+  -- after a success the last commit has all of it
+  pub all : HasCleanDisk (state g new) → OnOk result (RanAll g sql rows old (state g new).committed)
+  -- after a failure, if the connection is still open, neither the table nor its last commit has changed
+  pub none : HasCleanDisk (state g new) → IsTrue (state g new).is_open → OnErr result (((state g new).now ≡ (state g old).now) × ((state g new).committed ≡ (state g old).committed))
+  pub cause : HasCleanDisk (state g new) → IfErr result (FailsInBatch g sql rows old new)
+  pub crash : Survives (state g old) (state g new) (λ trees. (db : Database) × RanAll g sql rows old db × (trees ≡ db.trees))

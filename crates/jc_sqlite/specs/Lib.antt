@@ -1,2 +1,3 @@
 pub mod Batch
 pub mod Leaving
+pub mod Statements

@@ -1,9 +1,9 @@
 //! Batches: a statement for each entry, or for each key, in one transaction.
-ghost use Rattle.std.specs.Prelude.{◌≡◌, map, IsTrue, OnOk, OnErr};
-ghost use Rattle.sqlite.specs.Effect.{Database};
+ghost use Rattle.std.specs.Prelude.{◌≡◌, map, IsTrue};
 ghost use Rattle.sqlite.specs.State.{HasCleanDisk, Survives, ExecutesInside};
 ghost use Rattle.sqlite.specs.Held.{state};
-ghost use Rattle.jc_sqlite.specs.Batch.{RanAll, entry_row, key_row};
+ghost use Rattle.jc_sqlite.specs.Batch.{RunsAsOne};
+ghost use Rattle.jc_sqlite.specs.Statements.{entry_row, key_row};
 
 use indexmap::{IndexMap, IndexSet};
 use jc_types::{Key, Value};
@@ -18,12 +18,7 @@ pub(crate) fn execute_entries<S: Alter>(
     sql: &str,
     entries: &IndexMap<Key, Value>,
 ) -> Result<(), Error>
-    ensures all { HasCleanDisk (state S.Store conn.new)
-        → OnOk result (RanAll S.Store sql.now (map entry_row entries.now.entries) conn.old (state S.Store conn.new).committed) }
-    ensures none { HasCleanDisk (state S.Store conn.new) → IsTrue (state S.Store conn.new).is_open
-        → OnErr result (((state S.Store conn.new).now ≡ (state S.Store conn.old).now) × ((state S.Store conn.new).committed ≡ (state S.Store conn.old).committed)) }
-    ensures crash { Survives (state S.Store conn.old) (state S.Store conn.new)
-        (λ trees. (db : Database) × RanAll S.Store sql.now (map entry_row entries.now.entries) conn.old db × (trees ≡ db.trees)) }
+    ensures { RunsAsOne S.Store sql.now (map entry_row entries.now.entries) conn.old conn.new result }
 {
     if !conn.is_autocommit() {
         return Err(IN_TRANSACTION);
@@ -41,12 +36,7 @@ pub(crate) fn execute_keys<S: Alter>(
     sql: &str,
     keys: &IndexSet<Key>,
 ) -> Result<(), Error>
-    ensures all { HasCleanDisk (state S.Store conn.new)
-        → OnOk result (RanAll S.Store sql.now (map key_row keys.now.keys) conn.old (state S.Store conn.new).committed) }
-    ensures none { HasCleanDisk (state S.Store conn.new) → IsTrue (state S.Store conn.new).is_open
-        → OnErr result (((state S.Store conn.new).now ≡ (state S.Store conn.old).now) × ((state S.Store conn.new).committed ≡ (state S.Store conn.old).committed)) }
-    ensures crash { Survives (state S.Store conn.old) (state S.Store conn.new)
-        (λ trees. (db : Database) × RanAll S.Store sql.now (map key_row keys.now.keys) conn.old db × (trees ≡ db.trees)) }
+    ensures { RunsAsOne S.Store sql.now (map key_row keys.now.keys) conn.old conn.new result }
 {
     if !conn.is_autocommit() {
         return Err(IN_TRANSACTION);

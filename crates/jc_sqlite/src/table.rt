@@ -1,18 +1,21 @@
 //! The table's statements, each over a connection that is lent: a database's own, or one of yours.
 //!
 //! What a clause says of the content is under `HasCleanDisk`: so far the disk has returned what was written to it.
-ghost use Rattle.std.specs.Prelude.{◌≡◌, List, [], map, IsTrue, IfOk, OnOk, OnErr};
-ghost use Rattle.sqlite.specs.Order.{Row as RowState};
-ghost use Rattle.sqlite.specs.Effect.{Database};
-ghost use Rattle.sqlite.specs.State.{HasCleanDisk, Survives, Shown};
+ghost use Rattle.std.specs.Prelude.{◌≡◌, ◌≢◌, ℕ, List, [], map, IfOk, IfErr, OnOk, OnErr};
+ghost use Rattle.sqlite.specs.declared.types.Value.TheVariants.{Blob};
+ghost use Rattle.sqlite.specs.Order.{column};
+ghost use Rattle.sqlite.specs.Values.{bound};
+ghost use Rattle.sqlite.specs.State.{HasCleanDisk, FailsToQuery, Shown};
+ghost use Rattle.sqlite.specs.Batch.{ExecutesAll};
 ghost use Rattle.sqlite.specs.Held.{state};
-ghost use Rattle.jc_sqlite.specs.Batch.{RunsOnce, RanAll, entry_row, key_row, load_sql, write_sql, delete_sql, IsInFirst};
+ghost use Rattle.jc_sqlite.specs.Batch.{RunsAsOne};
+ghost use Rattle.jc_sqlite.specs.Statements.{create_sql, load_sql, write_sql, delete_sql, entry_row, key_row, RunsOnce, Counts, IsCount, ReadsValue, IsInFirst, Loads};
 
 use crate::batch;
 use indexmap::{IndexMap, IndexSet};
 use jc_outside::Answers;
 use jc_types::{Key, Value};
-use sqlite::types::ValueRef;
+use sqlite::types::{Type, ValueRef};
 use sqlite::{Alter, Connection, Error, ErrorCode, Row, params};
 use std::alloc::Global;
 
@@ -33,23 +36,32 @@ const DELETE: &str = "DELETE FROM entry WHERE key = ?1";
 /// A row that is no entry of a cache.
 const NO_ENTRY: Error = Error::SqliteFailure(ErrorCode::TooBig);
 
-/// Makes the table, if it isn't there.
-pub fn create<S: Alter>(conn: &mut Connection<S>) -> Result<(), Error> {
+/// Makes the table, if it isn't there, by one statement.
+pub fn create<S: Alter>(conn: &mut Connection<S>) -> Result<(), Error>
+    ensures { HasCleanDisk (state S.Store conn.new) → ExecutesAll S.Store create_sql conn.old conn.new result }
+{
     conn.execute_batch(CREATE)
 }
 
-/// How many entries the table has.
-pub fn entry_count<S: Alter>(conn: &mut Connection<S>) -> Result<u64, Error> {
-    conn.query_row(COUNT, &[])?.get(0)
+/// How many entries the table has: what a count of its rows shows. The table stays as it is.
+pub fn entry_count<S: Alter>(conn: &mut Connection<S>) -> Result<u64, Error>
+    ensures { HasCleanDisk (state S.Store conn.new) → Counts (state S.Store conn.old) (state S.Store conn.new) result }
+{
+    count_in(&conn.query_row(COUNT, &[])?)
+}
+
+/// The number in the one column of a row.
+fn count_in(row: &Row) -> Result<u64, Error>
+    ensures { IsCount row.now result }
+{
+    row.get(0)
 }
 
 /// The value at a key, or none (`load`): that of the first row that the query shows.
 ///
-/// A row whose value is longer than a cache's is an `Err`. The table stays as it is.
+/// The table stays as it is. An `Err` is the query's, or the row has no value of a cache: one that is longer, or no bytes.
 pub fn load<S: Alter>(conn: &mut Connection<S>, key: &Key) -> Result<Option<Value>, Error>
-    ensures { HasCleanDisk (state S.Store conn.new)
-        → IfOk result (λ found. (rows : List RowState) × Shown load_sql (key_row key.now) (state S.Store conn.old) (state S.Store conn.new) rows
-        × IsInFirst found rows) }
+    ensures { HasCleanDisk (state S.Store conn.new) → Loads key.now (state S.Store conn.old) (state S.Store conn.new) result }
 {
     let rows = rows_at(conn, key)?;
     first_value(rows.as_slice())
@@ -57,20 +69,20 @@ pub fn load<S: Alter>(conn: &mut Connection<S>, key: &Key) -> Result<Option<Valu
 
 /// The rows at a key: one or none, since keys are unique.
 fn rows_at<S: Alter>(conn: &mut Connection<S>, key: &Key) -> Result<Vec<Row>, Error>
-    ensures { HasCleanDisk (state S.Store conn.new)
+    ensures rows { HasCleanDisk (state S.Store conn.new)
         → IfOk result (λ rows. Shown load_sql (key_row key.now) (state S.Store conn.old) (state S.Store conn.new) rows.items) }
+    ensures cause { HasCleanDisk (state S.Store conn.new)
+        → IfErr result (FailsToQuery load_sql (key_row key.now) (state S.Store conn.old) (state S.Store conn.new)) }
 {
     conn.query_all(LOAD, params![key.bytes()])
 }
 
+/// The value in the first of these rows, or none if there is no row.
 fn first_value(rows: &[Row]) -> Result<Option<Value>, Error>
-    ensures { IfOk result (λ found. IsInFirst found rows.now) }
+    ensures { IsInFirst rows.now result }
 {
     match rows.first() {
-        Some(row) => {
-            let bytes: Vec<u8> = row.get(0)?;
-            Ok(Some(value_of(bytes.as_slice())?))
-        }
+        Some(row) => Ok(Some(value_in(row, 0)?)),
         None => Ok(None),
     }
 }
@@ -93,9 +105,7 @@ pub fn load_all<S: Alter>(
 /// Puts the rows, each a key and a value, into the answers.
 fn put_rows(rows: &[Row], answers: &mut Answers) -> Result<(), Error> {
     for row in rows {
-        let key: Vec<u8> = row.get(0)?;
-        let value: Vec<u8> = row.get(1)?;
-        answers.put(&key_of(key.as_slice())?, &value_of(value.as_slice())?);
+        answers.put(&key_in(row, 0)?, &value_in(row, 1)?);
     }
     Ok(())
 }
@@ -110,16 +120,35 @@ fn query_of(alloc: Global, count: usize) -> Result<String, Error> {
     Ok(text)
 }
 
-fn key_of(bytes: &[u8]) -> Result<Key, Error>
-    ensures { IfOk result (λ key. key ≡ bytes.now) }
+/// The key in a column of a row.
+fn key_in(row: &Row, at: usize) -> Result<Key, Error>
+    ensures { IfOk result (λ key. column row.now at ≡ Blob key) }
 {
-    Key::new(bytes).map_err(|_| NO_ENTRY)
+    match Key::new(bytes_in(row, at)?) {
+        Ok(key) => Ok(key),
+        Err(_) => Err(NO_ENTRY),
+    }
 }
 
-fn value_of(bytes: &[u8]) -> Result<Value, Error>
-    ensures { IfOk result (λ value. value ≡ bytes.now) }
+/// The value in a column of a row.
+fn value_in(row: &Row, at: usize) -> Result<Value, Error>
+    ensures { ReadsValue (column row.now at) result }
 {
-    Value::new(bytes).map_err(|_| NO_ENTRY)
+    match Value::new(bytes_in(row, at)?) {
+        Ok(value) => Ok(value),
+        Err(_) => Err(NO_ENTRY),
+    }
+}
+
+/// The bytes in a column of a row.
+fn bytes_in(row: &Row, at: usize) -> Result<&[u8], Error>
+    ensures bytes { IfOk result (λ bytes. column row.now at ≡ Blob bytes.now) }
+    ensures kind { OnErr result ((bytes : List ℕ) → column row.now at ≢ Blob bytes) }
+{
+    match row.get_ref(at)? {
+        ValueRef::Blob(bytes) => Ok(bytes),
+        other => Err(Error::InvalidColumnType(at, Type::of(other))),
+    }
 }
 
 /// Writes an entry: it is inserted, or its value replaced.
@@ -129,8 +158,7 @@ pub fn write<S: Alter>(conn: &mut Connection<S>, key: &Key, value: &Value) -> Re
     ensures { HasCleanDisk (state S.Store conn.new)
         → RunsOnce write_sql (entry_row (key.now, value.now)) (state S.Store conn.old) (state S.Store conn.new) result }
 {
-    conn.execute(WRITE, params![key.bytes(), value.bytes()])?;
-    Ok(())
+    run_once(conn, WRITE, params![key.bytes(), value.bytes()])
 }
 
 /// Deletes what is at a key, if anything.
@@ -140,7 +168,19 @@ pub fn delete<S: Alter>(conn: &mut Connection<S>, key: &Key) -> Result<(), Error
     ensures { HasCleanDisk (state S.Store conn.new)
         → RunsOnce delete_sql (key_row key.now) (state S.Store conn.old) (state S.Store conn.new) result }
 {
-    conn.execute(DELETE, params![key.bytes()])?;
+    run_once(conn, DELETE, params![key.bytes()])
+}
+
+/// Runs a statement that shows no rows.
+fn run_once<S: Alter>(
+    conn: &mut Connection<S>,
+    sql: &str,
+    given: &[ValueRef<'_>],
+) -> Result<(), Error>
+    ensures { HasCleanDisk (state S.Store conn.new)
+        → RunsOnce sql.now (bound given.now) (state S.Store conn.old) (state S.Store conn.new) result }
+{
+    conn.execute(sql, given)?;
     Ok(())
 }
 
@@ -156,12 +196,7 @@ pub fn write_all<S: Alter>(
 ) -> Result<(), Error>
     ensures written { OnOk result (entries.new.entries ≡ []) }
     ensures left { OnErr result (entries.new.entries ≡ entries.old.entries) }
-    ensures all { HasCleanDisk (state S.Store conn.new)
-        → OnOk result (RanAll S.Store write_sql (map entry_row entries.old.entries) conn.old (state S.Store conn.new).committed) }
-    ensures none { HasCleanDisk (state S.Store conn.new) → IsTrue (state S.Store conn.new).is_open
-        → OnErr result (((state S.Store conn.new).now ≡ (state S.Store conn.old).now) × ((state S.Store conn.new).committed ≡ (state S.Store conn.old).committed)) }
-    ensures crash { Survives (state S.Store conn.old) (state S.Store conn.new)
-        (λ trees. (db : Database) × RanAll S.Store write_sql (map entry_row entries.old.entries) conn.old db × (trees ≡ db.trees)) }
+    ensures batch { RunsAsOne S.Store write_sql (map entry_row entries.old.entries) conn.old conn.new result }
 {
     batch::execute_entries(conn, WRITE, entries)?;
     entries.clear();
@@ -174,12 +209,7 @@ pub fn write_all<S: Alter>(
 pub fn delete_all<S: Alter>(conn: &mut Connection<S>, keys: &mut IndexSet<Key>) -> Result<(), Error>
     ensures deleted { OnOk result (keys.new.keys ≡ []) }
     ensures left { OnErr result (keys.new.keys ≡ keys.old.keys) }
-    ensures all { HasCleanDisk (state S.Store conn.new)
-        → OnOk result (RanAll S.Store delete_sql (map key_row keys.old.keys) conn.old (state S.Store conn.new).committed) }
-    ensures none { HasCleanDisk (state S.Store conn.new) → IsTrue (state S.Store conn.new).is_open
-        → OnErr result (((state S.Store conn.new).now ≡ (state S.Store conn.old).now) × ((state S.Store conn.new).committed ≡ (state S.Store conn.old).committed)) }
-    ensures crash { Survives (state S.Store conn.old) (state S.Store conn.new)
-        (λ trees. (db : Database) × RanAll S.Store delete_sql (map key_row keys.old.keys) conn.old db × (trees ≡ db.trees)) }
+    ensures batch { RunsAsOne S.Store delete_sql (map key_row keys.old.keys) conn.old conn.new result }
 {
     batch::execute_keys(conn, DELETE, keys)?;
     keys.clear();

@@ -1,6 +1,7 @@
 use Rattle.std.proofs.Common.{◌≡◌}
-use Rattle.jc_sqlite.specs.Batch.{key_row}
-use Rattle.jc_sqlite.proofs.Batches.{UnderWay, in_transaction}
+use Rattle.jc_sqlite.specs.Batch.{in_transaction}
+use Rattle.jc_sqlite.specs.Statements.{key_row}
+use Rattle.jc_sqlite.proofs.Batches.{UnderWay}
 use Rattle.jc_sqlite.proofs.batch.execute_keys.Given as goal
 
 abbrev pub invariant-loop-key : goal.invariant-loop-key

@@ -1,15 +1,23 @@
-use Rattle.std.proofs.Common.{Result, Ok, Err, IfOk, subst}
+use Rattle.std.proofs.Common.{Result, Ok, Err, Option, List, ℕ, inl, inr, subst, sym}
+use Rattle.sqlite.specs.declared.error.Error.{Error}
+use Rattle.sqlite.specs.Order.{Row}
+use Rattle.sqlite.specs.State.{State, Shown}
 use Rattle.sqlite.specs.Held.{state}
-use Rattle.jc_sqlite.specs.Batch.{IsInFirst}
+use Rattle.jc_sqlite.specs.Statements.{load_sql, key_row, IsInFirst, Loads}
+use Rattle.jc_sqlite.proofs.Statements.{same_error}
 use Rattle.jc_sqlite.proofs.table.load.Goals as goal
 
-if_ok : {T E : Type 0} (r : Result T E) (P Q : T → Type 0) → ((x : T) → P x → Q x) → IfOk r P → IfOk r Q
-if_ok (Ok x) P Q f h = f x h
-if_ok (Err e) P Q f h = tt
+loads_shown : (key : List ℕ) (old new : State) (rows : List Row) (r : Result (Option (List ℕ)) Error) → Shown load_sql (key_row key) old new rows → IsInFirst rows r → Loads key old new r
+loads_shown key old new rows (Ok found) shown first = (rows, shown, first)
+loads_shown key old new rows (Err e) shown first = inr (rows, shown, first)
 
 pub returns : goal.returns
 returns g c =
     let rows = c.in_ok-rows.rows.items in
-    let new = state g.S.Store c.rows_at.new.conn in
-    λ clean. if_ok c.first_value.result (λ found. IsInFirst found c.as_slice.result.now) _ (λ found it.
-    (rows, c.in_ok-rows.ensures clean, subst (IsInFirst found) c.as_slice.ensures.value it)) c.first_value.ensures
+    λ clean. loads_shown c.args.key.now (state g.S.Store c.args.conn.now) (state g.S.Store c.rows_at.new.conn) rows c.first_value.result (c.in_ok-rows.ensures.rows clean)
+    (subst (λ it. IsInFirst it c.first_value.result) c.as_slice.ensures.value c.first_value.ensures)
+
+pub returns-in_err-rows : goal.returns-in_err-rows
+returns-in_err-rows g c clean =
+    subst (Loads c.args.key.now (state g.S.Store c.args.conn.now) (state g.S.Store c.rows_at.new.conn)) (sym (same_error c.from_residual.result c.in_err-rows.field-0.0 c.from_residual.ensures.1))
+    (inl (c.in_err-rows.ensures.cause clean))

@@ -1,0 +1,68 @@
+-- `create_sql`, `count_sql`, `load_sql`, `write_sql`, `delete_sql`: the statements that make the table, count its rows, look a key up, write
+-- an entry and delete what is at a key.
+-- `entry_row`, `key_row`: the row of parameters of an entry, and that of a key.
+-- `RunsOnce`: the statement ran with these parameters, or failed.
+-- `IsCount`: the number is that of the row's first column; an error is that of this column.
+-- `Counts`: the number is that of the row which the count shows; an error is the query's, or that of this row.
+-- `IsValue`: the column is a value of a cache.
+-- `ReadsValue`: the column has these bytes; after an error it is no value.
+-- `IsInFirst`: the value is that of the first row, or there is neither; after an error the first row has no value.
+-- `Loads`: the value is that of the first row which the query at this key shows; an error is the query's, or that of this row.
+use Rattle.std.specs.Prelude.{◌≡◌, ◌≤◌, ◌⊎◌, ℕ, pos, List, [], ◌∷◌, length, Result, Ok, Err, Option, None, Some, codes}
+use Rattle.jc_types.specs.declared.limits.TheConstants.{VALUE_MAX}
+use Rattle.sqlite.specs.declared.types.Value.{Value}
+use Rattle.sqlite.specs.declared.types.Value.TheVariants.{Int, Blob}
+use Rattle.sqlite.specs.declared.error.Error.{Error}
+use Rattle.sqlite.specs.Order.{Row, column}
+use Rattle.sqlite.specs.Reading.{IsReadError}
+use Rattle.sqlite.specs.State.{State, Executes, FailsToQuery, QueriesRow, Shown}
+
+abbrev pub create_sql : List ℕ
+create_sql = codes "CREATE TABLE IF NOT EXISTS entry (key BLOB PRIMARY KEY NOT NULL, value BLOB NOT NULL) STRICT"
+
+abbrev pub count_sql : List ℕ
+count_sql = codes "SELECT count(*) FROM entry"
+
+abbrev pub load_sql : List ℕ
+load_sql = codes "SELECT value FROM entry WHERE key = ?1"
+
+abbrev pub write_sql : List ℕ
+write_sql = codes "INSERT INTO entry (key, value) VALUES (?1, ?2) ON CONFLICT (key) DO UPDATE SET value = excluded.value"
+
+abbrev pub delete_sql : List ℕ
+delete_sql = codes "DELETE FROM entry WHERE key = ?1"
+
+abbrev pub entry_row : List ℕ × List ℕ → Row
+entry_row entry = Blob entry.0 ∷ Blob entry.1 ∷ []
+
+abbrev pub key_row : List ℕ → Row
+key_row key = Blob key ∷ []
+
+abbrev pub RunsOnce : List ℕ → Row → State → State → Result (Unit {0}) Error → Type 0
+RunsOnce sql row old new (Ok done) = (count : ℕ) × Executes sql row old new (Ok count)
+RunsOnce sql row old new (Err e) = Executes sql row old new (Err e)
+
+abbrev pub IsCount : Row → Result ℕ Error → Type 0
+IsCount row (Ok count) = column row 0 ≡ Int (pos count)
+IsCount row (Err e) = IsReadError 0 (column row 0) e
+
+abbrev pub Counts : State → State → Result ℕ Error → Type 0
+Counts old new (Ok count) = (row : Row) × QueriesRow count_sql [] old new (Ok row) × IsCount row (Ok count)
+Counts old new (Err e) = QueriesRow count_sql [] old new (Err e) ⊎ ((row : Row) × QueriesRow count_sql [] old new (Ok row) × IsCount row (Err e))
+
+abbrev pub IsValue : Value → Type 0
+IsValue it = (bytes : List ℕ) × (it ≡ Blob bytes) × (length bytes ≤ VALUE_MAX)
+
+abbrev pub ReadsValue : Value → Result (List ℕ) Error → Type 0
+ReadsValue it (Ok bytes) = it ≡ Blob bytes
+ReadsValue it (Err e) = ¬ IsValue it
+
+abbrev pub IsInFirst : List Row → Result (Option (List ℕ)) Error → Type 0
+IsInFirst [] (Ok found) = found ≡ None
+IsInFirst [] (Err e) = ⊥
+IsInFirst (row ∷ rows) (Ok found) = (bytes : List ℕ) × (found ≡ Some bytes) × (column row 0 ≡ Blob bytes)
+IsInFirst (row ∷ rows) (Err e) = ReadsValue (column row 0) (Err e)
+
+abbrev pub Loads : List ℕ → State → State → Result (Option (List ℕ)) Error → Type 0
+Loads key old new (Ok found) = (rows : List Row) × Shown load_sql (key_row key) old new rows × IsInFirst rows (Ok found)
+Loads key old new (Err e) = FailsToQuery load_sql (key_row key) old new e ⊎ ((rows : List Row) × Shown load_sql (key_row key) old new rows × IsInFirst rows (Err e))
