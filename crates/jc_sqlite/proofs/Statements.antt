@@ -1,5 +1,7 @@
 -- What the parameters of a statement are, and what columns and rows are read as.
-use Rattle.std.proofs.Common.{◌≡◌, ℕ, pos, List, [], ◌∷◌, length, ◌<◌, Result, Ok, Err, IfOk, IfErr, IsErrAnd, ap, ◌∙◌}
+use Rattle.std.proofs.Common.{◌≡◌, ℕ, suc, ◌+◌, add-one, pos, List, [], ◌∷◌, ◌++◌, length, drop, drop-cons, get_or, map, ◌<◌, Result, Ok, Err, IfOk, IfErr, IsErrAnd, ap, sym, subst, ◌∙◌}
+use Rattle.std.proofs.lemmas.List.{append_assoc, map-append}
+use Rattle.jc_outside.specs.Answers.{AnswersByKey, answers_with}
 use Rattle.sqlite.specs.declared.types.Value.TheVariants.{Int, Blob}
 use Rattle.sqlite.specs.declared.types.ValueRef.{ValueRef}
 use Rattle.sqlite.specs.declared.error.Error.{Error}
@@ -7,7 +9,7 @@ use Rattle.sqlite.specs.Order.{Row, column}
 use Rattle.sqlite.specs.Reading.{IsReadError}
 use Rattle.sqlite.specs.Value.{owned}
 use Rattle.sqlite.specs.Values.{bound, bound_value}
-use Rattle.jc_sqlite.specs.Statements.{IsCount, entry_row, key_row}
+use Rattle.jc_sqlite.specs.Statements.{IsCount, entry_row, key_row, mark, marks, PutsRows}
 
 pub bound_key : (given : ValueRef) (bytes key : List ℕ) → owned given ≡ Blob bytes → bytes ≡ key → bound (given ∷ []) ≡ key_row key
 bound_key given bytes key is same = ap (λ it. bound_value it ∷ []) is ∙ ap key_row same
@@ -24,3 +26,22 @@ same_error (Err it) e h = ap Err h
 pub is_count : (row : Row) (r : Result ℕ Error) → IfOk r (λ n. (0 < length row) × (column row 0 ≡ Int (pos n))) → IfErr r (IsReadError 0 (column row 0)) → IsCount row r
 is_count row (Ok n) ok err = ok.1
 is_count row (Err e) ok err = err
+
+next_item : {X : Type 0} (xs : List X) (i : ℕ) (x : X) → i < length xs → x ≡ get_or xs i x → drop i xs ≡ x ∷ drop (suc i) xs
+next_item xs i x within is = drop-cons xs i x within ∙ ap (λ it. it ∷ drop (suc i) xs) (sym is)
+
+pub row_put : (rows : List Row) (i : ℕ) (row : Row) (key value : List ℕ) (now after : AnswersByKey) → i < length rows → row ≡ get_or rows i row → column row 0 ≡ Blob key → column row 1 ≡ Blob value
+    → PutsRows (drop (suc i) rows) (answers_with now key value) after → PutsRows (drop i rows) now after
+row_put rows i row key value now after within is key_is value_is rest = subst (λ it. PutsRows it now after) (sym (next_item rows i row within is)) (key, value, key_is, value_is, rest)
+
+pub key_given : (keys : List (List ℕ)) (i : ℕ) (key : List ℕ) (given : List ValueRef) (one : ValueRef) → i < length keys → key ≡ get_or keys i key → owned one ≡ Blob key
+    → bound given ++ map Blob (drop i keys) ≡ map Blob keys → bound (given ++ one ∷ []) ++ map Blob (drop (suc i) keys) ≡ map Blob keys
+key_given keys i key given one within is one_is so_far =
+    ap (λ it. it ++ map Blob (drop (suc i) keys)) (map-append (λ v. bound_value (owned v)) given (one ∷ []) ∙ ap (λ it. bound given ++ bound_value it ∷ []) one_is)
+    ∙ append_assoc (bound given) (Blob key ∷ []) (map Blob (drop (suc i) keys))
+    ∙ sym (ap (λ it. bound given ++ map Blob it) (next_item keys i key within is))
+    ∙ so_far
+
+pub more_marks : (front text new : List ℕ) (i : ℕ) (one : List ℕ) → text ≡ front ++ marks i → one ≡ mark i → new ≡ text ++ one → new ≡ front ++ marks (i + 1)
+more_marks front text new i one so_far is pushed =
+    pushed ∙ ap (λ it. it ++ one) so_far ∙ ap (λ it. (front ++ marks i) ++ it) is ∙ append_assoc front (marks i) (mark i) ∙ sym (ap (λ n. front ++ marks n) (add-one i))

@@ -1,5 +1,7 @@
 -- `create_sql`, `count_sql`, `load_sql`, `write_sql`, `delete_sql`: the statements that make the table, count its rows, look a key up, write
 -- an entry and delete what is at a key.
+-- `mark`, `marks`: the parameter at a place of a list of them, and so many of them, with commas between.
+-- `load_all_sql`: the statement that looks so many keys up.
 -- `entry_row`, `key_row`: the row of parameters of an entry, and that of a key.
 -- `RunsOnce`: the statement ran with these parameters, or failed.
 -- `IsCount`: the number is that of the row's first column; an error is that of this column.
@@ -7,8 +9,11 @@
 -- `IsValue`: the column is a value of a cache.
 -- `ReadsValue`: the column has these bytes; after an error it is no value.
 -- `IsInFirst`: the value is that of the first row, or there is neither; after an error the first row has no value.
+-- `PutsRows`: each row, a key and a value, was put into the answers, in their order.
+-- `LoadsAll`: the rows which the query at these keys shows were put into the answers.
 -- `Loads`: the value is that of the first row which the query at this key shows; an error is the query's, or that of this row.
-use Rattle.std.specs.Prelude.{◌≡◌, ◌≤◌, ◌⊎◌, ℕ, pos, List, [], ◌∷◌, length, Result, Ok, Err, Option, None, Some, codes}
+use Rattle.std.specs.Prelude.{◌≡◌, ◌≤◌, ◌⊎◌, ℕ, zero, suc, pos, List, [], ◌∷◌, ◌++◌, length, map, Result, Ok, Err, Option, None, Some, codes}
+use Rattle.jc_outside.specs.Answers.{AnswersByKey, answers_with}
 use Rattle.jc_types.specs.declared.limits.TheConstants.{VALUE_MAX}
 use Rattle.sqlite.specs.declared.types.Value.{Value}
 use Rattle.sqlite.specs.declared.types.Value.TheVariants.{Int, Blob}
@@ -25,6 +30,17 @@ count_sql = codes "SELECT count(*) FROM entry"
 
 abbrev pub load_sql : List ℕ
 load_sql = codes "SELECT value FROM entry WHERE key = ?1"
+
+abbrev pub mark : ℕ → List ℕ
+mark zero = codes "?"
+mark (suc place) = codes ",?"
+
+abbrev pub marks : ℕ → List ℕ
+marks zero = []
+marks (suc count) = marks count ++ mark count
+
+abbrev pub load_all_sql : ℕ → List ℕ
+load_all_sql count = (codes "SELECT key, value FROM entry WHERE key IN (" ++ marks count) ++ codes ")"
 
 abbrev pub write_sql : List ℕ
 write_sql = codes "INSERT INTO entry (key, value) VALUES (?1, ?2) ON CONFLICT (key) DO UPDATE SET value = excluded.value"
@@ -66,3 +82,10 @@ IsInFirst (row ∷ rows) (Err e) = ReadsValue (column row 0) (Err e)
 abbrev pub Loads : List ℕ → State → State → Result (Option (List ℕ)) Error → Type 0
 Loads key old new (Ok found) = (rows : List Row) × Shown load_sql (key_row key) old new rows × IsInFirst rows (Ok found)
 Loads key old new (Err e) = FailsToQuery load_sql (key_row key) old new e ⊎ ((rows : List Row) × Shown load_sql (key_row key) old new rows × IsInFirst rows (Err e))
+
+abbrev pub PutsRows : List Row → AnswersByKey → AnswersByKey → Type 0
+PutsRows [] old new = new ≡ old
+PutsRows (row ∷ rows) old new = (key : List ℕ) × (value : List ℕ) × (column row 0 ≡ Blob key) × (column row 1 ≡ Blob value) × PutsRows rows (answers_with old key value) new
+
+abbrev pub LoadsAll : List (List ℕ) → State → State → AnswersByKey → AnswersByKey → Type 0
+LoadsAll keys old new before after = (rows : List Row) × Shown (load_all_sql (length keys)) (map Blob keys) old new rows × PutsRows rows before after

@@ -1,7 +1,7 @@
 //! The table's statements, each over a connection that is lent: a database's own, or one of yours.
 //!
 //! What a clause says of the content is under `HasCleanDisk`: so far the disk has returned what was written to it.
-ghost use Rattle.std.specs.Prelude.{◌≡◌, ◌≢◌, ℕ, List, [], map, IfOk, IfErr, OnOk, OnErr};
+ghost use Rattle.std.specs.Prelude.{◌≡◌, ◌≢◌, ℕ, List, [], length, map, string_bytes, IfOk, IfErr, OnOk, OnErr};
 ghost use Rattle.sqlite.specs.declared.types.Value.TheVariants.{Blob};
 ghost use Rattle.sqlite.specs.Order.{column};
 ghost use Rattle.sqlite.specs.Values.{bound};
@@ -9,7 +9,8 @@ ghost use Rattle.sqlite.specs.State.{HasCleanDisk, FailsToQuery, Shown};
 ghost use Rattle.sqlite.specs.Batch.{ExecutesAll};
 ghost use Rattle.sqlite.specs.Held.{state};
 ghost use Rattle.jc_sqlite.specs.Batch.{RunsAsOne};
-ghost use Rattle.jc_sqlite.specs.Statements.{create_sql, load_sql, write_sql, delete_sql, entry_row, key_row, RunsOnce, Counts, IsCount, ReadsValue, IsInFirst, Loads};
+ghost use Rattle.jc_sqlite.specs.Statements.{create_sql, load_sql, load_all_sql, mark, write_sql, delete_sql, entry_row, key_row};
+ghost use Rattle.jc_sqlite.specs.Statements.{RunsOnce, Counts, IsCount, ReadsValue, IsInFirst, Loads, PutsRows, LoadsAll};
 
 use crate::batch;
 use indexmap::{IndexMap, IndexSet};
@@ -93,17 +94,32 @@ pub fn load_all<S: Alter>(
     conn: &mut Connection<S>,
     keys: &[Key],
     answers: &mut Answers,
-) -> Result<(), Error> {
+) -> Result<(), Error>
+    ensures { HasCleanDisk (state S.Store conn.new)
+        → OnOk result (LoadsAll keys.now (state S.Store conn.old) (state S.Store conn.new) answers.old answers.new) }
+{
+    let rows = rows_at_all(alloc, conn, keys)?;
+    put_rows(rows.as_slice(), answers)
+}
+
+/// The rows at these keys.
+fn rows_at_all<S: Alter>(
+    alloc: Global,
+    conn: &mut Connection<S>,
+    keys: &[Key],
+) -> Result<Vec<Row>, Error>
+    ensures { HasCleanDisk (state S.Store conn.new)
+        → IfOk result (λ rows. Shown (load_all_sql (length keys.now)) (map Blob keys.now) (state S.Store conn.old) (state S.Store conn.new) rows.items) }
+{
     let query = query_of(alloc, keys.len())?;
-    let mut given = Vec::with_capacity(alloc, keys.len())?;
-    for key in keys {
-        given.push(ValueRef::Blob(key.bytes()))?;
-    }
-    put_rows(&conn.query_all(query.as_str(), given.as_slice())?, answers)
+    let given = parameters(alloc, keys)?;
+    conn.query_all(query.as_str(), given.as_slice())
 }
 
 /// Puts the rows, each a key and a value, into the answers.
-fn put_rows(rows: &[Row], answers: &mut Answers) -> Result<(), Error> {
+fn put_rows(rows: &[Row], answers: &mut Answers) -> Result<(), Error>
+    ensures { OnOk result (PutsRows rows.now answers.old answers.new) }
+{
     for row in rows {
         answers.put(&key_in(row, 0)?, &value_in(row, 1)?);
     }
@@ -111,13 +127,33 @@ fn put_rows(rows: &[Row], answers: &mut Answers) -> Result<(), Error> {
 }
 
 /// The text of a query of so many keys.
-fn query_of(alloc: Global, count: usize) -> Result<String, Error> {
+fn query_of(alloc: Global, count: usize) -> Result<String, Error>
+    ensures { IfOk result (λ text. string_bytes text ≡ load_all_sql count) }
+{
     let mut text = String::from_str(alloc, LOAD_ALL)?;
     for i in 0..count {
-        text.push_str(if i == 0 { "?" } else { ",?" })?;
+        text.push_str(mark(i))?;
     }
     text.push_str(")")?;
     Ok(text)
+}
+
+/// The parameter at this place of a list of them.
+fn mark(place: usize) -> &'static str
+    ensures { result.now ≡ mark place }
+{
+    if place == 0 { "?" } else { ",?" }
+}
+
+/// The keys, as parameters.
+fn parameters(alloc: Global, keys: &[Key]) -> Result<Vec<ValueRef<'_>>, Error>
+    ensures { IfOk result (λ given. bound given.items ≡ map Blob keys.now) }
+{
+    let mut given = Vec::with_capacity(alloc, keys.len())?;
+    for key in keys {
+        given.push(ValueRef::Blob(key.bytes()))?;
+    }
+    Ok(given)
 }
 
 /// The key in a column of a row.
