@@ -1,15 +1,18 @@
 -- What the parameters of a statement are, and what columns and rows are read as.
-use Rattle.std.proofs.Common.{◌≡◌, ℕ, suc, ◌+◌, add-one, pos, List, [], ◌∷◌, ◌++◌, length, drop, drop-cons, get_or, map, ◌<◌, Result, Ok, Err, IfOk, IfErr, IsErrAnd, ap, sym, subst, ◌∙◌}
+use Rattle.std.proofs.Common.{◌≡◌, ℕ, suc, ◌+◌, add-one, pos, List, [], ◌∷◌, ◌++◌, length, drop, drop-cons, get_or, map, ◌<◌, Result, Ok, Err, IfOk, IfErr, OnOk, OnErr, IsErrAnd, inl, inr, ◌⊎◌, ap, sym, subst, ◌∙◌}
 use Rattle.std.proofs.lemmas.List.{append_assoc, map-append}
 use Rattle.jc_outside.specs.Answers.{AnswersByKey, answers_with}
 use Rattle.sqlite.specs.declared.types.Value.TheVariants.{Int, Blob}
 use Rattle.sqlite.specs.declared.types.ValueRef.{ValueRef}
 use Rattle.sqlite.specs.declared.error.Error.{Error}
+use Rattle.sqlite.specs.declared.error.Error.TheVariants.{SqliteFailure}
+use Rattle.sqlite.specs.declared.error.ErrorCode.TheVariants.{OutOfMemory}
+use Rattle.sqlite.specs.State.{State, Shown, FailsToQuery}
 use Rattle.sqlite.specs.Order.{Row, column}
 use Rattle.sqlite.specs.Reading.{IsReadError}
 use Rattle.sqlite.specs.Value.{owned}
 use Rattle.sqlite.specs.Values.{bound, bound_value}
-use Rattle.jc_sqlite.specs.Statements.{IsCount, entry_row, key_row, mark, marks, PutsRows}
+use Rattle.jc_sqlite.specs.Statements.{IsCount, entry_row, key_row, mark, marks, load_all_sql, IsKey, IsValue, HasNoEntry, PutsRows, LoadsAll}
 
 pub bound_key : (given : ValueRef) (bytes key : List ℕ) → owned given ≡ Blob bytes → bytes ≡ key → bound (given ∷ []) ≡ key_row key
 bound_key given bytes key is same = ap (λ it. bound_value it ∷ []) is ∙ ap key_row same
@@ -22,6 +25,10 @@ bound_entry first second k v key value first_is key_is second_is value_is =
 pub same_error : {T E : Type 0} (r : Result T E) (e : E) → IsErrAnd r (λ it. it ≡ e) → r ≡ Err e
 same_error (Ok x) e h = absurd h
 same_error (Err it) e h = ap Err h
+
+pub always : {T E B : Type 0} (r : Result T E) → B → OnErr r B
+always (Ok x) b = tt
+always (Err e) b = b
 
 pub is_count : (row : Row) (r : Result ℕ Error) → IfOk r (λ n. (0 < length row) × (column row 0 ≡ Int (pos n))) → IfErr r (IsReadError 0 (column row 0)) → IsCount row r
 is_count row (Ok n) ok err = ok.1
@@ -45,3 +52,20 @@ key_given keys i key given one within is one_is so_far =
 pub more_marks : (front text new : List ℕ) (i : ℕ) (one : List ℕ) → text ≡ front ++ marks i → one ≡ mark i → new ≡ text ++ one → new ≡ front ++ marks (i + 1)
 more_marks front text new i one so_far is pushed =
     pushed ∙ ap (λ it. it ++ one) so_far ∙ ap (λ it. (front ++ marks i) ++ it) is ∙ append_assoc front (marks i) (mark i) ∙ sym (ap (λ n. front ++ marks n) (add-one i))
+
+pub no_entry : (rows : List Row) (i : ℕ) (row : Row) → i < length rows → row ≡ get_or rows i row → ¬ (IsKey (column row 0) × IsValue (column row 1)) → HasNoEntry rows
+no_entry rows i row within is none =
+    let one = drop-cons rows i row within in
+    let other = drop-cons rows i [] within in
+    let same : row ≡ get_or rows i [] = cc in
+    (i, within, subst (λ it. ¬ (IsKey (column it 0) × IsValue (column it 1))) same none)
+
+pub loaded : (keys : List (List ℕ)) (old new : State) (before after : AnswersByKey) (rows : List Row) (r : Result (Unit {0}) Error) → Shown (load_all_sql (length keys)) (map Blob keys) old new rows
+    → OnOk r (PutsRows rows before after) → OnErr r (HasNoEntry rows) → LoadsAll keys old new before after r
+loaded keys old new before after rows (Ok done) shown put none = (rows, shown, put)
+loaded keys old new before after rows (Err e) shown put none = inr (inr (rows, shown, none))
+
+pub not_loaded : (keys : List (List ℕ)) (old new : State) (before after : AnswersByKey) (e : Error) → (e ≡ SqliteFailure OutOfMemory) ⊎ FailsToQuery (load_all_sql (length keys)) (map Blob keys) old new e
+    → LoadsAll keys old new before after (Err e)
+not_loaded keys old new before after e (inl memory) = inl memory
+not_loaded keys old new before after e (inr query) = inr (inl query)

@@ -6,18 +6,22 @@
 -- `RunsOnce`: the statement ran with these parameters, or failed.
 -- `IsCount`: the number is that of the row's first column; an error is that of this column.
 -- `Counts`: the number is that of the row which the count shows; an error is the query's, or that of this row.
--- `IsValue`: the column is a value of a cache.
+-- `IsKey`, `IsValue`: the column is a key, or a value, of a cache.
 -- `ReadsValue`: the column has these bytes; after an error it is no value.
 -- `IsInFirst`: the value is that of the first row, or there is neither; after an error the first row has no value.
+-- `HasNoEntry`: one of the rows isn't a key and a value.
 -- `PutsRows`: each row, a key and a value, was put into the answers, in their order.
--- `LoadsAll`: the rows which the query at these keys shows were put into the answers.
+-- `LoadsAll`: the rows which the query at these keys shows were put into the answers; an error comes of memory or is the query's, or
+-- one of these rows is no entry.
 -- `Loads`: the value is that of the first row which the query at this key shows; an error is the query's, or that of this row.
-use Rattle.std.specs.Prelude.{◌≡◌, ◌≤◌, ◌⊎◌, ℕ, zero, suc, pos, List, [], ◌∷◌, ◌++◌, length, map, Result, Ok, Err, Option, None, Some, codes}
+use Rattle.std.specs.Prelude.{◌≡◌, ◌<◌, ◌≤◌, ◌⊎◌, ℕ, zero, suc, pos, List, [], ◌∷◌, ◌++◌, length, slice_index_or, map, Result, Ok, Err, Option, None, Some, codes}
 use Rattle.jc_outside.specs.Answers.{AnswersByKey, answers_with}
-use Rattle.jc_types.specs.declared.limits.TheConstants.{VALUE_MAX}
+use Rattle.jc_types.specs.declared.limits.TheConstants.{KEY_MAX, VALUE_MAX}
 use Rattle.sqlite.specs.declared.types.Value.{Value}
 use Rattle.sqlite.specs.declared.types.Value.TheVariants.{Int, Blob}
 use Rattle.sqlite.specs.declared.error.Error.{Error}
+use Rattle.sqlite.specs.declared.error.Error.TheVariants.{SqliteFailure}
+use Rattle.sqlite.specs.declared.error.ErrorCode.TheVariants.{OutOfMemory}
 use Rattle.sqlite.specs.Order.{Row, column}
 use Rattle.sqlite.specs.Reading.{IsReadError}
 use Rattle.sqlite.specs.State.{State, Executes, FailsToQuery, QueriesRow, Shown}
@@ -66,6 +70,9 @@ abbrev pub Counts : State → State → Result ℕ Error → Type 0
 Counts old new (Ok count) = (row : Row) × QueriesRow count_sql [] old new (Ok row) × IsCount row (Ok count)
 Counts old new (Err e) = QueriesRow count_sql [] old new (Err e) ⊎ ((row : Row) × QueriesRow count_sql [] old new (Ok row) × IsCount row (Err e))
 
+abbrev pub IsKey : Value → Type 0
+IsKey it = (bytes : List ℕ) × (it ≡ Blob bytes) × (0 < length bytes) × (length bytes ≤ KEY_MAX)
+
 abbrev pub IsValue : Value → Type 0
 IsValue it = (bytes : List ℕ) × (it ≡ Blob bytes) × (length bytes ≤ VALUE_MAX)
 
@@ -87,5 +94,11 @@ abbrev pub PutsRows : List Row → AnswersByKey → AnswersByKey → Type 0
 PutsRows [] old new = new ≡ old
 PutsRows (row ∷ rows) old new = (key : List ℕ) × (value : List ℕ) × (column row 0 ≡ Blob key) × (column row 1 ≡ Blob value) × PutsRows rows (answers_with old key value) new
 
-abbrev pub LoadsAll : List (List ℕ) → State → State → AnswersByKey → AnswersByKey → Type 0
-LoadsAll keys old new before after = (rows : List Row) × Shown (load_all_sql (length keys)) (map Blob keys) old new rows × PutsRows rows before after
+abbrev pub HasNoEntry : List Row → Type 0
+HasNoEntry rows = (i : ℕ) × (i < length rows) × ¬ (IsKey (column (slice_index_or rows i []) 0) × IsValue (column (slice_index_or rows i []) 1))
+
+abbrev pub LoadsAll : List (List ℕ) → State → State → AnswersByKey → AnswersByKey → Result (Unit {0}) Error → Type 0
+LoadsAll keys old new before after (Ok done) = (rows : List Row) × Shown (load_all_sql (length keys)) (map Blob keys) old new rows × PutsRows rows before after
+LoadsAll keys old new before after (Err e) =
+    (e ≡ SqliteFailure OutOfMemory)
+    ⊎ (FailsToQuery (load_all_sql (length keys)) (map Blob keys) old new e ⊎ ((rows : List Row) × Shown (load_all_sql (length keys)) (map Blob keys) old new rows × HasNoEntry rows))

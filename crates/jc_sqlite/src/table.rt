@@ -1,7 +1,7 @@
 //! The table's statements, each over a connection that is lent: a database's own, or one of yours.
 //!
 //! What a clause says of the content is under `HasCleanDisk`: so far the disk has returned what was written to it.
-ghost use Rattle.std.specs.Prelude.{◌≡◌, ◌≢◌, ℕ, List, [], length, map, string_bytes, IfOk, IfErr, OnOk, OnErr};
+ghost use Rattle.std.specs.Prelude.{◌≡◌, ◌≢◌, ◌⊎◌, ℕ, List, [], length, map, string_bytes, IfOk, IfErr, OnOk, OnErr};
 ghost use Rattle.sqlite.specs.declared.types.Value.TheVariants.{Blob};
 ghost use Rattle.sqlite.specs.Order.{column};
 ghost use Rattle.sqlite.specs.Values.{bound};
@@ -10,7 +10,7 @@ ghost use Rattle.sqlite.specs.Batch.{ExecutesAll};
 ghost use Rattle.sqlite.specs.Held.{state};
 ghost use Rattle.jc_sqlite.specs.Batch.{RunsAsOne};
 ghost use Rattle.jc_sqlite.specs.Statements.{create_sql, load_sql, load_all_sql, mark, write_sql, delete_sql, entry_row, key_row};
-ghost use Rattle.jc_sqlite.specs.Statements.{RunsOnce, Counts, IsCount, ReadsValue, IsInFirst, Loads, PutsRows, LoadsAll};
+ghost use Rattle.jc_sqlite.specs.Statements.{RunsOnce, Counts, IsCount, ReadsValue, IsInFirst, Loads, IsKey, HasNoEntry, PutsRows, LoadsAll};
 
 use crate::batch;
 use indexmap::{IndexMap, IndexSet};
@@ -88,7 +88,9 @@ fn first_value(rows: &[Row]) -> Result<Option<Value>, Error>
     }
 }
 
-/// Puts the values at these keys into the answers, by one query. After an `Err` some of them may be there.
+/// Puts the values at these keys into the answers, by one query. The table stays as it is.
+///
+/// An `Err` comes of memory, of the query, or of a row that is no entry of a cache; some of the values may be there then.
 pub fn load_all<S: Alter>(
     alloc: Global,
     conn: &mut Connection<S>,
@@ -96,7 +98,7 @@ pub fn load_all<S: Alter>(
     answers: &mut Answers,
 ) -> Result<(), Error>
     ensures { HasCleanDisk (state S.Store conn.new)
-        → OnOk result (LoadsAll keys.now (state S.Store conn.old) (state S.Store conn.new) answers.old answers.new) }
+        → LoadsAll keys.now (state S.Store conn.old) (state S.Store conn.new) answers.old answers.new result }
 {
     let rows = rows_at_all(alloc, conn, keys)?;
     put_rows(rows.as_slice(), answers)
@@ -108,8 +110,10 @@ fn rows_at_all<S: Alter>(
     conn: &mut Connection<S>,
     keys: &[Key],
 ) -> Result<Vec<Row>, Error>
-    ensures { HasCleanDisk (state S.Store conn.new)
+    ensures rows { HasCleanDisk (state S.Store conn.new)
         → IfOk result (λ rows. Shown (load_all_sql (length keys.now)) (map Blob keys.now) (state S.Store conn.old) (state S.Store conn.new) rows.items) }
+    ensures cause { HasCleanDisk (state S.Store conn.new)
+        → IfErr result (λ e. (e ≡ Error.SqliteFailure ErrorCode.OutOfMemory) ⊎ FailsToQuery (load_all_sql (length keys.now)) (map Blob keys.now) (state S.Store conn.old) (state S.Store conn.new) e) }
 {
     let query = query_of(alloc, keys.len())?;
     let given = parameters(alloc, keys)?;
@@ -118,7 +122,8 @@ fn rows_at_all<S: Alter>(
 
 /// Puts the rows, each a key and a value, into the answers.
 fn put_rows(rows: &[Row], answers: &mut Answers) -> Result<(), Error>
-    ensures { OnOk result (PutsRows rows.now answers.old answers.new) }
+    ensures rows { OnOk result (PutsRows rows.now answers.old answers.new) }
+    ensures cause { OnErr result (HasNoEntry rows.now) }
 {
     for row in rows {
         answers.put(&key_in(row, 0)?, &value_in(row, 1)?);
@@ -128,7 +133,8 @@ fn put_rows(rows: &[Row], answers: &mut Answers) -> Result<(), Error>
 
 /// The text of a query of so many keys.
 fn query_of(alloc: Global, count: usize) -> Result<String, Error>
-    ensures { IfOk result (λ text. string_bytes text ≡ load_all_sql count) }
+    ensures text { IfOk result (λ text. string_bytes text ≡ load_all_sql count) }
+    ensures memory { IfErr result (λ e. e ≡ Error.SqliteFailure ErrorCode.OutOfMemory) }
 {
     let mut text = String::from_str(alloc, LOAD_ALL)?;
     for i in 0..count {
@@ -147,7 +153,8 @@ fn mark(place: usize) -> &'static str
 
 /// The keys, as parameters.
 fn parameters(alloc: Global, keys: &[Key]) -> Result<Vec<ValueRef<'_>>, Error>
-    ensures { IfOk result (λ given. bound given.items ≡ map Blob keys.now) }
+    ensures given { IfOk result (λ given. bound given.items ≡ map Blob keys.now) }
+    ensures memory { IfErr result (λ e. e ≡ Error.SqliteFailure ErrorCode.OutOfMemory) }
 {
     let mut given = Vec::with_capacity(alloc, keys.len())?;
     for key in keys {
@@ -158,7 +165,8 @@ fn parameters(alloc: Global, keys: &[Key]) -> Result<Vec<ValueRef<'_>>, Error>
 
 /// The key in a column of a row.
 fn key_in(row: &Row, at: usize) -> Result<Key, Error>
-    ensures { IfOk result (λ key. column row.now at ≡ Blob key) }
+    ensures key { IfOk result (λ key. column row.now at ≡ Blob key) }
+    ensures none { OnErr result (¬ IsKey (column row.now at)) }
 {
     match Key::new(bytes_in(row, at)?) {
         Ok(key) => Ok(key),
