@@ -29,7 +29,9 @@ use jc_stripe::phase_laws::is_legal;
 use jc_types::{Key, Refusal, Value};
 use own_seats::{join_all, take_all, test_all_idle};
 use std::alloc::{AllocError, Global};
+use std::fmt;
 use std::marker::Model;
+use thiserror::Error;
 
 /// A stripe of a closed cache: the history of its present generation, and what was cached at its end. Contracts see its last state.
 ///
@@ -122,8 +124,9 @@ pub struct Closed {
     pub legal: bool,
 }
 
-/// A cache that was not closed, with all that was handed in.
-#[derive(Drop)]
+/// A cache that was not closed, with all that was handed in. Its text is the refusal's.
+#[derive(Drop, Error)]
+#[error("{refusal}")]
 pub struct CloseFault {
     /// Why: `StillReserved` or `OutOfMemory`; or `Busy`, see [`CacheOwner::close`].
     pub refusal: Refusal,
@@ -131,6 +134,13 @@ pub struct CloseFault {
     pub owner: CacheOwner,
     /// The sessions.
     pub sessions: Vec<Session>,
+}
+
+/// It shows the refusal alone.
+impl fmt::Debug for CloseFault {
+    fn fmt<W: fmt::Write>(&self, f: &mut fmt::Formatter<W>) -> fmt::Result {
+        write!(f, "CloseFault {:?}", self.refusal)
+    }
 }
 
 impl CacheOwner {

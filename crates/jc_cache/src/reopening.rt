@@ -13,6 +13,8 @@ use jc_outside::Outside;
 use jc_stripe::keeps_or_drops;
 use jc_types::{Config, Key, Refusal, Value};
 use std::alloc::{AllocError, Global};
+use std::fmt;
+use thiserror::Error;
 
 /// A cache that was opened again.
 #[derive(Drop)]
@@ -25,13 +27,21 @@ pub struct Reopened {
     pub outside: Vec<Outside>,
 }
 
-/// A closed cache that was not opened again, as it was handed in.
-#[derive(Drop)]
+/// A closed cache that was not opened again, as it was handed in. Its text is the refusal's.
+#[derive(Drop, Error)]
+#[error("{refusal}")]
 pub struct ReopenFault {
     /// Why: `BadConfig`, `RepeatedKey` or `OutOfMemory`.
     pub refusal: Refusal,
     /// The closed cache.
     pub closed: Closed,
+}
+
+/// It shows the refusal alone.
+impl fmt::Debug for ReopenFault {
+    fn fmt<W: fmt::Write>(&self, f: &mut fmt::Formatter<W>) -> fmt::Result {
+        write!(f, "ReopenFault {:?}", self.refusal)
+    }
 }
 
 impl CacheOwner {
