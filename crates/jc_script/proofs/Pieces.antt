@@ -2,6 +2,7 @@
 use Rattle.std.proofs.Common.{◌≡◌, ◌==◌, ℕ, ◌+◌, ◌<◌, ◌≤◌, Bool, true, false, cond, not, ltb, List, [], ◌∷◌, ◌++◌, length, take, drop, Option, None, Some, inl, inr, refl, sym, ap, ◌∙◌, arith, append_assoc, get_or}
 use Rattle.std.proofs.lemmas.Option.{cond_some}
 use Rattle.std.proofs.lemmas.Bool.{ltb-true, ltb-false, le-ltb, lt-ltb}
+use Rattle.std.proofs.lemmas.List.{length-append}
 use Rattle.std.proofs.lemmas.List.Splits.{slice_split_first}
 use Rattle.std.proofs.lemmas.List.Sums.{position_or_len_is}
 use Rattle.memchr.specs.Find.{IsFirstByte}
@@ -11,6 +12,7 @@ use Rattle.jc_script.specs.declared.fault.Fault.{Fault}
 use Rattle.jc_script.specs.declared.run.RunEnd.{RunEnd}
 use Rattle.jc_script.specs.declared.run.RunEnd.TheVariants.{Clean, LineFault}
 use Rattle.jc_script.specs.Printing.{fault_line}
+use Rattle.jc_script.specs.Places.{Explains, complaint}
 use Rattle.std.specs.Io.KnownBytes.{Appends}
 
 -- a test that isn't passed fails
@@ -98,6 +100,28 @@ after_line input rest old new n line after before text printed completes cut pri
 pub at_end : (old : OpenedWorld) (n : ℕ) (rest : List ℕ) → length rest ≡ 0 → Transcript old n (pieces_of rest) [] Clean
 at_end old n [] e = (refl, refl)
 at_end old n (b ∷ bs) e = absurd (omega arith)
+
+-- ---- the line with a number
+
+-- it is the first piece of the rest
+abbrev pub IsAt : (input : List ℕ) (number : ℕ) (rest : List ℕ) → Type 0
+IsAt input number rest = (before : List (List ℕ)) × (pieces_of input ≡ before ++ pieces_of rest) × (number ≡ length before + 1)
+
+pub at_first : (input : List ℕ) → IsAt input 1 input
+at_first input = ([], refl, refl)
+
+pub at_next : (input rest line after : List ℕ) (n : ℕ) → IsAt input n rest → pieces_of rest ≡ line ∷ pieces_of after → IsAt input (n + 1) after
+at_next input rest line after n (before, e, count) cut = (
+  before ++ line ∷ [],
+  e ∙ ap (λ (ps : List (List ℕ)). before ++ ps) cut ∙ sym (append_assoc before (line ∷ []) (pieces_of after)),
+  rw (length-append before (line ∷ [])) (omega (arith, count)),
+)
+
+pub explains : (input rest line : List ℕ) (after : List (List ℕ)) (n : ℕ) (f : Fault) (printed out old new : List ℕ)
+    → IsAt input n rest → pieces_of rest ≡ line ∷ after → out ≡ printed ++ fault_line n f → new ≡ old ++ complaint n line f
+    → Explains input out old new (LineFault n)
+explains input rest line after n f printed out old new (before, e, count) cut out_is new_is =
+    (before, line, after, printed, f, e ∙ ap (λ (ps : List (List ℕ)). before ++ ps) cut, count, out_is, new_is)
 
 -- ---- writes
 

@@ -5,6 +5,7 @@ pub mod Faults
 pub mod Lines
 pub mod Printing
 pub mod Transcript
+pub mod Places
 pub mod ReachedWorlds
 pub mod Noting
 pub mod Running

@@ -9,9 +9,10 @@
 --     source_of                 how the loader answers: as the store has it, if no word says it
 --     call_of                   a call on the entry
 --     with_word, calls_from     the calls so far and one word more, and several
+--     is_entry_word, reads_entry_word      a word is one of all these; its code or its value can be read
 --     calls_of                  the calls of these words, and the code
 --     source_words, call_text, fail_words     how these are spelled
-use Rattle.std.specs.Prelude.{ℕ, List, [], ◌∷◌, ◌++◌, take, drop, length, codes, decimal, Option, Some, None, Bool, true, false, not, ◌&&◌, ◌||◌, Result, Ok, if◌then◌else◌}
+use Rattle.std.specs.Prelude.{ℕ, List, [], ◌∷◌, ◌++◌, take, drop, length, codes, decimal, Option, Some, None, Bool, true, false, not, ◌&&◌, ◌||◌, is_ok, Result, Ok, if◌then◌else◌}
 use Rattle.std.specs.Str.{bytes_eq}
 use Rattle.jc_model.specs.Cache.{Bytes}
 use Rattle.jc_model.specs.declared.processor.EntryCall.{EntryCall}
@@ -74,6 +75,14 @@ abbrev pub with_word : List EntryCall → Option ℕ → List ℕ → Result Cal
 with_word calls fail word =
     if is_fail word then (number_of (drop 5 word) >>= λ code. Ok (calls, Some code)) else
     (call_of word >>= λ call. Ok (calls ++ call ∷ [], fail))
+
+abbrev pub is_entry_word : List ℕ → Bool
+is_entry_word word = is_load_word word || is_call word || is_fail word
+
+-- a word of that shape
+abbrev pub reads_entry_word : List ℕ → Bool
+reads_entry_word word =
+    if is_load_word word then is_ok (source_of (word ∷ [])) else is_ok (with_word [] None word)
 
 abbrev pub calls_from : List EntryCall → Option ℕ → List (List ℕ) → Result Calls Fault
 calls_from calls fail [] = Ok (calls, fail)

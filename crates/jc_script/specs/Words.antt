@@ -15,6 +15,7 @@
 --     Pairs                    keys with their values, in the order of a line
 --     equals_at                the place of the first equals sign of a word, if it has one
 --     key_part, value_part     what is before that sign, and the value after it
+--     key_text                 a word up to that sign
 --     names_key                a pair has the key
 --     pair_onto                the pairs so far, with one more: the key is judged before the value
 --     pairs_from, pairs_of     the pairs so far with those of more words, and the pairs of some words
@@ -112,6 +113,9 @@ value_part (Some at) word = value_of (drop (at + 1) word)
 
 abbrev pub equals_at : List ℕ → Option ℕ
 equals_at word = position (λ b. b == 61) word
+
+abbrev pub key_text : List ℕ → List ℕ
+key_text word = key_part (equals_at word) word
 
 abbrev pub names_key : Pairs → Bytes → Bool
 names_key pairs key = is_among (map (λ pair. pair.0) pairs) key

@@ -84,7 +84,7 @@ pub fn form_named(word: &[u8]) -> Result<Form, Fault>
 }
 
 /// Whether a word says which keys a `loadall` loads: `keep`, those that are missing; or `replace`, all.
-fn is_load_mode(word: &[u8]) -> bool
+pub fn is_load_mode(word: &[u8]) -> bool
     ensures { result ≡ is_load_mode word.now }
 {
     is(word, "keep") || is(word, "replace")

@@ -352,7 +352,7 @@ fn parse(alloc: Global, words: &[&[u8]], line: &mut Line) -> Result<(), ReadErro
 }
 
 /// Whether a byte may be in a line: a space up to a tilde.
-fn is_plain(b: u8) -> bool
+pub fn is_plain(b: u8) -> bool
     ensures { result ≡ is_plain b }
 {
     b' ' <= b && b <= b'~'

@@ -2,7 +2,7 @@
 ghost use Rattle.std.specs.Prelude.{◌≡◌, ◌&&◌, ◌||◌, drop, map, not};
 ghost use Rattle.jc_script.specs.Lines.{Gives, ok_with};
 ghost use Rattle.jc_script.specs.ProcessWords.{begins_with, is_load_word, is_call, is_fail, are_calls, without_load};
-ghost use Rattle.jc_script.specs.ProcessWords.{has_process_shape, source_of, call_of, with_word, calls_of};
+ghost use Rattle.jc_script.specs.ProcessWords.{has_process_shape, source_of, call_of, with_word, calls_of, is_entry_word, reads_entry_word};
 
 use crate::fault::{Fault, ReadError};
 use crate::words::{is, number, value, value_or_none};
@@ -15,8 +15,14 @@ use std::alloc::Global;
 fn begins_with(text: &str, word: &[u8]) -> bool
     ensures { result ≡ begins_with text.now word.now }
 {
-    let text = text.as_bytes();
-    text.len() <= word.len() && &word[..text.len()] == text
+    begins(text.as_bytes(), word)
+}
+
+/// Whether bytes begin with these.
+pub fn begins(first: &[u8], bytes: &[u8]) -> bool
+    ensures { result ≡ begins_with first.now bytes.now }
+{
+    first.len() <= bytes.len() && &bytes[..first.len()] == first
 }
 
 fn is_load_word(word: &[u8]) -> bool
@@ -110,6 +116,27 @@ fn read_call(word: &[u8]) -> Result<EntryCall, Fault>
         _ if is(word, "exists") => Ok(EntryCall::Exists),
         _ if is(word, "remove") => Ok(EntryCall::Remove),
         _ => Ok(EntryCall::SetValue(value(behind(4, word))?)),
+    }
+}
+
+/// Whether a word is one of those after a call's number.
+pub fn is_entry_word(word: &[u8]) -> bool
+    ensures { result ≡ is_entry_word word.now }
+{
+    is_load_word(word) || is_call(word) || is_fail(word)
+}
+
+/// Whether such a word can be read: its code, or its value.
+pub fn reads_entry_word(word: &[u8]) -> bool
+    ensures { result ≡ reads_entry_word word.now }
+{
+    if is_load_word(word) {
+        return read_source(&[word]).is_ok();
+    }
+    if is_fail(word) {
+        number(behind(5, word)).is_ok()
+    } else {
+        read_call(word).is_ok()
     }
 }
 

@@ -2,12 +2,14 @@
 ghost use Rattle.std.specs.Prelude.{◌≡◌, ◌≢◌, ◌↔◌, true, false, ◌<◌, ◌≤◌, ◌∷◌, ◌==◌, [], None, length, position, IfOk};
 ghost use Rattle.std.specs.Prelude.{IfErr, IfSome, MatchOption};
 ghost use Rattle.jc_script.specs.Transcript.{pieces_of, IsTranscript};
+ghost use Rattle.jc_script.specs.Places.{Explains};
 ghost use Rattle.jc_script.specs.Running.{Ran, Broke};
 
 use crate::fault::Fault;
 use crate::input::{InputFault, read_all, write_out};
 use crate::noted::Noted;
 use crate::player::Player;
+use crate::print_place::put_complaint;
 use crate::printing::put_fault;
 use jc_types::SCRIPT_MAX;
 use memchr::memchr;
@@ -60,15 +62,17 @@ fn first_line(bytes: &[u8]) -> Option<(&[u8], &[u8])>
     }
 }
 
-/// The transcript of a script, by a player whose world is still to be opened.
+/// The transcript of a script, by a player whose world is still to be opened. At a fault `told` gets what is to be said of it.
 fn lines<'a>(
     alloc: Global,
     input: &'a [u8],
     player: &mut Player<'a>,
+    told: &mut Vec<u8>,
 ) -> Result<(Vec<u8>, RunEnd), AllocError>
     requires closed { player.old.world ≡ None }
     requires fits { length input.now ≤ SCRIPT_MAX }
-    ensures { IfOk result (λ r. IsTranscript input.now r.0.items r.1) }
+    ensures transcript { IfOk result (λ r. IsTranscript input.now r.0.items r.1) }
+    ensures told { IfOk result (λ r. Explains input.now r.0.items told.old.items told.new.items r.1) }
 {
     let mut out = Vec::new(alloc);
     let mut rest = input;
@@ -78,6 +82,7 @@ fn lines<'a>(
             None => {}
             Some(fault) => {
                 put_fault(&mut out, number, fault)?;
+                put_complaint(alloc, told, number, text, fault)?;
                 return Ok((out, RunEnd::LineFault(number)));
             }
         }
@@ -88,27 +93,37 @@ fn lines<'a>(
         return Ok((out, RunEnd::Clean));
     }
     put_fault(&mut out, number, Fault::CutLine)?;
+    put_complaint(alloc, told, number, rest, Fault::CutLine)?;
     Ok((out, RunEnd::LineFault(number)))
 }
 
-fn transcript(alloc: Global, input: &[u8]) -> Result<(Vec<u8>, RunEnd), AllocError>
+fn transcript(
+    alloc: Global,
+    input: &[u8],
+    told: &mut Vec<u8>,
+) -> Result<(Vec<u8>, RunEnd), AllocError>
     requires { length input.now ≤ SCRIPT_MAX }
-    ensures { IfOk result (λ r. IsTranscript input.now r.0.items r.1) }
+    ensures transcript { IfOk result (λ r. IsTranscript input.now r.0.items r.1) }
+    ensures told { IfOk result (λ r. Explains input.now r.0.items told.old.items told.new.items r.1) }
 {
     let mut player = Player::new(alloc);
-    let made = lines(alloc, input, &mut player);
+    let made = lines(alloc, input, &mut player, told);
     player.close();
     made
 }
 
-/// Reads a script to its end, and writes its transcript, which is made whole before the first write.
+/// Reads a script to its end, and writes its transcript, which is made whole before the first write. If it ends at the fault of a line,
+/// one line more is put at the end of `told`, for people: the line's number, the column if there is one, and what is wrong there. After
+/// an error there may be such a line, too.
 pub fn run<R: Read, W: Write>(
     alloc: Global,
     reader: &mut Noted<R>,
     writer: &mut Noted<W>,
+    told: &mut Vec<u8>,
 ) -> Result<RunEnd, RunFault>
-    // What was written is the transcript of what was read.
-    ensures ran { IfOk result (λ end. Ran (R.remaining reader.old.inner) (R.remaining reader.new.inner) (W.contents writer.old.inner) (W.contents writer.new.inner) end) }
+    // What was written is the transcript of what was read, and what was told says where its fault is.
+    ensures ran { IfOk result (λ end. Ran (R.remaining reader.old.inner) (R.remaining reader.new.inner) (W.contents writer.old.inner)
+        (W.contents writer.new.inner) told.old.items told.new.items end) }
     // After a failed write, a prefix of it.
     ensures broke { result ≡ Err RunFault.Write → Broke (R.remaining reader.old.inner) (R.remaining reader.new.inner) (W.contents writer.old.inner) (W.contents writer.new.inner) }
     // Any other fault writes nothing.
@@ -125,7 +140,7 @@ pub fn run<R: Read, W: Write>(
         Err(InputFault::TooLong) => return Err(RunFault::TooLong),
         Err(InputFault::OutOfMemory) => return Err(RunFault::OutOfMemory),
     };
-    let (out, end) = match transcript(alloc, &input) {
+    let (out, end) = match transcript(alloc, &input, told) {
         Ok(made) => made,
         Err(_) => return Err(RunFault::OutOfMemory),
     };

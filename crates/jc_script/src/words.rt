@@ -1,11 +1,11 @@
 //! The kinds of word of a line.
-ghost use Rattle.std.specs.Prelude.{◌≡◌, ◌≤◌, ◌<◌, OnOk, IfSome, Ok, [], map, length, List, ℕ};
+ghost use Rattle.std.specs.Prelude.{◌≡◌, ◌≤◌, ◌<◌, OnOk, IfSome, Ok, [], is_ok, map, length, List, ℕ};
 ghost use Rattle.std.specs.Str.{bytes_eq};
 ghost use Rattle.std.specs.List.{list_all};
 ghost use Rattle.jc_types.specs.declared.limits.TheConstants.{VALUE_MAX};
 ghost use Rattle.jc_script.specs.Words.{words_of, is_letter, is_text, digits_from, number_of, caller_of, key_of, value_of};
 ghost use Rattle.jc_script.specs.Words.{value_or_none_of, equals_at, key_part, value_part, pair_onto, pairs_of, with_key, key_onto, distinct_keys_of};
-ghost use Rattle.jc_script.specs.Words.{distinct_pair_onto, distinct_pairs_of};
+ghost use Rattle.jc_script.specs.Words.{distinct_pair_onto, distinct_pairs_of, key_text};
 ghost use Rattle.jc_script.specs.Lines.{Gives, ok_with};
 
 use crate::distinct_pairs::DistinctPairs;
@@ -180,6 +180,22 @@ fn back(at: Option<usize>, word: &[u8]) -> Result<Value, Fault>
     }
 }
 
+/// What is before the first equals sign of a word: all of it, if it has none.
+pub fn key_text(word: &[u8]) -> &[u8]
+    ensures { result.now ≡ key_text word.now }
+{
+    front(equals_sign(word), word)
+}
+
+/// Whether a word says a pair.
+#[tactic(auto, unfolding(crate::specs::Words::pair_onto))]
+pub fn is_pair(word: &[u8]) -> bool
+    ensures { result ≡ is_ok (pair_onto [] word.now) }
+{
+    let at = equals_sign(word);
+    key(front(at, word)).is_ok() && back(at, word).is_ok()
+}
+
 #[tactic(auto, unfolding(crate::specs::Words::pair_onto))]
 fn add_pair(pairs: &mut Pairs, word: &[u8]) -> Result<(), ReadError>
     ensures { Gives (ok_with pairs.new result) (pair_onto pairs.old word.now) }
@@ -238,8 +254,9 @@ fn add_new(keys: &mut Keys, key: Key) -> Result<(), ReadError>
     }
 }
 
+/// One more key, which a word says.
 #[tactic(auto, unfolding(crate::specs::Words::key_onto))]
-fn add_key(keys: &mut Keys, word: &[u8]) -> Result<(), ReadError>
+pub fn add_key(keys: &mut Keys, word: &[u8]) -> Result<(), ReadError>
     ensures { Gives (ok_with keys.new result) (key_onto keys.old word.now) }
 {
     let key = key(word)?;
