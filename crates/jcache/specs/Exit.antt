@@ -35,8 +35,8 @@ use Rattle.jcache.specs.declared.report.Report.{Report}
 -- before and after: what the reader has left; old and new: what standard output holds; silent: that nothing was written to it
 abbrev pub ExitOfPlay : (status : ℕ) (before after old new : Option (List ℕ)) (silent : Type 0) → Type 0
 ExitOfPlay status before after old new silent =
-    ((status ≡ 0) × Ran before after old new Clean)
-    ⊎ (((status ≡ 1) × ((line : ℕ) × Ran before after old new (LineFault line)))
+    ((status ≡ 0) × Ran before after old new [] [] Clean)
+    ⊎ (((status ≡ 1) × ((line : ℕ) × (told : List ℕ) × Ran before after old new [] told (LineFault line)))
     ⊎ (((status ≡ 3) × (Broke before after old new ⊎ silent))
     ⊎ ((status ≡ 4) × silent)))
 

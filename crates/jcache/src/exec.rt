@@ -51,6 +51,12 @@ fn complain<E: Write>(err: &mut E, text: &str) {
     let _ = err.write_all(text.as_bytes());
 }
 
+/// Says where a line's fault is.
+fn tell<E: Write>(err: &mut E, told: &[u8]) {
+    complain(err, "jcache: ");
+    let _ = err.write_all(told);
+}
+
 /// Plays the script, and answers the status.
 fn play<R: Read, W: Write, E: Write>(
     alloc: Global,
@@ -63,9 +69,13 @@ fn play<R: Read, W: Write, E: Write>(
     ensures streams { reader.old.failed ≡ false → out.old.failed ≡ false
         → FailsByStreams result reader.new.failed out.new.failed (R.remaining reader.old.inner) (out.new ≡ out.old) }
 {
-    match run(alloc, reader, out) {
+    let mut told = Vec::new(alloc);
+    match run(alloc, reader, out, &mut told) {
         Ok(RunEnd::Clean) => CLEAN,
-        Ok(RunEnd::LineFault(_)) => LINE_FAULT,
+        Ok(RunEnd::LineFault(_)) => {
+            tell(err, &told);
+            LINE_FAULT
+        }
         Err(RunFault::Read) => {
             complain(err, "jcache: read failed\n");
             STREAMS
@@ -213,9 +223,9 @@ fn carry_out<Rt: Threads + Wait + Sync, R: Read, W: Write, E: Write>(
 
 /// Does what the words of a command line ask for, and answers the status: 0 if the script was played to its end, if threads
 /// counted right, or if a text was asked for and shown, as by `--help` and `--version`; 1 if the transcript ends with a line's
-/// fault; 2 if the words are none of this program's or ask for too much work, which is written to `err`; 3 if the input or output
-/// failed, or the input is too long; 4 if an allocation failed; 5 if the report that was written shows a wrong number, or that the
-/// history isn't legal. If a thread can't be started, another one makes its calls after its own.
+/// fault, of which `err` gets the column and the word; 2 if the words are none of this program's or ask for too much work, which is
+/// written to `err`; 3 if the input or output failed, or the input is too long; 4 if an allocation failed; 5 if the report that was
+/// written shows a wrong number, or that the history isn't legal. If a thread can't be started, another one makes its calls after its own.
 ///
 /// For threads it waits until all have ended. Nothing else waits.
 pub fn exec<Rt: Threads + Wait + Sync, R: Read, W: Write, E: Write>(

@@ -8,6 +8,7 @@ use std::alloc::Global;
 use std::fmt::Debug;
 use std::io;
 use std::process::Abort;
+use std::str::from_utf8;
 
 /// Asserts a value.
 fn is<T: Copy + Debug + PartialEq>(rt: &impl Abort, at: &str, found: T, want: T) {
@@ -27,7 +28,14 @@ fn lines(rt: &impl Abort, alloc: Global, text: &str) -> Vec<u8> {
 // Plays a script that ends at this line, with this fault.
 fn ends_with_fault(rt: &impl Abort, alloc: Global, script: &[u8], line: usize, fault: &str) {
     let mut found = Vec::new(alloc);
-    let end = run(alloc, &mut Noted::new(script), &mut Noted::new(&mut found)).expect(rt, "a run");
+    let mut told = Vec::new(alloc);
+    let end = run(
+        alloc,
+        &mut Noted::new(script),
+        &mut Noted::new(&mut found),
+        &mut told,
+    )
+    .expect(rt, "a run");
     is(rt, fault, end, RunEnd::LineFault(line as u64));
     let wanted = format!(in alloc; "line {line}: {fault}\n").expect(rt, "memory");
     assert!(rt; found.ends_with(wanted.as_bytes()), "at {script:?}");
@@ -46,6 +54,28 @@ fn end_with_fault(rt: &impl Abort, alloc: Global, part: &str) {
 fn all_end_with_faults(rt: &impl Abort, alloc: Global, parts: &str) {
     for part in parts.split("==\n") {
         end_with_fault(rt, alloc, part);
+    }
+}
+
+// Plays a script, and asserts what is said of its fault.
+fn is_told(rt: &impl Abort, alloc: Global, script: &[u8], wanted: &str) {
+    let mut found = Vec::new(alloc);
+    let mut told = Vec::new(alloc);
+    let _ended = run(
+        alloc,
+        &mut Noted::new(script),
+        &mut Noted::new(&mut found),
+        &mut told,
+    );
+    let told = from_utf8(&told).expect(rt, "a text");
+    is(rt, wanted, told.trim_end(), wanted);
+}
+
+// Plays the script of each line, behind which ` => ` and what is said of its fault follow.
+fn all_are_told(rt: &impl Abort, alloc: Global, table: &str) {
+    for line in table.lines() {
+        let (script, wanted) = line.split_once(" => ").expect(rt, "what is said");
+        is_told(rt, alloc, &lines(rt, alloc, script), wanted);
     }
 }
 
@@ -94,7 +124,12 @@ fn tells_a_failed_read(rt: HostRuntime) {
     let alloc = rt.alloc();
     let mut out = Vec::new(alloc);
     let mut torn = Noted::new(Torn { has_given: false });
-    let ended = run(alloc, &mut torn, &mut Noted::new(&mut out));
+    let ended = run(
+        alloc,
+        &mut torn,
+        &mut Noted::new(&mut out),
+        &mut Vec::new(alloc),
+    );
     is(&rt, "read", ended, Err(RunFault::Read));
     is(&rt, "read", out.len(), 0);
 }
@@ -106,7 +141,12 @@ fn writes_open(rt: &impl Abort, alloc: Global, left: usize, wanted: Result<RunEn
         left,
     };
     let mut reader = Noted::new(&b"open 1 2 100\n"[..]);
-    let ended = run(alloc, &mut reader, &mut Noted::new(&mut writer));
+    let ended = run(
+        alloc,
+        &mut reader,
+        &mut Noted::new(&mut writer),
+        &mut Vec::new(alloc),
+    );
     is(rt, "write", ended, wanted);
     is(rt, "write", b"open\n".starts_with(&writer.taken), true);
     is(rt, "write", writer.taken.len(), left);

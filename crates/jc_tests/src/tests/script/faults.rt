@@ -1,5 +1,5 @@
-//! Faults of lines: which comes first, by shape, words and state.
-use super::all_end_with_faults;
+//! Faults of lines: which comes first, by shape, words and state, and where it is.
+use super::{all_are_told, all_end_with_faults};
 
 const BAD_LINES: &str = "\
 bad line
@@ -308,4 +308,58 @@ open 1 2 100 write; begin 1 s1 put b 2; begin 2 s2 invokeall b; process 2
 #[test]
 fn tells_what_a_bulk_call_does_not_wait_for(rt: HostRuntime) {
     all_end_with_faults(&rt, rt.alloc(), BULK_TOO_EARLY);
+}
+
+const TOLD: &str = "\
+frob => line 1, column 1: unknown word 'frob'
+begin 1 s1 gett a => line 1, column 12: unknown operation 'gett'
+set  a 1 => line 1, column 5: no word (single spaces separate words)
+ set a 1 => line 1, column 1: no word (single spaces separate words)
+set a 1  => line 1, column 9: no word (single spaces separate words)
+end 1 2 => line 1, column 7: unexpected word '2'
+apply 1 butt a => line 1, column 9: unexpected word 'butt'
+applyfail 1 2 a => line 1, column 15: unexpected word 'a'
+begin 1 s1 loadall both a => line 1, column 20: unexpected word 'both'
+begin x s1 clear a => line 1, column 18: unexpected word 'a'
+open 1 2 100 fast => line 1, column 14: unexpected word 'fast'
+process 1 get put => line 1, column 15: unexpected word 'put'
+begin 1 s1 get => line 1, column 16: wrong number or order of words
+process 1 get loadfail=1 => line 1, column 26: wrong number or order of words
+open 1 2 100; read 01 => line 2, column 6: bad number '01'
+open 1 2 100x => line 1, column 10: bad number '100x'
+process 1 get fail=x => line 1, column 15: bad number 'fail=x'
+begin 1 s33 get a => line 1, column 9: bad caller 's33'
+begin 1 s1 put a! 1 => line 1, column 16: bad key 'a!'
+foreign - - => line 1, column 9: bad key '-'
+begin 1 s1 getall a=1 => line 1, column 19: bad key 'a=1'
+begin 1 s1 putall a=1 b!=2 => line 1, column 23: bad key 'b!=2'
+begin 1 s1 replaceif a 1 ! => line 1, column 26: bad value '!'
+begin 1 s1 putall a=1 b=! => line 1, column 23: bad value 'b=!'
+say 1 a=1 b => line 1, column 11: bad value 'b'
+process 1 loadsay=- set=- => line 1, column 21: bad value 'set=-'
+foreign a ! => line 1, column 11: bad value '!'
+begin 1 s1 putall a=1 b=2 a=3 => line 1, column 27: repeated key 'a=3'
+begin 1 s1 getall s1 getall a s1 => line 1, column 31: repeated key 's1'
+begin 1 s1 loadall keep a keep a => line 1, column 32: repeated key 'a'
+apply 1 but a b a => line 1, column 17: repeated key 'a'
+applyfail 1 2 but 1 2 1 => line 1, column 23: repeated key '1'
+audit => line 1, column 1: not open 'audit'
+open 1 2 100; open 1 2 100 => line 2, column 1: open twice 'open'
+open 0 2 100 => line 1, column 6: bad config stripes '0'
+open 1 5000 100 => line 1, column 8: bad config capacity '5000'
+open 1 2 15 => line 1, column 10: bad config history '15'
+open 1 2 100; foreign a 1; set a 1 => line 3, column 1: set too late 'set'
+open 1 2 100; begin 2 s1 get a; begin 2 s1 get a => line 3, column 7: number not rising '2'
+open 1 2 100 read; begin 1 s1 get a; begin 2 s1 get a => line 3, column 9: caller busy 's1'
+open 1 2 100; end 9 => line 2, column 5: no such call '9'
+open 1 2 100 read; begin 1 s1 get a; apply 1 => line 3, column 1: not now 'apply'
+audit\r => line 1, column 6: carriage return (lines end with a line feed alone)
+set\ta 1 => line 1, column 4: tab (single spaces separate words)
+\u{feff}audit => line 1, column 1: byte order mark (save the script without one)
+frob\u{7f} => line 1, column 5: bad byte
+";
+
+#[test]
+fn tells_where_in_a_line_its_fault_is(rt: HostRuntime) {
+    all_are_told(&rt, rt.alloc(), TOLD);
 }

@@ -72,7 +72,12 @@ fn transcript(rt: &impl Abort, alloc: Global) -> Vec<u8> {
 /// Plays a script of so many whole lines, and asserts how it ends and what it prints.
 fn plays(rt: &impl Abort, alloc: Global, script: &[u8], end: RunEnd, wanted: &[u8]) {
     let mut found = Vec::new(alloc);
-    let ended = run(alloc, &mut Noted::new(script), &mut Noted::new(&mut found));
+    let ended = run(
+        alloc,
+        &mut Noted::new(script),
+        &mut Noted::new(&mut found),
+        &mut Vec::new(alloc),
+    );
     is(rt, "cut", ended, Ok(end));
     is(rt, "cut", found.as_slice(), wanted);
 }
@@ -136,7 +141,12 @@ fn reads(
         rest: script.as_slice(),
         left,
     };
-    let ended = run(alloc, &mut Noted::new(reader), &mut Noted::new(&mut found));
+    let ended = run(
+        alloc,
+        &mut Noted::new(reader),
+        &mut Noted::new(&mut found),
+        &mut Vec::new(alloc),
+    );
     is(rt, "read", ended, end);
     is(rt, "read", found.as_slice(), wanted);
 }
@@ -199,7 +209,12 @@ fn writes(
         fails,
     };
     let mut reader = Noted::new(script.as_slice());
-    let ended = run(alloc, &mut reader, &mut Noted::new(&mut writer));
+    let ended = run(
+        alloc,
+        &mut reader,
+        &mut Noted::new(&mut writer),
+        &mut Vec::new(alloc),
+    );
     is(rt, "write", ended, end);
     is(rt, "write", writer.taken.as_slice(), wanted);
 }
