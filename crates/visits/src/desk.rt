@@ -48,11 +48,19 @@ impl<R: Print + Wait> Service<R, anyhow::Result<()>> for Entering<'_> {
     fn work(&self, rt: &R, desk: &mut Client<'_>) -> anyhow::Result<()> {
         let Entering { alloc, users } = *self;
         let known = Reading { alloc, users }.work(rt, desk)?;
-        let new = new_users(alloc, users, &known)?;
-        println!(rt; "{} users are known, {} are new", known.len(), new.len())?;
-        let putting = Putting { alloc, users: &new };
-        Ok(putting.work(rt, desk)?)
+        enter(rt, alloc, desk, &new_users(rt, alloc, users, &known)?)
     }
+}
+
+/// Puts new users.
+fn enter(
+    rt: &impl Wait,
+    alloc: Global,
+    desk: &mut Client<'_>,
+    users: &IndexMap<Key, Value>,
+) -> anyhow::Result<()> {
+    let putting = Putting { alloc, users };
+    Ok(putting.work(rt, desk)?)
 }
 
 /// Shows how often each of these users came.
@@ -97,18 +105,30 @@ pub fn close(
     Reporting { alloc, users }.work(rt, &mut desk)
 }
 
-/// The users who aren't known, each with no visit.
+/// The users who aren't known, each with no visit. It shows how many there are.
 fn new_users(
+    rt: &impl Print,
     alloc: Global,
     users: &IndexSet<Key>,
     known: &IndexMap<Key, Value>,
 ) -> anyhow::Result<IndexMap<Key, Value>> {
-    let mut new = IndexMap::new(alloc);
+    let new = others(alloc, users, known)?;
+    println!(rt; "{} users are known, {} are new", known.len(), new.len())?;
+    Ok(new)
+}
+
+/// The users who aren't known, each with no visit.
+fn others(
+    alloc: Global,
+    users: &IndexSet<Key>,
+    known: &IndexMap<Key, Value>,
+) -> anyhow::Result<IndexMap<Key, Value>> {
+    let mut others = IndexMap::new(alloc);
     let none = Value::new(b"0")?;
     for user in users {
         if !known.contains_key(user) {
-            new.insert(*user, none)?;
+            others.insert(*user, none)?;
         }
     }
-    Ok(new)
+    Ok(others)
 }

@@ -45,13 +45,33 @@ fn main(rt: HostRuntime) -> anyhow::Result<()> {
             alloc,
             DatabaseWriter::new(rt, &database)?,
         )?;
-        outside.push(Outside {
-            loader: Some(loader),
-            writer: Some(writer),
-        })?;
+        bring(&mut outside, loader, writer)?;
     }
-    let served = serve(&rt, alloc, outside);
-    show_error(&rt, &database)?;
+    serve_from(&rt, alloc, &database, outside)
+}
+
+/// One session more, which brings this loader and this writer.
+fn bring(
+    outside: &mut Vec<Outside>,
+    loader: Box<dyn CacheLoader + Send + Drop>,
+    writer: Box<dyn CacheWriter + Send + Drop>,
+) -> anyhow::Result<()> {
+    outside.push(Outside {
+        loader: Some(loader),
+        writer: Some(writer),
+    })?;
+    Ok(())
+}
+
+/// Serves from a database, and shows what its last failure was, if it had one.
+fn serve_from<R: Print + Threads + Wait + Sync>(
+    rt: &R,
+    alloc: Global,
+    database: &Database,
+    outside: Vec<Outside>,
+) -> anyhow::Result<()> {
+    let served = serve(rt, alloc, outside);
+    show_error(rt, database)?;
     served
 }
 
