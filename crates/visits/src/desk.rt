@@ -58,7 +58,9 @@ fn enter(
     alloc: Global,
     desk: &mut Client<'_>,
     users: &IndexMap<Key, Value>,
-) -> anyhow::Result<()> {
+) -> anyhow::Result<()>
+    requires { Unit {0} }
+{
     let putting = Putting { alloc, users };
     Ok(putting.work(rt, desk)?)
 }
