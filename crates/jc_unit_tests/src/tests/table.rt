@@ -1,25 +1,33 @@
 //! What the texts don't run: an operation in the place of another, and the rows of an entry processor.
 use super::value;
 use jc_model::{Effect, LentChange, LoaderAsk, Op, ProcessAnswer};
+use std::process::Abort;
+
+// Puts each of these in the place of each.
+fn take_places(rt: &impl Abort, ops: &[Op]) {
+    for old in ops {
+        for new in ops {
+            let mut place = *old;
+            place.copy_from(new);
+            assert!(rt; place == *new);
+        }
+    }
+}
 
 #[test]
 fn takes_the_place_of_another(rt: HostRuntime) {
     let (one, two) = (value(&rt, b"1"), value(&rt, b"22"));
-    let ops = [
-        Op::Get,
-        Op::Put(one),
-        Op::Put(two),
-        Op::Remove,
-        Op::Invoke,
-        Op::ReplaceIf { old: one, new: two },
-    ];
-    for old in ops {
-        for new in ops {
-            let mut place = old;
-            place.copy_from(&new);
-            assert!(rt; place == new);
-        }
-    }
+    take_places(
+        &rt,
+        &[
+            Op::Get,
+            Op::Put(one),
+            Op::Put(two),
+            Op::Remove,
+            Op::Invoke,
+            Op::ReplaceIf { old: one, new: two },
+        ],
+    );
 }
 
 #[test]
