@@ -50,6 +50,9 @@ fn put_twice(
     let Err(fault) = put_all(alloc, rt, client.cache, &mut client.session, entries) else {
         return Ok(());
     };
+    if fault.failed.is_empty() {
+        return Err(fault.cause.into());
+    }
     let mut again = IndexMap::new(alloc);
     for (key, _why) in &fault.failed {
         if let Some(value) = entries.get(key) {
