@@ -39,8 +39,8 @@ use Rattle.jc_stripe.specs.declared.ticket.Reservation.{Reservation}
 use Rattle.jc_stripe.proofs.CallerLemmas.{call_below, may_in_all, put_off_or_full}
 use Rattle.jc_lock.specs.declared.view.View.{View}
 use Rattle.jc_lock.proofs.CallerLemmas.{prefix-trans, same_on}
-use Rattle.jc_engine.specs.declared.entering.Entered.{Entered}
-use Rattle.jc_engine.specs.declared.entering.Entered.TheVariants as entered
+use Rattle.jc_engine.specs.Entering.{Entered}
+use Rattle.jc_engine.specs.Entering as entered
 use Rattle.jc_stripe.specs.Renewal.{RenewsIfFull}
 use Rattle.jc_stripe.specs.Tests.{asks_outside}
 use Rattle.jc_gate.specs.Lending.{Lent}

@@ -8,6 +8,7 @@ ghost use Rattle.jc_stripe.specs.OnePhase.{OnePhase};
 ghost use Rattle.jc_stripe.specs.OwnSteps.{OwnSteps, OwnNumbers, StepsBehind};
 ghost use Rattle.jc_cache.specs.CacheInside.{IsShaped};
 ghost use Rattle.jc_cache.specs.Sessions.{MayCall, Completes};
+ghost use Rattle.jc_engine.specs.Entering.{ended_with};
 ghost use Rattle.jc_cache.specs.Calls.{Called, Returns, Tried, Invoked, value_in, value_into};
 
 use crate::calls::value_of;
@@ -63,26 +64,27 @@ impl Cache {
         &self.locks
     }
 
-    /// The session's next call, whole, on one key.
+    /// The session's next call, whole, on one key. What it replies is written to `reply`.
     pub(crate) fn call<R: Wait>(
         &self,
         rt: &R,
         session: &mut Session,
         key: &Key,
         op: &Op,
-    ) -> Result<Reply, Refusal>
+        reply: &mut Reply,
+    ) -> Result<(), Refusal>
         requires op { is_invoke op.now ≡ false }
         requires may { MayCall self.now session.old }
         ensures { Completes self.now session.new
             (Called loads load_state writes write_state
-            self.now session.old key.now op.now result session.new) }
+            self.now session.old key.now op.now (ended_with result reply.new) session.new) }
     {
         laws();
         let at = stripe_of(key, self.config.stripes);
         session.agent.next_call();
         let mut lock = &self.locks[at];
         let seat = &mut session.seats[at];
-        call(rt, &mut lock, seat, &mut session.agent, key, op)
+        call(rt, &mut lock, seat, &mut session.agent, key, op, reply)
     }
 
     /// The key's value (`get`), written to `value`, as [`get`](Cache::get) reads it: for a caller that keeps a room for values, since no
@@ -110,23 +112,24 @@ impl Cache {
         get_into(rt, &mut lock, seat, &mut session.agent, key, value)
     }
 
-    /// The session's next call on one key, if it can be done at once.
+    /// The session's next call on one key, if it can be done at once. What it replies is written to `reply`.
     pub(crate) fn try_call(
         &self,
         session: &mut Session,
         key: &Key,
         op: &Op,
-    ) -> Result<Reply, Refusal>
+        reply: &mut Reply,
+    ) -> Result<(), Refusal>
         requires may { MayCall self.now session.old }
         ensures { Completes self.now session.new
-            (Tried self.now session.old key.now op.now result session.new) }
+            (Tried self.now session.old key.now op.now (ended_with result reply.new) session.new) }
     {
         laws();
         let at = stripe_of(key, self.config.stripes);
         session.agent.next_call();
         let mut lock = &self.locks[at];
         let seat = &mut session.seats[at];
-        try_call(&mut lock, seat, &mut session.agent, key, op)
+        try_call(&mut lock, seat, &mut session.agent, key, op, reply)
     }
 
     /// The session's next call, whole, which runs a processor on one key (JSR 107, "Entry Processors"). It gives the processor's
@@ -156,7 +159,8 @@ impl Cache {
         session.agent.next_call();
         let mut lock = &self.locks[at];
         let seat = &mut session.seats[at];
-        value_of(invoke(
+        let mut reply = Reply::Unit;
+        let ended = invoke(
             rt,
             &mut lock,
             seat,
@@ -165,7 +169,9 @@ impl Cache {
             self.config.write_through,
             processor,
             args,
-        ))
+            &mut reply,
+        );
+        value_of(ended, &reply)
     }
 }
 

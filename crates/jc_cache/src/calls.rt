@@ -19,6 +19,7 @@
 ghost use Rattle.std.specs.Prelude.{◌≡◌};
 ghost use Rattle.jc_model.specs.declared.event.Op.TheVariants as op;
 ghost use Rattle.jc_cache.specs.Sessions.{MayCall, Completes};
+ghost use Rattle.jc_engine.specs.Entering.{ended_with};
 ghost use Rattle.jc_cache.specs.Calls.{Returns, value_in, flag_in, unit_in};
 
 use crate::cache::Cache;
@@ -66,7 +67,9 @@ impl Cache {
             (Returns loads load_state writes write_state
             self.now session.old key.now op.ContainsKey flag_in result session.new) }
     {
-        flag_of(self.call(rt, session, key, &Op::ContainsKey))
+        let mut reply = Reply::Unit;
+        let ended = self.call(rt, session, key, &Op::ContainsKey, &mut reply);
+        flag_of(ended, &reply)
     }
 
     /// Gives the key a value (`put`). With write-through on, the value is written first.
@@ -85,7 +88,9 @@ impl Cache {
             (Returns loads load_state writes write_state
             self.now session.old key.now (op.Put value.now) unit_in result session.new) }
     {
-        unit_of(self.call(rt, session, key, &Op::Put(*value)))
+        let mut reply = Reply::Unit;
+        let ended = self.call(rt, session, key, &Op::Put(*value), &mut reply);
+        unit_of(ended, &reply)
     }
 
     /// Gives the key a value, and returns the one before, or none (`getAndPut`). With write-through on, the value is written
@@ -105,7 +110,9 @@ impl Cache {
             (Returns loads load_state writes write_state
             self.now session.old key.now (op.GetAndPut value.now) value_in result session.new) }
     {
-        value_of(self.call(rt, session, key, &Op::GetAndPut(*value)))
+        let mut reply = Reply::Unit;
+        let ended = self.call(rt, session, key, &Op::GetAndPut(*value), &mut reply);
+        value_of(ended, &reply)
     }
 
     /// Gives the key a value if it has no entry, and says whether it did (`putIfAbsent`). With write-through on, the value is
@@ -125,7 +132,9 @@ impl Cache {
             (Returns loads load_state writes write_state
             self.now session.old key.now (op.PutIfAbsent value.now) flag_in result session.new) }
     {
-        flag_of(self.call(rt, session, key, &Op::PutIfAbsent(*value)))
+        let mut reply = Reply::Unit;
+        let ended = self.call(rt, session, key, &Op::PutIfAbsent(*value), &mut reply);
+        flag_of(ended, &reply)
     }
 
     /// Removes the key's entry, and says whether there was one (`remove`). With write-through on, the key is deleted in the
@@ -139,7 +148,9 @@ impl Cache {
             (Returns loads load_state writes write_state
             self.now session.old key.now op.Remove flag_in result session.new) }
     {
-        flag_of(self.call(rt, session, key, &Op::Remove))
+        let mut reply = Reply::Unit;
+        let ended = self.call(rt, session, key, &Op::Remove, &mut reply);
+        flag_of(ended, &reply)
     }
 
     /// Removes the key's entry if it has this value, and says whether it did (`remove(key, oldValue)`). With write-through on,
@@ -159,7 +170,9 @@ impl Cache {
             (Returns loads load_state writes write_state
             self.now session.old key.now (op.RemoveIf old.now) flag_in result session.new) }
     {
-        flag_of(self.call(rt, session, key, &Op::RemoveIf(*old)))
+        let mut reply = Reply::Unit;
+        let ended = self.call(rt, session, key, &Op::RemoveIf(*old), &mut reply);
+        flag_of(ended, &reply)
     }
 
     /// Removes the key's entry, and returns its value, or none (`getAndRemove`). With write-through on, the key is deleted in
@@ -178,7 +191,9 @@ impl Cache {
             (Returns loads load_state writes write_state
             self.now session.old key.now op.GetAndRemove value_in result session.new) }
     {
-        value_of(self.call(rt, session, key, &Op::GetAndRemove))
+        let mut reply = Reply::Unit;
+        let ended = self.call(rt, session, key, &Op::GetAndRemove, &mut reply);
+        value_of(ended, &reply)
     }
 
     /// Gives the key a value if it has an entry, and says whether it did (`replace(key, value)`). With write-through on, the
@@ -198,7 +213,9 @@ impl Cache {
             (Returns loads load_state writes write_state
             self.now session.old key.now (op.Replace value.now) flag_in result session.new) }
     {
-        flag_of(self.call(rt, session, key, &Op::Replace(*value)))
+        let mut reply = Reply::Unit;
+        let ended = self.call(rt, session, key, &Op::Replace(*value), &mut reply);
+        flag_of(ended, &reply)
     }
 
     /// Gives the key the value `new` if it has the value `old`, and says whether it did (`replace(key, oldValue, newValue)`). With
@@ -219,15 +236,13 @@ impl Cache {
             (Returns loads load_state writes write_state
             self.now session.old key.now (op.ReplaceIf old.now new.now) flag_in result session.new) }
     {
-        flag_of(self.call(
-            rt,
-            session,
-            key,
-            &Op::ReplaceIf {
-                old: *old,
-                new: *new,
-            },
-        ))
+        let op = Op::ReplaceIf {
+            old: *old,
+            new: *new,
+        };
+        let mut reply = Reply::Unit;
+        let ended = self.call(rt, session, key, &op, &mut reply);
+        flag_of(ended, &reply)
     }
 
     /// Gives the key a value if it has an entry, and returns the one before, or none (`getAndReplace`). With write-through on,
@@ -247,40 +262,45 @@ impl Cache {
             (Returns loads load_state writes write_state
             self.now session.old key.now (op.GetAndReplace value.now) value_in result session.new) }
     {
-        value_of(self.call(rt, session, key, &Op::GetAndReplace(*value)))
+        let mut reply = Reply::Unit;
+        let ended = self.call(rt, session, key, &Op::GetAndReplace(*value), &mut reply);
+        value_of(ended, &reply)
     }
 }
 
 /// What a call returns that replies with a value: the value, or none; or the fault of its step, or why it was refused.
 ///
-/// `ended` is what became of the call: the reply of its step, or the refusal of its first phase.
-pub fn value_of(ended: Result<Reply, Refusal>) -> Result<Option<Value>, Refusal>
-    ensures { result ≡ value_in ended }
+/// `ended` says whether the call was refused; if it wasn't, `reply` is what its step replies.
+pub(crate) fn value_of(ended: Result<(), Refusal>, reply: &Reply) -> Result<Option<Value>, Refusal>
+    ensures { result ≡ value_in (ended_with ended reply.now) }
 {
-    match ended {
-        Ok(Reply::Value(value)) => Ok(value),
-        Ok(Reply::Fault(fault)) | Err(fault) => Err(fault),
-        Ok(Reply::Flag(_) | Reply::Unit) => Ok(None),
+    ended?;
+    match reply {
+        Reply::Value(value) => Ok(*value),
+        Reply::Fault(fault) => Err(*fault),
+        Reply::Flag(_) | Reply::Unit => Ok(None),
     }
 }
 
 /// What a call returns that replies with yes or no.
-pub(crate) fn flag_of(ended: Result<Reply, Refusal>) -> Result<bool, Refusal>
-    ensures { result ≡ flag_in ended }
+pub(crate) fn flag_of(ended: Result<(), Refusal>, reply: &Reply) -> Result<bool, Refusal>
+    ensures { result ≡ flag_in (ended_with ended reply.now) }
 {
-    match ended {
-        Ok(Reply::Flag(flag)) => Ok(flag),
-        Ok(Reply::Fault(fault)) | Err(fault) => Err(fault),
-        Ok(Reply::Value(_) | Reply::Unit) => Ok(false),
+    ended?;
+    match reply {
+        Reply::Flag(flag) => Ok(*flag),
+        Reply::Fault(fault) => Err(*fault),
+        Reply::Value(_) | Reply::Unit => Ok(false),
     }
 }
 
 /// What a call returns that replies with nothing.
-pub(crate) fn unit_of(ended: Result<Reply, Refusal>) -> Result<(), Refusal>
-    ensures { result ≡ unit_in ended }
+pub(crate) fn unit_of(ended: Result<(), Refusal>, reply: &Reply) -> Result<(), Refusal>
+    ensures { result ≡ unit_in (ended_with ended reply.now) }
 {
-    match ended {
-        Ok(Reply::Fault(fault)) | Err(fault) => Err(fault),
-        Ok(Reply::Value(_) | Reply::Flag(_) | Reply::Unit) => Ok(()),
+    ended?;
+    match reply {
+        Reply::Fault(fault) => Err(*fault),
+        Reply::Value(_) | Reply::Flag(_) | Reply::Unit => Ok(()),
     }
 }

@@ -31,7 +31,6 @@ mod skipping;
 mod trying;
 
 pub use cache::Cache;
-pub use calls::value_of;
 pub use client::Client;
 pub use closing::{CloseFault, Closed, ClosedStripe};
 pub use jc_model::{Event, Op, Reply, Statistics};

@@ -24,7 +24,7 @@ ghost use Rattle.jc_cache.specs.PhaseCalls.{MayFind, MayStart, PhaseAt};
 use crate::cache::Cache;
 use crate::session::Session;
 use jc_engine::{Answer, Commit, First, How, Phase, PickUp, Processed, Withdraw, lend};
-use jc_model::Op;
+use jc_model::{Op, Reply};
 use jc_session::Counted;
 use jc_stripe::phase_laws::{is_uniform, own_steps};
 use jc_stripe::{Ask, Begun, Join, LoadDone, Picked, ProcDone, StepDone, Ticket, WriteDone};
@@ -50,7 +50,9 @@ impl Cache {
             op,
             how: How::Now,
         };
-        self.phase_at(rt, session, at, first)
+        let mut reply = Reply::Unit;
+        let started = self.phase_at(rt, session, at, first, &mut reply);
+        started.with_reply(&reply)
     }
 
     /// The last phase of a call whose loader has answered.
@@ -130,7 +132,8 @@ impl Cache {
             (λ a b. PicksUp a join result b) (counted_picked result) session.new) }
     {
         let at = stripe_of(join.key(), self.config.stripes);
-        self.phase_at(rt, session, at, PickUp { join, waits: false })
+        let pick_up = PickUp { join, waits: false };
+        self.phase_at(rt, session, at, pick_up, &mut Reply::Unit)
     }
 
     /// The answer of a load that a call has joined. It waits until the load was answered, or was given back (`Again`).
@@ -145,7 +148,8 @@ impl Cache {
             (λ a b. PicksUpLate a join result b) (counted_picked result) session.new) }
     {
         let at = stripe_of(join.key(), self.config.stripes);
-        self.phase_at(rt, session, at, PickUp { join, waits: true })
+        let pick_up = PickUp { join, waits: true };
+        self.phase_at(rt, session, at, pick_up, &mut Reply::Unit)
     }
 
     /// Gives up a call that has reserved its key and asked nobody: nothing is appended, and the entry stays. Each call that has joined
@@ -160,7 +164,7 @@ impl Cache {
             (λ a b. Withdraws a ticket.reservation b) Withdrawn session.new) }
     {
         let at = stripe_of(&ticket.reservation().key, self.config.stripes);
-        self.phase_at(rt, session, at, Withdraw { ticket });
+        self.phase_at(rt, session, at, Withdraw { ticket }, &mut Reply::Unit);
     }
 
     /// Pauses once, for a call that has met another call's reservation of this key. It may return though nothing has changed.
@@ -217,10 +221,12 @@ impl Cache {
             Committed session.new) }
     {
         let at = stripe_of(&ticket.reservation().key, self.config.stripes);
-        self.phase_at(rt, session, at, Commit { ticket, answer })
+        let mut reply = Reply::Unit;
+        let step = self.phase_at(rt, session, at, Commit { ticket, answer }, &mut reply);
+        step.with_reply(&reply)
     }
 
-    /// Makes a phase of the session on the stripe with this number.
+    /// Makes a phase of the session on the stripe with this number. What its call replies, if the phase ends it, is written to `reply`.
     ///
     /// Conditions: the session is of this cache, and the phase is of the session; there is a stripe of this number, and each state in
     /// which the session may find it has what the phase needs.
@@ -233,18 +239,19 @@ impl Cache {
         session: &mut Session,
         number: usize,
         phase: P,
+        reply: &mut Reply,
     ) -> P::Answer
         requires own { IsOf self.now session.old }
         requires stripe { number < self.now.config.stripes }
         requires who { P.who phase ≡ session.old.agent.caller.session }
         requires needs { (a : State) → MayFind session.old number a → P.needs phase a }
         ensures { GoesOn self.now session.new
-            (PhaseAt number session.old (λ a b. P.makes phase a result b) (P.counts result) session.new) }
+            (PhaseAt number session.old (λ a b. P.makes phase a result reply.new b) (P.counts result) session.new) }
     {
         is_uniform();
         own_steps();
         let mut lock = &self.locks[number];
         let seat = &mut session.seats[number];
-        lend(rt, &mut lock, seat, &mut session.agent, phase)
+        lend(rt, &mut lock, seat, &mut session.agent, phase, reply)
     }
 }

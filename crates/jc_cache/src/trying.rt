@@ -25,7 +25,9 @@ impl Cache {
         ensures { Completes self.now session.new
             (Tries self.now session.old key.now op.Get value_in result session.new) }
     {
-        value_of(self.try_call(session, key, &Op::Get))
+        let mut reply = Reply::Unit;
+        let ended = self.try_call(session, key, &Op::Get, &mut reply);
+        value_of(ended, &reply)
     }
 
     /// Whether the key has an entry, as [`Cache::contains_key`].
@@ -36,7 +38,9 @@ impl Cache {
         ensures { Completes self.now session.new
             (Tries self.now session.old key.now op.ContainsKey flag_in result session.new) }
     {
-        flag_of(self.try_call(session, key, &Op::ContainsKey))
+        let mut reply = Reply::Unit;
+        let ended = self.try_call(session, key, &Op::ContainsKey, &mut reply);
+        flag_of(ended, &reply)
     }
 
     /// Gives the key a value, as [`Cache::put`]. With write-through on it is always refused as `Busy`.
@@ -47,6 +51,8 @@ impl Cache {
         ensures { Completes self.now session.new
             (Tries self.now session.old key.now (op.Put value.now) unit_in result session.new) }
     {
-        unit_of(self.try_call(session, key, &Op::Put(*value)))
+        let mut reply = Reply::Unit;
+        let ended = self.try_call(session, key, &Op::Put(*value), &mut reply);
+        unit_of(ended, &reply)
     }
 }

@@ -17,8 +17,8 @@ use Rattle.jc_stripe.specs.Tickets.{TicketClaim}
 use Rattle.jc_gate.specs.Lending.{ComesAfter}
 use Rattle.jc_engine.specs.Needs.{Starts}
 use Rattle.jc_engine.specs.Calls.{EntersAs, Enters}
-use Rattle.jc_engine.specs.declared.entering.Entered.{Entered}
-use Rattle.jc_engine.specs.declared.entering.Entered.TheVariants as entered
+use Rattle.jc_engine.specs.Entering.{Entered}
+use Rattle.jc_engine.specs.Entering as entered
 
 ticket_or : TicketClaim → Entered → TicketClaim
 ticket_or ticket (entered.Done reply) = ticket

@@ -33,8 +33,8 @@ use Rattle.jc_stripe.specs.declared.ticket.First.TheVariants as first
 use Rattle.jc_stripe.specs.declared.ticket.Reservation.{Reservation}
 use Rattle.jc_stripe.proofs.Beside.{ask_found}
 use Rattle.jc_stripe.proofs.SharedSteps.{stands_at}
-use Rattle.jc_engine.specs.declared.entering.Entered.{Entered}
-use Rattle.jc_engine.specs.declared.entering.Entered.TheVariants as entered
+use Rattle.jc_engine.specs.Entering.{Entered}
+use Rattle.jc_engine.specs.Entering as entered
 use Rattle.jc_engine.specs.Needs.{Starts}
 use Rattle.jc_engine.specs.Calls.{EntersAs}
 use Rattle.jc_engine.specs.MadeIn.{IsNext}

@@ -23,7 +23,7 @@ use Rattle.jc_engine.specs.Answered.{CallAnswer, out_of}
 use Rattle.jc_engine.specs.Asking.{AsksLoader, AsksWriter, IsAsked, KeepsTypes, change_wanted}
 use Rattle.jc_engine.specs.Chain.{LentPhase}
 use Rattle.jc_engine.specs.Calls.{AsksAndEnds, Enters, IsCall, counts_entered}
-use Rattle.jc_engine.specs.declared.entering.Entered.TheVariants as entered
+use Rattle.jc_engine.specs.Entering as entered
 use Rattle.jc_engine.proofs.AgentAfter.{after_first, after_both}
 use Rattle.jc_engine.proofs.Asked.{of_caller}
 use Rattle.jc_engine.proofs.Asking.{loader_for, writer_for}

@@ -35,8 +35,8 @@ use Rattle.jc_engine.specs.Chain.{AllQuiet, Rests, Since, LentPhase}
 use Rattle.jc_engine.specs.Needs.{Starts, Hits}
 use Rattle.jc_engine.specs.Values.{value_into}
 use Rattle.jc_engine.specs.Calls.{Retries, EntersAs, Enters, IsCall}
-use Rattle.jc_engine.specs.declared.entering.Entered.{Entered}
-use Rattle.jc_engine.specs.declared.entering.Entered.TheVariants as entered
+use Rattle.jc_engine.specs.Entering.{Entered}
+use Rattle.jc_engine.specs.Entering as entered
 use Rattle.jc_stripe.specs.declared.begun.Begun.{Begun}
 use Rattle.jc_stripe.specs.declared.begun.Begun.TheVariants as begun
 use Rattle.jc_engine.proofs.AgentAfter.{after_first}

@@ -33,8 +33,8 @@ use Rattle.jc_engine.specs.Chain.{AllQuiet, LentPhase}
 use Rattle.jc_engine.specs.Needs.{Starts}
 use Rattle.jc_engine.specs.Calls.{Retries, EntersAs, Enters, EndsAs, IsCall}
 use Rattle.jc_engine.specs.Owned.{next_after, OneStep, EndsCall, IsOwnedCall}
-use Rattle.jc_engine.specs.declared.entering.Entered.{Entered}
-use Rattle.jc_engine.specs.declared.entering.Entered.TheVariants as entered
+use Rattle.jc_engine.specs.Entering.{Entered}
+use Rattle.jc_engine.specs.Entering as entered
 use Rattle.jc_engine.proofs.Asked.{asked_by, asks_first}
 
 -- 1. One phase.

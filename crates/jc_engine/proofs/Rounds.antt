@@ -24,8 +24,8 @@ use Rattle.jc_engine.specs.Chain.{Since, LentPhase}
 use Rattle.jc_engine.specs.Needs.{BeginsIfClear, Starts}
 use Rattle.jc_engine.specs.Stays.{begins-stays}
 use Rattle.jc_engine.specs.Calls.{Retries, EntersAs, Enters}
-use Rattle.jc_engine.specs.declared.entering.Entered.{Entered}
-use Rattle.jc_engine.specs.declared.entering.Entered.TheVariants as entered
+use Rattle.jc_engine.specs.Entering.{Entered}
+use Rattle.jc_engine.specs.Entering as entered
 use Rattle.jc_engine.proofs.Coming.{since_start, since_both, since_phase}
 
 module _ {G T : Type 0} (takes gives : G → T → State → G → T → Type 0) (finds : G → T → State → Type 0) (caller : Caller) (key : Bytes) (op : Op) where

@@ -45,8 +45,8 @@ use Rattle.jc_session.specs.Boxed.{boxed}
 use Rattle.jc_session.specs.Counting.{one_more, counts_ended}
 use Rattle.jc_session.specs.declared.counts.Counts.{Counts}
 use Rattle.jc_session.specs.declared.agent.Agent.{Agent}
-use Rattle.jc_engine.specs.declared.entering.Entered.{Entered}
-use Rattle.jc_engine.specs.declared.entering.Entered.TheVariants as entered
+use Rattle.jc_engine.specs.Entering.{Entered}
+use Rattle.jc_engine.specs.Entering as entered
 use Rattle.jc_engine.specs.Chain.{Rests, Since, LentPhase}
 use Rattle.jc_engine.specs.Doors.{AllFound, AllRenewed}
 use Rattle.jc_engine.specs.Needs.{BeginsIfClear, Starts, StartsBy, can_start}

@@ -1,5 +1,6 @@
 pub mod Chain
 pub mod Needs
+pub mod Entering
 pub mod Stays
 pub mod Answered
 pub mod Asking

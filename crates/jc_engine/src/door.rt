@@ -6,6 +6,7 @@ ghost use Rattle.jc_engine.specs.Chain.{LentPhase};
 ghost use Rattle.jc_engine.specs.Doors.{AllRenewed, FitsGate, IsLeft, IsNotMade, IsReady, MakesPhase};
 
 use jc_gate::Gate;
+use jc_model::Reply;
 use jc_session::{Agent, Counted};
 use jc_stripe::Stripe;
 use jc_stripe::phase_laws::renewal;
@@ -15,6 +16,7 @@ use std::sync::Wait;
 pub trait Phase {
     ghost use Rattle.std.specs.Prelude.{◌≡◌, ◌↔◌, ℕ, IsTrue, IfOk, IfErr};
     ghost use Rattle.jc_gate.specs.Lending.{ComesAfter};
+    ghost use Rattle.jc_model.specs.declared.event.Reply.{Reply as Replied};
     ghost use Rattle.jc_stripe.specs.State.{State};
     ghost use Rattle.jc_session.specs.Counting.{IsCounted};
     ghost use Rattle.jc_session.specs.declared.counts.Counted.{Counted as CountedBy};
@@ -34,8 +36,8 @@ pub trait Phase {
     /// It isn't made on a stripe in this state, though it can be: what would be answered is waited out.
     ghost puts_off: { Self → State → Type 0 };
 
-    /// What it gives of the one state, and leaves.
-    ghost makes: { Self → State → Self.Answer → State → Type 0 };
+    /// What it gives of the one state, the reply that it writes, if it has one, and what it leaves.
+    ghost makes: { Self → State → Self.Answer → Replied → State → Type 0 };
 
     /// What it changes of its session's counts.
     ghost counts: { Self.Answer → CountedBy };
@@ -44,11 +46,12 @@ pub trait Phase {
     fn is_due(&self, stripe: &Stripe) -> bool
         ensures { IsTrue result ↔ due self.now stripe.now };
 
-    /// The phase. An `Err` gives it back: it is put off, and the stripe stays as it was.
-    fn make(self, stripe: &mut Stripe) -> Result<Self::Answer, Self>
+    /// The phase. If its call is done, it writes what that replies to `reply`, so that a value isn't copied on the way. An `Err` gives
+    /// it back: it is put off, and the stripe stays as it was.
+    fn make(self, stripe: &mut Stripe, reply: &mut Reply) -> Result<Self::Answer, Self>
         requires needs { needs self stripe.old }
         requires due { due self stripe.old }
-        ensures made { IfOk result (λ answer. makes self stripe.old answer stripe.new
+        ensures made { IfOk result (λ answer. makes self stripe.old answer reply.new stripe.new
             × IsCounted (counts answer) (who self) stripe.old stripe.new) }
         ensures back { IfErr result (λ back. (back ≡ self) × (stripe.new ≡ stripe.old) × puts_off self stripe.old) };
 
@@ -60,7 +63,7 @@ pub trait Phase {
     ghost stays: { (p : Self) (a b : State) → ComesAfter (who p) a b → needs p a → needs p b };
 }
 
-/// Lends a stripe to a phase, as soon as the phase can be made there.
+/// Lends a stripe to a phase, as soon as the phase can be made there. What the call replies, if the phase ends it, is written to `reply`.
 ///
 /// It waits while somebody else holds the stripe. If the phase can't be made on the stripe that it finds, or is put off, it gives the
 /// stripe back, with its generation ended if that may end, and tries again, after a pause if the agent has no reservation out. Nothing
@@ -69,7 +72,7 @@ pub trait Phase {
 /// Conditions: the agent holds no stripe; the token has not taken the gate's and speaks for the session, whose phase it is; each
 /// stripe that a take may find has what the phase needs.
 ///
-/// In line: what a phase gives is as large as a step, and shouldn't be copied once more.
+/// In line: a phase may have what was answered outside, and shouldn't be copied once more.
 #[inline(always)]
 pub fn lend<G: Gate, P: Phase, R: Wait>(
     rt: &R,
@@ -77,12 +80,13 @@ pub fn lend<G: Gate, P: Phase, R: Wait>(
     token: &mut G::Token,
     agent: &mut Agent,
     phase: P,
+    reply: &mut Reply,
 ) -> P::Answer
     requires ready { IsReady G.is_free G.speaks_for gate.old token.old agent.old }
     requires fits { FitsGate G.finds (P.needs phase) (P.who phase) gate.old token.old agent.old.caller.session }
     ensures { MakesPhase G.is_free G.speaks_for agent.old (counts_after agent.old.counts (P.counts result)) gate.new token.new agent.new
         ((lent : LentPhase G.takes G.gives G.finds agent.old.caller.session gate.old token.old
-        (λ a b. P.makes phase a result b) gate.new token.new)
+        (λ a b. P.makes phase a result reply.new b) gate.new token.new)
         × IsCounted (P.counts result) agent.old.caller.session lent.before lent.after
         × AllRenewed lent.rests.idle) }
 {
@@ -94,7 +98,7 @@ pub fn lend<G: Gate, P: Phase, R: Wait>(
             agent.pause(rt, gate, token);
             continue;
         }
-        match next.make(&mut stripe) {
+        match next.make(&mut stripe, reply) {
             Ok(answer) => {
                 agent.give(gate, token, stripe, P::counted(&answer));
                 return answer;
@@ -133,13 +137,14 @@ fn lend_once<G: Gate, P: Phase>(
     token: &mut G::Token,
     agent: &mut Agent,
     phase: P,
+    reply: &mut Reply,
 ) -> Result<P::Answer, (P, bool)>
     requires ready { IsReady G.is_free G.speaks_for gate.old token.old agent.old }
     requires fits { FitsGate G.finds (P.needs phase) (P.who phase) gate.old token.old agent.old.caller.session }
     ensures ready { IsReady G.is_free G.speaks_for gate.new token.new agent.new }
     ensures made { IfOk result (λ answer. (agent.new ≡ record agent.old { counts = counts_after agent.old.counts (P.counts answer) })
         × LentPhase G.takes G.gives G.finds agent.old.caller.session gate.old token.old
-        (λ a b. P.makes phase a answer b) gate.new token.new) }
+        (λ a b. P.makes phase a answer reply.new b) gate.new token.new) }
     ensures back { IfErr result (λ back. (back.0 ≡ phase) × (agent.new ≡ agent.old)
         × IsNotMade G.takes G.gives G.finds G.may_fail (P.due phase) (P.puts_off phase) agent.old.caller.session gate.old token.old gate.new token.new) }
 {
@@ -152,7 +157,7 @@ fn lend_once<G: Gate, P: Phase>(
         leave(gate, token, agent, stripe);
         return Err((phase, ends));
     }
-    match phase.make(&mut stripe) {
+    match phase.make(&mut stripe, reply) {
         Ok(answer) => {
             agent.give(gate, token, stripe, P::counted(&answer));
             Ok(answer)
@@ -174,24 +179,25 @@ pub fn try_lend<G: Gate, P: Phase>(
     token: &mut G::Token,
     agent: &mut Agent,
     phase: P,
+    reply: &mut Reply,
 ) -> Result<P::Answer, P>
     requires ready { IsReady G.is_free G.speaks_for gate.old token.old agent.old }
     requires fits { FitsGate G.finds (P.needs phase) (P.who phase) gate.old token.old agent.old.caller.session }
     ensures ready { IsReady G.is_free G.speaks_for gate.new token.new agent.new }
     ensures made { IfOk result (λ answer. (agent.new ≡ record agent.old { counts = counts_after agent.old.counts (P.counts answer) })
         × LentPhase G.takes G.gives G.finds agent.old.caller.session gate.old token.old
-        (λ a b. P.makes phase a answer b) gate.new token.new) }
+        (λ a b. P.makes phase a answer reply.new b) gate.new token.new) }
     ensures back { IfErr result (λ back. (back ≡ phase) × (agent.new ≡ agent.old)
         × IsNotMade G.takes G.gives G.finds G.may_fail (P.due phase) (P.puts_off phase) agent.old.caller.session gate.old token.old gate.new token.new) }
 {
-    let (back, ends) = match lend_once(gate, token, agent, phase) {
+    let (back, ends) = match lend_once(gate, token, agent, phase, reply) {
         Ok(answer) => return Ok(answer),
         Err(back) => back,
     };
     if !ends {
         return Err(back);
     }
-    match lend_once(gate, token, agent, back) {
+    match lend_once(gate, token, agent, back, reply) {
         Ok(answer) => Ok(answer),
         Err((back, _)) => Err(back),
     }

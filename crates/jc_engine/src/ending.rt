@@ -3,14 +3,15 @@ ghost use Rattle.std.specs.Prelude.{◌↔◌, IsTrue};
 ghost use Rattle.jc_stripe.specs.State.{IsOut};
 
 use crate::door::Phase;
+use jc_model::Reply;
 use jc_session::Counted;
-use jc_stripe::{Ask, LoadDone, ProcDone, StepDone, Stripe, Ticket, WriteDone};
+use jc_stripe::{Appended, Ask, LoadDone, ProcDone, Stripe, Ticket, WriteDone};
 
 /// What was answered for a call that has reserved its key: by the loader, the writer, or the processor.
 pub trait Answer {
     ghost use Rattle.std.specs.Prelude.{◌≡◌};
     ghost use Rattle.jc_stripe.specs.State.{IsOut};
-    ghost use Rattle.jc_stripe.specs.Phases.{Commits};
+    ghost use Rattle.jc_stripe.specs.Phases.{Commits, with_reply};
     ghost use Rattle.jc_session.specs.Counting.{IsCounted};
     ghost use Rattle.jc_session.specs.declared.counts.Counted.TheVariants.{Committed};
     ghost use Rattle.jc_engine.specs.Answered.{CallAnswer, out_of};
@@ -19,11 +20,11 @@ pub trait Answer {
     /// The same, among all that may be answered.
     ghost answered: { Self → CallAnswer };
 
-    /// Commits the ticket's call.
-    fn commit(self, stripe: &mut Stripe, ticket: Ticket) -> StepDone
+    /// Commits the ticket's call, and writes what it replies to `reply`.
+    fn commit(self, stripe: &mut Stripe, ticket: Ticket, reply: &mut Reply) -> Appended
         requires out { IsOut stripe.old ticket.reservation }
         requires here { CommitsHere ticket (answered self) stripe.old }
-        ensures commits { Commits stripe.old ticket.reservation (out_of (answered self)) result stripe.new }
+        ensures commits { Commits stripe.old ticket.reservation (out_of (answered self)) (with_reply result reply.new) stripe.new }
         ensures counted { IsCounted Committed ticket.reservation.caller.session stripe.old stripe.new };
 }
 
@@ -32,8 +33,8 @@ impl Answer for LoadDone<Ask> {
 
     ghost answered = { λ d. Loaded d };
 
-    fn commit(self, stripe: &mut Stripe, ticket: Ticket) -> StepDone {
-        stripe.commit_load(ticket, self)
+    fn commit(self, stripe: &mut Stripe, ticket: Ticket, reply: &mut Reply) -> Appended {
+        stripe.commit_load(ticket, self, reply)
     }
 }
 
@@ -42,8 +43,8 @@ impl Answer for WriteDone<Ask> {
 
     ghost answered = { λ d. Written d };
 
-    fn commit(self, stripe: &mut Stripe, ticket: Ticket) -> StepDone {
-        stripe.commit_write(ticket, self)
+    fn commit(self, stripe: &mut Stripe, ticket: Ticket, reply: &mut Reply) -> Appended {
+        stripe.commit_write(ticket, self, reply)
     }
 }
 
@@ -60,9 +61,9 @@ impl Answer for Processed {
 
     ghost answered = { λ p. ProcessedBy p.done p.report };
 
-    fn commit(self, stripe: &mut Stripe, ticket: Ticket) -> StepDone {
+    fn commit(self, stripe: &mut Stripe, ticket: Ticket, reply: &mut Reply) -> Appended {
         let Processed { done, report } = self;
-        stripe.commit_process(ticket, done, report)
+        stripe.commit_process(ticket, done, report, reply)
     }
 }
 
@@ -76,13 +77,13 @@ pub struct Commit<A> {
 
 impl<A: Answer> Phase for Commit<A> {
     ghost use Rattle.jc_stripe.specs.State.{IsOut};
-    ghost use Rattle.jc_stripe.specs.Phases.{Commits};
+    ghost use Rattle.jc_stripe.specs.Phases.{Commits, with_reply};
     ghost use Rattle.jc_session.specs.declared.counts.Counted.TheVariants.{Committed};
     ghost use Rattle.jc_engine.specs.Answered.{out_of};
     ghost use Rattle.jc_engine.specs.Needs.{CommitsHere};
     ghost use Rattle.jc_engine.specs.Stays.{commits-stays};
 
-    type Answer = StepDone;
+    type Answer = Appended;
 
     ghost who = { λ p. p.ticket.reservation.caller.session };
 
@@ -92,7 +93,7 @@ impl<A: Answer> Phase for Commit<A> {
 
     ghost puts_off = { λ p a. ⊥ };
 
-    ghost makes = { λ p a step b. Commits a p.ticket.reservation (out_of (A.answered p.answer)) step b };
+    ghost makes = { λ p a step reply b. Commits a p.ticket.reservation (out_of (A.answered p.answer)) (with_reply step reply) b };
 
     ghost counts = { λ step. Committed };
 
@@ -102,12 +103,12 @@ impl<A: Answer> Phase for Commit<A> {
         is_out(stripe, &self.ticket)
     }
 
-    fn make(self, stripe: &mut Stripe) -> Result<StepDone, Self> {
+    fn make(self, stripe: &mut Stripe, reply: &mut Reply) -> Result<Appended, Self> {
         let Commit { ticket, answer } = self;
-        Ok(answer.commit(stripe, ticket))
+        Ok(answer.commit(stripe, ticket, reply))
     }
 
-    fn counted(_step: &StepDone) -> Counted {
+    fn counted(_step: &Appended) -> Counted {
         Counted::Committed
     }
 }
@@ -135,7 +136,7 @@ impl Phase for Withdraw {
 
     ghost puts_off = { λ p a. ⊥ };
 
-    ghost makes = { λ p a none b. Withdraws a p.ticket.reservation b };
+    ghost makes = { λ p a none reply b. Withdraws a p.ticket.reservation b };
 
     ghost counts = { λ none. Withdrawn };
 
@@ -145,7 +146,7 @@ impl Phase for Withdraw {
         is_out(stripe, &self.ticket)
     }
 
-    fn make(self, stripe: &mut Stripe) -> Result<(), Self> {
+    fn make(self, stripe: &mut Stripe, _reply: &mut Reply) -> Result<(), Self> {
         let Withdraw { ticket } = self;
         stripe.withdraw(ticket);
         Ok(())

@@ -7,6 +7,7 @@ ghost use Rattle.jc_session.specs.declared.counts.Counted.TheVariants.{Answered,
 ghost use Rattle.jc_engine.specs.Chain.{LentPhase};
 ghost use Rattle.jc_engine.specs.Doors.{IsReady, MakesPhase};
 ghost use Rattle.jc_engine.specs.Calls.{Enters, MayCallAt, counts_entered};
+ghost use Rattle.jc_engine.specs.Entering.{entered_with};
 
 use crate::door::lend;
 use crate::first::{First, How};
@@ -15,21 +16,13 @@ use jc_gate::Gate;
 use jc_model::{Op, Reply};
 use jc_session::Agent;
 use jc_stripe::phase_laws::{is_uniform, own_steps};
-use jc_stripe::{Begun, Join, Picked, Ticket};
+use jc_stripe::{Join, Picked, Started, Ticket};
 use jc_types::{Key, Refusal};
 use std::sync::Wait;
 
-/// How a call has gone on.
-pub enum Entered {
-    /// It is done: it has made its step, or has shared another call's load.
-    Done(Reply),
-    /// It is refused: nothing was done.
-    Refused(Refusal),
-    /// It has reserved its key, and has somebody to ask.
-    Asks(Ticket),
-}
-
-/// The agent's current call, up to where it is done, refused, or has somebody to ask.
+/// The agent's current call, up to where it is done, refused, or has somebody to ask. A ticket says that it has reserved its key, and has
+/// somebody to ask; None that it is done, and what it replies is written to `reply`: it has made its step, or has shared another call's
+/// load. An `Err` says that nothing was done.
 ///
 /// It waits out `Busy`, `TooManyInFlight` and `TooManyJoiners`. A call that joins a load waits until that is answered; if it was
 /// given back unanswered, the call begins again.
@@ -43,11 +36,12 @@ pub(crate) fn enter<G: Gate, R: Wait>(
     agent: &mut Agent,
     key: &Key,
     op: &Op,
-) -> Entered
+    reply: &mut Reply,
+) -> Result<Option<Ticket>, Refusal>
     requires ready { IsReady G.is_free G.speaks_for gate.old token.old agent.old }
     requires may { MayCallAt G.finds key.now gate.old token.old agent.old }
-    ensures { MakesPhase G.is_free G.speaks_for agent.old (counts_entered agent.old.counts result) gate.new token.new agent.new
-        (Enters G.takes G.gives G.finds agent.old.caller key.now op.now gate.old token.old result gate.new token.new) }
+    ensures { MakesPhase G.is_free G.speaks_for agent.old (counts_entered agent.old.counts (entered_with result reply.new)) gate.new token.new agent.new
+        (Enters G.takes G.gives G.finds agent.old.caller key.now op.now gate.old token.old (entered_with result reply.new) gate.new token.new) }
 {
     is_uniform();
     own_steps();
@@ -59,13 +53,14 @@ pub(crate) fn enter<G: Gate, R: Wait>(
             op,
             how: How::Waits,
         };
-        match lend(rt, gate, token, agent, first) {
-            Begun::Done(step) => return Entered::Done(step.reply),
-            Begun::Refused(refusal) => return Entered::Refused(refusal),
-            Begun::Asks(ticket) => return Entered::Asks(ticket),
-            Begun::Joined(join) => {
-                if let Some(reply) = pick_up(rt, gate, token, agent, join) {
-                    return Entered::Done(reply);
+        match lend(rt, gate, token, agent, first, reply) {
+            Started::Done(_step) => return Ok(None),
+            Started::Refused(refusal) => return Err(refusal),
+            Started::Asks(ticket) => return Ok(Some(ticket)),
+            Started::Joined(join) => {
+                if let Some(answer) = pick_up(rt, gate, token, agent, join) {
+                    *reply = answer;
+                    return Ok(None);
                 }
             }
         }
@@ -92,7 +87,8 @@ fn pick_up<G: Gate, R: Wait>(
         (LentPhase G.takes G.gives G.finds agent.old.caller.session gate.old token.old
         (λ a b. PicksUp a join Again b) gate.new token.new)) }
 {
-    match lend(rt, gate, token, agent, PickUp { join, waits: true }) {
+    let pick_up = PickUp { join, waits: true };
+    match lend(rt, gate, token, agent, pick_up, &mut Reply::Unit) {
         Picked::Answer {
             reply,
             place: _,

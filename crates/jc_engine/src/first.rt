@@ -1,12 +1,14 @@
 //! The first phase of a call.
 ghost use Rattle.std.specs.Prelude.{◌≡◌};
+ghost use Rattle.jc_model.specs.declared.event.Reply.{Reply as Replied};
+ghost use Rattle.jc_stripe.specs.Phases.{begun_with};
 ghost use Rattle.jc_engine.specs.Needs.{can_start, is_alone, puts_off};
 
 use crate::door::Phase;
-use jc_model::Op;
+use jc_model::{Op, Reply};
 use jc_session::Counted;
 use jc_stripe::phase_laws::caller_numbers;
-use jc_stripe::{Begun, Stripe};
+use jc_stripe::{Started, Stripe};
 use jc_types::{Caller, Key};
 
 /// How a first phase goes about what stands in its way.
@@ -33,23 +35,23 @@ impl How {
     }
 
     /// Whether a first phase that was begun so is put off.
-    fn puts_off(self, begun: &Begun) -> bool
-        ensures { result ≡ puts_off self begun.now }
+    fn puts_off(self, started: &Started) -> bool
+        ensures { (reply : Replied) → result ≡ puts_off self (begun_with started.now reply) }
     {
         match self {
-            How::Waits => is_waited_out(begun),
+            How::Waits => is_waited_out(started),
             How::Now | How::Alone => false,
         }
     }
 }
 
 /// Whether a first phase has met a refusal that others' calls can end.
-fn is_waited_out(begun: &Begun) -> bool
-    ensures { result ≡ puts_off How.Waits begun.now }
+fn is_waited_out(started: &Started) -> bool
+    ensures { (reply : Replied) → result ≡ puts_off How.Waits (begun_with started.now reply) }
 {
-    match begun {
-        Begun::Refused(refusal) => refusal.is_put_off(),
-        Begun::Done(_) | Begun::Asks(_) | Begun::Joined(_) => false,
+    match started {
+        Started::Refused(refusal) => refusal.is_put_off(),
+        Started::Done(_) | Started::Asks(_) | Started::Joined(_) => false,
     }
 }
 
@@ -79,11 +81,12 @@ impl<'a> First<'a> {
 
 impl<'a> Phase for First<'a> {
     ghost use Rattle.std.specs.Prelude.{IsTrue};
-    ghost use Rattle.jc_session.specs.Counting.{counted_begun};
+    ghost use Rattle.jc_stripe.specs.Phases.{begun_with};
+    ghost use Rattle.jc_session.specs.Counting.{counted_started};
     ghost use Rattle.jc_engine.specs.Needs.{BeginsIfClear, IsPutOff, StartsBy, can_start};
     ghost use Rattle.jc_engine.specs.Stays.{begins-stays};
 
-    type Answer = Begun;
+    type Answer = Started;
 
     ghost who = { λ p. p.caller.session };
 
@@ -93,9 +96,9 @@ impl<'a> Phase for First<'a> {
 
     ghost puts_off = { λ p a. IsPutOff p.how p.caller p.key.now p.op.now a };
 
-    ghost makes = { λ p a begun b. StartsBy p.how p.caller p.key.now p.op.now begun a b };
+    ghost makes = { λ p a started reply b. StartsBy p.how p.caller p.key.now p.op.now (begun_with started reply) a b };
 
-    ghost counts = { λ begun. counted_begun begun };
+    ghost counts = { λ started. counted_started started };
 
     ghost stays = { λ p a b after needs. begins-stays p.caller p.key.now a b after needs };
 
@@ -103,23 +106,23 @@ impl<'a> Phase for First<'a> {
         self.can_start(stripe)
     }
 
-    fn make(self, stripe: &mut Stripe) -> Result<Begun, Self> {
+    fn make(self, stripe: &mut Stripe, reply: &mut Reply) -> Result<Started, Self> {
         caller_numbers();
-        let begun = stripe.begin(self.caller, self.key, self.op);
-        if !self.how.puts_off(&begun) {
-            return Ok(begun);
+        let started = stripe.begin(self.caller, self.key, self.op, reply);
+        if !self.how.puts_off(&started) {
+            return Ok(started);
         }
-        match begun {
-            Begun::Refused(_refusal) => Err(self),
-            Begun::Done(_step) => unreachable!(),
-            Begun::Asks(_ticket) => unreachable!(),
-            Begun::Joined(_join) => unreachable!(),
+        match started {
+            Started::Refused(_refusal) => Err(self),
+            Started::Done(_step) => unreachable!(),
+            Started::Asks(_ticket) => unreachable!(),
+            Started::Joined(_join) => unreachable!(),
         }
     }
 
-    fn counted(begun: &Begun) -> Counted
-        ensures { result ≡ counted_begun begun.now }
+    fn counted(started: &Started) -> Counted
+        ensures { result ≡ counted_started started.now }
     {
-        Counted::of_begun(begun)
+        Counted::of_started(started)
     }
 }

@@ -1,5 +1,5 @@
 //! A whole `get` on one key: a hit needs one look at the stripe.
-ghost use Rattle.std.specs.Prelude.{◌≡◌, Result};
+ghost use Rattle.std.specs.Prelude.{◌≡◌, Ok, Result};
 ghost use Rattle.std.specs.Bool.{OnFalse};
 ghost use Rattle.jc_model.specs.declared.event.Op.TheVariants.{Get};
 ghost use Rattle.jc_model.specs.declared.event.Reply.{Reply};
@@ -63,21 +63,22 @@ fn get_in_phases<G: Gate, R: Wait>(
         agent.old key.now Get gate.old token.old ended agent.new gate.new token.new
         × ((result, value.new) ≡ value_into value.old ended)) }
 {
-    let ended = call(rt, gate, token, agent, key, &Op::Get);
-    write_value(&ended, value)
+    let mut reply = Reply::Unit;
+    call(rt, gate, token, agent, key, &Op::Get, &mut reply)?;
+    write_value(&reply, value)
 }
 
-/// Writes the value of what a call has ended with to `value`, if it replies with one, and says whether it does.
-fn write_value(ended: &Result<Reply, Refusal>, value: &mut Value) -> Result<bool, Refusal>
-    ensures { (result, value.new) ≡ value_into value.old ended.now }
+/// Writes the value of a reply to `value`, if it has one, and says whether it does.
+fn write_value(reply: &Reply, value: &mut Value) -> Result<bool, Refusal>
+    ensures { (result, value.new) ≡ value_into value.old (Ok reply.now) }
 {
-    match ended {
-        Ok(Reply::Value(Some(found))) => {
+    match reply {
+        Reply::Value(Some(found)) => {
             value.copy_from(found);
             Ok(true)
         }
-        Ok(Reply::Value(None) | Reply::Flag(_) | Reply::Unit) => Ok(false),
-        Ok(Reply::Fault(fault)) | Err(fault) => Err(*fault),
+        Reply::Value(None) | Reply::Flag(_) | Reply::Unit => Ok(false),
+        Reply::Fault(fault) => Err(*fault),
     }
 }
 

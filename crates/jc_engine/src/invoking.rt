@@ -9,6 +9,7 @@ ghost use Rattle.jc_stripe.specs.Tickets.{asks_processor, claim_of};
 ghost use Rattle.jc_session.specs.Boxed.{boxed};
 ghost use Rattle.jc_engine.specs.Asking.{IsProcessed, WritesEffect};
 ghost use Rattle.jc_engine.specs.Calls.{IsInvocation, MayCallAt};
+ghost use Rattle.jc_engine.specs.Entering.{ended_with};
 ghost use Rattle.jc_engine.specs.Doors.{IsReady, MakesCall};
 
 use crate::calling::end;
@@ -19,12 +20,12 @@ use jc_gate::Gate;
 use jc_model::{Op, Reply};
 use jc_mutentry::EntryProcessor;
 use jc_session::Agent;
-use jc_stripe::{Ask, Begun, ProcDone, Ticket, WriteDone};
+use jc_stripe::{Ask, ProcDone, Started, Ticket, WriteDone};
 use jc_types::{Key, Refusal, Value};
 use std::sync::Wait;
 
 /// The agent's current call, whole, which runs a processor: its first phase, then the processor and, if its net effect is to be
-/// written, the writer, while no stripe is held, and its last phase.
+/// written, the writer, while no stripe is held, and its last phase. It writes what the call replies to `reply`.
 ///
 /// It waits as [`call`](crate::call) does, but joins no load.
 ///
@@ -38,7 +39,8 @@ pub fn invoke<G: Gate, R: Wait>(
     write_through: bool,
     processor: &mut Box<dyn EntryProcessor + Send + Drop>,
     args: &[Value],
-) -> Result<Reply, Refusal>
+    reply: &mut Reply,
+) -> Result<(), Refusal>
     requires ready { IsReady G.is_free G.speaks_for gate.old token.old agent.old }
     requires may { MayCallAt G.finds key.now gate.old token.old agent.old }
     requires through { (a : State) → G.finds gate.old token.old a → a.config.write_through ≡ write_through }
@@ -46,7 +48,7 @@ pub fn invoke<G: Gate, R: Wait>(
         (IsInvocation loads load_state writes write_state processes process_state
         G.takes G.gives G.finds
         agent.old key.now args.now processor.old gate.old token.old
-        result agent.new processor.new gate.new token.new) }
+        (ended_with result reply.new) agent.new processor.new gate.new token.new) }
 {
     let first = First {
         caller: agent.caller(),
@@ -54,9 +56,9 @@ pub fn invoke<G: Gate, R: Wait>(
         op: &Op::Invoke,
         how: How::Waits,
     };
-    match lend(rt, gate, token, agent, first) {
-        Begun::Refused(refusal) => Err(refusal),
-        Begun::Asks(ticket) => {
+    match lend(rt, gate, token, agent, first, reply) {
+        Started::Refused(refusal) => Err(refusal),
+        Started::Asks(ticket) => {
             let mut ticket = ticket;
             let processed = run(
                 rt,
@@ -68,11 +70,11 @@ pub fn invoke<G: Gate, R: Wait>(
                 processor,
                 args,
             );
-            let step = end(rt, gate, token, agent, ticket, processed);
-            Ok(step.reply)
+            end(rt, gate, token, agent, ticket, processed, reply);
+            Ok(())
         }
-        Begun::Done(_step) => unreachable!(),
-        Begun::Joined(_join) => unreachable!(),
+        Started::Done(_step) => unreachable!(),
+        Started::Joined(_join) => unreachable!(),
     }
 }
 

@@ -3,6 +3,7 @@ ghost use Rattle.std.specs.Prelude.{◌≡◌};
 ghost use Rattle.jc_engine.specs.Needs.{is_early};
 
 use crate::door::Phase;
+use jc_model::Reply;
 use jc_session::Counted;
 use jc_stripe::{Join, Picked, Stripe};
 
@@ -29,7 +30,7 @@ impl Phase for PickUp {
 
     ghost puts_off = { λ p a. IsTooEarly p.waits p.join a };
 
-    ghost makes = { λ p a picked b. PicksUpBy p.waits a p.join picked b };
+    ghost makes = { λ p a picked reply b. PicksUpBy p.waits a p.join picked b };
 
     ghost counts = { λ picked. counted_picked picked };
 
@@ -39,7 +40,7 @@ impl Phase for PickUp {
         stripe.holds_join(&self.join)
     }
 
-    fn make(self, stripe: &mut Stripe) -> Result<Picked, Self> {
+    fn make(self, stripe: &mut Stripe, _reply: &mut Reply) -> Result<Picked, Self> {
         let PickUp { join, waits } = self;
         let picked = stripe.pick_up(join);
         if !is_early(waits, &picked) {

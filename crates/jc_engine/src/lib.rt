@@ -28,7 +28,6 @@ mod trying;
 pub use calling::call;
 pub use door::{Phase, lend, try_lend};
 pub use ending::{Answer, Commit, Processed, Withdraw};
-pub use entering::Entered;
 pub use first::{First, How};
 pub use getting::get_into;
 pub use invoking::invoke;

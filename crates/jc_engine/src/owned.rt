@@ -3,6 +3,7 @@ ghost use Rattle.std.specs.Prelude.{◌≡◌, true, false, Some, IsSome};
 ghost use Rattle.jc_model.specs.Table.{is_invoke};
 ghost use Rattle.jc_stripe.specs.State.{State, IsIdle};
 ghost use Rattle.jc_engine.specs.Calls.{MayCallAt};
+ghost use Rattle.jc_engine.specs.Entering.{ended_with};
 ghost use Rattle.jc_engine.specs.Owned.{IsOwnedCall, IsOwnedInvocation};
 
 use crate::calling::call;
@@ -15,7 +16,8 @@ use jc_stripe::phase_laws::{joins_only_loads, whole_call};
 use jc_types::{Key, Refusal, Value};
 use std::sync::Wait;
 
-/// The agent's current call, whole, on a stripe that nobody else has: it is one step there, or it is refused and changes nothing.
+/// The agent's current call, whole, on a stripe that nobody else has: it is one step there, whose
+/// reply is written to `reply`, or it is refused and changes nothing.
 ///
 /// It waits for the loader or the writer.
 ///
@@ -27,21 +29,22 @@ pub fn call_owned<R: Wait>(
     agent: &mut Agent,
     key: &Key,
     op: &Op,
-) -> Result<Reply, Refusal>
+    reply: &mut Reply,
+) -> Result<(), Refusal>
     requires ready { (agent.old.hands.held ≡ 0) × IsSome owner.old.here }
     requires may { MayCallAt (λ o u. λ a. o.here ≡ Some a) key.now owner.old (tt {0}) agent.old }
     requires idle { (a : State) → owner.old.here ≡ Some a → IsIdle a × (a.lives ≡ false) }
     requires op { is_invoke op.now ≡ false }
     ensures call { IsOwnedCall loads load_state writes write_state
-        agent.old key.now op.now owner.old.here result agent.new owner.new.here }
+        agent.old key.now op.now owner.old.here (ended_with result reply.new) agent.new owner.new.here }
 {
     joins_only_loads();
     whole_call();
-    call(rt, owner, &mut (), agent, key, op)
+    call(rt, owner, &mut (), agent, key, op, reply)
 }
 
 /// The agent's current call, whole, which runs a processor, on a stripe that nobody else has: it is one step there, on the entry that
-/// the processor was shown, or it is refused and changes nothing.
+/// the processor was shown, whose reply is written to `reply`, or it is refused and changes nothing.
 ///
 /// It waits for the processor, the loader and the writer.
 ///
@@ -53,16 +56,27 @@ pub fn invoke_owned<R: Wait>(
     key: &Key,
     processor: &mut Box<dyn EntryProcessor + Send + Drop>,
     args: &[Value],
-) -> Result<Reply, Refusal>
+    reply: &mut Reply,
+) -> Result<(), Refusal>
     requires ready { (agent.old.hands.held ≡ 0) × IsSome owner.old.here }
     requires may { MayCallAt (λ o u. λ a. o.here ≡ Some a) key.now owner.old (tt {0}) agent.old }
     requires idle { (a : State) → owner.old.here ≡ Some a → IsIdle a × (a.lives ≡ false) }
     ensures call { IsOwnedInvocation loads load_state writes write_state processes process_state
-        agent.old key.now args.now processor.old owner.old.here result agent.new processor.new owner.new.here }
+        agent.old key.now args.now processor.old owner.old.here (ended_with result reply.new) agent.new processor.new owner.new.here }
 {
     joins_only_loads();
     whole_call();
     let write_through = owner.stripe().config().write_through;
     let token = &mut ();
-    invoke(rt, owner, token, agent, key, write_through, processor, args)
+    invoke(
+        rt,
+        owner,
+        token,
+        agent,
+        key,
+        write_through,
+        processor,
+        args,
+        reply,
+    )
 }

@@ -4,6 +4,7 @@ ghost use Rattle.jc_stripe.specs.State.{State};
 ghost use Rattle.jc_engine.specs.Asking.{own_after};
 ghost use Rattle.jc_engine.specs.Needs.{BeginsIfClear};
 ghost use Rattle.jc_engine.specs.Calls.{IsTried};
+ghost use Rattle.jc_engine.specs.Entering.{ended_with};
 ghost use Rattle.jc_engine.specs.Doors.{IsReady, MakesPhase};
 
 use crate::door::try_lend;
@@ -11,10 +12,10 @@ use crate::first::{First, How};
 use jc_gate::Gate;
 use jc_model::{Op, Reply};
 use jc_session::Agent;
-use jc_stripe::Begun;
+use jc_stripe::Started;
 use jc_types::{Key, Refusal};
 
-/// The agent's current call, if it can be done at once: it never waits, never joins a load and never asks anybody outside.
+/// The agent's current call, if it can be done at once; what it replies is written to `reply`: it never waits, never joins a load and never asks anybody outside.
 ///
 /// It is refused as `Busy` if somebody else holds the stripe, if the stripe has a call of this session out, and if the call would
 /// have to ask the loader, the writer or a processor, or to join a load; and else as any call is.
@@ -27,12 +28,13 @@ pub fn try_call<G: Gate>(
     agent: &mut Agent,
     key: &Key,
     op: &Op,
-) -> Result<Reply, Refusal>
+    reply: &mut Reply,
+) -> Result<(), Refusal>
     requires ready { IsReady G.is_free G.speaks_for gate.old token.old agent.old }
     requires begins { (a : State) → G.finds gate.old token.old a → BeginsIfClear agent.old.caller key.now a }
-    ensures { MakesPhase G.is_free G.speaks_for agent.old (record agent.old.counts { own = own_after agent.old.counts.own result }) gate.new token.new agent.new
+    ensures { MakesPhase G.is_free G.speaks_for agent.old (record agent.old.counts { own = own_after agent.old.counts.own (ended_with result reply.new) }) gate.new token.new agent.new
         (IsTried G.takes G.gives G.finds G.may_fail agent.old.caller key.now op.now
-        gate.old token.old result gate.new token.new) }
+        gate.old token.old (ended_with result reply.new) gate.new token.new) }
 {
     let first = First {
         caller: agent.caller(),
@@ -40,12 +42,12 @@ pub fn try_call<G: Gate>(
         op,
         how: How::Alone,
     };
-    match try_lend(gate, token, agent, first) {
-        Ok(begun) => match begun {
-            Begun::Done(step) => Ok(step.reply),
-            Begun::Refused(refusal) => Err(refusal),
-            Begun::Asks(_ticket) => unreachable!(),
-            Begun::Joined(_join) => unreachable!(),
+    match try_lend(gate, token, agent, first, reply) {
+        Ok(started) => match started {
+            Started::Done(_step) => Ok(()),
+            Started::Refused(refusal) => Err(refusal),
+            Started::Asks(_ticket) => unreachable!(),
+            Started::Joined(_join) => unreachable!(),
         },
         Err(_first) => Err(Refusal::Busy),
     }

@@ -61,7 +61,7 @@ pub record NewGroup : Type 0 where
   pub evicted : Option Cause  -- why its own key goes after it, if it does
 
 abbrev pub group_in : Inside → NewGroup
-group_in g = record { caller = g.caller; key = g.key.now; op = g.op.now; out = g.out.now; reply = g.reply; victim = g.victim; evicted = g.evicted }
+group_in g = record { caller = g.caller; key = g.key.now; op = g.op.now; out = g.out.now; reply = g.reply.now; victim = g.victim; evicted = g.evicted }
 
 -- 1. The entries.
 

@@ -12,6 +12,8 @@
 --     Steps            the stripe appends the group of one step
 --     with_joiner      the stripe with one joiner more, who waits for a load
 --     hit_done         the step of a get that found this value, at this place: nobody is evicted
+--     with_reply       a step of which the reply was written apart
+--     begun_with       what a first phase gives whose reply was written apart
 --     Begins           the first phase
 --     after_commit     the stripe with a reservation over, and the answer parked for each that waits for its load
 --     Commits          the last phase: the reservation ends, its step is appended, and with it those of its joiners
@@ -53,6 +55,9 @@ use Rattle.jc_stripe.specs.declared.begun.Eviction.{Eviction}
 use Rattle.jc_stripe.specs.declared.begun.StepDone.{StepDone}
 use Rattle.jc_stripe.specs.declared.begun.Begun.{Begun}
 use Rattle.jc_stripe.specs.declared.begun.Begun.TheVariants as begun
+use Rattle.jc_stripe.specs.declared.begun.Appended.{Appended}
+use Rattle.jc_stripe.specs.declared.begun.Started.{Started}
+use Rattle.jc_stripe.specs.declared.begun.Started.TheVariants as started
 use Rattle.jc_stripe.specs.declared.begun.Picked.{Picked}
 use Rattle.jc_stripe.specs.declared.begun.Picked.TheVariants as picked
 use Rattle.jc_stripe.specs.Tickets.{JoinClaim}
@@ -134,6 +139,15 @@ with_joiner old join = record old { joiners = joining.with_joiner join.caller jo
 -- the step of a get that found this value, at this place: nobody is evicted
 abbrev pub hit_done : ℕ → Bytes → StepDone
 hit_done place value = record { reply = reply.Value (Some value); place = place; victim = None; evicted = None }
+
+abbrev pub with_reply : Appended → Reply → StepDone
+with_reply step reply = record { reply = reply; place = step.place; victim = step.victim; evicted = step.evicted }
+
+abbrev pub begun_with : Started → Reply → Begun
+begun_with (started.Done step) reply = begun.Done (with_reply step reply)
+begun_with (started.Asks ticket) reply = begun.Asks ticket
+begun_with (started.Joined join) reply = begun.Joined join
+begun_with (started.Refused refusal) reply = begun.Refused refusal
 
 abbrev pub Begins : State → Caller → Bytes → Op → Begun → State → Type 0
 Begins old caller key op (begun.Refused refusal) new = (first_refusal old caller key op ≡ Some refusal) × (new ≡ old)

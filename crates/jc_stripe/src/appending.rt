@@ -1,9 +1,9 @@
-//! What a step leaves of the entries, and what is appended of it. What makes a step is in line: a reply or a group that a call
-//! returns would be cleared and copied once more.
+//! What a step leaves of the entries, and what is appended of it. What makes a step is in line: a group that a call returns
+//! would be cleared and copied once more.
 ghost use Rattle.std.specs.Prelude.{◌≡◌, ◌+◌, ◌≤◌, ◌<◌, ◌^◌, [], ◌∷◌, ◌++◌, map, length, Option, None, Some, IsTrue, option_map};
 ghost use Rattle.std.specs.FinMap as finite;
 ghost use Rattle.jc_model.specs.Cache.{key_cmp};
-ghost use Rattle.jc_model.specs.Table.{reply_after, holds};
+ghost use Rattle.jc_model.specs.Table.{holds};
 ghost use Rattle.jc_model.specs.Group.{victim_events, shared_event, evicted_events};
 ghost use Rattle.jc_model.specs.declared.event.Event.TheVariants.{Evict};
 ghost use Rattle.jc_history.specs.Past.{push};
@@ -12,7 +12,7 @@ ghost use Rattle.jc_inflight.specs.Joining.{callers_of};
 ghost use Rattle.jc_stripe.specs.OrderOfUse.{uses};
 ghost use Rattle.jc_stripe.specs.Appending.{AppliesStep, new_step, group_events, callers_in, append_all, append_group, eviction_of};
 
-use crate::begun::{Eviction, StepDone};
+use crate::begun::{Appended, Eviction};
 use jc_entries::{Entries, Inserted};
 use jc_history::{History, LentStep};
 use jc_inflight::Joiners;
@@ -23,15 +23,20 @@ use std::marker::Model;
 /// A step, and what is evicted before and after it: a group without those that share its load. What the step is made of is lent.
 #[derive(Drop)]
 pub(crate) struct NewGroup<'a> {
-    caller: Caller,
-    key: &'a Key,
-    op: &'a Op,
-    out: &'a Out,
-    reply: Reply,
+    /// Who calls.
+    pub(crate) caller: Caller,
+    /// At which key.
+    pub(crate) key: &'a Key,
+    /// What is called.
+    pub(crate) op: &'a Op,
+    /// What came from outside.
+    pub(crate) out: &'a Out,
+    /// What is replied.
+    pub(crate) reply: &'a Reply,
     /// Who was evicted before the step, since the stripe was full.
-    victim: Option<Key>,
+    pub(crate) victim: Option<Key>,
     /// Why the step's own key was evicted after it, if it was.
-    evicted: Option<Cause>,
+    pub(crate) evicted: Option<Cause>,
 }
 
 impl<'a> Model for NewGroup<'a> {
@@ -80,7 +85,7 @@ fn holds(entry: &Option<Value>, value: &Value) -> bool
 
 /// Makes a step in the entries if the key has this entry, and says who went before it and why its own key went after it.
 #[inline(always)]
-fn apply_to_entries(
+pub(crate) fn apply_to_entries(
     entries: &mut Entries,
     pinned: &[Key],
     key: &Key,
@@ -117,43 +122,6 @@ fn apply_to_entries(
     }
 }
 
-/// Makes a step in the entries if the key has this entry, and says what is to be appended of it.
-#[inline(always)]
-pub(crate) fn make_step<'a>(
-    entries: &mut Entries,
-    pinned: &[Key],
-    caller: Caller,
-    key: &'a Key,
-    entry: &Option<Value>,
-    op: &'a Op,
-    out: &'a Out,
-) -> NewGroup<'a>
-    requires room { length entries.old.list ≤ entries.old.capacity }
-    requires entry { entry.now ≡ finite.find key_cmp key.now entries.old.list }
-    ensures group { result ≡ record {
-      caller = caller;
-      key = key.now;
-      op = op.now;
-      out = out.now;
-      reply = reply_after op.now entry.now out.now;
-      victim = result.victim;
-      evicted = result.evicted;
-    } }
-    ensures applies { AppliesStep entries.old pinned.now key.now op.now out.now result.victim result.evicted entries.new }
-{
-    let reply = op.reply_after(entry.as_ref(), out);
-    let (victim, evicted) = apply_to_entries(entries, pinned, key, entry, op, out);
-    NewGroup {
-        caller,
-        key,
-        op,
-        out,
-        reply,
-        victim,
-        evicted,
-    }
-}
-
 /// Appends an eviction. It is a function of its own, as the other that builds an event is: most steps come without, and needn't
 /// clear the room of an event.
 #[inline(never)]
@@ -183,7 +151,7 @@ fn append_step(history: &mut History, group: &NewGroup) -> u32
         key: group.key,
         out: group.out,
         shared_with: &None,
-        reply: &group.reply,
+        reply: group.reply,
     });
     place
 }
@@ -252,12 +220,11 @@ pub(crate) fn append_group(
     load: Option<u64>,
     group: &NewGroup,
     kept: usize,
-) -> StepDone
+) -> Appended
     requires kept { kept ≤ history.old.promised }
     requires few { length history.old.events + kept < 2 ^ 32 }
     requires places { length (group_events (length history.old.events) group.now (callers_in load joiners.now)) ≤ kept }
     requires storable { IsStorable (new_step group.now) }
-    ensures reply { result.reply ≡ group.now.reply }
     ensures place { result.place ≡ length history.old.events + length (victim_events group.now.victim) }
     ensures victim { result.victim ≡ group.now.victim }
     ensures evicted { result.evicted ≡ eviction_of (length history.old.events) group.now (callers_in load joiners.now) }
@@ -271,8 +238,7 @@ pub(crate) fn append_group(
     }
     let evicted = append_evicted(history, group);
     history.unpromise(kept - (history.len() - before));
-    StepDone {
-        reply: group.reply,
+    Appended {
         place,
         victim: group.victim,
         evicted,

@@ -1,4 +1,7 @@
 //! What a first phase gives, what a step was, and what a joiner is told.
+ghost use Rattle.std.specs.Prelude.{◌≡◌};
+ghost use Rattle.jc_stripe.specs.Phases.{begun_with, with_reply};
+
 use crate::ticket::{Join, Ticket};
 use jc_model::{Cause, Reply};
 use jc_types::{Key, Refusal};
@@ -12,6 +15,32 @@ pub struct Eviction {
     pub place: u32,
 }
 
+/// What of an appended step is beside its reply, which a phase writes where its caller wants it: a reply may have a value, and a value
+/// shouldn't be copied on the way.
+#[derive(Clone, Copy, Debug, PartialEq, Eq)]
+pub struct Appended {
+    /// The place of the step in the stripe's history, from 0.
+    pub place: u32,
+    /// The key that was evicted directly before the step, if the stripe was full.
+    pub victim: Option<Key>,
+    /// The eviction of the step's own key after it, if it was evicted.
+    pub evicted: Option<Eviction>,
+}
+
+impl Appended {
+    /// The step, whose reply this is.
+    pub fn with_reply(self, reply: &Reply) -> StepDone
+        ensures { result ≡ with_reply self reply.now }
+    {
+        StepDone {
+            reply: *reply,
+            place: self.place,
+            victim: self.victim,
+            evicted: self.evicted,
+        }
+    }
+}
+
 /// A step that was appended to the history, with the evictions that belong to it.
 #[derive(Clone, Copy, Debug, PartialEq, Eq)]
 pub struct StepDone {
@@ -23,6 +52,32 @@ pub struct StepDone {
     pub victim: Option<Key>,
     /// The eviction of the step's own key after it, if it was evicted.
     pub evicted: Option<Eviction>,
+}
+
+/// What a first phase gives that writes its reply where its caller wants it.
+pub enum Started {
+    /// The call is done, and its reply is written.
+    Done(Appended),
+    /// The key is reserved, and the one is to be asked whom the ticket's reservation asks first.
+    Asks(Ticket),
+    /// The key is being loaded by another call: the call has joined that load, and its answer is to be picked up.
+    Joined(Join),
+    /// Nothing was done.
+    Refused(Refusal),
+}
+
+impl Started {
+    /// What the first phase gives, with this reply if the call is done.
+    pub fn with_reply(self, reply: &Reply) -> Begun
+        ensures { result ≡ begun_with self reply.now }
+    {
+        match self {
+            Started::Done(step) => Begun::Done(step.with_reply(reply)),
+            Started::Asks(ticket) => Begun::Asks(ticket),
+            Started::Joined(join) => Begun::Joined(join),
+            Started::Refused(refusal) => Begun::Refused(refusal),
+        }
+    }
 }
 
 /// What a first phase gives.

@@ -36,7 +36,7 @@ mod stripe;
 mod ticket;
 mod ticket_boxes;
 
-pub use begun::{Begun, Eviction, Picked, StepDone};
+pub use begun::{Appended, Begun, Eviction, Picked, Started, StepDone};
 pub use jc_mutentry::{AskProcess, ProcDone};
 pub use jc_outside::{LoadDone, Origin, WriteDone, played_load, played_write};
 pub use reopening::{Reopened, keeps_or_drops, reopen};

@@ -17,7 +17,7 @@ ghost use Rattle.jc_stripe.specs.State.{IsOut, IsJoined, IsIdle};
 ghost use Rattle.jc_stripe.specs.OrderOfUse.{by_use};
 ghost use Rattle.jc_stripe.specs.Refusals.{has_room};
 ghost use Rattle.jc_stripe.specs.Appending.{AnswersFirst, HasToldStep, after_pick_up};
-ghost use Rattle.jc_stripe.specs.Phases.{MayBegin, Begins, hit_done, Commits, Withdraws, PicksUp, told_to};
+ghost use Rattle.jc_stripe.specs.Phases.{MayBegin, Begins, begun_with, hit_done, Commits, with_reply, Withdraws, PicksUp, told_to};
 ghost use Rattle.jc_stripe.specs.Effects.{HasReport, change_due, report_answer, process_out};
 ghost use Rattle.jc_stripe.specs.OnePhase.{IsPhaseOf};
 
@@ -28,16 +28,16 @@ mod living;
 mod looking;
 mod making;
 
-use crate::appending::{append_group, make_step};
-use crate::begun::{Begun, Picked, StepDone};
+use crate::appending::{NewGroup, append_group, apply_to_entries};
+use crate::begun::{Appended, Picked, Started};
 use crate::life::Life;
 use crate::ticket::{Ask, Join, Reservation, Ticket};
 use crate::ticket_boxes::TicketBoxes;
-use beginning::{hit_done, is_get};
+use beginning::{appended_alone, is_get};
 use jc_entries::Entries;
 use jc_history::History;
 use jc_inflight::{JoinState, Joiners};
-use jc_model::{Event, Op, Out, WriteAnswer};
+use jc_model::{Event, Op, Out, Reply, WriteAnswer};
 use jc_mutentry::ProcDone;
 use jc_outside::{LoadDone, Origin, WriteDone};
 use jc_reserve::Reservations;
@@ -105,19 +105,26 @@ impl Stripe {
     /// Conditions: the key is of this stripe, by `stripe_of`. The call's number is at least that of every step of its session in
     /// this history. The session has no reservation and no join out here under another number; a join counts until it is picked
     /// up. And there is no step, no reservation and no join here of this call at this key.
-    pub fn begin(&mut self, caller: Caller, key: &Key, op: &Op) -> Begun
+    pub fn begin(
+        &mut self,
+        caller: Caller,
+        key: &Key,
+        op: &Op,
+        reply: &mut Reply,
+    ) -> Started
         requires begins { MayBegin self.old caller key.now }
-        ensures begins { Begins self.old caller key.now op.now result self.new }
+        ensures begins { Begins self.old caller key.now op.now (begun_with result reply.new) self.new }
         ensures phase { IsPhaseOf caller.session self.old self.new }
     {
         if !is_get(op) || !self.has_room(caller.call, HIT_PLACES) {
-            return self.begin_at(caller, key, op);
+            return self.begin_at(caller, key, op, reply);
         }
         let place = self.next_place();
         if !self.find_and_use(caller, key) {
-            return self.begin_missing(caller, key, op);
+            return self.begin_missing(caller, key, op, reply);
         }
-        Begun::Done(hit_done(place, self.most_recent()))
+        *reply = Reply::Value(Some(*self.most_recent()));
+        Started::Done(appended_alone(place))
     }
 
     /// A `get` that finds its entry, as [`begin`](Stripe::begin) makes it, and writes its value to `value`. `false` says that the entry
@@ -146,15 +153,20 @@ impl Stripe {
     ///
     /// Conditions: the ticket's reservation is out here, and asks this one first. `done` was made of this ticket's ask,
     /// and has this stripe's origin.
-    pub fn commit_load(&mut self, ticket: Ticket, done: LoadDone<Ask>) -> StepDone
+    pub fn commit_load(
+        &mut self,
+        ticket: Ticket,
+        done: LoadDone<Ask>,
+        reply: &mut Reply,
+    ) -> Appended
         requires out { IsOut self.old ticket.reservation }
         requires first { asks_loader ticket.reservation.first ≡ true }
         requires claim { done.ask ≡ claim_of ticket.reservation }
         requires origin { done.origin ≡ self.old.origin }
-        ensures commits { Commits self.old ticket.reservation (load_only done.answer) result self.new }
+        ensures commits { Commits self.old ticket.reservation (load_only done.answer) (with_reply result reply.new) self.new }
         ensures phase { IsPhaseOf ticket.reservation.caller.session self.old self.new }
     {
-        self.commit(ticket.spend(), &Out::load_only(done.into_answer()))
+        self.commit(ticket.spend(), &Out::load_only(done.into_answer()), reply)
     }
 
     /// The last phase of a call whose writer was asked: its reservation ends, and its step is appended with the writer's report.
@@ -162,15 +174,20 @@ impl Stripe {
     ///
     /// Conditions: the ticket's reservation is out here, and asks this one first. `done` was made of this ticket's ask,
     /// and has this stripe's origin.
-    pub fn commit_write(&mut self, ticket: Ticket, done: WriteDone<Ask>) -> StepDone
+    pub fn commit_write(
+        &mut self,
+        ticket: Ticket,
+        done: WriteDone<Ask>,
+        reply: &mut Reply,
+    ) -> Appended
         requires out { IsOut self.old ticket.reservation }
         requires first { asks_writer ticket.reservation.first ≡ true }
         requires claim { done.ask ≡ claim_of ticket.reservation }
         requires origin { done.origin ≡ self.old.origin }
-        ensures commits { Commits self.old ticket.reservation (write_only done.answer) result self.new }
+        ensures commits { Commits self.old ticket.reservation (write_only done.answer) (with_reply result reply.new) self.new }
         ensures phase { IsPhaseOf ticket.reservation.caller.session self.old self.new }
     {
-        self.commit(ticket.spend(), &Out::write_only(done.into_answer()))
+        self.commit(ticket.spend(), &Out::write_only(done.into_answer()), reply)
     }
 
     /// The last phase of a call whose processor ran: its reservation ends, and its step is appended with what the loader, the
@@ -186,13 +203,14 @@ impl Stripe {
         ticket: Ticket,
         done: ProcDone<Ask>,
         report: Option<WriteDone<Ask>>,
-    ) -> StepDone
+        reply: &mut Reply,
+    ) -> Appended
         requires out { IsOut self.old ticket.reservation }
         requires first { asks_processor ticket.reservation.first ≡ true }
         requires claim { done.ask ≡ claim_of ticket.reservation }
         requires origin { done.origin ≡ self.old.origin }
         requires report { HasReport self.old.origin ticket.reservation (change_due self.old.config done) report }
-        ensures commits { Commits self.old ticket.reservation (process_out done report) result self.new }
+        ensures commits { Commits self.old ticket.reservation (process_out done report) (with_reply result reply.new) self.new }
         ensures phase { IsPhaseOf ticket.reservation.caller.session self.old self.new }
     {
         let write = report_answer(report);
@@ -202,7 +220,7 @@ impl Stripe {
             write,
             process,
         };
-        self.commit(ticket.spend(), &out)
+        self.commit(ticket.spend(), &out, reply)
     }
 
     /// Gives a ticket back that asked nobody: nothing is appended, and the entry and the store stay. Each call that has joined a
@@ -305,10 +323,15 @@ impl Stripe {
     }
 
     /// Ends a reservation, and appends its step and those of its joiners. Its ticket's box is free again.
-    fn commit(&mut self, reservation: Box<Reservation>, out: &Out) -> StepDone
+    fn commit(
+        &mut self,
+        reservation: Box<Reservation>,
+        out: &Out,
+        reply: &mut Reply,
+    ) -> Appended
         requires out { IsOut self.old reservation.value }
         requires answers { AnswersFirst self.old.config reservation.value.first out.now }
-        ensures { Commits self.old reservation.value out.now result self.new }
+        ensures { Commits self.old reservation.value out.now (with_reply result reply.new) self.new }
     {
         let ended = &*reservation;
         let key = ended.key;
@@ -317,15 +340,19 @@ impl Stripe {
         let kept = STEP_PLACES + self.joiners.waiting(load) as usize;
         let entry = self.entries.peek(&key);
         let pinned = self.reservations.keys();
-        let group = make_step(
-            &mut self.entries,
-            pinned,
-            ended.caller,
-            &key,
-            &entry,
-            &ended.op,
+        let op = &ended.op;
+        let (victim, evicted) =
+            apply_to_entries(&mut self.entries, pinned, &key, &entry, op, out);
+        *reply = op.reply_after(entry.as_ref(), out);
+        let group = NewGroup {
+            caller: ended.caller,
+            key: &key,
+            op,
             out,
-        );
+            reply,
+            victim,
+            evicted,
+        };
         let done = append_group(&mut self.history, &self.joiners, Some(load), &group, kept);
         let _ = self.joiners.resolve(load, done.place);
         self.boxes.give_back(reservation);

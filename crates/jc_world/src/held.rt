@@ -6,7 +6,7 @@ ghost use Rattle.jc_model.specs.Cache.{with_entry};
 ghost use Rattle.jc_model.specs.Table.{is_load_given, is_write_given};
 ghost use Rattle.jc_stripe.specs.declared.begun.StepDone.{StepDone};
 ghost use Rattle.jc_stripe.specs.State.{IsOut};
-ghost use Rattle.jc_stripe.specs.Phases.{Commits, Withdraws};
+ghost use Rattle.jc_stripe.specs.Phases.{Commits, Withdraws, with_reply};
 ghost use Rattle.jc_stripe.specs.Effects.{change_due};
 ghost use Rattle.jc_stripe.specs.Refusals.{reserves};
 ghost use Rattle.jc_outside.specs.declared.done.Origin.TheVariants.{Played};
@@ -21,10 +21,10 @@ use crate::event::{Part, PartProgress};
 use crate::outside::entry_after;
 use crate::reports::{ReportedKey, WriterBatch};
 use crate::run::{RunShown, change_due, commit_run, new_progress, progress_after};
-use jc_model::{Change, Contents, EntryAnswer, EntryCall, LoadAnswer, WriteAnswer};
+use jc_model::{Change, Contents, EntryAnswer, EntryCall, LoadAnswer, Reply, WriteAnswer};
 use jc_mutentry::played_process;
 use jc_stripe::{
-    Ask, First, ProcDone, Reservation, StepDone, Stripe, Ticket, played_load, played_write,
+    Appended, Ask, First, ProcDone, Reservation, Stripe, Ticket, played_load, played_write,
 };
 use jc_types::{Config, Key};
 use std::alloc::AllocError;
@@ -263,13 +263,13 @@ impl HeldKey {
         self.progress.is_changed
     }
 
-    /// The last phase.
-    pub(crate) fn commit(self, stripe: &mut Stripe) -> StepDone
+    /// The last phase. It writes what the step replies to `reply`.
+    pub(crate) fn commit(self, stripe: &mut Stripe, reply: &mut Reply) -> Appended
         requires out { IsOut stripe.old self.reservation }
         requires answered { is_answered self ≡ true }
         requires origin { stripe.old.origin ≡ Played }
         requires due { IsDue stripe.old.config self }
-        ensures { Commits stripe.old self.reservation (out_of self) result stripe.new }
+        ensures { Commits stripe.old self.reservation (out_of self) (with_reply result reply.new) stripe.new }
     {
         let HeldKey {
             ticket,
@@ -278,15 +278,15 @@ impl HeldKey {
         } = self;
         let mut ticket = ticket;
         match run {
-            Some(done) => commit_run(ticket, done, &progress, stripe),
+            Some(done) => commit_run(ticket, done, &progress, stripe, reply),
             None => match ticket.reservation().first {
                 First::Loader => {
                     let done = played_load(ticket.ask(), progress.out.load);
-                    stripe.commit_load(ticket, done)
+                    stripe.commit_load(ticket, done, reply)
                 }
                 First::Writer(_) => {
                     let done = played_write(ticket.ask(), progress.out.write);
-                    stripe.commit_write(ticket, done)
+                    stripe.commit_write(ticket, done, reply)
                 }
                 First::Nobody | First::Processor { .. } => unreachable!(),
             },
@@ -321,7 +321,7 @@ impl HeldKey {
     {
         let mut held = self;
         let _is_changed = held.report(WriteAnswer::Failed(0));
-        let _step = held.commit(stripe);
+        let _step = held.commit(stripe, &mut Reply::Unit);
     }
 
     /// The reservation is over, as its world ends: it is committed if it was answered, and given back if nobody was asked. Of a
@@ -337,7 +337,7 @@ impl HeldKey {
         if self.is_unanswered() {
             self.withdraw(stripe);
         } else if self.is_answered() {
-            let _step = self.commit(stripe);
+            let _step = self.commit(stripe, &mut Reply::Unit);
         } else {
             self.commit_failed(stripe);
         }

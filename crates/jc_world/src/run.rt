@@ -1,7 +1,7 @@
 //! How far a reserved key is as it is reserved and once its entry processor has run, and the last phase behind a processor.
 ghost use Rattle.std.specs.Prelude.{◌≡◌, true, false, None, is_some, not, ◌&&◌};
 ghost use Rattle.jc_stripe.specs.State.{IsOut};
-ghost use Rattle.jc_stripe.specs.Phases.{Commits};
+ghost use Rattle.jc_stripe.specs.Phases.{Commits, with_reply};
 ghost use Rattle.jc_stripe.specs.Effects.{change_due};
 ghost use Rattle.jc_stripe.specs.Tickets.{asks_processor, claim_of, change_asked};
 ghost use Rattle.jc_outside.specs.declared.done.Origin.TheVariants.{Played};
@@ -11,8 +11,8 @@ ghost use Rattle.jc_world.specs.Events.{asks_as, new_progress, progress_after};
 ghost use Rattle.jc_world.specs.Sound.{change_in};
 
 use crate::event::{Outcome, PartProgress};
-use jc_model::{Change, LoadAnswer, Out, WriteAnswer};
-use jc_stripe::{Ask, First, ProcDone, StepDone, Stripe, Ticket, played_write};
+use jc_model::{Change, LoadAnswer, Out, Reply, WriteAnswer};
+use jc_stripe::{Appended, Ask, First, ProcDone, Stripe, Ticket, played_write};
 use jc_types::Config;
 
 /// What a processor's run shows, but for the answers to its calls and its own code.
@@ -83,13 +83,14 @@ pub(crate) fn progress_after(change: &Option<Change>, done: &ProcDone<Ask>) -> P
     }
 }
 
-/// The last phase of a key whose processor has run.
+/// The last phase of a key whose processor has run. It writes what the step replies to `reply`.
 pub(crate) fn commit_run(
     ticket: Ticket,
     done: ProcDone<Ask>,
     progress: &PartProgress,
     stripe: &mut Stripe,
-) -> StepDone
+    reply: &mut Reply,
+) -> Appended
     requires first { asks_processor ticket.reservation.first ≡ true }
     requires asked { ticket.asked ≡ true }
     requires writer { ticket.writer_asked ≡ false }
@@ -102,14 +103,14 @@ pub(crate) fn commit_run(
     requires reported { (is_some progress.now.change && not (is_write_given progress.now.out.write)) ≡ false }
     requires origin { stripe.old.origin ≡ Played }
     requires due { progress.now.change ≡ change_in stripe.old.config progress.now.out }
-    ensures { Commits stripe.old ticket.reservation progress.now.out result stripe.new }
+    ensures { Commits stripe.old ticket.reservation progress.now.out (with_reply result reply.new) stripe.new }
 {
     let mut ticket = ticket;
     match progress.change {
         Some(_) => {
             let written = played_write(ticket.ask_writer(&done), progress.out.write);
-            stripe.commit_process(ticket, done, Some(written))
+            stripe.commit_process(ticket, done, Some(written), reply)
         }
-        None => stripe.commit_process(ticket, done, None),
+        None => stripe.commit_process(ticket, done, None, reply),
     }
 }

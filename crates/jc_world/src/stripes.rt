@@ -89,9 +89,10 @@ impl Stripes {
         grows();
         let stripe = &mut self.items[number];
         let before = history_len(stripe);
-        let begun = stripe.begin(*caller, key, op);
+        let mut reply = Reply::Unit;
+        let started = stripe.begin(*caller, key, op, &mut reply);
         give_turns(&mut self.turns, number, stripe, before);
-        begun
+        started.with_reply(&reply)
     }
 
     /// The last phase of a key on its stripe. What it appends is at the end of the order, too.
@@ -106,9 +107,10 @@ impl Stripes {
         grows();
         let stripe = &mut self.items[number];
         let before = history_len(stripe);
-        let done = held.commit(stripe);
+        let mut reply = Reply::Unit;
+        let step = held.commit(stripe, &mut reply);
         give_turns(&mut self.turns, number, stripe, before);
-        done
+        step.with_reply(&reply)
     }
 
     /// Gives a key's reservation back.

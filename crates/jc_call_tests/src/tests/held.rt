@@ -41,7 +41,9 @@ fn tried(
     requires held { agent.old.hands.held ≡ 0 }
 {
     let mut gate = lock;
-    try_call(&mut gate, seat, agent, key, op)
+    let mut reply = Reply::Unit;
+    try_call(&mut gate, seat, agent, key, op, &mut reply)?;
+    Ok(reply)
 }
 
 /// The first call of the next session, if it waits for nobody, is answered so.

@@ -3,8 +3,8 @@ ghost use Rattle.std.specs.Prelude.{◌≡◌, true, false, Some};
 
 use super::*;
 use jc_lock::{HistLock, Seat};
-use jc_model::Op;
-use jc_stripe::Begun;
+use jc_model::{Op, Reply};
+use jc_stripe::Started;
 use jc_types::Caller;
 use mutexed::new_stripe;
 use std::thread;
@@ -40,8 +40,8 @@ fn put_once<R: Abort + Wait>(
 {
     let mut stripe = lock.take(rt, seat);
     assert!(rt; stripe.admits(caller, key), "{caller:?} may begin");
-    match stripe.begin(caller, key, &Op::Put(*value)) {
-        Begun::Done(_) => {}
+    match stripe.begin(caller, key, &Op::Put(*value), &mut Reply::Unit) {
+        Started::Done(_) => {}
         _other => panic!(rt; "the put isn't done"),
     }
     lock.give(seat, stripe);

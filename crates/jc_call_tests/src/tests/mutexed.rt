@@ -5,8 +5,8 @@ ghost use Rattle.jc_stripe.specs.Generations.{whole_history};
 use super::histories::events_of;
 use super::*;
 use jc_gate::{Gate, MutexGate};
-use jc_model::{Op, legal};
-use jc_stripe::{Begun, Origin, Stripe};
+use jc_model::{Op, Reply, legal};
+use jc_stripe::{Origin, Started, Stripe};
 use jc_types::Caller;
 use std::thread;
 
@@ -28,8 +28,8 @@ fn put_once<R: Abort + Wait>(rt: &R, gate: &MutexGate, caller: Caller, key: &Key
     let mut seat = gate.seat();
     let mut stripe = lent.take(rt, &mut seat);
     assert!(rt; stripe.admits(caller, key), "{caller:?} may begin");
-    match stripe.begin(caller, key, &Op::Put(*value)) {
-        Begun::Done(_) => {}
+    match stripe.begin(caller, key, &Op::Put(*value), &mut Reply::Unit) {
+        Started::Done(_) => {}
         _other => panic!(rt; "the put isn't done"),
     }
     lent.give(&mut seat, stripe);

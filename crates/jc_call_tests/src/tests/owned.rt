@@ -14,7 +14,7 @@ use super::mutexed::new_stripe;
 use super::*;
 use jc_engine::call_owned;
 use jc_gate::Owner;
-use jc_model::{Op, legal};
+use jc_model::{Op, Reply, legal};
 use jc_session::Agent;
 use jc_stripe::{Origin, Stripe};
 
@@ -75,7 +75,9 @@ fn call<R: Abort + Wait>(rt: &R, owner: &mut Owner, agent: &mut Agent, key: &Key
     assert!(rt; stripe.generations_ended() == 0);
     assert!(rt; stripe.is_idle());
     assert!(rt; stripe.admits(caller, key));
-    call_owned(rt, owner, agent, key, op)
+    let mut reply = Reply::Unit;
+    call_owned(rt, owner, agent, key, op, &mut reply)?;
+    Ok(reply)
 }
 
 /// Makes the call that a line says. It is to answer what the line says, and the counts are to be these afterwards.

@@ -10,14 +10,13 @@ ghost use Rattle.jc_model.specs.Group.{nothing_said};
 ghost use Rattle.jc_stripe.specs.State.{new_reservation, with_reservation};
 ghost use Rattle.jc_stripe.specs.Refusals.{has_room, first_refusal, first_asked, load_joined, needs_reservation};
 ghost use Rattle.jc_stripe.specs.Finding.{found_at};
-ghost use Rattle.jc_stripe.specs.Phases.{MayBegin, Steps, Begins, hit_done, with_joiner};
+ghost use Rattle.jc_stripe.specs.Phases.{MayBegin, Steps, Begins, begun_with, with_joiner, with_reply};
 ghost use Rattle.jc_stripe.specs.Hitting.{IsHit};
 ghost use Rattle.jc_stripe.specs.declared.ticket.First.TheVariants.{Nobody};
-ghost use Rattle.jc_stripe.specs.declared.begun.Begun.TheVariants.{Done};
 
 use super::Stripe;
-use crate::appending::{append_group, make_step};
-use crate::begun::{Begun, StepDone};
+use crate::appending::{NewGroup, append_group, apply_to_entries};
+use crate::begun::{Appended, Started};
 use crate::call_rules::{Found, first_asked, places_needed};
 use crate::ticket::{Join, Ticket};
 use jc_model::{Op, Out, Reply};
@@ -30,12 +29,11 @@ pub(super) fn is_get(op: &Op) -> bool
     matches!(op, Op::Get)
 }
 
-/// The step of a `get` that found this value, at this place.
-pub(super) fn hit_done(place: u32, value: &Value) -> StepDone
-    ensures { result ≡ hit_done place value.now }
+/// A step at this place for which nobody is evicted.
+pub(super) fn appended_alone(place: u32) -> Appended
+    ensures { result ≡ record { place = place; victim = None; evicted = None } }
 {
-    StepDone {
-        reply: Reply::Value(Some(*value)),
+    Appended {
         place,
         victim: None,
         evicted: None,
@@ -44,21 +42,33 @@ pub(super) fn hit_done(place: u32, value: &Value) -> StepDone
 
 impl Stripe {
     /// What a first phase gives, and what it leaves, if the call isn't a `get`, or there is no place for one that finds its entry.
-    pub(super) fn begin_at(&mut self, caller: Caller, key: &Key, op: &Op) -> Begun
+    pub(super) fn begin_at(
+        &mut self,
+        caller: Caller,
+        key: &Key,
+        op: &Op,
+        reply: &mut Reply,
+    ) -> Started
         requires begins { MayBegin self.old caller key.now }
-        ensures { Begins self.old caller key.now op.now result self.new }
+        ensures { Begins self.old caller key.now op.now (begun_with result reply.new) self.new }
     {
         let entry = self.entry(key);
-        self.begin_on(caller, key, op, &entry)
+        self.begin_on(caller, key, op, &entry, reply)
     }
 
     /// What a first phase gives, and what it leaves, if the key has no entry.
-    pub(super) fn begin_missing(&mut self, caller: Caller, key: &Key, op: &Op) -> Begun
+    pub(super) fn begin_missing(
+        &mut self,
+        caller: Caller,
+        key: &Key,
+        op: &Op,
+        reply: &mut Reply,
+    ) -> Started
         requires begins { MayBegin self.old caller key.now }
         requires missing { entry_at self.old.cache key.now ≡ None }
-        ensures { Begins self.old caller key.now op.now result self.new }
+        ensures { Begins self.old caller key.now op.now (begun_with result reply.new) self.new }
     {
-        self.begin_on(caller, key, op, &None)
+        self.begin_on(caller, key, op, &None, reply)
     }
 
     /// The place of the next event.
@@ -70,22 +80,29 @@ impl Stripe {
 
     /// What a first phase gives on a key that has this entry, and what it leaves.
     #[inline(never)]
-    fn begin_on(&mut self, caller: Caller, key: &Key, op: &Op, entry: &Option<Value>) -> Begun
+    fn begin_on(
+        &mut self,
+        caller: Caller,
+        key: &Key,
+        op: &Op,
+        entry: &Option<Value>,
+        reply: &mut Reply,
+    ) -> Started
         requires begins { MayBegin self.old caller key.now }
         requires entry { entry.now ≡ entry_at self.old.cache key.now }
-        ensures { Begins self.old caller key.now op.now result self.new }
+        ensures { Begins self.old caller key.now op.now (begun_with result reply.new) self.new }
     {
         let found = self.find(key, op, entry);
         if let Some(refusal) = self.refusal(caller, &found) {
-            return Begun::Refused(refusal);
+            return Started::Refused(refusal);
         }
         if let Some(load) = found.load {
-            return Begun::Joined(self.join(caller, key, op, load));
+            return Started::Joined(self.join(caller, key, op, load));
         }
         if found.asks {
-            return Begun::Asks(self.reserve(caller, key, op, entry));
+            return Started::Asks(self.reserve(caller, key, op, entry));
         }
-        self.finish_now(caller, key, op, entry, &found)
+        self.finish_now(caller, key, op, entry, &found, reply)
     }
 
     /// A `get` that finds its entry, and says whether it did: the one look-up also makes the entry the most recently used, and the
@@ -170,15 +187,16 @@ impl Stripe {
         op: &Op,
         entry: &Option<Value>,
         found: &Found,
-    ) -> Begun
+        reply: &mut Reply,
+    ) -> Started
         requires entry { entry.now ≡ entry_at self.old.cache key.now }
         requires found { found.now ≡ found_at self.old key.now op.now }
         requires free { first_refusal self.old caller key.now op.now ≡ None }
         requires asks { first_asked self.old.config op.now (entry_at self.old.cache key.now) ≡ Nobody }
         requires begins { MayBegin self.old caller key.now }
-        ensures { Begins self.old caller key.now op.now result self.new }
+        ensures { Begins self.old caller key.now op.now (begun_with result reply.new) self.new }
     {
-        Begun::Done(self.finish(caller, key, op, entry, found))
+        Started::Done(self.finish(caller, key, op, entry, found, reply))
     }
 
     /// The step of a call that asks nobody.
@@ -189,19 +207,30 @@ impl Stripe {
         op: &Op,
         entry: &Option<Value>,
         found: &Found,
-    ) -> StepDone
+        reply: &mut Reply,
+    ) -> Appended
         requires entry { entry.now ≡ entry_at self.old.cache key.now }
         requires found { found.now ≡ found_at self.old key.now op.now }
         requires free { first_refusal self.old caller key.now op.now ≡ None }
         requires asks { first_asked self.old.config op.now (entry_at self.old.cache key.now) ≡ Nobody }
         requires begins { MayBegin self.old caller key.now }
-        ensures { Steps self.old caller key.now op.now nothing_said [] result self.new }
+        ensures { Steps self.old caller key.now op.now nothing_said [] (with_reply result reply.new) self.new }
     {
         let kept = places_needed(found.needs_free_key);
         let _ = self.history.promise(kept);
         let pinned = self.reservations.keys();
         let out = Out::nothing_said();
-        let group = make_step(&mut self.entries, pinned, caller, key, entry, op, &out);
+        let (victim, evicted) = apply_to_entries(&mut self.entries, pinned, key, entry, op, &out);
+        *reply = op.reply_after(entry.as_ref(), &out);
+        let group = NewGroup {
+            caller,
+            key,
+            op,
+            out: &out,
+            reply,
+            victim,
+            evicted,
+        };
         append_group(&mut self.history, &self.joiners, None, &group, kept)
     }
 }

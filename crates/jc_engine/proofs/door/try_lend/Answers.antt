@@ -23,9 +23,9 @@ returns-in-Ok-lend_once-clause-made g c =
     let token = c.lend_once.new.token in
     let last = c.lend_once-2.new in (
       search rules,
-      lent_later takes gives finds c.args.agent.now.caller.session c.args.gate.now c.args.token.now gate token (λ a b. g.P.Phase.makes c.args.phase a answer b) last.gate last.token c.in-Err.ensures.back.2.rests c.in-Err.ensures.back.2.since
-          (subst (λ p. LentPhase takes gives finds c.args.agent.now.caller.session gate token (λ a b. g.P.Phase.makes p a answer b) last.gate last.token) c.in-Err.ensures.back.0
-          (subst (λ s. LentPhase takes gives finds s gate token (λ a b. g.P.Phase.makes c.in-Err.back.0 a answer b) last.gate last.token) (ap (λ x. x.caller.session) c.in-Err.ensures.back.1)
+      lent_later takes gives finds c.args.agent.now.caller.session c.args.gate.now c.args.token.now gate token (λ a b. g.P.Phase.makes c.args.phase a answer last.reply b) last.gate last.token c.in-Err.ensures.back.2.rests c.in-Err.ensures.back.2.since
+          (subst (λ p. LentPhase takes gives finds c.args.agent.now.caller.session gate token (λ a b. g.P.Phase.makes p a answer last.reply b) last.gate last.token) c.in-Err.ensures.back.0
+          (subst (λ s. LentPhase takes gives finds s gate token (λ a b. g.P.Phase.makes c.in-Err.back.0 a answer last.reply b) last.gate last.token) (ap (λ x. x.caller.session) c.in-Err.ensures.back.1)
           c.in-Ok-lend_once.ensures.made.1)),
     )
 

@@ -1,10 +1,11 @@
 use Rattle.std.proofs.Common.{◌∙◌, sym, refl, ap, subst}
 use Rattle.jc_types.specs.declared.caller.Caller.{Caller}
 use Rattle.jc_stripe.specs.declared.begun.Begun.TheVariants as begun
+use Rattle.jc_stripe.specs.Phases.{with_reply}
 use Rattle.jc_stripe.specs.Tickets.{JoinClaim}
 use Rattle.jc_session.specs.declared.counts.Counted.TheVariants.{Nothing, Step, Reserved}
 use Rattle.jc_engine.specs.Needs.{BeginsIfClear}
-use Rattle.jc_engine.specs.declared.entering.Entered.TheVariants as entered
+use Rattle.jc_engine.specs.Entering as entered
 use Rattle.jc_engine.proofs.AgentAfter.{session_is, session_joined, after_begun, after_answer, after_retry}
 use Rattle.jc_engine.proofs.Rounds.{rounds_start, rounds_on, needs_on, starts_by, shares, enters}
 use Rattle.jc_engine.proofs.entering.enter.Goals as goal
@@ -31,9 +32,9 @@ returns-in-Done g c = record {
   ready = c.in-Done.ensures.ready;
   agent = after_begun c.args.agent.now c.loop.agent c.lend.new.agent Step c.loop.invariant.agent c.in-Done.ensures.agent;
   phase =
-      let x = starts_by g.G.Gate.takes g.G.Gate.gives g.G.Gate.finds c.args.agent.now.caller c.args.key.now c.args.op.now c.loop.agent.caller.session c.caller-caller.result (begun.Done c.in-Done.step) c.loop.gate c.loop.token c.lend.new.gate c.lend.new.token
+      let x = starts_by g.G.Gate.takes g.G.Gate.gives g.G.Gate.finds c.args.agent.now.caller c.args.key.now c.args.op.now c.loop.agent.caller.session c.caller-caller.result (begun.Done (with_reply c.in-Done._step c.lend.new.reply)) c.loop.gate c.loop.token c.lend.new.gate c.lend.new.token
       (session_is c.args.agent.now c.loop.agent c.loop.invariant.agent) c.caller-caller.ensures c.in-Done.ensures.phase.0 in
-      enters g.G.Gate.takes g.G.Gate.gives g.G.Gate.finds c.args.agent.now.caller c.args.key.now c.args.op.now c.args.gate.now c.args.token.now c.loop.gate c.loop.token (begun.Done c.in-Done.step) c.lend.new.gate c.lend.new.token (entered.Done c.in-Done.step.reply) c.lend.new.gate c.lend.new.token c.loop.invariant.so x
+      enters g.G.Gate.takes g.G.Gate.gives g.G.Gate.finds c.args.agent.now.caller c.args.key.now c.args.op.now c.args.gate.now c.args.token.now c.loop.gate c.loop.token (begun.Done (with_reply c.in-Done._step c.lend.new.reply)) c.lend.new.gate c.lend.new.token (entered.Done c.lend.new.reply) c.lend.new.gate c.lend.new.token c.loop.invariant.so x
       (refl, refl, refl);
 }
 
@@ -73,8 +74,8 @@ returns-in-Some-pick_up g c = record {
       let x = starts_by g.G.Gate.takes g.G.Gate.gives g.G.Gate.finds c.args.agent.now.caller c.args.key.now c.args.op.now c.loop.agent.caller.session c.caller-caller.result (begun.Joined c.in-Joined.join) c.loop.gate c.loop.token c.lend.new.gate c.lend.new.token
       (session_is c.args.agent.now c.loop.agent c.loop.invariant.agent) c.caller-caller.ensures c.in-Joined.ensures.phase.0 in
       let answer = c.in-Some-pick_up.ensures.some.phase in
-      enters g.G.Gate.takes g.G.Gate.gives g.G.Gate.finds c.args.agent.now.caller c.args.key.now c.args.op.now c.args.gate.now c.args.token.now c.loop.gate c.loop.token (begun.Joined c.in-Joined.join) c.lend.new.gate c.lend.new.token (entered.Done c.in-Some-pick_up.reply) c.pick_up.new.gate c.pick_up.new.token c.loop.invariant.so x
-      (shares g.G.Gate.takes g.G.Gate.gives g.G.Gate.finds c.args.agent.now.caller c.args.key.now c.args.op.now c.in-Joined.join c.loop.gate c.loop.token c.lend.new.gate c.lend.new.token c.lend.new.agent.caller.session c.in-Some-pick_up.reply answer.0 answer.1 c.pick_up.new.gate c.pick_up.new.token x
+      enters g.G.Gate.takes g.G.Gate.gives g.G.Gate.finds c.args.agent.now.caller c.args.key.now c.args.op.now c.args.gate.now c.args.token.now c.loop.gate c.loop.token (begun.Joined c.in-Joined.join) c.lend.new.gate c.lend.new.token (entered.Done c.in-Some-pick_up.answer) c.pick_up.new.gate c.pick_up.new.token c.loop.invariant.so x
+      (shares g.G.Gate.takes g.G.Gate.gives g.G.Gate.finds c.args.agent.now.caller c.args.key.now c.args.op.now c.in-Joined.join c.loop.gate c.loop.token c.lend.new.gate c.lend.new.token c.lend.new.agent.caller.session c.in-Some-pick_up.answer answer.0 answer.1 c.pick_up.new.gate c.pick_up.new.token x
       (session_joined c.args.agent.now c.loop.agent c.lend.new.agent c.loop.invariant.agent c.in-Joined.ensures.agent) answer.2);
 }
 

@@ -2,8 +2,9 @@ use Rattle.std.proofs.Common.{◌∙◌, sym, refl, ap, subst}
 use Rattle.jc_types.specs.declared.caller.Caller.{Caller}
 use Rattle.jc_model.specs.declared.event.Op.TheVariants.{Invoke}
 use Rattle.jc_stripe.specs.declared.begun.Begun.TheVariants as begun
+use Rattle.jc_stripe.specs.Phases.{with_reply}
 use Rattle.jc_stripe.specs.Tickets.{TicketClaim}
-use Rattle.jc_engine.specs.declared.entering.Entered.TheVariants as entered
+use Rattle.jc_engine.specs.Entering as entered
 use Rattle.jc_engine.specs.Answered.{Processed, out_of}
 use Rattle.jc_engine.specs.Needs.{BeginsIfClear, IsReported}
 use Rattle.jc_engine.proofs.AgentAfter.{session_asked, writer_stays}
@@ -31,15 +32,15 @@ run-processed-requires-clause-writer g c = λ through.
     let since = c.in-Asks.ensures.phase.0.since in
     writer_stays c.args.agent.now c.lend.new.agent _ c.in-Asks.ensures.agent (c.requires.may.writes since.first since.finds_first (c.requires.through since.first since.finds_first ∙ through))
 
-pub end-step-requires-clause-ready : goal.end-step-requires-clause-ready
-end-step-requires-clause-ready g c = record {
+pub end-requires-clause-ready : goal.end-requires-clause-ready
+end-requires-clause-ready g c = record {
   held = c.run-processed.ensures.held;
   free = c.in-Asks.ensures.ready.free;
   speaks = subst (g.G.Gate.speaks_for c.lend.new.token) (sym (ap (λ a. a.caller.session) c.run-processed.ensures.rest)) c.in-Asks.ensures.ready.speaks;
 }
 
-pub end-step-requires-clause-fits : goal.end-step-requires-clause-fits
-end-step-requires-clause-fits g c =
+pub end-requires-clause-fits : goal.end-requires-clause-fits
+end-requires-clause-fits g c =
     let h = starts_by g.G.Gate.takes g.G.Gate.gives g.G.Gate.finds c.args.agent.now.caller c.args.key.now Invoke c.args.agent.now.caller.session c.caller.result (begun.Asks c.in-Asks.ticket)
     c.args.gate.now c.args.token.now c.lend.new.gate c.lend.new.token refl c.caller.ensures c.in-Asks.ensures.phase.0 in
     let x = at_once g.G.Gate.takes g.G.Gate.gives g.G.Gate.finds c.args.agent.now.caller c.args.key.now Invoke c.args.gate.now c.args.token.now (begun.Asks c.in-Asks.ticket) (entered.Asks c.in-Asks.ticket)
@@ -63,7 +64,7 @@ end-step-requires-clause-fits g c =
 pub unreachable-requires : goal.unreachable-requires
 unreachable-requires g c =
     let lent = c.in-Done.ensures.phase.0 in
-    no_done lent.before lent.after c.caller.result c.args.key.now c.in-Done._step lent.made.first.begins
+    no_done lent.before lent.after c.caller.result c.args.key.now (with_reply c.in-Done._step c.lend.new.reply) lent.made.first.begins
 
 pub unreachable-requires-in-Joined : goal.unreachable-requires-in-Joined
 unreachable-requires-in-Joined g c =
@@ -88,7 +89,7 @@ returns-in-Refused g c = record {
 
 pub returns-in-Asks : goal.returns-in-Asks
 returns-in-Asks g c = record {
-  ready = c.end-step.ensures.ready;
+  ready = c.end.ensures.ready;
   call =
       let h = starts_by g.G.Gate.takes g.G.Gate.gives g.G.Gate.finds c.args.agent.now.caller c.args.key.now Invoke c.args.agent.now.caller.session c.caller.result (begun.Asks c.in-Asks.ticket)
       c.args.gate.now c.args.token.now c.lend.new.gate c.lend.new.token refl c.caller.ensures c.in-Asks.ensures.phase.0 in
@@ -96,10 +97,10 @@ returns-in-Asks g c = record {
       c.lend.new.gate c.lend.new.token h (refl, refl, refl) in
       let d = c.run-processed.ensures in
       record {
-        call = reserved_call _ _ _ _ g.G.Gate.takes g.G.Gate.gives g.G.Gate.finds c.run-processed.new.agent.caller.session c.args.agent.now c.lend.new.agent c.run-processed.new.agent c.end-step.new.agent c.args.key.now Invoke c.args.gate.now c.args.token.now c.in-Asks.ticket
-            c.lend.new.gate c.lend.new.token c.run-processed.new.ticket.reservation (out_of (Processed c.run-processed.result.done c.run-processed.result.report)) c.end-step.result c.end-step.new.gate c.end-step.new.token x c.end-step.ensures.phase
+        call = reserved_call _ _ _ _ g.G.Gate.takes g.G.Gate.gives g.G.Gate.finds c.run-processed.new.agent.caller.session c.args.agent.now c.lend.new.agent c.run-processed.new.agent c.end.new.agent c.args.key.now Invoke c.args.gate.now c.args.token.now c.in-Asks.ticket
+            c.lend.new.gate c.lend.new.token c.run-processed.new.ticket.reservation (out_of (Processed c.run-processed.result.done c.run-processed.result.report)) (with_reply c.end.result c.end.new.reply) c.end.new.gate c.end.new.token x c.end.ensures.phase
             (session_asked c.args.agent.now c.lend.new.agent c.run-processed.new.agent _ c.in-Asks.ensures.agent d.rest) d.reservation
-            c.requires.may.reservations c.in-Asks.ensures.agent d.rest d.held c.end-step.ensures.agent
+            c.requires.may.reservations c.in-Asks.ensures.agent d.rest d.held c.end.ensures.agent
             d.loader (rw (ap (λ c. c.write_through) h.since.after.same.config, c.requires.through h.since.first h.since.finds_first) d.writer) d.types;
         run = ran (λ b. (goal.EntryProcessor-dyn g (b.vtable, b.value)).processes b.value) (λ b. (goal.EntryProcessor-dyn g (b.vtable, b.value)).process_state b.value) h.before c.args.key.now c.in-Asks.ticket.reservation.key c.args.args.now c.in-Asks.ticket.reservation.first _ _ c.args.processor.now c.run-processed.new.processor
             h.made.first.begins.2 (ap (λ (t : TicketClaim). t.reservation.key) h.made.first.begins.4) d.given d.run;

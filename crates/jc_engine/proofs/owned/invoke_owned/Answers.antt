@@ -1,5 +1,6 @@
 use Rattle.std.proofs.Common.{◌∙◌, ap, sym}
 use Rattle.std.proofs.lemmas.Option.{same_Some}
+use Rattle.jc_engine.specs.Entering.{ended_with}
 use Rattle.jc_engine.proofs.OwnedCalls.{owned_call, there_is}
 use Rattle.jc_engine.proofs.owned.invoke_owned.Goals as goal
 
@@ -11,7 +12,7 @@ returns g c =
     let there = there_is c.args.owner.now.here c.requires.ready.1 in
     record {
       call = record {
-        call = owned_call _ _ _ _ c.whole_call.ensures c.joins_only_loads.ensures c.args.agent.now c.invoke.new.agent c.args.key.now _ c.args.owner.now _ c.invoke.result c.invoke.new.gate _
+        call = owned_call _ _ _ _ c.whole_call.ensures c.joins_only_loads.ensures c.args.agent.now c.invoke.new.agent c.args.key.now _ c.args.owner.now _ (ended_with c.invoke.result c.invoke.new.reply) c.invoke.new.gate _
             there.0 there.1 (c.requires.idle there.0 there.1) c.invoke.ensures.call.call;
         run = c.invoke.ensures.call.run;
         type = c.invoke.ensures.call.type;

@@ -1,11 +1,11 @@
 use Rattle.std.proofs.Common.{◌∙◌, ◌≡◌, Bool, true, false, ⊎_elim, ap, inl, inr, refl, subst, sym}
 use Rattle.std.proofs.lemmas.Bool.{true≢false}
 use Rattle.jc_types.specs.declared.caller.Caller.{Caller}
-use Rattle.jc_stripe.specs.declared.begun.Begun.{Begun}
-use Rattle.jc_stripe.specs.Phases.{Begins}
-use Rattle.jc_session.specs.Counting.{counts_after, counted_begun}
+use Rattle.jc_stripe.specs.declared.begun.Started.{Started}
+use Rattle.jc_stripe.specs.Phases.{Begins, begun_with, with_reply}
+use Rattle.jc_session.specs.Counting.{counts_after, counted_started}
 use Rattle.jc_engine.specs.declared.first.How.TheVariants.{Alone}
-use Rattle.jc_engine.specs.Needs.{BeginsIfClear, can_start}
+use Rattle.jc_engine.specs.Needs.{BeginsIfClear, StartsBy, can_start}
 use Rattle.jc_engine.proofs.Chains.{lent-map}
 use Rattle.jc_engine.proofs.NotMade.{each_is}
 use Rattle.jc_engine.proofs.Unasked.{no_ticket, no_share}
@@ -21,24 +21,24 @@ pub unreachable-requires : goal.unreachable-requires
 unreachable-requires g c =
     let made = c.in-Ok.ensures.made.1 in
     no_ticket made.before made.after c.caller.result c.args.key.now c.args.op.now c.in-Asks._ticket (made.made.alone refl)
-    (subst (λ (b : Begun). Begins made.before c.caller.result c.args.key.now c.args.op.now b made.after) c.in-Asks.is made.made.first.begins)
+    (subst (λ (s : Started). Begins made.before c.caller.result c.args.key.now c.args.op.now (begun_with s c.try_lend.new.reply) made.after) c.in-Asks.is made.made.first.begins)
 
 pub unreachable-requires-in-Joined : goal.unreachable-requires-in-Joined
 unreachable-requires-in-Joined g c =
     let made = c.in-Ok.ensures.made.1 in
     no_share made.before made.after c.caller.result c.args.key.now c.args.op.now c.in-Joined._join (made.made.alone refl)
-    (subst (λ (b : Begun). Begins made.before c.caller.result c.args.key.now c.args.op.now b made.after) c.in-Joined.is made.made.first.begins)
+    (subst (λ (s : Started). Begins made.before c.caller.result c.args.key.now c.args.op.now (begun_with s c.try_lend.new.reply) made.after) c.in-Joined.is made.made.first.begins)
 
 pub returns-in-Done : goal.returns-in-Done
 returns-in-Done g c = record {
   ready = c.try_lend.ensures.ready;
   agent =
       c.in-Ok.ensures.made.0
-      ∙ ap (λ (b : Begun). record c.args.agent.now { counts = counts_after c.args.agent.now.counts (counted_begun b) }) c.in-Done.is;
+      ∙ ap (λ (s : Started). record c.args.agent.now { counts = counts_after c.args.agent.now.counts (counted_started s) }) c.in-Done.is;
   phase = (
-    c.in-Done.step,
+    with_reply c.in-Done._step c.try_lend.new.reply,
     refl,
-    lent-map g.G.Gate.takes g.G.Gate.gives g.G.Gate.finds _ _ _ _ _ _ _ (λ a b tried. rw (← c.caller.ensures, ← c.in-Done.is) tried) c.in-Ok.ensures.made.1,
+    lent-map g.G.Gate.takes g.G.Gate.gives g.G.Gate.finds _ _ _ _ _ _ _ (λ a b tried. subst (λ (s : Started). StartsBy Alone c.args.agent.now.caller c.args.key.now c.args.op.now (begun_with s c.try_lend.new.reply) a b) c.in-Done.is (rw (← c.caller.ensures) tried)) c.in-Ok.ensures.made.1,
   );
 }
 
@@ -47,8 +47,8 @@ returns-in-Refused g c = record {
   ready = c.try_lend.ensures.ready;
   agent =
       c.in-Ok.ensures.made.0
-      ∙ ap (λ (b : Begun). record c.args.agent.now { counts = counts_after c.args.agent.now.counts (counted_begun b) }) c.in-Refused.is;
-  phase = inl (lent-map g.G.Gate.takes g.G.Gate.gives g.G.Gate.finds _ _ _ _ _ _ _ (λ a b tried. rw (← c.caller.ensures, ← c.in-Refused.is) tried) c.in-Ok.ensures.made.1);
+      ∙ ap (λ (s : Started). record c.args.agent.now { counts = counts_after c.args.agent.now.counts (counted_started s) }) c.in-Refused.is;
+  phase = inl (lent-map g.G.Gate.takes g.G.Gate.gives g.G.Gate.finds _ _ _ _ _ _ _ (λ a b tried. subst (λ (s : Started). StartsBy Alone c.args.agent.now.caller c.args.key.now c.args.op.now (begun_with s c.try_lend.new.reply) a b) c.in-Refused.is (rw (← c.caller.ensures) tried)) c.in-Ok.ensures.made.1);
 }
 
 not_so : (b : Bool) → (b ≡ true → ⊥) → b ≡ false

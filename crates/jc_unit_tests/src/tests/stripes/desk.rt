@@ -4,9 +4,9 @@ ghost use Rattle.jc_outside.specs.declared.done.Origin.TheVariants.{Played};
 
 use super::super::reopenings::is_once;
 use super::words::Seen;
-use jc_model::{Op, Out};
+use jc_model::{Op, Out, Reply};
 use jc_stripe::{
-    Begun, First, Join, Origin, Picked, Reopened, StepDone, Stripe, Ticket, played_load,
+    First, Join, Origin, Picked, Reopened, Started, StepDone, Stripe, Ticket, played_load,
     played_write, reopen,
 };
 use jc_types::{Caller, Config, Key, Value};
@@ -56,16 +56,19 @@ fn commit(rt: &impl Abort, stripe: &mut Stripe, unasked: Unasked, out: &Out) -> 
     assert!(rt; stripe.holds(ticket.reservation()), "out");
     assert!(rt; is_played(stripe), "played");
     let first = ticket.reservation().first;
+    let mut reply = Reply::Unit;
     match first {
         First::Loader => {
             assert!(rt; out.load.is_given(), "the loader's answer");
             let ask = ticket.ask();
-            stripe.commit_load(ticket, played_load(ask, out.load))
+            let done = played_load(ask, out.load);
+            stripe.commit_load(ticket, done, &mut reply).with_reply(&reply)
         }
         First::Writer(_) => {
             assert!(rt; out.write.is_given(), "the writer's answer");
             let ask = ticket.ask();
-            stripe.commit_write(ticket, played_write(ask, out.write))
+            let done = played_write(ask, out.write);
+            stripe.commit_write(ticket, done, &mut reply).with_reply(&reply)
         }
         First::Nobody | First::Processor { .. } => panic!(rt; "neither is asked"),
     }
@@ -108,11 +111,12 @@ impl Desk {
     /// The first phase of a call.
     pub fn begin(&mut self, rt: &impl Abort, caller: Caller, key: &Key, op: &Op) -> Seen {
         assert!(rt; self.stripe.admits(caller, key), "{caller:?} may begin");
-        match self.stripe.begin(caller, key, op) {
-            Begun::Done(done) => Seen::Step(done.reply, done.place),
-            Begun::Refused(refusal) => Seen::Refused(refusal),
-            Begun::Joined(join) => self.keep_join(rt, join),
-            Begun::Asks(ticket) => self.keep_ticket(rt, Unasked { ticket }),
+        let mut reply = Reply::Unit;
+        match self.stripe.begin(caller, key, op, &mut reply) {
+            Started::Done(step) => Seen::Step(reply, step.place),
+            Started::Refused(refusal) => Seen::Refused(refusal),
+            Started::Joined(join) => self.keep_join(rt, join),
+            Started::Asks(ticket) => self.keep_ticket(rt, Unasked { ticket }),
         }
     }
 

@@ -3,6 +3,7 @@ use Rattle.jc_world.proofs.Committing.{change_is, change_some, given_if, has_rep
 use Rattle.jc_outside.specs.Done.{WriteResult}
 use Rattle.jc_stripe.specs.Tickets.{id_of}
 use Rattle.jc_stripe.specs.Effects.{process_out}
+use Rattle.jc_stripe.specs.Phases.{with_reply}
 use Rattle.jc_world.proofs.run.commit_run.Goals as goal
 
 pub returns-in-Some : goal.returns-in-Some
@@ -11,7 +12,7 @@ returns-in-Some c =
     let answer = ap (λ (d : WriteResult Claim). d.answer) c.played_write-written.ensures in
     let out : process_out c.args.done (Some written) ≡ c.args.progress.now.out = λ i. record { load = c.requires.load i; write = answer i; process = c.requires.process i } in
     let r = ap (λ (t : TicketClaim). t.reservation) c.ask_writer.ensures.writer_asked in
-    let P : Reservation → Out → Type 0 = λ r o. Commits c.args.stripe.now r o c.commit_process.result c.commit_process.new.self in
+    let P : Reservation → Out → Type 0 = λ r o. Commits c.args.stripe.now r o (with_reply c.commit_process.result c.commit_process.new.reply) c.commit_process.new.self in
     subst (P c.args.ticket.reservation) out (subst (λ x. P x (process_out c.args.done (Some written))) r c.commit_process.ensures.commits)
 
 pub ask_writer-requires-clause-change : goal.ask_writer-requires-clause-change
@@ -78,4 +79,4 @@ ask_writer-requires-clause-claim c = c.requires.claim
 pub returns-in-None : goal.returns-in-None
 returns-in-None c =
     let out : process_out c.args.done None ≡ c.args.progress.now.out = λ i. record { load = c.requires.load i; write = sym (c.requires.unwritten c.in-None.is) i; process = c.requires.process i } in
-    subst (λ (o : Out). Commits c.args.stripe.now c.args.ticket.reservation o c.commit_process-in-None.result c.commit_process-in-None.new.self) out c.commit_process-in-None.ensures.commits
+    subst (λ (o : Out). Commits c.args.stripe.now c.args.ticket.reservation o (with_reply c.commit_process-in-None.result c.commit_process-in-None.new.reply) c.commit_process-in-None.new.self) out c.commit_process-in-None.ensures.commits

@@ -1,13 +1,13 @@
 use Rattle.std.proofs.Common.{refl, subst, inl, inr}
 use Rattle.jc_model.specs.declared.event.Out.{Out}
 use Rattle.jc_stripe.specs.declared.ticket.Reservation.{Reservation}
-use Rattle.jc_stripe.specs.Phases.{Commits}
+use Rattle.jc_stripe.specs.Phases.{Commits, with_reply}
 use Rattle.jc_stripe.specs.Effects.{process_out}
 use Rattle.jc_stripe.proofs.stripe.Stripe.commit_process.Goals as goal
 
-commits : (c : goal.After-commit) → Commits c.args.self.now c.args.ticket.reservation (process_out c.args.done c.args.report) c.commit.result c.commit.new.self
+commits : (c : goal.After-commit) → Commits c.args.self.now c.args.ticket.reservation (process_out c.args.done c.args.report) (with_reply c.commit.result c.commit.new.reply) c.commit.new.self
 commits c =
-    let P : Reservation × Out → Type 0 = λ x. Commits c.args.self.now x.0 x.1 c.commit.result c.commit.new.self in
+    let P : Reservation × Out → Type 0 = λ x. Commits c.args.self.now x.0 x.1 (with_reply c.commit.result c.commit.new.reply) c.commit.new.self in
     let answers = c.into_answers-load.ensures in
     subst P (λ i. (c.spend.ensures i, record { load = answers.load i; write = c.report_answer-write.ensures.answer i; process = answers.process i })) c.commit.ensures
 
@@ -16,4 +16,4 @@ returns-clause-commits c = commits c
 
 pub returns-clause-phase : goal.returns-clause-phase
 returns-clause-phase c =
-    inr (inr (inl (record { reservation = c.args.ticket.reservation; out = process_out c.args.done c.args.report; done = c.commit.result; own = refl; commits = commits c })))
+    inr (inr (inl (record { reservation = c.args.ticket.reservation; out = process_out c.args.done c.args.report; done = (with_reply c.commit.result c.commit.new.reply); own = refl; commits = commits c })))

@@ -1,13 +1,14 @@
-use Rattle.std.proofs.Common.{◌≡◌, ◌≤◌, ◌+◌, ◌∙◌, [], None, length, sym, subst, ap}
+use Rattle.std.proofs.Common.{◌≡◌, ◌≤◌, ◌+◌, ◌∙◌, [], None, length, refl, sym, subst, ap}
 use Rattle.jc_model.specs.Cache.{entry_at}
 use Rattle.jc_model.specs.Group.{nothing_said}
 use Rattle.jc_model.specs.Table.{reply_after}
-use Rattle.jc_stripe.specs.Appending.{AppliesStep, group_events}
+use Rattle.jc_stripe.specs.Appending.{AppliesStep, NewGroup, group_events}
 use Rattle.jc_history.specs.Past.{promise}
 use Rattle.jc_stripe.specs.declared.ticket.First.TheVariants.{Nobody}
 use Rattle.jc_stripe.specs.State.{State, promised}
 use Rattle.jc_stripe.specs.Refusals.{first_refusal, first_asked, needs_free_key, places_needed}
-use Rattle.jc_stripe.specs.Phases.{MayBegin, Steps}
+use Rattle.jc_stripe.specs.Phases.{MayBegin, Steps, with_reply}
+use Rattle.jc_stripe.specs.declared.begun.StepDone.{StepDone}
 use Rattle.jc_stripe.specs.Inside.{state_of}
 use Rattle.jc_stripe.specs.declared.call_rules.Found.{Found}
 use Rattle.jc_stripe.proofs.Used.{find-entry}
@@ -19,11 +20,11 @@ use Rattle.jc_stripe.proofs.Stepping.{IsMade, made_is}
 use Rattle.jc_stripe.proofs.Finishing.{IsDone, done_at, done_few, done_storable, done_steps, done_sound}
 use Rattle.jc_stripe.proofs.stripe.Stripe.finish.Goals as goal
 
-pub make_step-group-requires-clause-room : goal.make_step-group-requires-clause-room
-make_step-group-requires-clause-room c = entries_len c.self.inside c.self.invariant
+pub apply_to_entries-victim-requires-clause-room : goal.apply_to_entries-victim-requires-clause-room
+apply_to_entries-victim-requires-clause-room c = entries_len c.self.inside c.self.invariant
 
-pub make_step-group-requires-clause-entry : goal.make_step-group-requires-clause-entry
-make_step-group-requires-clause-entry c =
+pub apply_to_entries-victim-requires-clause-entry : goal.apply_to_entries-victim-requires-clause-entry
+apply_to_entries-victim-requires-clause-entry c =
     c.requires.entry
     ∙ sym (ap (λ (s : State). entry_at s.cache c.args.key.now) c.self.view_is)
     ∙ sym (find-entry c.self.inside.entries.list c.args.key.now)
@@ -46,36 +47,63 @@ promises c =
 asked : (c : goal.After-group-1) → first_asked c.self.inside.config c.args.op.now (entry_at (state_of c.self.inside).cache c.args.key.now) ≡ Nobody
 asked c = ap (λ (s : State). first_asked s.config c.args.op.now (entry_at s.cache c.args.key.now)) c.self.view_is ∙ c.requires.asks
 
-made : (c : goal.After-group-1) → IsMade (state_of c.self.inside) c.args.caller c.args.key.now c.args.op.now nothing_said c.make_step-group.result
+-- what is replied
+replied : (c : goal.After-group-1) → c.reply_after.result ≡ reply_after c.args.op.now c.args.entry.now nothing_said
+replied c = c.reply_after.ensures ∙ (λ i. reply_after c.args.op.now (c.as_ref.ensures.value i) (c.nothing_said-out.ensures i))
+
+-- what is appended
+abbrev group : (c : goal.After-group-1) → NewGroup
+group c =
+    record {
+      caller = c.args.caller;
+      key = c.args.key.now;
+      op = c.args.op.now;
+      out = c.nothing_said-out.result;
+      reply = c.reply_after.result;
+      victim = c.apply_to_entries-victim.result.0;
+      evicted = c.apply_to_entries-victim.result.1;
+    }
+
+made : (c : goal.After-group-1) → IsMade (state_of c.self.inside) c.args.caller c.args.key.now c.args.op.now nothing_said (group c)
 made c =
-    made_is (state_of c.self.inside) c.args.caller c.args.key.now c.args.op.now nothing_said c.args.entry.now c.make_step-group.result
-    (c.make_step-group.ensures.group ∙ (λ i. record { caller = c.args.caller; key = c.args.key.now; op = c.args.op.now; out = c.nothing_said-out.ensures i; reply = reply_after c.args.op.now c.args.entry.now (c.nothing_said-out.ensures i); victim = c.make_step-group.result.victim; evicted = c.make_step-group.result.evicted }))
+    made_is (state_of c.self.inside) c.args.caller c.args.key.now c.args.op.now nothing_said c.args.entry.now (group c)
+    (λ i. record (group c) { out = c.nothing_said-out.ensures i; reply = replied c i })
     (c.requires.entry ∙ sym (ap (λ (s : State). entry_at s.cache c.args.key.now) c.self.view_is))
+
+-- what it left of the entries
+applied : (c : goal.After-group-1) → AppliesStep c.self.inside.entries c.keys-pinned.result.now c.args.key.now c.args.op.now nothing_said (group c).victim (group c).evicted c.apply_to_entries-victim.new.entries
+applied c =
+    let g = group c in
+    subst (λ o. AppliesStep c.self.inside.entries c.keys-pinned.result.now c.args.key.now c.args.op.now o g.victim g.evicted c.apply_to_entries-victim.new.entries) c.nothing_said-out.ensures c.apply_to_entries-victim.ensures
 
 pub append_group-requires-clause-places : goal.append_group-requires-clause-places
 append_group-requires-clause-places c =
-    subst (λ n. length (group_events (length c.promise.new.self.events) c.make_step-group.result []) ≤ n) (needed c)
-    (done_few c.self.inside c.args.caller c.args.key.now c.args.op.now c.make_step-group.new.entries c.keys-pinned.result.now c.make_step-group.result (length c.promise.new.self.events) c.self.invariant (asked c) c.keys-pinned.ensures.keys (made c)
-    (subst (λ o. AppliesStep c.self.inside.entries c.keys-pinned.result.now c.args.key.now c.args.op.now o c.make_step-group.result.victim c.make_step-group.result.evicted c.make_step-group.new.entries) c.nothing_said-out.ensures c.make_step-group.ensures.applies))
+    subst (λ n. length (group_events (length c.promise.new.self.events) (group c) []) ≤ n) (needed c)
+    (done_few c.self.inside c.args.caller c.args.key.now c.args.op.now c.apply_to_entries-victim.new.entries c.keys-pinned.result.now (group c) (length c.promise.new.self.events) c.self.invariant (asked c) c.keys-pinned.ensures.keys (made c)
+    (applied c))
 
 pub append_group-requires-clause-storable : goal.append_group-requires-clause-storable
-append_group-requires-clause-storable c = done_storable c.self.inside c.args.caller c.args.key.now c.args.op.now c.make_step-group.result (asked c) (made c)
+append_group-requires-clause-storable c = done_storable c.self.inside c.args.caller c.args.key.now c.args.op.now (group c) (asked c) (made c)
+
+-- the step that is done
+abbrev step : (c : goal.After-append_group) → StepDone
+step c = with_reply c.append_group.result c.reply_after.result
 
 is_done : (c : goal.After-append_group)
-    → IsDone c.self.inside c.args.caller c.args.key.now c.args.op.now c.make_step-group.new.entries c.promise.new.self c.append_group.new.history c.keys-pinned.result.now c.make_step-group.result c.append_group.result c.places_needed-kept.result
+    → IsDone c.self.inside c.args.caller c.args.key.now c.args.op.now c.apply_to_entries-victim.new.entries c.promise.new.self c.append_group.new.history c.keys-pinned.result.now (group c.before) (step c) c.places_needed-kept.result
 is_done c = record {
   sound = c.self.invariant;
   keys_are = c.keys-pinned.ensures.keys;
   is = made c.before;
-  keeps = subst (λ o. AppliesStep c.self.inside.entries c.keys-pinned.result.now c.args.key.now c.args.op.now o c.make_step-group.result.victim c.make_step-group.result.evicted c.make_step-group.new.entries) c.nothing_said-out.ensures c.make_step-group.ensures.applies;
+  keeps = applied c.before;
   promises = promises c.before;
-  told = record { reply = c.append_group.ensures.reply; place = c.append_group.ensures.place; victim = c.append_group.ensures.victim; evicted = c.append_group.ensures.evicted };
+  told = record { reply = refl; place = c.append_group.ensures.place; victim = c.append_group.ensures.victim; evicted = c.append_group.ensures.evicted };
   put = c.append_group.ensures.history;
 }
 
-steps : (c : goal.After-append_group) → Steps (state_of c.self.inside) c.args.caller c.args.key.now c.args.op.now nothing_said [] c.append_group.result (state_of (done_at c.self.inside c.make_step-group.new.entries c.append_group.new.history))
+steps : (c : goal.After-append_group) → Steps (state_of c.self.inside) c.args.caller c.args.key.now c.args.op.now nothing_said [] (step c) (state_of (done_at c.self.inside c.apply_to_entries-victim.new.entries c.append_group.new.history))
 steps c =
-    done_steps c.self.inside c.args.caller c.args.key.now c.args.op.now c.make_step-group.new.entries c.promise.new.self c.append_group.new.history c.keys-pinned.result.now c.make_step-group.result c.append_group.result c.places_needed-kept.result (is_done c)
+    done_steps c.self.inside c.args.caller c.args.key.now c.args.op.now c.apply_to_entries-victim.new.entries c.promise.new.self c.append_group.new.history c.keys-pinned.result.now (group c.before) (step c) c.places_needed-kept.result (is_done c)
     (nobody_fits c.self.inside.config c.args.op.now (entry_at (state_of c.self.inside).cache c.args.key.now) (asked c.before))
 
 pub invariant_of-self : goal.invariant_of-self
@@ -83,10 +111,10 @@ invariant_of-self c =
     let back = sym c.self.view_is in
     let Free : State → Type 0 = λ s. first_refusal s c.args.caller c.args.key.now c.args.op.now ≡ None in
     let May : State → Type 0 = λ s. MayBegin s c.args.caller c.args.key.now in
-    done_sound c.self.inside c.args.caller c.args.key.now c.args.op.now c.make_step-group.new.entries c.promise.new.self c.append_group.new.history c.keys-pinned.result.now c.make_step-group.result c.append_group.result c.places_needed-kept.result (is_done c)
+    done_sound c.self.inside c.args.caller c.args.key.now c.args.op.now c.apply_to_entries-victim.new.entries c.promise.new.self c.append_group.new.history c.keys-pinned.result.now (group c.before) (step c) c.places_needed-kept.result (is_done c)
     (subst Free back c.requires.free) (asked c.before) (subst May back c.requires.begins) (steps c)
 
 pub returns : goal.returns
 returns c =
-    let P : State → Type 0 = λ s. Steps s c.args.caller c.args.key.now c.args.op.now nothing_said [] c.append_group.result (state_of (done_at c.self.inside c.make_step-group.new.entries c.append_group.new.history)) in
+    let P : State → Type 0 = λ s. Steps s c.args.caller c.args.key.now c.args.op.now nothing_said [] (step c) (state_of (done_at c.self.inside c.apply_to_entries-victim.new.entries c.append_group.new.history)) in
     subst P c.self.view_is (steps c)

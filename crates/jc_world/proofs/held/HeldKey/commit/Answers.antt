@@ -1,6 +1,7 @@
 use Rattle.jc_outside.specs.Done.{LoadResult, WriteResult}
 use Rattle.jc_world.proofs.Common.{◌≡◌, Bool, ◌⊎◌, Option, Some, sym, ap, ◌∙◌, subst, Bytes, Out, First, Loader, Nobody, Processor, Writer, Commits, IsOut, load_only, write_only, Reservation, TicketClaim, Claim, claim_of, asks_loader, asks_writer, Part, IsDue, is_answered, out_of}
 use Rattle.jc_world.proofs.Committing.{unwritten_of, due_of, is_reported, load_answered, write_answered, loaded_only, written_only, somebody_asks}
+use Rattle.jc_stripe.specs.Phases.{with_reply}
 use Rattle.jc_world.specs.Held.{HasRun}
 use Rattle.jc_world.proofs.held.HeldKey.commit.Goals as goal
 
@@ -48,7 +49,7 @@ commit_run-requires-clause-due c = due_of c.args.stripe.now.config c.self.inside
 
 pub returns-in-Some : goal.returns-in-Some
 returns-in-Some c =
-    let Q : Part → Type 0 = λ p. Commits c.args.stripe.now p.reservation (out_of p) c.commit_run.result c.commit_run.new.stripe in
+    let Q : Part → Type 0 = λ p. Commits c.args.stripe.now p.reservation (out_of p) (with_reply c.commit_run.result c.commit_run.new.reply) c.commit_run.new.stripe in
     subst Q c.self.view_is c.commit_run.ensures
 
 -- 2. Behind the loader.
@@ -84,7 +85,7 @@ returns-in-Loader c =
     let r : c.ask.new.self.reservation ≡ c.args.self.reservation = ap (λ (t : TicketClaim). t.reservation) c.ask.ensures.asked ∙ ap (λ (p : Part). p.reservation) is in
     let out : load_only c.played_load-done.result.answer ≡ out_of c.args.self =
     ap (λ (d : LoadResult Claim). load_only d.answer) c.played_load-done.ensures ∙ loaded_only part first c.self.invariant.of_asked ∙ ap out_of is in
-    let P : Reservation → Out → Type 0 = λ r o. Commits c.args.stripe.now r o c.commit_load.result c.commit_load.new.self in
+    let P : Reservation → Out → Type 0 = λ r o. Commits c.args.stripe.now r o (with_reply c.commit_load.result c.commit_load.new.reply) c.commit_load.new.self in
     subst (P c.args.self.reservation) out (subst (λ r. P r (load_only c.played_load-done.result.answer)) r c.commit_load.ensures.commits)
 
 -- 3. Behind the writer.
@@ -120,7 +121,7 @@ returns-in-Writer c =
     let r : c.ask-in-Writer.new.self.reservation ≡ c.args.self.reservation = ap (λ (t : TicketClaim). t.reservation) c.ask-in-Writer.ensures.asked ∙ ap (λ (p : Part). p.reservation) is in
     let out : write_only c.played_write-done.result.answer ≡ out_of c.args.self =
     ap (λ (d : WriteResult Claim). write_only d.answer) c.played_write-done.ensures ∙ written_only part c.in-Writer.field-0 first c.self.invariant.of_asked ∙ ap out_of is in
-    let P : Reservation → Out → Type 0 = λ r o. Commits c.args.stripe.now r o c.commit_write.result c.commit_write.new.self in
+    let P : Reservation → Out → Type 0 = λ r o. Commits c.args.stripe.now r o (with_reply c.commit_write.result c.commit_write.new.reply) c.commit_write.new.self in
     subst (P c.args.self.reservation) out (subst (λ r. P r (write_only c.played_write-done.result.answer)) r c.commit_write.ensures.commits)
 
 -- 4. Nobody else.

@@ -1,4 +1,5 @@
 use Rattle.jc_world.proofs.Common.{refl, sym, ap, ◌∙◌, subst, Commits, IsOut, Reservation, Part, IsDue, is_answered, out_of}
+use Rattle.jc_stripe.specs.Phases.{with_reply}
 use Rattle.jc_world.proofs.Committing.{answered_failed, due_told}
 use Rattle.jc_world.proofs.held.HeldKey.commit_failed.Goals as goal
 
@@ -22,4 +23,4 @@ pub returns : goal.returns
 returns c =
     let out = out_of c.report-is_changed.new.self in
     let r = ap (λ (p : Part). p.reservation) c.report-is_changed.ensures.report in
-    (out, c.commit-step.result, subst (λ (r : Reservation). Commits c.args.stripe.now r out c.commit-step.result c.commit-step.new.stripe) r c.commit-step.ensures)
+    (out, (with_reply c.commit-step.result c.commit-step.new.reply), subst (λ (r : Reservation). Commits c.args.stripe.now r out (with_reply c.commit-step.result c.commit-step.new.reply) c.commit-step.new.stripe) r c.commit-step.ensures)

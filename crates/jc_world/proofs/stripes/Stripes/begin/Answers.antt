@@ -1,4 +1,5 @@
 use Rattle.jc_world.proofs.Common.{slice_set, sym, refl, ap, subst, arith, MayBegin, Begins, OrderedStripes, AreTurns}
+use Rattle.jc_stripe.specs.Phases.{begun_with}
 use Rattle.jc_world.proofs.Lengths.{begun_length, has_room, still_place}
 use Rattle.jc_world.proofs.Merging.{is_at, met_at, number_within, number_few, phase_made, grows_turns}
 use Rattle.jc_world.proofs.Shares.{length-slice_set}
@@ -7,8 +8,8 @@ use Rattle.jc_world.proofs.stripes.Stripes.begin.Goals as goal
 pub index_mut-stripe-requires : goal.index_mut-stripe-requires
 index_mut-stripe-requires c = number_within c.self.inside c.args.self.now c.args.number (λ s. MayBegin s c.args.caller.now c.args.key.now) c.self.view_is c.requires.begins
 
-pub begin-begun-requires : goal.begin-begun-requires
-begin-begun-requires c = record {
+pub begin-started-requires : goal.begin-started-requires
+begin-started-requires c = record {
   begins = met_at c.self.inside c.args.self.now c.args.number c.index_mut-stripe.result.now (λ s. MayBegin s c.args.caller.now c.args.key.now) c.self.view_is c.requires.begins c.index_mut-stripe.ensures.value;
 }
 
@@ -18,24 +19,24 @@ give_turns-requires-clause-number c = number_few c.self.inside c.args.self.now c
 pub give_turns-requires-clause-place : goal.give_turns-requires-clause-place
 give_turns-requires-clause-place c =
     let from = c.index_mut-stripe.result.now in
-    let to = c.begin-begun.new.self in
-    still_place c.history_len-before.result from to c.history_len-before.ensures.len (begun_length from to c.args.caller.now c.args.key.now c.args.op.now _ c.begin-begun.ensures.begins)
+    let to = c.begin-started.new.self in
+    still_place c.history_len-before.result from to c.history_len-before.ensures.len (begun_length from to c.args.caller.now c.args.key.now c.args.op.now _ c.begin-started.ensures.begins)
 
 pub give_turns-requires-clause-room : goal.give_turns-requires-clause-room
 give_turns-requires-clause-room c =
     let from = c.index_mut-stripe.result.now in
-    let to = c.begin-begun.new.self in
+    let to = c.begin-started.new.self in
     let room = ap (λ (v : OrderedStripes). v.room) c.self.view_is in
     let wanted = c.requires.room in
-    has_room _ _ c.history_len-before.result from to (omega arith) c.history_len-before.ensures.len (begun_length from to c.args.caller.now c.args.key.now c.args.op.now _ c.begin-begun.ensures.begins)
+    has_room _ _ c.history_len-before.result from to (omega arith) c.history_len-before.ensures.len (begun_length from to c.args.caller.now c.args.key.now c.args.op.now _ c.begin-started.ensures.begins)
 
 pub invariant_of-self : goal.invariant_of-self
 invariant_of-self c =
     let items = c.self.inside.items.items in
     let from = c.index_mut-stripe.result.now in
-    let to = c.begin-begun.new.self in
+    let to = c.begin-started.new.self in
     let at = is_at c.self.inside c.args.self.now c.args.number from (λ s. MayBegin s c.args.caller.now c.args.key.now) c.self.view_is c.requires.begins c.index_mut-stripe.ensures.value in
-    let longer = c.grows.ensures.begins from to c.args.caller.now c.args.key.now c.args.op.now c.begin-begun.result c.begin-begun.ensures.begins in
+    let longer = c.grows.ensures.begins from to c.args.caller.now c.args.key.now c.args.op.now (begun_with c.begin-started.result c.begin-started.new.reply) c.begin-started.ensures.begins in
     record {
       turns = subst (AreTurns (slice_set items c.args.number to)) (sym c.give_turns.ensures)
           (grows_turns items c.self.inside.turns.items c.args.number c.history_len-before.result from to longer.more c.self.invariant.turns at longer.history c.history_len-before.ensures.len);
@@ -45,7 +46,7 @@ invariant_of-self c =
 pub returns : goal.returns
 returns c =
     let from = c.index_mut-stripe.result.now in
-    let to = c.begin-begun.new.self in
+    let to = c.begin-started.new.self in
     let at = is_at c.self.inside c.args.self.now c.args.number from (λ s. MayBegin s c.args.caller.now c.args.key.now) c.self.view_is c.requires.begins c.index_mut-stripe.ensures.value in
-    let longer = c.grows.ensures.begins from to c.args.caller.now c.args.key.now c.args.op.now c.begin-begun.result c.begin-begun.ensures.begins in
-    phase_made c.self.inside c.args.self.now c.args.number c.history_len-before.result from to (λ old new. Begins old c.args.caller.now c.args.key.now c.args.op.now c.begin-begun.result new) c.give_turns.new.turns.items _ c.self.view_is c.self.invariant at longer c.history_len-before.ensures.len c.begin-begun.ensures.begins c.give_turns.ensures refl refl
+    let longer = c.grows.ensures.begins from to c.args.caller.now c.args.key.now c.args.op.now (begun_with c.begin-started.result c.begin-started.new.reply) c.begin-started.ensures.begins in
+    rw c.with_reply.ensures (phase_made c.self.inside c.args.self.now c.args.number c.history_len-before.result from to (λ old new. Begins old c.args.caller.now c.args.key.now c.args.op.now (begun_with c.begin-started.result c.begin-started.new.reply) new) c.give_turns.new.turns.items _ c.self.view_is c.self.invariant at longer c.history_len-before.ensures.len c.begin-started.ensures.begins c.give_turns.ensures refl refl)

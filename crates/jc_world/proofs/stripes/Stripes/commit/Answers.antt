@@ -1,4 +1,5 @@
 use Rattle.jc_world.proofs.Common.{◌≡◌, slice_set, sym, refl, ap, subst, arith, Played, Commits, IsOut, IsDue, State, OrderedStripes, AreTurns, out_of, Part}
+use Rattle.jc_stripe.specs.Phases.{with_reply}
 use Rattle.jc_world.proofs.Lengths.{ended_length, has_room, still_place}
 use Rattle.jc_world.proofs.Merging.{is_at, met_at, number_within, number_few, phase_made, grows_turns}
 use Rattle.jc_world.proofs.Shares.{length-slice_set}
@@ -11,17 +12,17 @@ IsCommitted held s = IsOut s held.reservation × (s.origin ≡ Played) × IsDue 
 pub index_mut-stripe-requires : goal.index_mut-stripe-requires
 index_mut-stripe-requires c = number_within c.self.inside c.args.self.now c.args.number (IsCommitted c.args.held) c.self.view_is c.requires.out
 
-pub commit-done-requires-clause-out : goal.commit-done-requires-clause-out
-commit-done-requires-clause-out c = (met_at c.self.inside c.args.self.now c.args.number c.index_mut-stripe.result.now (IsCommitted c.args.held) c.self.view_is c.requires.out c.index_mut-stripe.ensures.value).0
+pub commit-step-requires-clause-out : goal.commit-step-requires-clause-out
+commit-step-requires-clause-out c = (met_at c.self.inside c.args.self.now c.args.number c.index_mut-stripe.result.now (IsCommitted c.args.held) c.self.view_is c.requires.out c.index_mut-stripe.ensures.value).0
 
-pub commit-done-requires-clause-answered : goal.commit-done-requires-clause-answered
-commit-done-requires-clause-answered c = c.requires.answered
+pub commit-step-requires-clause-answered : goal.commit-step-requires-clause-answered
+commit-step-requires-clause-answered c = c.requires.answered
 
-pub commit-done-requires-clause-origin : goal.commit-done-requires-clause-origin
-commit-done-requires-clause-origin c = (met_at c.self.inside c.args.self.now c.args.number c.index_mut-stripe.result.now (IsCommitted c.args.held) c.self.view_is c.requires.out c.index_mut-stripe.ensures.value).1
+pub commit-step-requires-clause-origin : goal.commit-step-requires-clause-origin
+commit-step-requires-clause-origin c = (met_at c.self.inside c.args.self.now c.args.number c.index_mut-stripe.result.now (IsCommitted c.args.held) c.self.view_is c.requires.out c.index_mut-stripe.ensures.value).1
 
-pub commit-done-requires-clause-due : goal.commit-done-requires-clause-due
-commit-done-requires-clause-due c = (met_at c.self.inside c.args.self.now c.args.number c.index_mut-stripe.result.now (IsCommitted c.args.held) c.self.view_is c.requires.out c.index_mut-stripe.ensures.value).2
+pub commit-step-requires-clause-due : goal.commit-step-requires-clause-due
+commit-step-requires-clause-due c = (met_at c.self.inside c.args.self.now c.args.number c.index_mut-stripe.result.now (IsCommitted c.args.held) c.self.view_is c.requires.out c.index_mut-stripe.ensures.value).2
 
 pub give_turns-requires-clause-number : goal.give_turns-requires-clause-number
 give_turns-requires-clause-number c = number_few c.self.inside c.args.self.now c.args.number (IsCommitted c.args.held) c.self.view_is c.self.invariant c.requires.out
@@ -29,24 +30,24 @@ give_turns-requires-clause-number c = number_few c.self.inside c.args.self.now c
 pub give_turns-requires-clause-place : goal.give_turns-requires-clause-place
 give_turns-requires-clause-place c =
     let from = c.index_mut-stripe.result.now in
-    let to = c.commit-done.new.stripe in
-    still_place c.history_len-before.result from to c.history_len-before.ensures.len (ended_length from to c.args.held.reservation (out_of c.args.held) _ c.history_len-before.ensures.reached c.commit-done.ensures)
+    let to = c.commit-step.new.stripe in
+    still_place c.history_len-before.result from to c.history_len-before.ensures.len (ended_length from to c.args.held.reservation (out_of c.args.held) _ c.history_len-before.ensures.reached c.commit-step.ensures)
 
 pub give_turns-requires-clause-room : goal.give_turns-requires-clause-room
 give_turns-requires-clause-room c =
     let from = c.index_mut-stripe.result.now in
-    let to = c.commit-done.new.stripe in
+    let to = c.commit-step.new.stripe in
     let room = ap (λ (v : OrderedStripes). v.room) c.self.view_is in
     let wanted = c.requires.room in
-    has_room _ _ c.history_len-before.result from to (omega arith) c.history_len-before.ensures.len (ended_length from to c.args.held.reservation (out_of c.args.held) _ c.history_len-before.ensures.reached c.commit-done.ensures)
+    has_room _ _ c.history_len-before.result from to (omega arith) c.history_len-before.ensures.len (ended_length from to c.args.held.reservation (out_of c.args.held) _ c.history_len-before.ensures.reached c.commit-step.ensures)
 
 pub invariant_of-self : goal.invariant_of-self
 invariant_of-self c =
     let items = c.self.inside.items.items in
     let from = c.index_mut-stripe.result.now in
-    let to = c.commit-done.new.stripe in
+    let to = c.commit-step.new.stripe in
     let at = is_at c.self.inside c.args.self.now c.args.number from (λ s. IsOut s c.args.held.reservation × (s.origin ≡ Played) × IsDue s.config c.args.held) c.self.view_is c.requires.out c.index_mut-stripe.ensures.value in
-    let longer = c.grows.ensures.commits from to c.args.held.reservation (out_of c.args.held) c.commit-done.result c.commit-done.ensures in
+    let longer = c.grows.ensures.commits from to c.args.held.reservation (out_of c.args.held) (with_reply c.commit-step.result c.commit-step.new.reply) c.commit-step.ensures in
     record {
       turns = subst (AreTurns (slice_set items c.args.number to)) (sym c.give_turns.ensures)
           (grows_turns items c.self.inside.turns.items c.args.number c.history_len-before.result from to longer.more c.self.invariant.turns at longer.history c.history_len-before.ensures.len);
@@ -56,7 +57,7 @@ invariant_of-self c =
 pub returns : goal.returns
 returns c =
     let from = c.index_mut-stripe.result.now in
-    let to = c.commit-done.new.stripe in
+    let to = c.commit-step.new.stripe in
     let at = is_at c.self.inside c.args.self.now c.args.number from (λ s. IsOut s c.args.held.reservation × (s.origin ≡ Played) × IsDue s.config c.args.held) c.self.view_is c.requires.out c.index_mut-stripe.ensures.value in
-    let longer = c.grows.ensures.commits from to c.args.held.reservation (out_of c.args.held) c.commit-done.result c.commit-done.ensures in
-    phase_made c.self.inside c.args.self.now c.args.number c.history_len-before.result from to (λ old new. Commits old c.args.held.reservation (out_of c.args.held) c.commit-done.result new) c.give_turns.new.turns.items _ c.self.view_is c.self.invariant at longer c.history_len-before.ensures.len c.commit-done.ensures c.give_turns.ensures refl refl
+    let longer = c.grows.ensures.commits from to c.args.held.reservation (out_of c.args.held) (with_reply c.commit-step.result c.commit-step.new.reply) c.commit-step.ensures in
+    rw c.with_reply.ensures (phase_made c.self.inside c.args.self.now c.args.number c.history_len-before.result from to (λ old new. Commits old c.args.held.reservation (out_of c.args.held) (with_reply c.commit-step.result c.commit-step.new.reply) new) c.give_turns.new.turns.items _ c.self.view_is c.self.invariant at longer c.history_len-before.ensures.len c.commit-step.ensures c.give_turns.ensures refl refl)
