@@ -1,4 +1,5 @@
 use Rattle.std.proofs.Common.{◌≡◌, subst, sym, ℕ, ◌<◌, ap, refl, Some, slice_get}
+use Rattle.jc_engine.specs.Entering.{ended_with}
 use Rattle.jc_cache.specs.Caches.{CacheState}
 use Rattle.jc_cache.proofs.WholeCalls.{some_stripe, lock_near, seat_near, at_key, seat_at, free_at, ready_next, may_call, called}
 use Rattle.jc_cache.proofs.cache.Cache.call.Goals as goal
@@ -36,4 +37,4 @@ returns g c =
     let there : slice_get c.args.session.now.seats.items c.stripe_of-at.result ≡ Some c.index_mut-seat.result.now =
     seat_at c.args.self.now c.args.session.now _ c.args.key.now _ _ c.requires.may.own c.self.invariant.fits same c.stripe_of-at.ensures c.index_mut-seat.ensures.value in
     called _ _ _ _ c.laws.ensures.uniform c.laws.ensures.steps c.laws.ensures.behind c.laws.ensures.numbers c.args.self.now c.args.session.now _ c.next_call.new.self c.args.key.now c.args.op.now c.stripe_of-at.result
-    c.call.result _ c.index_mut-seat.result.now c.call.new.gate c.call.new.token c.requires.may c.next_call.ensures.call (at_key c.args.self.now _ c.args.key.now _ same c.stripe_of-at.ensures) there refl c.call.ensures.call
+    (ended_with c.call.result c.call.new.reply) _ c.index_mut-seat.result.now c.call.new.gate c.call.new.token c.requires.may c.next_call.ensures.call (at_key c.args.self.now _ c.args.key.now _ same c.stripe_of-at.ensures) there refl c.call.ensures.call

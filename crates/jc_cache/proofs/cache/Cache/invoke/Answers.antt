@@ -1,4 +1,5 @@
 use Rattle.std.proofs.Common.{◌≡◌, subst, ℕ, ◌<◌, ◌∙◌, ap, refl, sym, Some, slice_get}
+use Rattle.jc_engine.specs.Entering.{ended_with}
 use Rattle.jc_cache.specs.Caches.{CacheState}
 use Rattle.jc_cache.proofs.WholeCalls.{some_stripe, lock_near, seat_near, at_key, seat_at, free_at, ready_next, may_call, writes_as, invoked}
 use Rattle.jc_cache.proofs.cache.Cache.invoke.Goals as goal
@@ -14,22 +15,22 @@ index_mut-seat-requires g c =
     subst (λ (n : ℕ). c.stripe_of-at.result < n) (sym c.args.session.now.seats.ok.0)
     (seat_near c.args.self.now c.args.session.now _ c.args.key.now _ c.requires.may.own c.self.invariant.fits (ap (λ (z : CacheState). z.config) c.self.view_is) c.stripe_of-at.ensures)
 
-pub invoke-requires-clause-through : goal.invoke-requires-clause-through
-invoke-requires-clause-through g c a finds =
+pub invoke-ended-requires-clause-through : goal.invoke-ended-requires-clause-through
+invoke-ended-requires-clause-through g c a finds =
     let same : c.self.inside.config ≡ c.args.self.now.config = ap (λ (z : CacheState). z.config) c.self.view_is in
     let there : slice_get c.args.session.now.seats.items c.stripe_of-at.result ≡ Some c.index_mut-seat.result.now =
     seat_at c.args.self.now c.args.session.now _ c.args.key.now _ _ c.requires.may.own c.self.invariant.fits same c.stripe_of-at.ensures c.index_mut-seat.ensures.value in
     writes_as c.args.self.now c.args.session.now c.stripe_of-at.result _ a c.requires.may there finds ∙ ap (λ k. k.write_through) (sym same)
 
-pub invoke-requires-clause-ready : goal.invoke-requires-clause-ready
-invoke-requires-clause-ready g c =
+pub invoke-ended-requires-clause-ready : goal.invoke-ended-requires-clause-ready
+invoke-ended-requires-clause-ready g c =
     let there : slice_get c.args.session.now.seats.items c.stripe_of-at.result ≡ Some c.index_mut-seat.result.now =
     seat_at c.args.self.now c.args.session.now _ c.args.key.now _ _ c.requires.may.own c.self.invariant.fits (ap (λ (z : CacheState). z.config) c.self.view_is) c.stripe_of-at.ensures c.index_mut-seat.ensures.value in
     ready_next c.args.self.now c.args.session.now c.next_call.new.self c.stripe_of-at.result c.index_mut-seat.result.now c.requires.may.own c.next_call.ensures.call there
     (free_at c.args.self.now c.args.session.now c.self.inside.locks.items c.stripe_of-at.result c.index_mut-seat.result.now c.index.result.now c.requires.may.own (ap (λ (z : CacheState). z.locks) c.self.view_is) there c.index.ensures)
 
-pub invoke-requires-clause-may : goal.invoke-requires-clause-may
-invoke-requires-clause-may g c =
+pub invoke-ended-requires-clause-may : goal.invoke-ended-requires-clause-may
+invoke-ended-requires-clause-may g c =
     let there : slice_get c.args.session.now.seats.items c.stripe_of-at.result ≡ Some c.index_mut-seat.result.now =
     seat_at c.args.self.now c.args.session.now _ c.args.key.now _ _ c.requires.may.own c.self.invariant.fits (ap (λ (z : CacheState). z.config) c.self.view_is) c.stripe_of-at.ensures c.index_mut-seat.ensures.value in
     may_call c.laws.ensures.numbers c.args.self.now c.args.session.now c.next_call.new.self c.stripe_of-at.result _ c.index_mut-seat.result.now c.args.key.now c.requires.may c.next_call.ensures.call there
@@ -40,6 +41,6 @@ returns g c =
     let there : slice_get c.args.session.now.seats.items c.stripe_of-at.result ≡ Some c.index_mut-seat.result.now =
     seat_at c.args.self.now c.args.session.now _ c.args.key.now _ _ c.requires.may.own c.self.invariant.fits same c.stripe_of-at.ensures c.index_mut-seat.ensures.value in
     let made = invoked _ _ _ _ c.laws.ensures.uniform c.laws.ensures.steps c.laws.ensures.behind c.laws.ensures.numbers _ _ c.args.self.now c.args.session.now _ c.next_call.new.self c.args.key.now c.args.args.now
-    c.args.processor.now c.invoke.new.processor c.stripe_of-at.result c.invoke.result _ c.index_mut-seat.result.now c.invoke.new.gate c.invoke.new.token c.requires.may c.next_call.ensures.call
-    (at_key c.args.self.now _ c.args.key.now _ same c.stripe_of-at.ensures) there refl c.invoke.ensures.call in
-    record { may = made.may; call = (c.invoke.result, made.call, c.value_of.ensures) }
+    c.args.processor.now c.invoke-ended.new.processor c.stripe_of-at.result (ended_with c.invoke-ended.result c.invoke-ended.new.reply) _ c.index_mut-seat.result.now c.invoke-ended.new.gate c.invoke-ended.new.token c.requires.may c.next_call.ensures.call
+    (at_key c.args.self.now _ c.args.key.now _ same c.stripe_of-at.ensures) there refl c.invoke-ended.ensures.call in
+    record { may = made.may; call = ((ended_with c.invoke-ended.result c.invoke-ended.new.reply), made.call, c.value_of.ensures) }

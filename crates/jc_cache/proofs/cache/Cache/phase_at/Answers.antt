@@ -22,6 +22,6 @@ pub returns : goal.returns
 returns g c =
     let t = c.index_mut-seat.result.now in
     let there = number_at c.args.self.now c.args.session.now c.args.number t c.requires.own c.requires.stripe c.index_mut-seat.ensures.value in
-    let makes : State → State → Type 0 = λ a b. g.P.Phase.makes c.args.phase a c.lend.result b in
+    let makes : State → State → Type 0 = λ a b. g.P.Phase.makes c.args.phase a c.lend.result c.lend.new.reply b in
     phase_left c.is_uniform.ensures c.own_steps.ensures c.args.self.now c.args.session.now _ c.args.number (g.P.Phase.counts c.lend.result) makes _ t c.lend.new.gate c.lend.new.token
     c.requires.own there refl c.lend.ensures.agent c.lend.ensures.phase.0 c.lend.ensures.phase.1
