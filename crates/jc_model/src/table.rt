@@ -7,6 +7,7 @@ ghost use Rattle.std.specs.Option.{option_copied};
 ghost use Rattle.jc_model.specs.Table.{holds, entry_after_replace, value_after_load, loader_ask, always_if, wanted_if, load_fits};
 ghost use Rattle.jc_model.specs.Table.{is_invoke, early_fault, first_fault, write_ask, answers_fit, after_effect, outcome_of};
 ghost use Rattle.jc_model.specs.Table.{entry_without_fault, reply_without_fault, entry_after, reply_after};
+ghost use Rattle.jc_model.specs.declared.event.Reply.TheVariants as replies;
 ghost use Rattle.jc_model.specs.Table.{to_change, ask_if, process_ask};
 ghost use Rattle.jc_model.specs.Lawful.{loads_whole};
 
@@ -92,6 +93,17 @@ fn outcome_of(answer: &ProcessAnswer) -> Option<Value>
     }
 }
 
+/// Writes the reply with this value, or with none.
+#[inline(always)]
+fn write_value(value: Option<&Value>, reply: &mut Reply)
+    ensures { reply.new ≡ replies.Value (option_copied value.entry) }
+{
+    match value {
+        Some(value) => *reply = Reply::Value(Some(*value)),
+        None => *reply = Reply::Value(None),
+    }
+}
+
 impl Out {
     /// The first fault of the outside answers: the loader's before the processor's before the writer's. A step with a
     /// fault leaves the entry as it was.
@@ -135,21 +147,21 @@ impl Op {
         }
     }
 
-    /// The reply, if there was no fault.
+    /// Writes the reply, if there was no fault.
     #[inline(always)]
-    fn reply_without_fault(&self, entry: Option<&Value>, out: &Out) -> Reply
-        ensures { result ≡ reply_without_fault self.now (option_copied entry.entry) out.now }
+    fn reply_without_fault(&self, entry: Option<&Value>, out: &Out, reply: &mut Reply)
+        ensures { reply.new ≡ reply_without_fault self.now (option_copied entry.entry) out.now }
     {
         match self {
-            Op::Get => Reply::Value(value_after_load(&out.load, entry).copied()),
-            Op::ContainsKey | Op::Remove | Op::Replace(_) => Reply::Flag(entry.is_some()),
-            Op::Put(_) | Op::Clear | Op::LoadAll { .. } => Reply::Unit,
-            Op::GetAndPut(_) | Op::GetAndRemove | Op::GetAndReplace(_) => {
-                Reply::Value(entry.copied())
+            Op::Get => write_value(value_after_load(&out.load, entry), reply),
+            Op::ContainsKey | Op::Remove | Op::Replace(_) => *reply = Reply::Flag(entry.is_some()),
+            Op::Put(_) | Op::Clear | Op::LoadAll { .. } => *reply = Reply::Unit,
+            Op::GetAndPut(_) | Op::GetAndRemove | Op::GetAndReplace(_) => write_value(entry, reply),
+            Op::PutIfAbsent(_) => *reply = Reply::Flag(entry.is_none()),
+            Op::RemoveIf(old) | Op::ReplaceIf { old, .. } => {
+                *reply = Reply::Flag(holds(entry, old));
             }
-            Op::PutIfAbsent(_) => Reply::Flag(entry.is_none()),
-            Op::RemoveIf(old) | Op::ReplaceIf { old, .. } => Reply::Flag(holds(entry, old)),
-            Op::Invoke => Reply::Value(outcome_of(&out.process)),
+            Op::Invoke => *reply = Reply::Value(outcome_of(&out.process)),
         }
     }
 
@@ -171,9 +183,19 @@ impl Op {
     pub fn reply_after(&self, entry: Option<&Value>, out: &Out) -> Reply
         ensures { result ≡ reply_after self.now (option_copied entry.entry) out.now }
     {
+        let mut reply = Reply::Unit;
+        self.reply_into(entry, out, &mut reply);
+        reply
+    }
+
+    /// The same, written to `reply`: a value is copied once.
+    #[inline(always)]
+    pub fn reply_into(&self, entry: Option<&Value>, out: &Out, reply: &mut Reply)
+        ensures { reply.new ≡ reply_after self.now (option_copied entry.entry) out.now }
+    {
         match out.first_fault() {
-            Some(fault) => Reply::Fault(fault),
-            None => self.reply_without_fault(entry, out),
+            Some(fault) => *reply = Reply::Fault(fault),
+            None => self.reply_without_fault(entry, out, reply),
         }
     }
 }

@@ -90,15 +90,15 @@ pub(crate) fn load_of(first: &First, number: u64) -> Option<u64>
     }
 }
 
-/// The writer, for a change that is asked for.
+/// Writes the writer to `first`, for a change that is asked for.
 #[inline(always)]
-fn writer_for(change: Option<LentChange<'_>>) -> First
-    ensures { result ≡ writer_for (option_map to_change change.entry) }
+fn write_writer_for(change: Option<LentChange<'_>>, first: &mut First)
+    ensures { first.new ≡ writer_for (option_map to_change change.entry) }
 {
     match change {
-        Some(LentChange::Write(value)) => First::Writer(Change::Write(*value)),
-        Some(LentChange::Delete) => First::Writer(Change::Delete),
-        None => First::Nobody,
+        Some(LentChange::Write(value)) => *first = First::Writer(Change::Write(*value)),
+        Some(LentChange::Delete) => *first = First::Writer(Change::Delete),
+        None => *first = First::Nobody,
     }
 }
 
@@ -129,29 +129,35 @@ fn is_wanted(ask: &LoaderAsk) -> bool
     }
 }
 
-/// Whom a call asks first.
+/// Writes to `first` whom a call asks first.
 #[inline(always)]
-pub(crate) fn first_asked(config: &Config, op: &Op, entry: &Option<Value>) -> First
-    ensures { result ≡ first_asked config.now op.now entry.now }
+pub(crate) fn write_first_asked(config: &Config, op: &Op, entry: &Option<Value>, first: &mut First)
+    ensures { first.new ≡ first_asked config.now op.now entry.now }
 {
     let ask = op.loader_ask(config.read_through, entry);
     if op.is_invoke() {
-        return First::Processor {
+        *first = First::Processor {
             entry: *entry,
             may_load: is_wanted(&ask),
         };
+        return;
     }
     match ask {
-        LoaderAsk::Never => writer_for(change_for(config, op, entry, &ProcessAnswer::NotAsked)),
-        LoaderAsk::Always => First::Loader,
-        LoaderAsk::IfWanted => First::Processor {
-            entry: None,
-            may_load: true,
-        },
+        LoaderAsk::Never => {
+            let change = change_for(config, op, entry, &ProcessAnswer::NotAsked);
+            write_writer_for(change, first);
+        }
+        LoaderAsk::Always => *first = First::Loader,
+        LoaderAsk::IfWanted => {
+            *first = First::Processor {
+                entry: None,
+                may_load: true,
+            };
+        }
     }
 }
 
-/// Whether there is anybody to ask, for which a call has to reserve its key. It copies no value, as [`first_asked`] does.
+/// Whether there is anybody to ask, for which a call has to reserve its key. It copies no value.
 #[inline(always)]
 pub(crate) fn asks_anybody(config: &Config, op: &Op, entry: &Option<Value>) -> bool
     ensures { result ≡ reserves (first_asked config.now op.now entry.now) }

@@ -343,7 +343,7 @@ impl Stripe {
         let op = &ended.op;
         let (victim, evicted) =
             apply_to_entries(&mut self.entries, pinned, &key, &entry, op, out);
-        *reply = op.reply_after(entry.as_ref(), out);
+        op.reply_into(entry.as_ref(), out, reply);
         let group = NewGroup {
             caller: ended.caller,
             key: &key,

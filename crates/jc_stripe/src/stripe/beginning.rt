@@ -17,7 +17,7 @@ ghost use Rattle.jc_stripe.specs.declared.ticket.First.TheVariants.{Nobody};
 use super::Stripe;
 use crate::appending::{NewGroup, append_group, apply_to_entries};
 use crate::begun::{Appended, Started};
-use crate::call_rules::{Found, first_asked, places_needed};
+use crate::call_rules::{Found, places_needed, write_first_asked};
 use crate::ticket::{Join, Ticket};
 use jc_model::{Op, Out, Reply};
 use jc_types::{Caller, HIT_PLACES, Key, STEP_PLACES, Value};
@@ -158,7 +158,7 @@ impl Stripe {
         let mut reservation = self.boxes.take();
         let room = &mut *reservation;
         room.set_call(caller, key, op, self.reservations.next_number());
-        room.first = first_asked(&self.config, op, entry);
+        write_first_asked(&self.config, op, entry, &mut room.first);
         let _ = self.history.promise(STEP_PLACES);
         let _ = self.reservations.reserve(&reservation);
         Ticket::new(reservation)
@@ -221,7 +221,7 @@ impl Stripe {
         let pinned = self.reservations.keys();
         let out = Out::nothing_said();
         let (victim, evicted) = apply_to_entries(&mut self.entries, pinned, key, entry, op, &out);
-        *reply = op.reply_after(entry.as_ref(), &out);
+        op.reply_into(entry.as_ref(), &out, reply);
         let group = NewGroup {
             caller,
             key,

@@ -25,7 +25,7 @@ group c =
       key = c.deref-ended.result.now.key;
       op = c.deref-ended.result.now.op;
       out = c.args.out.now;
-      reply = c.reply_after.result;
+      reply = c.reply_into.new.reply;
       victim = c.apply_to_entries-victim.result.0;
       evicted = c.apply_to_entries-victim.result.1;
     }
@@ -34,7 +34,7 @@ made : (c : goal.After-group-2-1) → IsMade (state_of c.self.inside) c.deref-en
 made c =
     let r = c.deref-ended.result.now in
     made_is (state_of c.self.inside) r.caller r.key r.op c.args.out.now c.peek-entry.result (group c)
-    (λ i. record (group c) { reply = (c.reply_after.ensures ∙ ap (λ o. reply_after r.op o c.args.out.now) c.as_ref.ensures.value) i })
+    (λ i. record (group c) { reply = (c.reply_into.ensures ∙ ap (λ o. reply_after r.op o c.args.out.now) c.as_ref.ensures.value) i })
     (c.peek-entry.ensures ∙ find-entry c.self.inside.entries.list r.key)
 
 pub append_group-done-requires-clause-kept : goal.append_group-done-requires-clause-kept
@@ -56,7 +56,7 @@ append_group-done-requires-clause-storable c =
 
 -- the step that is done
 abbrev step : (c : goal.After-give_back) → StepDone
-step c = with_reply c.append_group-done.result c.reply_after.result
+step c = with_reply c.append_group-done.result c.reply_into.new.reply
 
 is_commit : (c : goal.After-give_back)
     → IsCommit c.self.inside c.deref-ended.result.now c.args.out.now c.apply_to_entries-victim.new.entries c.release.new.self c.resolve.new.self c.append_group-done.new.history c.give_back.new.self c.keys-pinned.result.now (group c.before.before.before.before.before) (step c)

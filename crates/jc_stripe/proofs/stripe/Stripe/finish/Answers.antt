@@ -48,8 +48,8 @@ asked : (c : goal.After-group-1) → first_asked c.self.inside.config c.args.op.
 asked c = ap (λ (s : State). first_asked s.config c.args.op.now (entry_at s.cache c.args.key.now)) c.self.view_is ∙ c.requires.asks
 
 -- what is replied
-replied : (c : goal.After-group-1) → c.reply_after.result ≡ reply_after c.args.op.now c.args.entry.now nothing_said
-replied c = c.reply_after.ensures ∙ (λ i. reply_after c.args.op.now (c.as_ref.ensures.value i) (c.nothing_said-out.ensures i))
+replied : (c : goal.After-group-1) → c.reply_into.new.reply ≡ reply_after c.args.op.now c.args.entry.now nothing_said
+replied c = c.reply_into.ensures ∙ (λ i. reply_after c.args.op.now (c.as_ref.ensures.value i) (c.nothing_said-out.ensures i))
 
 -- what is appended
 abbrev group : (c : goal.After-group-1) → NewGroup
@@ -59,7 +59,7 @@ group c =
       key = c.args.key.now;
       op = c.args.op.now;
       out = c.nothing_said-out.result;
-      reply = c.reply_after.result;
+      reply = c.reply_into.new.reply;
       victim = c.apply_to_entries-victim.result.0;
       evicted = c.apply_to_entries-victim.result.1;
     }
@@ -87,7 +87,7 @@ append_group-requires-clause-storable c = done_storable c.self.inside c.args.cal
 
 -- the step that is done
 abbrev step : (c : goal.After-append_group) → StepDone
-step c = with_reply c.append_group.result c.reply_after.result
+step c = with_reply c.append_group.result c.reply_into.new.reply
 
 is_done : (c : goal.After-append_group)
     → IsDone c.self.inside c.args.caller c.args.key.now c.args.op.now c.apply_to_entries-victim.new.entries c.promise.new.self c.append_group.new.history c.keys-pinned.result.now (group c.before) (step c) c.places_needed-kept.result

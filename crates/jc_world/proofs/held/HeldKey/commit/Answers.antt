@@ -8,7 +8,7 @@ use Rattle.jc_world.proofs.held.HeldKey.commit.Goals as goal
 -- 1. Behind a processor.
 
 -- the ticket was asked, and its processor has run
-has_run : (c : goal.After-commit_run-arg-1) → HasRun c.self.inside.ticket (Some c.in-Some.done) c.self.inside.progress.out
+has_run : (c : goal.After-commit_run-arg-in-Some-1) → HasRun c.self.inside.ticket (Some c.in-Some.done) c.self.inside.progress.out
 has_run c = subst (λ run. HasRun c.self.inside.ticket run c.self.inside.progress.out) c.in-Some.is c.self.invariant.run_is
 
 pub commit_run-requires-clause-first : goal.commit_run-requires-clause-first
