@@ -104,6 +104,17 @@ impl Entries {
         self.cache.peek(key).copied()
     }
 
+    /// The same, written to `value`: it is copied once.
+    #[inline(always)]
+    pub fn peek_into(&self, key: &Key, value: &mut Option<Value>)
+        ensures { value.new ≡ finite.find key_cmp key.now self.now.list }
+    {
+        match self.cache.peek(key) {
+            Some(found) => *value = Some(*found),
+            None => *value = None,
+        }
+    }
+
     /// Whether a key has an entry both here and there. Each key of these entries is looked up in the others; no order changes.
     pub fn shares_key(&self, other: &Entries) -> bool
         ensures { result ≡ not (keys_apart self.now.list other.now.list) }

@@ -338,7 +338,8 @@ impl Stripe {
         let load = ended.number;
         let _ = self.reservations.release(&key);
         let kept = STEP_PLACES + self.joiners.waiting(load) as usize;
-        let entry = self.entries.peek(&key);
+        let mut entry = None;
+        self.entries.peek_into(&key, &mut entry);
         let pinned = self.reservations.keys();
         let op = &ended.op;
         let (victim, evicted) =

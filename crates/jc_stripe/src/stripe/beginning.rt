@@ -52,7 +52,8 @@ impl Stripe {
         requires begins { MayBegin self.old caller key.now }
         ensures { Begins self.old caller key.now op.now (begun_with result reply.new) self.new }
     {
-        let entry = self.entry(key);
+        let mut entry = None;
+        self.entry_into(key, &mut entry);
         self.begin_on(caller, key, op, &entry, reply)
     }
 

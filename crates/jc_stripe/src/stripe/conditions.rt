@@ -138,7 +138,9 @@ impl Stripe {
     pub fn asks_outside(&self, key: &Key, op: &Op) -> bool
         ensures { result ≡ asks_outside self.now key.now op.now }
     {
-        asks_anybody(&self.config, op, &self.entry(key))
+        let mut entry = None;
+        self.entry_into(key, &mut entry);
+        asks_anybody(&self.config, op, &entry)
     }
 
     /// Whether a ticket is out here: the stripe's reservation of the key is the ticket's, by its caller, operation,

@@ -41,11 +41,11 @@ impl Stripe {
         }
     }
 
-    /// The key's value, or none.
-    pub(super) fn entry(&self, key: &Key) -> Option<Value>
-        ensures { result ≡ entry_at self.now.cache key.now }
+    /// Writes the key's value, or none, to `entry`.
+    pub(super) fn entry_into(&self, key: &Key, entry: &mut Option<Value>)
+        ensures { entry.new ≡ entry_at self.now.cache key.now }
     {
-        self.entries.peek(key)
+        self.entries.peek_into(key, entry);
     }
 
     /// Whether the key is reserved, and the load of its reservation, if that asked the loader.

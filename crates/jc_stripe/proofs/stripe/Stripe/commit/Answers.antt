@@ -33,9 +33,9 @@ group c =
 made : (c : goal.After-group-2-1) → IsMade (state_of c.self.inside) c.deref-ended.result.now.caller c.deref-ended.result.now.key c.deref-ended.result.now.op c.args.out.now (group c)
 made c =
     let r = c.deref-ended.result.now in
-    made_is (state_of c.self.inside) r.caller r.key r.op c.args.out.now c.peek-entry.result (group c)
+    made_is (state_of c.self.inside) r.caller r.key r.op c.args.out.now c.peek_into.new.value (group c)
     (λ i. record (group c) { reply = (c.reply_into.ensures ∙ ap (λ o. reply_after r.op o c.args.out.now) c.as_ref.ensures.value) i })
-    (c.peek-entry.ensures ∙ find-entry c.self.inside.entries.list r.key)
+    (c.peek_into.ensures ∙ find-entry c.self.inside.entries.list r.key)
 
 pub append_group-done-requires-clause-kept : goal.append_group-done-requires-clause-kept
 append_group-done-requires-clause-kept c =
