@@ -94,7 +94,7 @@ impl Stripe {
 
     /// The first phase of a call, on one key.
     ///
-    /// It answers `Done` if nobody is asked, `Joined` if it is a `get` whose key is missing and is being loaded by another call,
+    /// It answers `Done` if nobody is asked, and writes what the call replies to `reply`; `Joined` if it is a `get` whose key is missing and is being loaded by another call,
     /// with read-through on, and else reserves the key. It is refused, and nothing is done, if the history lacks the places or a
     /// number is at its end (`HistoryFull`), if the key is reserved and the call needs it free (`Busy`), if `RESERVATIONS_MAX`
     /// reservations are out and it needs one (`TooManyInFlight`), and if `JOINERS_MAX` joiners are there, those included that
@@ -105,13 +105,7 @@ impl Stripe {
     /// Conditions: the key is of this stripe, by `stripe_of`. The call's number is at least that of every step of its session in
     /// this history. The session has no reservation and no join out here under another number; a join counts until it is picked
     /// up. And there is no step, no reservation and no join here of this call at this key.
-    pub fn begin(
-        &mut self,
-        caller: Caller,
-        key: &Key,
-        op: &Op,
-        reply: &mut Reply,
-    ) -> Started
+    pub fn begin(&mut self, caller: Caller, key: &Key, op: &Op, reply: &mut Reply) -> Started
         requires begins { MayBegin self.old caller key.now }
         ensures begins { Begins self.old caller key.now op.now (begun_with result reply.new) self.new }
         ensures phase { IsPhaseOf caller.session self.old self.new }
@@ -146,7 +140,9 @@ impl Stripe {
         true
     }
 
-    /// The last phase of a call whose loader was asked: its reservation ends, and its step is appended with the loader's answer.
+    /// The last phase of a call whose loader was asked: its reservation ends, and its step is appended with the loader's answer. What
+    /// the step replies is written to `reply`.
+    ///
     /// A failed load leaves the entry as it was, and is the step's reply (`LoaderFailed`). Each call that has joined the load and
     /// waits shares it: its step is appended directly behind, in the order of joining, and its answer stays until it is picked
     /// up.
@@ -169,7 +165,9 @@ impl Stripe {
         self.commit(ticket.spend(), &Out::load_only(done.into_answer()), reply)
     }
 
-    /// The last phase of a call whose writer was asked: its reservation ends, and its step is appended with the writer's report.
+    /// The last phase of a call whose writer was asked: its reservation ends, and its step is appended with the writer's report. What
+    /// the step replies is written to `reply`.
+    ///
     /// A failed write leaves the entry as it was, and is the step's reply (`WriterFailed`).
     ///
     /// Conditions: the ticket's reservation is out here, and asks this one first. `done` was made of this ticket's ask,
@@ -191,7 +189,9 @@ impl Stripe {
     }
 
     /// The last phase of a call whose processor ran: its reservation ends, and its step is appended with what the loader, the
-    /// processor and the writer answered. The processor's net effect becomes the entry; without one a loaded value is kept. A
+    /// processor and the writer answered. What the step replies is written to `reply`.
+    ///
+    /// The processor's net effect becomes the entry; without one a loaded value is kept. A
     /// failed load, processor or write leaves the entry as it was, also a missing one whose key was loaded, and the first of these
     /// faults is the step's reply (JSR 107, "Entry Processors").
     ///
@@ -323,12 +323,7 @@ impl Stripe {
     }
 
     /// Ends a reservation, and appends its step and those of its joiners. Its ticket's box is free again.
-    fn commit(
-        &mut self,
-        reservation: Box<Reservation>,
-        out: &Out,
-        reply: &mut Reply,
-    ) -> Appended
+    fn commit(&mut self, reservation: Box<Reservation>, out: &Out, reply: &mut Reply) -> Appended
         requires out { IsOut self.old reservation.value }
         requires answers { AnswersFirst self.old.config reservation.value.first out.now }
         ensures { Commits self.old reservation.value out.now (with_reply result reply.new) self.new }
@@ -342,8 +337,7 @@ impl Stripe {
         self.entries.peek_into(&key, &mut entry);
         let pinned = self.reservations.keys();
         let op = &ended.op;
-        let (victim, evicted) =
-            apply_to_entries(&mut self.entries, pinned, &key, &entry, op, out);
+        let (victim, evicted) = apply_to_entries(&mut self.entries, pinned, &key, &entry, op, out);
         op.reply_into(entry.as_ref(), out, reply);
         let group = NewGroup {
             caller: ended.caller,

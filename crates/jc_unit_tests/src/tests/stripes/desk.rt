@@ -62,13 +62,17 @@ fn commit(rt: &impl Abort, stripe: &mut Stripe, unasked: Unasked, out: &Out) -> 
             assert!(rt; out.load.is_given(), "the loader's answer");
             let ask = ticket.ask();
             let done = played_load(ask, out.load);
-            stripe.commit_load(ticket, done, &mut reply).with_reply(&reply)
+            stripe
+                .commit_load(ticket, done, &mut reply)
+                .with_reply(&reply)
         }
         First::Writer(_) => {
             assert!(rt; out.write.is_given(), "the writer's answer");
             let ask = ticket.ask();
             let done = played_write(ask, out.write);
-            stripe.commit_write(ticket, done, &mut reply).with_reply(&reply)
+            stripe
+                .commit_write(ticket, done, &mut reply)
+                .with_reply(&reply)
         }
         First::Nobody | First::Processor { .. } => panic!(rt; "neither is asked"),
     }
