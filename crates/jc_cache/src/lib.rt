@@ -38,7 +38,7 @@ pub use jc_mutentry::{EntryProcessor, MutableEntry};
 pub use jc_outside::{Answers, CacheLoader, CacheWriter, Outside};
 pub use jc_session::SessionFault;
 pub use jc_stripe::{
-    Ask, Begun, First, Join, LoadDone, Picked, ProcDone, StepDone, Ticket, WriteDone,
+    Appended, Ask, First, Join, LoadDone, Picked, ProcDone, Started, Ticket, WriteDone,
 };
 pub use jc_types::{Config, Key, Refusal, Value};
 pub use owner::CacheOwner;

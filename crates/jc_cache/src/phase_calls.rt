@@ -11,10 +11,10 @@ ghost use Rattle.jc_model.specs.Group.{load_only, write_only};
 ghost use Rattle.jc_outside.specs.declared.done.Origin.TheVariants.{Live};
 ghost use Rattle.jc_stripe.specs.Effects.{HasReport, change_due, process_out};
 ghost use Rattle.jc_stripe.specs.Keys.{Looks};
-ghost use Rattle.jc_stripe.specs.Phases.{Commits, PicksUp, Withdraws};
+ghost use Rattle.jc_stripe.specs.Phases.{Commits, PicksUp, Withdraws, begun_with, with_reply};
 ghost use Rattle.jc_stripe.specs.State.{State};
 ghost use Rattle.jc_stripe.specs.Tickets.{asks_loader, asks_processor, asks_writer, claim_of};
-ghost use Rattle.jc_session.specs.Counting.{counted_begun, counted_picked};
+ghost use Rattle.jc_session.specs.Counting.{counted_picked, counted_started};
 ghost use Rattle.jc_session.specs.declared.counts.Counted.TheVariants.{Committed, Nothing, Withdrawn};
 ghost use Rattle.jc_engine.specs.Answered.{IsAnswered, out_of};
 ghost use Rattle.jc_engine.specs.Needs.{IsReported, PicksUpLate, StartsAt};
@@ -27,21 +27,29 @@ use jc_engine::{Answer, Commit, First, How, Phase, PickUp, Processed, Withdraw, 
 use jc_model::{Op, Reply};
 use jc_session::Counted;
 use jc_stripe::phase_laws::{is_uniform, own_steps};
-use jc_stripe::{Ask, Begun, Join, LoadDone, Picked, ProcDone, StepDone, Ticket, WriteDone};
+use jc_stripe::{Appended, Ask, Join, LoadDone, Picked, ProcDone, Started, Ticket, WriteDone};
 use jc_types::{Key, stripe_of};
 use std::sync::Wait;
 
 impl Cache {
-    /// The first phase of the session's current call at a key. Each refusal is an answer of it: it waits out none.
+    /// The first phase of the session's current call at a key. Each refusal is an answer of it: it waits out none. If the call is done,
+    /// what it replies is written to `reply`.
     ///
     /// Conditions: the session is of this cache, and its own steps let the call begin at the key.
-    pub fn start<R: Wait>(&self, rt: &R, session: &mut Session, key: &Key, op: &Op) -> Begun
+    pub fn start<R: Wait>(
+        &self,
+        rt: &R,
+        session: &mut Session,
+        key: &Key,
+        op: &Op,
+        reply: &mut Reply,
+    ) -> Started
         requires own { IsOf self.now session.old }
         requires may { MayStart self.now session.old key.now }
         ensures { GoesOn self.now session.new
             (PhaseAt (stripe_of key.now self.now.config.stripes) session.old
-            (λ a b. StartsAt session.old.agent.caller key.now op.now result a b)
-            (counted_begun result) session.new) }
+            (λ a b. StartsAt session.old.agent.caller key.now op.now (begun_with result reply.new) a b)
+            (counted_started result) session.new) }
     {
         let at = stripe_of(key, self.config.stripes);
         let first = First {
@@ -50,12 +58,10 @@ impl Cache {
             op,
             how: How::Now,
         };
-        let mut reply = Reply::Unit;
-        let started = self.phase_at(rt, session, at, first, &mut reply);
-        started.with_reply(&reply)
+        self.phase_at(rt, session, at, first, reply)
     }
 
-    /// The last phase of a call whose loader has answered.
+    /// The last phase of a call whose loader has answered. What the step replies is written to `reply`.
     ///
     /// Conditions: the session is of this cache, and the ticket is of the session; the done value is the answer to its ask.
     pub fn commit_load<R: Wait>(
@@ -64,19 +70,20 @@ impl Cache {
         session: &mut Session,
         ticket: Ticket,
         done: LoadDone<Ask>,
-    ) -> StepDone
+        reply: &mut Reply,
+    ) -> Appended
         requires caller { IsCaller self.now session.old ticket.reservation.caller }
         requires done { (asks_loader ticket.reservation.first ≡ true)
             × (done.ask ≡ claim_of ticket.reservation) × (done.origin ≡ Live) }
         ensures { GoesOn self.now session.new
             (PhaseAt (stripe_of ticket.reservation.key self.now.config.stripes) session.old
-            (λ a b. Commits a ticket.reservation (load_only done.answer) result b)
+            (λ a b. Commits a ticket.reservation (load_only done.answer) (with_reply result reply.new) b)
             Committed session.new) }
     {
-        self.commit(rt, session, ticket, done)
+        self.commit(rt, session, ticket, done, reply)
     }
 
-    /// The last phase of a call whose writer has reported.
+    /// The last phase of a call whose writer has reported. What the step replies is written to `reply`.
     ///
     /// Conditions: the session is of this cache, and the ticket is of the session; the done value is the answer to its ask.
     pub fn commit_write<R: Wait>(
@@ -85,19 +92,20 @@ impl Cache {
         session: &mut Session,
         ticket: Ticket,
         done: WriteDone<Ask>,
-    ) -> StepDone
+        reply: &mut Reply,
+    ) -> Appended
         requires caller { IsCaller self.now session.old ticket.reservation.caller }
         requires done { (asks_writer ticket.reservation.first ≡ true)
             × (done.ask ≡ claim_of ticket.reservation) × (done.origin ≡ Live) }
         ensures { GoesOn self.now session.new
             (PhaseAt (stripe_of ticket.reservation.key self.now.config.stripes) session.old
-            (λ a b. Commits a ticket.reservation (write_only done.answer) result b)
+            (λ a b. Commits a ticket.reservation (write_only done.answer) (with_reply result reply.new) b)
             Committed session.new) }
     {
-        self.commit(rt, session, ticket, done)
+        self.commit(rt, session, ticket, done, reply)
     }
 
-    /// The last phase of a call whose processor has run.
+    /// The last phase of a call whose processor has run. What the step replies is written to `reply`.
     ///
     /// Conditions: the session is of this cache, and the ticket is of the session; the done value is the answer to its ask; the
     /// writer's report is there exactly if the cache writes through and the processor has a net effect to be written, and is the
@@ -109,17 +117,18 @@ impl Cache {
         ticket: Ticket,
         done: ProcDone<Ask>,
         report: Option<WriteDone<Ask>>,
-    ) -> StepDone
+        reply: &mut Reply,
+    ) -> Appended
         requires caller { IsCaller self.now session.old ticket.reservation.caller }
         requires done { (asks_processor ticket.reservation.first ≡ true)
             × (done.ask ≡ claim_of ticket.reservation) × (done.origin ≡ Live) }
         requires report { HasReport Live ticket.reservation (change_due self.now.config done) report }
         ensures { GoesOn self.now session.new
             (PhaseAt (stripe_of ticket.reservation.key self.now.config.stripes) session.old
-            (λ a b. Commits a ticket.reservation (process_out done report) result b)
+            (λ a b. Commits a ticket.reservation (process_out done report) (with_reply result reply.new) b)
             Committed session.new) }
     {
-        self.commit(rt, session, ticket, Processed { done, report })
+        self.commit(rt, session, ticket, Processed { done, report }, reply)
     }
 
     /// A call that has joined a load asks for its answer. It does not wait for the answer: `NotYet` gives the join back.
@@ -204,26 +213,25 @@ impl Cache {
         agent.give(&mut lock, seat, stripe, Counted::Nothing);
     }
 
-    /// The last phase of a call that was answered outside.
+    /// The last phase of a call that was answered outside. What the step replies is written to `reply`.
     fn commit<A: Answer, R: Wait>(
         &self,
         rt: &R,
         session: &mut Session,
         ticket: Ticket,
         answer: A,
-    ) -> StepDone
+        reply: &mut Reply,
+    ) -> Appended
         requires caller { IsCaller self.now session.old ticket.reservation.caller }
         requires answered { IsAnswered ticket (A.answered answer) }
         requires reported { IsReported self.now.config ticket.reservation (A.answered answer) }
         ensures { GoesOn self.now session.new
             (PhaseAt (stripe_of ticket.reservation.key self.now.config.stripes) session.old
-            (λ a b. Commits a ticket.reservation (out_of (A.answered answer)) result b)
+            (λ a b. Commits a ticket.reservation (out_of (A.answered answer)) (with_reply result reply.new) b)
             Committed session.new) }
     {
         let at = stripe_of(&ticket.reservation().key, self.config.stripes);
-        let mut reply = Reply::Unit;
-        let step = self.phase_at(rt, session, at, Commit { ticket, answer }, &mut reply);
-        step.with_reply(&reply)
+        self.phase_at(rt, session, at, Commit { ticket, answer }, reply)
     }
 
     /// Makes a phase of the session on the stripe with this number. What its call replies, if the phase ends it, is written to `reply`.

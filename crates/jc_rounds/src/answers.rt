@@ -28,7 +28,8 @@ pub enum Answers {
 }
 
 impl Answers {
-    /// The last phase of the session's current call at the first key that was answered. It returns the step's reply.
+    /// The last phase of the session's current call at the first key that was answered. What the step replies is written to
+    /// `reply`.
     ///
     /// Conditions: the session is of this cache; the ticket is of its current call, which isn't its last and has made no step at the
     /// key; the first of these answers is the one to the ticket's ask.
@@ -38,7 +39,8 @@ impl Answers {
         cache: &Cache,
         session: &mut Session,
         ticket: Ticket,
-    ) -> Reply
+        reply: &mut Reply,
+    )
         requires may { MayStep cache.now session.old ticket.reservation.key }
         requires caller { (ticket.reservation.caller ≡ session.old.agent.caller) × IsEarly session.old.agent.caller }
         requires answers { (round : Round) × (rest : List Reservation)
@@ -50,26 +52,28 @@ impl Answers {
             ((out : Out) × IsAnswer cache.now.config round ticket.reservation.key ticket.reservation.first out
             × IsCommitted cache.now.config session.old.agent.caller ticket.reservation out
             (view_of cache.now.config.stripes session.old.seats.items ticket.reservation.key)
-            (view_of cache.now.config.stripes session.new.seats.items ticket.reservation.key) result) }
+            (view_of cache.now.config.stripes session.new.seats.items ticket.reservation.key) reply.new) }
     {
         is_uniform();
         own_steps();
         match self {
             Answers::Loads(done) => match done.pop() {
-                Some(done) => cache.commit_load(rt, session, ticket, done).reply,
+                Some(done) => {
+                    cache.commit_load(rt, session, ticket, done, reply);
+                }
                 None => unreachable!(),
             },
             Answers::Writes(done) => match done.pop() {
-                Some(done) => cache.commit_write(rt, session, ticket, done).reply,
+                Some(done) => {
+                    cache.commit_write(rt, session, ticket, done, reply);
+                }
                 None => unreachable!(),
             },
             Answers::Processes(done, written, deleted) => match done.pop() {
                 Some(done) => {
                     let through = cache.config().write_through;
                     let report = next_report(through, &done, written, deleted);
-                    cache
-                        .commit_process(rt, session, ticket, done, report)
-                        .reply
+                    cache.commit_process(rt, session, ticket, done, report, reply);
                 }
                 None => unreachable!(),
             },

@@ -85,7 +85,8 @@ impl<'a> BulkCall<'a> {
             → IsCommitting cache.now past round session.new self.new answers.new (place + 1) }
     {
         let _types: Option<&(Reply, Value)> = None;
-        let reply = answers.commit_next(rt, cache, session, ticket);
+        let mut reply = Reply::Unit;
+        answers.commit_next(rt, cache, session, ticket, &mut reply);
         self.progress[place] = Progress::Ended(Ok(reply));
     }
 }

@@ -2,6 +2,7 @@
 ghost use Rattle.std.specs.Prelude.{◌≡◌, [], true};
 ghost use Rattle.jc_model.specs.declared.event.Op.TheVariants.{Get};
 ghost use Rattle.jc_lock.specs.declared.view.View.{View};
+ghost use Rattle.jc_stripe.specs.Phases.{begun_with};
 ghost use Rattle.jc_session.specs.Counting.{counted_begun, counted_picked};
 ghost use Rattle.jc_cache.specs.Sessions.{IsOf};
 ghost use Rattle.jc_rounds.specs.KeyPhases.{IsKeyPhase, MayStep};
@@ -10,13 +11,14 @@ ghost use Rattle.jc_rounds.specs.Recorded.{steps_of};
 ghost use Rattle.jc_rounds.specs.Seats.{AreBefore, HasGrown, view_of};
 
 use jc_cache::{Cache, Session};
-use jc_model::Op;
+use jc_model::{Op, Reply};
 use jc_stripe::phase_laws::{is_uniform, own_steps, steps_behind};
-use jc_stripe::{Begun, Join, Picked};
+use jc_stripe::{Join, Picked, Started};
 use jc_types::Key;
 use std::sync::Wait;
 
-/// The first phase of the session's current call at one of its keys. Each refusal is an answer of it: it waits out none.
+/// The first phase of the session's current call at one of its keys. Each refusal is an answer of it: it waits out none. If the
+/// call is done, what it replies is written to `reply`.
 ///
 /// Conditions: the session is of this cache; its steps are all of this call or of former ones, and none is of this call at this key.
 pub(crate) fn start_key<R: Wait>(
@@ -25,17 +27,18 @@ pub(crate) fn start_key<R: Wait>(
     session: &mut Session,
     key: &Key,
     op: &Op,
-) -> Begun
+    reply: &mut Reply,
+) -> Started
     requires may { MayStep cache.now session.old key.now }
     requires before { AreBefore session.old.agent.caller session.old.seats.items }
-    ensures { IsKeyPhase cache.now session.old key.now (counted_begun result) session.new
+    ensures { IsKeyPhase cache.now session.old key.now (counted_begun (begun_with result reply.new)) session.new
         (HasBegun session.old.agent.caller cache.now.config
         (view_of cache.now.config.stripes session.old.seats.items key.now)
-        (view_of cache.now.config.stripes session.new.seats.items key.now) key.now op.now result) }
+        (view_of cache.now.config.stripes session.new.seats.items key.now) key.now op.now (begun_with result reply.new)) }
 {
     is_uniform();
     own_steps();
-    cache.start(rt, session, key, op)
+    cache.start(rt, session, key, op, reply)
 }
 
 /// Waits for the answer of a load that the session's current call has joined at a key. `Again` says that the load was given back

@@ -1,6 +1,7 @@
 //! The first phases of a round of a call with many keys.
 ghost use Rattle.std.specs.Prelude.{◌≡◌, ◌⊎◌, ◌<◌, ◌≤◌, ◌+◌, true, false, length, slice_get, vec_capacity, Some};
 ghost use Rattle.jc_rounds.specs.declared.progress.Progress.TheVariants.{Waiting};
+ghost use Rattle.jc_stripe.specs.Phases.{begun_with};
 ghost use Rattle.jc_rounds.specs.SoFar.{IsHeldAt, IsKept};
 ghost use Rattle.jc_rounds.specs.Targets.{ops_of};
 ghost use Rattle.jc_rounds.specs.KeyProgress.{IsNoted, StillWaits, failures};
@@ -11,7 +12,7 @@ use crate::key::start_key;
 use crate::progress::Progress;
 use jc_cache::{Cache, Session};
 use jc_model::Reply;
-use jc_stripe::Begun;
+use jc_stripe::Started;
 use jc_types::{Key, Value};
 use std::sync::Wait;
 
@@ -68,8 +69,9 @@ impl<'a> BulkCall<'a> {
         let _types: Option<&(Key, Reply, Value)> = None;
         let key = *self.targets.key(place);
         let op = self.targets.op(place);
-        let begun = start_key(rt, cache, session, &key, &op);
-        let progress = self.keep(begun);
+        let mut reply = Reply::Unit;
+        let started = start_key(rt, cache, session, &key, &op, &mut reply);
+        let progress = self.keep(started, &reply);
         self.progress[place] = progress;
     }
 
@@ -82,27 +84,27 @@ impl<'a> BulkCall<'a> {
     }
 
     /// How far a key is after its first phase. What is out of it is kept.
-    fn keep(&mut self, begun: Begun) -> Progress
+    fn keep(&mut self, started: Started, reply: &Reply) -> Progress
         requires tickets { length self.old.tickets.items < vec_capacity self.old.tickets }
         requires joins { length self.old.joins.items < vec_capacity self.old.joins }
-        ensures kept { IsKept begun result self.old.tickets.items self.new.tickets.items
+        ensures kept { IsKept (begun_with started reply.now) result self.old.tickets.items self.new.tickets.items
             self.old.joins.items self.new.joins.items }
         ensures rest { KeepsRoom self.old self.new }
     {
-        match begun {
-            Begun::Done(step) => Progress::Ended(Ok(step.reply)),
-            Begun::Refused(refusal) => {
+        match started {
+            Started::Done(_step) => Progress::Ended(Ok(*reply)),
+            Started::Refused(refusal) => {
                 if refusal.is_put_off() {
                     Progress::Waiting
                 } else {
                     Progress::Ended(Err(refusal))
                 }
             }
-            Begun::Asks(ticket) => {
+            Started::Asks(ticket) => {
                 self.tickets.push_reserved(ticket);
                 Progress::Reserved
             }
-            Begun::Joined(join) => {
+            Started::Joined(join) => {
                 self.joins.push_reserved(join);
                 Progress::Joined
             }

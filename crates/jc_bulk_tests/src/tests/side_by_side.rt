@@ -9,7 +9,7 @@ use super::outside::Outside;
 use super::stage::Stage;
 use super::words::{first_word, key, value};
 use super::*;
-use jc_cache::{Begun, ClosedStripe, First, Op, Ticket};
+use jc_cache::{ClosedStripe, First, Op, Reply, Started, Ticket};
 use jc_stripe::phase_laws::own_numbers;
 use std::thread;
 use std::thread::Threads;
@@ -131,8 +131,8 @@ fn reserve<R: Abort + Wait>(
 {
     own_numbers();
     session.next_call();
-    match cache.start(rt, session, key, op) {
-        Begun::Asks(ticket) => ticket,
+    match cache.start(rt, session, key, op, &mut Reply::Unit) {
+        Started::Asks(ticket) => ticket,
         _other => panic!(rt; "nobody is to be asked"),
     }
 }
@@ -149,7 +149,7 @@ fn put_late<R: Abort + Wait>(rt: &R, outside: &Outside, cache: &Cache, session: 
     outside.signals.raise_first();
     outside.signals.wait_for_second(rt);
     let done = session.ask_writer(rt, ticket.ask());
-    let _step = cache.commit_write(rt, session, ticket, done);
+    let _step = cache.commit_write(rt, session, ticket, done, &mut Reply::Unit);
 }
 
 /// A get of `c`, phase by phase. It says that it has reserved its key, and is given up once the second session's loader was called.

@@ -11,7 +11,7 @@ use super::phases::{
 use super::scripted::processor_of;
 use super::stage::push;
 use super::*;
-use jc_cache::Op;
+use jc_cache::{Op, Reply};
 
 /// Three sessions, each by itself.
 #[derive(Drop)]
@@ -73,8 +73,9 @@ fn load<R: Abort + Wait>(
     let done = ask_loader(rt, cache, first, &mut ticket);
     let join = not_yet(rt, cache, second, join);
     sees(rt, alloc, cache, first, 1);
-    let step = cache.commit_load(rt, first, ticket, done);
-    replies(rt, step.reply, part(story, "reply"));
+    let mut reply = Reply::Unit;
+    let step = cache.commit_load(rt, first, ticket, done, &mut reply);
+    replies(rt, reply, part(story, "reply"));
     desk.plays(rt, alloc, cache, third, part(story, "parked"));
     picks(rt, cache, second, join, step.place, part(story, "reply"));
     desk.plays(rt, alloc, cache, third, part(story, "then"));
@@ -143,8 +144,9 @@ fn write<R: Abort + Wait>(
     is_busy(rt, cache, second, &a, &Op::Remove);
     let done = ask_writer(rt, cache, first, &mut ticket);
     desk.plays(rt, alloc, cache, third, part(story, "between"));
-    let step = cache.commit_write(rt, first, ticket, done);
-    replies(rt, step.reply, part(story, "reply"));
+    let mut reply = Reply::Unit;
+    let _step = cache.commit_write(rt, first, ticket, done, &mut reply);
+    replies(rt, reply, part(story, "reply"));
     desk.plays(rt, alloc, cache, third, part(story, "then"));
 }
 
@@ -178,8 +180,9 @@ fn process<R: Abort + Wait>(
     let done = run(rt, cache, first, &mut ticket, &mut processor);
     let report = report(rt, cache, first, &mut ticket, &done);
     desk.plays(rt, alloc, cache, third, part(story, "between"));
-    let step = cache.commit_process(rt, first, ticket, done, report);
-    replies(rt, step.reply, part(story, "reply"));
+    let mut reply = Reply::Unit;
+    let _step = cache.commit_process(rt, first, ticket, done, report, &mut reply);
+    replies(rt, reply, part(story, "reply"));
     desk.plays(rt, alloc, cache, third, part(story, "then"));
 }
 

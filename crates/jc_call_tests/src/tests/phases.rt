@@ -9,7 +9,7 @@ ghost use Rattle.jc_call_tests.specs.Between.{HasOut};
 use super::answers::replied_as;
 use super::*;
 use jc_cache::{
-    Ask, Begun, EntryProcessor, First, Join, LoadDone, Op, Picked, ProcDone, Ticket, WriteDone,
+    Ask, EntryProcessor, First, Join, LoadDone, Op, Picked, ProcDone, Started, Ticket, WriteDone,
 };
 use jc_model::Reply;
 use jc_stripe::phase_laws::{own_numbers, own_steps};
@@ -33,8 +33,8 @@ pub fn reserve<R: Abort + Wait>(
     own_numbers();
     own_steps();
     session.next_call();
-    match cache.start(rt, session, key, op) {
-        Begun::Asks(ticket) => ticket,
+    match cache.start(rt, session, key, op, &mut Reply::Unit) {
+        Started::Asks(ticket) => ticket,
         _other => panic!(rt; "nobody is to be asked"),
     }
 }
@@ -49,8 +49,8 @@ pub fn join_load<R: Abort + Wait>(rt: &R, cache: &Cache, session: &mut Session, 
     own_numbers();
     own_steps();
     session.next_call();
-    match cache.start(rt, session, key, &Op::Get) {
-        Begun::Joined(join) => join,
+    match cache.start(rt, session, key, &Op::Get, &mut Reply::Unit) {
+        Started::Joined(join) => join,
         _other => panic!(rt; "no load to join"),
     }
 }
@@ -62,8 +62,8 @@ pub fn is_busy<R: Abort + Wait>(rt: &R, cache: &Cache, session: &mut Session, ke
 {
     own_numbers();
     session.next_call();
-    match cache.start(rt, session, key, op) {
-        Begun::Refused(why) => is(rt, why, Refusal::Busy),
+    match cache.start(rt, session, key, op, &mut Reply::Unit) {
+        Started::Refused(why) => is(rt, why, Refusal::Busy),
         _other => panic!(rt; "the key isn't reserved"),
     }
 }

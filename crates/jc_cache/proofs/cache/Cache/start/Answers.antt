@@ -1,7 +1,6 @@
 use Rattle.std.proofs.Common.{ap, subst}
 use Rattle.jc_types.specs.declared.caller.Caller.{Caller}
 use Rattle.jc_stripe.specs.Phases.{begun_with}
-use Rattle.jc_session.proofs.CallerLemmas.{counted_with}
 use Rattle.jc_engine.specs.Needs.{StartsAt}
 use Rattle.jc_cache.specs.Caches.{CacheState}
 use Rattle.jc_cache.proofs.WholeCalls.{some_stripe, at_key, number_near}
@@ -11,20 +10,19 @@ use Rattle.jc_cache.proofs.cache.Cache.start.Goals as goal
 pub stripe_of-at-requires : goal.stripe_of-at-requires
 stripe_of-at-requires g c = some_stripe c.self.inside.config c.self.invariant.fits
 
-pub phase_at-started-requires-clause-stripe : goal.phase_at-started-requires-clause-stripe
-phase_at-started-requires-clause-stripe g c = number_near c.args.self.now c.self.inside.config c.args.key.now c.stripe_of-at.result c.self.invariant.fits (ap (λ (z : CacheState). z.config) c.self.view_is) c.stripe_of-at.ensures
+pub phase_at-requires-clause-stripe : goal.phase_at-requires-clause-stripe
+phase_at-requires-clause-stripe g c = number_near c.args.self.now c.self.inside.config c.args.key.now c.stripe_of-at.result c.self.invariant.fits (ap (λ (z : CacheState). z.config) c.self.view_is) c.stripe_of-at.ensures
 
-pub phase_at-started-requires-clause-who : goal.phase_at-started-requires-clause-who
-phase_at-started-requires-clause-who g c = ap (λ (who : Caller). who.session) c.caller.ensures
+pub phase_at-requires-clause-who : goal.phase_at-requires-clause-who
+phase_at-requires-clause-who g c = ap (λ (who : Caller). who.session) c.caller.ensures
 
-pub phase_at-started-requires-clause-needs : goal.phase_at-started-requires-clause-needs
-phase_at-started-requires-clause-needs g c a found =
+pub phase_at-requires-clause-needs : goal.phase_at-requires-clause-needs
+phase_at-requires-clause-needs g c a found =
     start_needs c.args.self.now c.args.session.now c.caller.result c.args.key.now c.stripe_of-at.result found.0 a c.requires.own c.requires.may c.caller.ensures
     (at_key c.args.self.now _ c.args.key.now _ (ap (λ (z : CacheState). z.config) c.self.view_is) c.stripe_of-at.ensures) found.1 found.2
 
 pub returns : goal.returns
 returns g c =
-    rw (c.with_reply.ensures, counted_with c.phase_at-started.result c.phase_at-started.new.reply)
-    (phase_map c.args.self.now _ c.stripe_of-at.result c.args.session.now _ _ _ _ (at_key c.args.self.now _ c.args.key.now _ (ap (λ (z : CacheState). z.config) c.self.view_is) c.stripe_of-at.ensures)
-    (λ a b m. subst (λ (w : Caller). StartsAt w c.args.key.now c.args.op.now (begun_with c.phase_at-started.result c.phase_at-started.new.reply) a b) c.caller.ensures m.first)
-    c.phase_at-started.ensures)
+    phase_map c.args.self.now _ c.stripe_of-at.result c.args.session.now _ _ _ _ (at_key c.args.self.now _ c.args.key.now _ (ap (λ (z : CacheState). z.config) c.self.view_is) c.stripe_of-at.ensures)
+    (λ a b m. subst (λ (w : Caller). StartsAt w c.args.key.now c.args.op.now (begun_with c.phase_at.result c.phase_at.new.reply) a b) c.caller.ensures m.first)
+    c.phase_at.ensures
