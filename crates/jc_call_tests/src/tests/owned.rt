@@ -52,6 +52,14 @@ steps 0#1 a 1 < 1, 0#2 a 1 < -, 0#3 c -, 0#4 b ok, 0#5 b true, 0#6 c false, 0#7 
 0#11 b 3, 0#12 c ok, 0#13 b 3, 0#14 c 5, 0#18 b 3 < -
 ";
 
+/// What a call is answered: what it replies, or its refusal.
+fn answer_of(ended: Result<(), Refusal>, reply: Reply) -> Answer {
+    match ended {
+        Ok(()) => Ok(reply),
+        Err(refusal) => Err(refusal),
+    }
+}
+
 /// Makes the agent's next call.
 fn call<R: Abort + Wait>(rt: &R, owner: &mut Owner, agent: &mut Agent, key: &Key, op: &Op) -> Answer
     requires here { IsSome owner.old.here }
@@ -76,8 +84,8 @@ fn call<R: Abort + Wait>(rt: &R, owner: &mut Owner, agent: &mut Agent, key: &Key
     assert!(rt; stripe.is_idle());
     assert!(rt; stripe.admits(caller, key));
     let mut reply = Reply::Unit;
-    call_owned(rt, owner, agent, key, op, &mut reply)?;
-    Ok(reply)
+    let ended = call_owned(rt, owner, agent, key, op, &mut reply);
+    answer_of(ended, reply)
 }
 
 /// Makes the call that a line says. It is to answer what the line says, and the counts are to be these afterwards.

@@ -3,8 +3,8 @@ use Rattle.jc_session.specs.declared.counts.Counts.{Counts}
 use Rattle.jc_call_tests.proofs.Owned.{begins_here, idle_here, keeps_some, writer_next}
 use Rattle.jc_call_tests.proofs.tests.owned.call.Goals as goal
 
-pub call_owned-requires-clause-may : goal.call_owned-requires-clause-may
-call_owned-requires-clause-may g c = record {
+pub call_owned-ended-requires-clause-may : goal.call_owned-ended-requires-clause-may
+call_owned-ended-requires-clause-may g c = record {
   reservations = ap (λ (n : Counts). n.reservations) (sym c.counts-counts.ensures) ∙ search rules;
   joins = ap (λ (n : Counts). n.joins) (sym c.counts-counts.ensures) ∙ search rules;
   begins = λ a was.
@@ -13,10 +13,10 @@ call_owned-requires-clause-may g c = record {
   writes = λ a was on. writer_next c.args.agent.now c.next_call-caller.new.self _ c.next_call-caller.ensures.call c.requires.writer;
 }
 
-pub call_owned-requires-clause-idle : goal.call_owned-requires-clause-idle
-call_owned-requires-clause-idle g c a was =
+pub call_owned-ended-requires-clause-idle : goal.call_owned-ended-requires-clause-idle
+call_owned-ended-requires-clause-idle g c a was =
     idle_here c.args.owner.now.here c.stripe-stripe.result.now a c.stripe-stripe.ensures was (c.is_idle.ensures.0 (search rules)) (sym c.lives.ensures ∙ search rules)
 
 pub returns-clause-writer : goal.returns-clause-writer
 returns-clause-writer g c =
-    keeps_some _ _ c.call_owned.ensures.call.types.1 (writer_next c.args.agent.now c.next_call-caller.new.self _ c.next_call-caller.ensures.call c.requires.writer)
+    keeps_some _ _ c.call_owned-ended.ensures.call.types.1 (writer_next c.args.agent.now c.next_call-caller.new.self _ c.next_call-caller.ensures.call c.requires.writer)
