@@ -53,7 +53,7 @@ steps 0#1 a 1 < 1, 0#2 a 1 < -, 0#3 c -, 0#4 b ok, 0#5 b true, 0#6 c false, 0#7 
 ";
 
 /// What a call is answered: what it replies, or its refusal.
-fn answer_of(ended: Result<(), Refusal>, reply: Reply) -> Answer {
+fn ended_as(ended: Result<(), Refusal>, reply: Reply) -> Answer {
     match ended {
         Ok(()) => Ok(reply),
         Err(refusal) => Err(refusal),
@@ -85,7 +85,7 @@ fn call<R: Abort + Wait>(rt: &R, owner: &mut Owner, agent: &mut Agent, key: &Key
     assert!(rt; stripe.admits(caller, key));
     let mut reply = Reply::Unit;
     let ended = call_owned(rt, owner, agent, key, op, &mut reply);
-    answer_of(ended, reply)
+    ended_as(ended, reply)
 }
 
 /// Makes the call that a line says. It is to answer what the line says, and the counts are to be these afterwards.
