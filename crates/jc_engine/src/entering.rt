@@ -1,5 +1,6 @@
 //! A call up to where it is done, refused, or has somebody to ask.
-ghost use Rattle.std.specs.Prelude.{◌≡◌, ℕ, IfSome, IfNone, None};
+ghost use Rattle.std.specs.Prelude.{◌≡◌, ℕ};
+ghost use Rattle.std.specs.Bool.{OnTrue, OnFalse};
 ghost use Rattle.jc_stripe.specs.Phases.{PicksUp};
 ghost use Rattle.jc_stripe.specs.declared.begun.Picked.TheVariants.{Answer, Again};
 ghost use Rattle.jc_session.specs.Counting.{counts_after};
@@ -58,8 +59,7 @@ pub(crate) fn enter<G: Gate, R: Wait>(
             Started::Refused(refusal) => return Err(refusal),
             Started::Asks(ticket) => return Ok(Some(ticket)),
             Started::Joined(join) => {
-                if let Some(answer) = pick_up(rt, gate, token, agent, join) {
-                    *reply = answer;
+                if pick_up(rt, gate, token, agent, join, reply) {
                     return Ok(None);
                 }
             }
@@ -68,33 +68,40 @@ pub(crate) fn enter<G: Gate, R: Wait>(
     unreachable!()
 }
 
-/// Waits for the answer of a load that was joined. None says that the load was given back unanswered.
+/// Waits for the answer of a load that was joined, and writes it to `reply`. `false` says that the load was given back unanswered.
+///
+/// Out of line: a call that joins no load shouldn't clear the room of such an answer.
+#[inline(never)]
 fn pick_up<G: Gate, R: Wait>(
     rt: &R,
     gate: &mut G,
     token: &mut G::Token,
     agent: &mut Agent,
     join: Join,
-) -> Option<Reply>
+    reply: &mut Reply,
+) -> bool
     requires ready { IsReady G.is_free G.speaks_for gate.old token.old agent.old }
     requires who { join.caller.session ≡ agent.old.caller.session }
-    ensures some { IfSome result (λ reply.
+    ensures answered { OnTrue result (
         MakesPhase G.is_free G.speaks_for agent.old (counts_after agent.old.counts Answered) gate.new token.new agent.new
         ((place : ℕ) × (shared_with : ℕ) × LentPhase G.takes G.gives G.finds agent.old.caller.session gate.old token.old
-        (λ a b. PicksUp a join (Answer reply place shared_with) b) gate.new token.new)) }
-    ensures none { IfNone result
+        (λ a b. PicksUp a join (Answer reply.new place shared_with) b) gate.new token.new)) }
+    ensures again { OnFalse result
         (MakesPhase G.is_free G.speaks_for agent.old (counts_after agent.old.counts Retried) gate.new token.new agent.new
         (LentPhase G.takes G.gives G.finds agent.old.caller.session gate.old token.old
         (λ a b. PicksUp a join Again b) gate.new token.new)) }
 {
     let pick_up = PickUp { join, waits: true };
-    match lend(rt, gate, token, agent, pick_up, &mut Reply::Unit) {
+    match lend(rt, gate, token, agent, pick_up, reply) {
         Picked::Answer {
-            reply,
+            reply: answer,
             place: _,
             shared_with: _,
-        } => Some(reply),
-        Picked::Again => None,
+        } => {
+            *reply = answer;
+            true
+        }
+        Picked::Again => false,
         Picked::NotYet(_join) => unreachable!(),
     }
 }

@@ -1,11 +1,9 @@
 -- Counts of a history, by its parts.
-use Rattle.std.proofs.Common.{◌≡◌, ◌≤◌, ℕ, ◌+◌, suc, List, [], ◌∷◌, ◌++◌, Bool, true, false, cond, min, if◌then◌else◌, ap, refl, sym, ◌∙◌, arith}
+use Rattle.std.proofs.Common.{◌≡◌, ℕ, ◌+◌, List, [], ◌∷◌, ◌++◌, Bool, true, false, cond, ap, ◌∙◌, arith}
 use Rattle.std.specs.List.{count_by}
 use Rattle.std.proofs.lemmas.List.Sums.{sum_by-append}
-use Rattle.jc_types.specs.declared.limits.TheConstants.{LAST_NUMBER}
 use Rattle.jc_model.specs.declared.event.Event.{Event}
-use Rattle.jc_model.specs.declared.statistics.Statistics.{Statistics}
-use Rattle.jc_model.specs.Statistics.{is_hit, is_miss, is_put, is_removal, is_eviction, capped, statistics_of, more_if, with_event, together, StatisticsLaws}
+use Rattle.jc_model.specs.Statistics.{is_hit, is_miss, is_put, is_removal, is_eviction, capped, more_if, StatisticsLaws}
 
 count-append : {X : Type 0} (p : X → Bool) (xs ys : List X) → count_by p (xs ++ ys) ≡ count_by p xs + count_by p ys
 count-append p xs ys = sum_by-append (λ x. cond (p x) 1 0) xs ys

@@ -1,6 +1,7 @@
 //! A cache's contents: a map from keys to values (JSR 107, "Fundamentals").
 ghost use Rattle.std.specs.Prelude.{◌≡◌, ◌++◌, IsTrue, IfOk, OnOk, OnErr, is_ok, None, Some};
 ghost use Rattle.std.specs.FinMap as map;
+ghost use Rattle.std.specs.Option.{option_copied};
 ghost use Rattle.jc_model.specs.Cache.{entry_at, with_entry};
 
 use jc_types::{Key, Value};
@@ -52,10 +53,10 @@ impl Contents {
     }
 
     /// The key's value, or none.
-    pub fn get(&self, key: &Key) -> Option<Value>
-        ensures { result ≡ entry_at self.now key.now }
+    pub fn get(&self, key: &Key) -> Option<&Value>
+        ensures { option_copied result ≡ entry_at self.now key.now }
     {
-        self.map.get(key).copied()
+        self.map.get(key)
     }
 
     /// How many keys there are.

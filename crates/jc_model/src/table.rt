@@ -84,11 +84,11 @@ fn after_effect<'a>(answer: &'a ProcessAnswer, entry: Option<&'a Value>) -> Opti
 
 /// What a processor answers the caller.
 #[inline(always)]
-fn outcome_of(answer: &ProcessAnswer) -> Option<Value>
-    ensures { result ≡ outcome_of answer.now }
+fn outcome_of(answer: &ProcessAnswer) -> Option<&Value>
+    ensures { option_copied result ≡ outcome_of answer.now }
 {
     match answer {
-        ProcessAnswer::Ended { effect: _, outcome } => *outcome,
+        ProcessAnswer::Ended { effect: _, outcome } => outcome.as_ref(),
         ProcessAnswer::NotAsked | ProcessAnswer::Failed(_) => None,
     }
 }
@@ -161,7 +161,7 @@ impl Op {
             Op::RemoveIf(old) | Op::ReplaceIf { old, .. } => {
                 *reply = Reply::Flag(holds(entry, old));
             }
-            Op::Invoke => *reply = Reply::Value(outcome_of(&out.process)),
+            Op::Invoke => write_value(outcome_of(&out.process), reply),
         }
     }
 

@@ -32,7 +32,10 @@ impl<R: Wait + Drop> CacheLoader for StoreLoader<R> {
     ghost loads_all = { λ l keys answer answers after. LoadsAllFromAStore keys answer answers };
 
     fn load(&mut self, key: &Key) -> Result<Option<Value>, u32> {
-        Ok(self.store.lock(&self.rt).read(key))
+        match self.store.lock(&self.rt).read(key) {
+            Some(value) => Ok(Some(*value)),
+            None => Ok(None),
+        }
     }
 
     fn load_all(&mut self, keys: &[Key], answers: &mut Answers) -> Result<(), u32> {

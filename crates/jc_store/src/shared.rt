@@ -35,7 +35,7 @@ impl SharedStore {
 
     /// The value that the store has at a key, or none. It waits for the lock.
     pub fn read<R: Wait>(&self, rt: &R, key: &Key) -> Option<Value> {
-        self.store.lock(rt).read(key)
+        self.store.lock(rt).read(key).copied()
     }
 
     /// The store's entries at one moment, in the byte order of the keys. It waits for the lock, and holds it while it copies.

@@ -1,6 +1,7 @@
 //! The store of record.
 ghost use Rattle.std.specs.Prelude.{◌≡◌, ◌≤◌, ◌<◌, [], None, Some, Ok, Err, take, length, IfOk, OnOk, OnErr};
 ghost use Rattle.std.specs.FinMap as map;
+ghost use Rattle.std.specs.Option.{option_copied};
 ghost use Rattle.jc_model.specs.Cache.{entry_at, with_entry};
 ghost use Rattle.jc_outside.specs.Answers.{no_answers};
 ghost use Rattle.jc_store.specs.Store.{answers_from, with_entries, without_keys, WritesAll};
@@ -50,8 +51,8 @@ impl Store {
     }
 
     /// The value at a key, or none.
-    pub fn read(&self, key: &Key) -> Option<Value>
-        ensures { result ≡ entry_at self.now key.now }
+    pub fn read(&self, key: &Key) -> Option<&Value>
+        ensures { option_copied result ≡ entry_at self.now key.now }
     {
         self.contents.get(key)
     }
@@ -65,7 +66,7 @@ impl Store {
     {
         for key in keys {
             if let Some(value) = self.read(key) {
-                answers.put(key, &value);
+                answers.put(key, value);
             }
         }
     }

@@ -147,7 +147,11 @@ pub(crate) fn write_first_asked(config: &Config, op: &Op, entry: &Option<Value>,
             let change = change_for(config, op, entry, &ProcessAnswer::NotAsked);
             write_writer_for(change, first);
         }
-        LoaderAsk::Always => *first = First::Loader,
+        LoaderAsk::Always => {
+            if !matches!(first, First::Loader) {
+                *first = First::Loader;
+            }
+        }
         LoaderAsk::IfWanted => {
             *first = First::Processor {
                 entry: None,

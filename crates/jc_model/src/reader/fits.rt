@@ -21,10 +21,10 @@ pub(super) fn entry_before(contents: &Contents, victim: &Option<Key>, key: &Key)
             if *key == *gone {
                 None
             } else {
-                contents.get(key)
+                contents.get(key).copied()
             }
         }
-        None => contents.get(key),
+        None => contents.get(key).copied(),
     }
 }
 

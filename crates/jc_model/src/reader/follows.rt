@@ -52,7 +52,7 @@ fn make_step(
         contents.remove(victim);
     }
     let entry = contents.get(key);
-    let left = op.entry_after(entry.as_ref(), out).copied();
+    let left = op.entry_after(entry, out).copied();
     contents.set(key, left)?;
     Ok(())
 }

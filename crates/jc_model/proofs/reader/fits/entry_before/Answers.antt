@@ -11,6 +11,6 @@ returns-then-eq c =
 
 pub returns-else-eq : goal.returns-else-eq
 returns-else-eq c =
-    c.get.ensures
+    c.copied.ensures ∙ c.get.ensures
     ∙ sym (ap (λ victim. entry_at (without_victim c.args.contents.now victim) c.args.key.now) c.in-Some.is
     ∙ get-without c.args.contents.now c.in-Some.gone c.args.key.now false (sym c.eq.ensures ∙ c.if-eq.false))
