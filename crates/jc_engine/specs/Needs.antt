@@ -18,7 +18,7 @@
 --     PicksUpBy       a pick-up, which may wait
 --     IsTooEarly      one that waits would come too early to a stripe in this state
 --     PicksUpLate     a pick-up that isn't too early
-use Rattle.std.specs.Prelude.{◌≡◌, Bool, true, false, not, ◌&&◌, Option, None, Some, length}
+use Rattle.std.specs.Prelude.{◌≡◌, Bool, true, false, not, ◌&&◌, Some, length}
 use Rattle.jc_types.specs.declared.caller.Caller.{Caller}
 use Rattle.jc_types.specs.declared.config.Config.{Config}
 use Rattle.jc_types.specs.Refusals.{is_put_off}

@@ -251,6 +251,7 @@ pub enum Outcome {
 }
 
 /// Shows this outcome, with which no call of many keys is over. What was shown before is let go.
+#[inline(always)]
 pub(crate) fn show(seen: &mut Shown, outcome: Outcome)
     ensures { seen.new ≡ not_over outcome }
 {

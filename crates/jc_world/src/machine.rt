@@ -6,7 +6,8 @@ ghost use Rattle.jc_model.specs.Cache.{entry_at};
 ghost use Rattle.jc_world.specs.declared.event.WorldEvent.TheVariants as event;
 ghost use Rattle.jc_world.specs.World.{start, is_busy, is_idle, open_call, part_of, is_joined, with_stored};
 ghost use Rattle.jc_world.specs.Fits.{fits, is_new};
-ghost use Rattle.jc_world.specs.Events.{Happens, Step};
+ghost use Rattle.jc_world.specs.Events.{Happens, Step, not_over};
+ghost use Rattle.jc_world.specs.declared.event.Outcome.TheVariants as outcome;
 ghost use Rattle.jc_world.specs.Sound.{IsSoundWorld};
 
 mod answering;
@@ -25,8 +26,8 @@ use crate::held_keys::{HeldKeys, held_at, held_by, hold, make_room, take};
 use crate::joined::{Joins, has_joined, make_join_room, put_join, take_join};
 use crate::open_call::OpenCall;
 use crate::stripes::{Stripes, shown_of};
-use jc_model::{Contents, Event};
-use jc_stripe::{Begun, Picked};
+use jc_model::{Contents, Event, Reply};
+use jc_stripe::{Picked, Started};
 use jc_types::{Caller, Config, Key, Value, stripe_of};
 use std::alloc::{AllocError, Global};
 use std::marker::Model;
@@ -152,7 +153,7 @@ impl Machine {
     fn stored(&self, key: &Key) -> Option<Value>
         ensures { result ≡ entry_at self.now.store key.now }
     {
-        self.store.get(key)
+        self.store.get(key).copied()
     }
 
     /// The order of all events.
@@ -177,7 +178,7 @@ impl Machine {
         ensures err { OnErr result (self.new ≡ self.old) }
     {
         if !self.fits(event) {
-            show(seen, Outcome::Unfit);
+            show_unfit(seen);
             return Ok(());
         }
         self.apply(event, seen)
@@ -204,7 +205,7 @@ impl Machine {
                 Ok(())
             }
             WorldEvent::Say { call, key, answer } => {
-                self.say(*call, key, *answer, seen);
+                self.say(*call, key, answer, seen);
                 Ok(())
             }
             WorldEvent::Change { call, key } => self.change(*call, key, seen),
@@ -224,12 +225,11 @@ impl Machine {
                 Ok(())
             }
             WorldEvent::Leave { call } => {
-                drop_call(&mut self.calls, *call);
-                show(seen, Outcome::Left);
+                self.leave(*call, seen);
                 Ok(())
             }
             WorldEvent::PickUp { call, key } => self.pick_up(*call, key, seen),
-            WorldEvent::Foreign { key, value } => self.foreign_write(key, *value, seen),
+            WorldEvent::Foreign { key, value } => self.foreign_write(key, value, seen),
             WorldEvent::Reopen { config } => self.reopen(config, seen),
         }
     }
@@ -253,6 +253,15 @@ impl Machine {
         Ok(())
     }
 
+    /// A call leaves.
+    #[inline(never)]
+    fn leave(&mut self, call: u64, seen: &mut Shown)
+        ensures { Happens self.old (event.Leave call) seen.new self.new }
+    {
+        drop_call(&mut self.calls, call);
+        show(seen, Outcome::Left);
+    }
+
     /// The first phase of a key of a call.
     #[inline(never)]
     fn start(&mut self, call: u64, key: &Key, seen: &mut Shown) -> Result<(), AllocError>
@@ -271,19 +280,20 @@ impl Machine {
         let caller = u.caller();
         let kind = u.kind();
         let number = stripe_of(key, self.config.stripes);
-        match self.stripes.begin(number, &caller, key, op) {
-            Begun::Done(done) => {
-                let over = settle(&mut self.calls, caller.call, key, fault_in(&done.reply));
-                show_end(seen, Outcome::Stepped(shown_of(number, done)), over);
+        let mut reply = Reply::Unit;
+        match self.stripes.begin(number, &caller, key, op, &mut reply) {
+            Started::Done(done) => {
+                let over = settle(&mut self.calls, caller.call, key, fault_in(&reply));
+                show_end(seen, Outcome::Stepped(shown_of(number, done, &reply)), over);
             }
-            Begun::Joined(join) => {
+            Started::Joined(join) => {
                 put_join(&mut self.joins, join);
                 show(seen, Outcome::Joins);
             }
-            Begun::Refused(refusal) => {
+            Started::Refused(refusal) => {
                 refuse(&mut self.calls, kind, caller.call, key, refusal, seen);
             }
-            Begun::Asks(ticket) => hold(&mut self.held, ticket, seen),
+            Started::Asks(ticket) => hold(&mut self.held, ticket, seen),
         }
         Ok(())
     }
@@ -299,9 +309,10 @@ impl Machine {
         self.stripes.reserve()?;
         let number = stripe_of(key, self.config.stripes);
         let held = take(&mut self.held, key);
-        let done = self.stripes.commit(number, held);
-        let over = settle(&mut self.calls, call, key, fault_in(&done.reply));
-        let outcome = Outcome::Stepped(shown_of(number, done));
+        let mut reply = Reply::Unit;
+        let done = self.stripes.commit(number, held, &mut reply);
+        let over = settle(&mut self.calls, call, key, fault_in(&reply));
+        let outcome = Outcome::Stepped(shown_of(number, done, &reply));
         *seen = Shown { outcome, over };
         Ok(())
     }
@@ -375,4 +386,12 @@ impl Machine {
         end_all(&config, &mut items, held, &joins);
         pick_all(&config, &mut items, joins);
     }
+}
+
+/// Shows that an event doesn't fit. It is a function of its own, as the kinds of event are.
+#[inline(never)]
+fn show_unfit(seen: &mut Shown)
+    ensures { seen.new ≡ not_over outcome.Unfit }
+{
+    show(seen, Outcome::Unfit);
 }

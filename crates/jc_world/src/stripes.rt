@@ -4,7 +4,7 @@ ghost use Rattle.std.specs.Prelude.{ℕ, replicate, vec_len, vec_capacity, slice
 ghost use Rattle.jc_types.specs.declared.limits.TheConstants.{STEP_PLACES, JOINERS_MAX, STRIPES_MAX};
 ghost use Rattle.jc_types.specs.Limits.{check};
 ghost use Rattle.jc_stripe.specs.State.{IsOut, IsJoined};
-ghost use Rattle.jc_stripe.specs.Phases.{MayBegin, Commits, Withdraws, PicksUp};
+ghost use Rattle.jc_stripe.specs.Phases.{MayBegin, begun_with, with_reply, Commits, Withdraws, PicksUp};
 ghost use Rattle.jc_outside.specs.declared.done.Origin.TheVariants.{Played};
 ghost use Rattle.jc_world.specs.World.{out_of, is_answered, is_unanswered, empty_stripes};
 ghost use Rattle.jc_world.specs.Sound.{IsDue};
@@ -16,7 +16,7 @@ use crate::event::Stepped;
 use crate::held::HeldKey;
 use jc_model::{Effect, Event, LoadAnswer, Op, Out, ProcessAnswer, Reply, WriteAnswer};
 use jc_stripe::phase_laws::grows;
-use jc_stripe::{Begun, Join, Origin, Picked, StepDone, Stripe};
+use jc_stripe::{Appended, Join, Origin, Picked, Started, Stripe};
 use jc_types::{Caller, Config, JOINERS_MAX, Key, STEP_PLACES, STRIPES_MAX, Value};
 use std::alloc::{AllocError, Global};
 use std::marker::Model;
@@ -79,38 +79,45 @@ impl Stripes {
         self.turns.try_reserve(EVENTS_MAX)
     }
 
-    /// The first phase of an operation at a key, on the stripe of that key. What it appends is at the end of the order, too.
-    pub(crate) fn begin(&mut self, number: usize, caller: &Caller, key: &Key, op: &Op) -> Begun
+    /// The first phase of an operation at a key, on the stripe of that key. What it appends is at the end of the order, too. If the call
+    /// is done, what it replies is written to `reply`.
+    pub(crate) fn begin(
+        &mut self,
+        number: usize,
+        caller: &Caller,
+        key: &Key,
+        op: &Op,
+        reply: &mut Reply,
+    ) -> Started
         requires begins { IsSomeAnd (slice_get self.old.stripes number)
             (λ s. MayBegin s caller.now key.now) }
         requires room { STEP_PLACES + JOINERS_MAX ≤ self.old.room }
-        ensures { IsPhase self.old number (BeginsAs caller.now key.now op.now result) self.new }
+        ensures { IsPhase self.old number (BeginsAs caller.now key.now op.now (begun_with result reply.new)) self.new }
     {
         grows();
         let stripe = &mut self.items[number];
         let before = history_len(stripe);
-        let mut reply = Reply::Unit;
-        let started = stripe.begin(*caller, key, op, &mut reply);
+        let started = stripe.begin(*caller, key, op, reply);
         give_turns(&mut self.turns, number, stripe, before);
-        started.with_reply(&reply)
+        started
     }
 
-    /// The last phase of a key on its stripe. What it appends is at the end of the order, too.
-    pub(crate) fn commit(&mut self, number: usize, held: HeldKey) -> StepDone
+    /// The last phase of a key on its stripe. What it appends is at the end of the order, too. What the step replies is written to
+    /// `reply`.
+    pub(crate) fn commit(&mut self, number: usize, held: HeldKey, reply: &mut Reply) -> Appended
         requires out { IsSomeAnd (slice_get self.old.stripes number) (λ s. IsOut s held.reservation
             × (s.origin ≡ Played) × IsDue s.config held) }
         requires answered { is_answered held ≡ true }
         requires room { STEP_PLACES + JOINERS_MAX ≤ self.old.room }
         ensures { IsPhase self.old number
-            (λ from to. Commits from held.reservation (out_of held) result to) self.new }
+            (λ from to. Commits from held.reservation (out_of held) (with_reply result reply.new) to) self.new }
     {
         grows();
         let stripe = &mut self.items[number];
         let before = history_len(stripe);
-        let mut reply = Reply::Unit;
-        let step = held.commit(stripe, &mut reply);
+        let step = held.commit(stripe, reply);
         give_turns(&mut self.turns, number, stripe, before);
-        step.with_reply(&reply)
+        step
     }
 
     /// Gives a key's reservation back.
@@ -224,13 +231,13 @@ fn merge(alloc: Global, stripes: &[Stripe], turns: &[u8]) -> Result<Vec<Event>, 
     Ok(order)
 }
 
-/// What is shown of a step of a stripe.
-pub(crate) fn shown_of(number: usize, done: StepDone) -> Stepped
-    ensures step { step_of result ≡ done }
+/// What is shown of a step of a stripe that replies this.
+pub(crate) fn shown_of(number: usize, done: Appended, reply: &Reply) -> Stepped
+    ensures step { step_of result ≡ with_reply done reply.now }
     ensures stripe { result.stripe ≡ number }
 {
     Stepped {
-        reply: done.reply,
+        reply: *reply,
         stripe: number,
         place: done.place,
         victim: done.victim,

@@ -82,8 +82,10 @@ fn fault_of_begin(world: &World, number: u32, session: u32) -> Option<Fault>
 fn single(operation: &Operation) -> Command
     ensures { result ≡ single operation.now }
 {
-    let Operation { op, key } = *operation;
-    Command::Single { op, key }
+    Command::Single {
+        op: operation.op,
+        key: operation.key,
+    }
 }
 
 /// The command of a line that begins a call of many keys.

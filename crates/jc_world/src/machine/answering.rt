@@ -51,13 +51,13 @@ impl Machine {
 
     /// The loader answers this, whatever the store holds.
     #[inline(never)]
-    pub(super) fn say(&mut self, call: u64, key: &Key, answer: LoadAnswer, seen: &mut Shown)
-        requires { fits self.old (event.Say call key.now answer) ≡ true }
-        ensures { Happens self.old (event.Say call key.now answer) seen.new self.new }
+    pub(super) fn say(&mut self, call: u64, key: &Key, answer: &LoadAnswer, seen: &mut Shown)
+        requires { fits self.old (event.Say call key.now answer.now) ≡ true }
+        ensures { Happens self.old (event.Say call key.now answer.now) seen.new self.new }
     {
         // Copied first: see docs/CONTRIBUTING.md, "Idioms that the prover asks for".
-        let kept = answer;
-        self.loader_answers(call, key, answer);
+        let (said, kept) = (*answer, *answer);
+        self.loader_answers(call, key, said);
         show(seen, Outcome::Says(kept));
     }
 
@@ -150,13 +150,13 @@ impl Machine {
     pub(super) fn foreign_write(
         &mut self,
         key: &Key,
-        value: Option<Value>,
+        value: &Option<Value>,
         seen: &mut Shown,
     ) -> Result<(), AllocError>
-        ensures ok { OnOk result (Happens self.old (event.Foreign key.now value) seen.new self.new) }
+        ensures ok { OnOk result (Happens self.old (event.Foreign key.now value.now) seen.new self.new) }
         ensures err { OnErr result (self.new ≡ self.old) }
     {
-        self.store.set(key, value)?;
+        self.store.set(key, *value)?;
         self.premises.quiet = false;
         self.is_fresh = false;
         show(seen, Outcome::Written);

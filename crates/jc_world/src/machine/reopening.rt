@@ -75,5 +75,5 @@ fn are_stored(store: &Contents, entries: &[(Key, Value)]) -> bool
 {
     entries
         .iter()
-        .all(|(key, value)| is_held(store.get(key), value))
+        .all(|(key, value)| is_held(store.get(key).copied(), value))
 }

@@ -1,4 +1,5 @@
 use Rattle.std.proofs.Common.{◌∙◌, sym, refl, ap, subst}
+use Rattle.std.proofs.lemmas.Bool.{OnTrue_at, OnFalse_at}
 use Rattle.jc_types.specs.declared.caller.Caller.{Caller}
 use Rattle.jc_stripe.specs.declared.begun.Begun.TheVariants as begun
 use Rattle.jc_stripe.specs.Phases.{with_reply}
@@ -66,16 +67,16 @@ pick_up-requires-clause-who g c =
     ∙ ap (λ (who : Caller). who.session) c.caller-caller.ensures
     ∙ sym (session_joined c.args.agent.now c.loop.agent c.lend.new.agent c.loop.invariant.agent c.in-Joined.ensures.agent)
 
-pub returns-in-Some-pick_up : goal.returns-in-Some-pick_up
-returns-in-Some-pick_up g c = record {
-  ready = c.in-Some-pick_up.ensures.some.ready;
-  agent = after_answer c.args.agent.now c.loop.agent c.lend.new.agent c.pick_up.new.agent c.requires.may.joins c.loop.invariant.agent c.in-Joined.ensures.agent c.in-Some-pick_up.ensures.some.agent;
+pub returns-then-pick_up : goal.returns-then-pick_up
+returns-then-pick_up g c = record {
+  ready = (OnTrue_at c.if-pick_up.true c.pick_up.ensures.answered).ready;
+  agent = after_answer c.args.agent.now c.loop.agent c.lend.new.agent c.pick_up.new.agent c.requires.may.joins c.loop.invariant.agent c.in-Joined.ensures.agent (OnTrue_at c.if-pick_up.true c.pick_up.ensures.answered).agent;
   phase =
       let x = starts_by g.G.Gate.takes g.G.Gate.gives g.G.Gate.finds c.args.agent.now.caller c.args.key.now c.args.op.now c.loop.agent.caller.session c.caller-caller.result (begun.Joined c.in-Joined.join) c.loop.gate c.loop.token c.lend.new.gate c.lend.new.token
       (session_is c.args.agent.now c.loop.agent c.loop.invariant.agent) c.caller-caller.ensures c.in-Joined.ensures.phase.0 in
-      let answer = c.in-Some-pick_up.ensures.some.phase in
-      enters g.G.Gate.takes g.G.Gate.gives g.G.Gate.finds c.args.agent.now.caller c.args.key.now c.args.op.now c.args.gate.now c.args.token.now c.loop.gate c.loop.token (begun.Joined c.in-Joined.join) c.lend.new.gate c.lend.new.token (entered.Done c.in-Some-pick_up.answer) c.pick_up.new.gate c.pick_up.new.token c.loop.invariant.so x
-      (shares g.G.Gate.takes g.G.Gate.gives g.G.Gate.finds c.args.agent.now.caller c.args.key.now c.args.op.now c.in-Joined.join c.loop.gate c.loop.token c.lend.new.gate c.lend.new.token c.lend.new.agent.caller.session c.in-Some-pick_up.answer answer.0 answer.1 c.pick_up.new.gate c.pick_up.new.token x
+      let answer = (OnTrue_at c.if-pick_up.true c.pick_up.ensures.answered).phase in
+      enters g.G.Gate.takes g.G.Gate.gives g.G.Gate.finds c.args.agent.now.caller c.args.key.now c.args.op.now c.args.gate.now c.args.token.now c.loop.gate c.loop.token (begun.Joined c.in-Joined.join) c.lend.new.gate c.lend.new.token (entered.Done c.pick_up.new.reply) c.pick_up.new.gate c.pick_up.new.token c.loop.invariant.so x
+      (shares g.G.Gate.takes g.G.Gate.gives g.G.Gate.finds c.args.agent.now.caller c.args.key.now c.args.op.now c.in-Joined.join c.loop.gate c.loop.token c.lend.new.gate c.lend.new.token c.lend.new.agent.caller.session c.pick_up.new.reply answer.0 answer.1 c.pick_up.new.gate c.pick_up.new.token x
       (session_joined c.args.agent.now c.loop.agent c.lend.new.agent c.loop.invariant.agent c.in-Joined.ensures.agent) answer.2);
 }
 
@@ -84,9 +85,9 @@ loop-preserved g c =
     let x = starts_by g.G.Gate.takes g.G.Gate.gives g.G.Gate.finds c.args.agent.now.caller c.args.key.now c.args.op.now c.loop.agent.caller.session c.caller-caller.result (begun.Joined c.in-Joined.join) c.loop.gate c.loop.token c.lend.new.gate c.lend.new.token
     (session_is c.args.agent.now c.loop.agent c.loop.invariant.agent) c.caller-caller.ensures c.in-Joined.ensures.phase.0 in
     record {
-      agent = after_retry c.args.agent.now c.loop.agent c.lend.new.agent c.pick_up.new.agent c.requires.may.joins c.loop.invariant.agent c.in-Joined.ensures.agent c.in_default.ensures.none.agent;
-      ready = c.in_default.ensures.none.ready;
+      agent = after_retry c.args.agent.now c.loop.agent c.lend.new.agent c.pick_up.new.agent c.requires.may.joins c.loop.invariant.agent c.in-Joined.ensures.agent (OnFalse_at c.if-pick_up.false c.pick_up.ensures.again).agent;
+      ready = (OnFalse_at c.if-pick_up.false c.pick_up.ensures.again).ready;
       so = rounds_on g.G.Gate.takes g.G.Gate.gives g.G.Gate.finds c.args.agent.now.caller c.args.key.now c.args.op.now c.is_uniform.ensures c.own_steps.ensures
           c.args.gate.now c.args.token.now c.loop.gate c.loop.token c.in-Joined.join c.lend.new.gate c.lend.new.token c.pick_up.new.gate c.pick_up.new.token c.loop.invariant.so x c.lend.new.agent.caller.session
-          (session_joined c.args.agent.now c.loop.agent c.lend.new.agent c.loop.invariant.agent c.in-Joined.ensures.agent) c.in_default.ensures.none.phase;
+          (session_joined c.args.agent.now c.loop.agent c.lend.new.agent c.loop.invariant.agent c.in-Joined.ensures.agent) (OnFalse_at c.if-pick_up.false c.pick_up.ensures.again).phase;
     }

@@ -1,8 +1,8 @@
 use Rattle.jc_engine.proofs.Chains.{lent-map}
 use Rattle.jc_engine.proofs.entering.pick_up.Goals as goal
 
-pub returns-in-Answer-clause-some : goal.returns-in-Answer-clause-some
-returns-in-Answer-clause-some g c = record {
+pub returns-in-Answer-clause-answered : goal.returns-in-Answer-clause-answered
+returns-in-Answer-clause-answered g c = record {
   ready = c.in-Answer.ensures.ready;
   agent = c.in-Answer.ensures.agent;
   phase = (
@@ -12,8 +12,8 @@ returns-in-Answer-clause-some g c = record {
   );
 }
 
-pub returns-in-Again-clause-none : goal.returns-in-Again-clause-none
-returns-in-Again-clause-none g c = record {
+pub returns-in-Again-clause-again : goal.returns-in-Again-clause-again
+returns-in-Again-clause-again g c = record {
   ready = c.in-Again.ensures.ready;
   agent = c.in-Again.ensures.agent;
   phase = lent-map g.G.Gate.takes g.G.Gate.gives g.G.Gate.finds _ _ _ _ _ _ _ (λ a b picked. picked.picks) c.in-Again.ensures.phase.0;

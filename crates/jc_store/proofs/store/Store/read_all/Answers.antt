@@ -1,4 +1,4 @@
-use Rattle.std.proofs.Common.{◌≡◌, ◌+◌, ◌++◌, [], ◌∷◌, take, drop, true, le_antisymm, ap, sym, ◌∙◌}
+use Rattle.std.proofs.Common.{◌≡◌, ◌+◌, ◌++◌, [], ◌∷◌, take, drop, true, le_antisymm, ap, sym, ◌∙◌, option_copied}
 use Rattle.std.proofs.lemmas.List.{take_more, take-append-drop}
 use Rattle.std.proofs.Math.Seq.{take-length}
 use Rattle.jc_model.specs.Cache.{Bytes}
@@ -20,12 +20,12 @@ loop-key-preserved c =
     elim c.match-read.branch [
       | in-Some w ↦
           w.answers-is ∙ w.put.ensures.answers
-          ∙ ap (λ m. answers_with m k w.in-Some.value) c.loop-key.invariant
-          ∙ one-answered store done keys k w.in-Some.value there (sym c.read.ensures ∙ w.in-Some.is)
+          ∙ ap (λ m. answers_with m k w.in-Some.value.now) c.loop-key.invariant
+          ∙ one-answered store done keys k w.in-Some.value.now there (sym c.read.ensures ∙ ap option_copied w.in-Some.is)
           ∙ ap (λ xs. answers_by (values_at store xs) keys) more
       | in_default w ↦
           w.answers-is ∙ c.loop-key.invariant
-          ∙ none-answered store done keys k (sym c.read.ensures ∙ w.in_default.is)
+          ∙ none-answered store done keys k (sym c.read.ensures ∙ ap option_copied w.in_default.is)
           ∙ ap (λ xs. answers_by (values_at store xs) keys) more
     ]
 

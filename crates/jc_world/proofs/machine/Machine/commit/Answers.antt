@@ -1,4 +1,5 @@
 use Rattle.jc_world.proofs.Common.{◌≡◌, is_some, IsSomeAnd, slice_get, sym, ap, subst, Played, IsOut, Outcome, WorldEvent, Happens, parts_of, world_of, IsDue, IsSoundWorld, OrderedStripes, WorldState}
+use Rattle.jc_stripe.specs.Phases.{with_reply}
 use Rattle.jc_world.proofs.Holding.{fits_commit, may_commit}
 use Rattle.jc_world.proofs.Phased.{phased_from, CommitsAs, ended, may_end_at}
 use Rattle.jc_world.proofs.machine.Machine.commit.Goals as goal
@@ -24,7 +25,7 @@ returns-clause-ok c =
     let key = c.args.key.now in
     let part = c.take-held.result in
     let own = may_commit v c.args.self.now c.args.call key part c.self.view_is c.requires.fits c.take-held.ensures.one in
-    let done = c.commit-done.result in
+    let done = with_reply c.commit-done.result c.commit-done.new.reply in
     let same = c.in_ok-reserve.ensures.same in
     let p = phased_from v c.reserve.new.self c.commit-done.new.self c.stripe_of-number.result (CommitsAs part done) (ap (λ (s : OrderedStripes). s.stripes) same) (ap (λ (s : OrderedStripes). s.order) same) c.commit-done.ensures in
     let number = c.stripe_of-number.result in

@@ -49,4 +49,4 @@ returns c =
     let to = c.begin-started.new.self in
     let at = is_at c.self.inside c.args.self.now c.args.number from (λ s. MayBegin s c.args.caller.now c.args.key.now) c.self.view_is c.requires.begins c.index_mut-stripe.ensures.value in
     let longer = c.grows.ensures.begins from to c.args.caller.now c.args.key.now c.args.op.now (begun_with c.begin-started.result c.begin-started.new.reply) c.begin-started.ensures.begins in
-    rw c.with_reply.ensures (phase_made c.self.inside c.args.self.now c.args.number c.history_len-before.result from to (λ old new. Begins old c.args.caller.now c.args.key.now c.args.op.now (begun_with c.begin-started.result c.begin-started.new.reply) new) c.give_turns.new.turns.items _ c.self.view_is c.self.invariant at longer c.history_len-before.ensures.len c.begin-started.ensures.begins c.give_turns.ensures refl refl)
+    phase_made c.self.inside c.args.self.now c.args.number c.history_len-before.result from to (λ old new. Begins old c.args.caller.now c.args.key.now c.args.op.now (begun_with c.begin-started.result c.begin-started.new.reply) new) c.give_turns.new.turns.items _ c.self.view_is c.self.invariant at longer c.history_len-before.ensures.len c.begin-started.ensures.begins c.give_turns.ensures refl refl

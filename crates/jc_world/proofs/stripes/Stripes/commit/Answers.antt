@@ -60,4 +60,4 @@ returns c =
     let to = c.commit-step.new.stripe in
     let at = is_at c.self.inside c.args.self.now c.args.number from (λ s. IsOut s c.args.held.reservation × (s.origin ≡ Played) × IsDue s.config c.args.held) c.self.view_is c.requires.out c.index_mut-stripe.ensures.value in
     let longer = c.grows.ensures.commits from to c.args.held.reservation (out_of c.args.held) (with_reply c.commit-step.result c.commit-step.new.reply) c.commit-step.ensures in
-    rw c.with_reply.ensures (phase_made c.self.inside c.args.self.now c.args.number c.history_len-before.result from to (λ old new. Commits old c.args.held.reservation (out_of c.args.held) (with_reply c.commit-step.result c.commit-step.new.reply) new) c.give_turns.new.turns.items _ c.self.view_is c.self.invariant at longer c.history_len-before.ensures.len c.commit-step.ensures c.give_turns.ensures refl refl)
+    phase_made c.self.inside c.args.self.now c.args.number c.history_len-before.result from to (λ old new. Commits old c.args.held.reservation (out_of c.args.held) (with_reply c.commit-step.result c.commit-step.new.reply) new) c.give_turns.new.turns.items _ c.self.view_is c.self.invariant at longer c.history_len-before.ensures.len c.commit-step.ensures c.give_turns.ensures refl refl
