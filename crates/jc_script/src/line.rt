@@ -7,7 +7,6 @@ use crate::pairs::Pairs;
 use jc_model::Op;
 use jc_types::{Config, Key, Value};
 use jc_world::process::{EntryCalls, LoadSource};
-use std::mem;
 
 /// One operation on one key.
 #[derive(Clone, Copy, Debug, PartialEq, Eq)]
@@ -97,10 +96,11 @@ pub enum Line {
     Audit,
 }
 
-/// Leaves `new` in `line`, and lets go of what was there by `drop`: a line owns memory, and the prover would go through all its variants at
-/// each place that overwrites one.
+/// Leaves `new` in `line`, and lets go of what was there. A line owns memory, and the prover would go through all its variants at each place
+/// that overwrites one. It is in line, so that the new one is made in its place.
+#[inline(always)]
 pub(crate) fn put_line(line: &mut Line, new: Line)
     ensures { line.new ≡ new }
 {
-    drop(mem::replace(line, new));
+    *line = new;
 }

@@ -204,10 +204,7 @@ impl LineBuffers {
             × PlaysEvents world.old.world self.old.events.items text world.new.world
             × (out.new.items ≡ out.old.items ++ text)) }
     {
-        self.shown.clear();
-        world.play(&self.events, &mut self.shown)?;
-        put_texts(out, &self.events, &self.shown)?;
-        Ok(())
+        play_events(world, &self.events, &mut self.shown, out)
     }
 
     /// Plays the events of a call, and prints what the world shows of them, then the line's fault.
@@ -227,6 +224,24 @@ impl LineBuffers {
         put_fault_code(out, call, fault)?;
         Ok(())
     }
+}
+
+/// Plays events, and prints what the world shows of them. `shown` is the room for that, which may hold what was shown of others.
+fn play_events(
+    world: &mut World,
+    events: &[WorldEvent],
+    shown: &mut Vec<Shown>,
+    out: &mut Vec<u8>,
+) -> Result<(), AllocError>
+    requires { AllFit world.old.world events.now }
+    ensures { OnOk result ((text : List ℕ)
+        × PlaysEvents world.old.world events.now text world.new.world
+        × (out.new.items ≡ out.old.items ++ text)) }
+{
+    shown.clear();
+    world.play(events, shown)?;
+    put_texts(out, events, shown)?;
+    Ok(())
 }
 
 /// Plays one event that fits, and prints what the world shows of it.

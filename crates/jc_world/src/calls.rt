@@ -105,7 +105,9 @@ pub(crate) fn begin(
     ensures err { OnErr result (calls.new.items ≡ calls.old.items) }
 {
     if let Command::Single { op, key } = command {
-        calls.push(OpenCall::single(caller, op, key))?;
+        let place = calls.len();
+        calls.push(OpenCall::get(caller, key))?;
+        calls[place].set_single(op, key);
         show(seen, Outcome::Begun);
         return Ok(());
     }

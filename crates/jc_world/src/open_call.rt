@@ -1,8 +1,9 @@
 //! A call under way, by what it does at its keys.
-ghost use Rattle.std.specs.Prelude.{◌≡◌, ◌==◌, ◌++◌, true, Some, None, is_some, cond, option_copied};
+ghost use Rattle.std.specs.Prelude.{◌≡◌, ◌==◌, ◌++◌, ◌∷◌, [], true, Some, None, is_some, cond, option_copied};
 ghost use Rattle.std.specs.Prelude.{OnErr, OnOk, IfOk};
 ghost use Rattle.std.specs.List.{list_all, list_any, IsDistinct};
 ghost use Rattle.std.specs.Cmp.Lexicographic.{pointwise};
+ghost use Rattle.jc_model.specs.declared.event.Op.TheVariants.{Get};
 ghost use Rattle.jc_world.specs.declared.command.Command.TheVariants as command;
 ghost use Rattle.jc_world.specs.Calls.{op_at, open_keys};
 ghost use Rattle.jc_world.specs.Calls.{is_going, new_call, over_of, settled, with_found, with_met, SweepState};
@@ -20,7 +21,8 @@ use crate::reports::{ReportedKey, WriterBatch};
 use crate::sweep::Sweep;
 use crate::tasks::{
     Tasks, are_free, are_open, is_free_at, names_each_once, none_asked, none_waits, op_among,
-    push_each, push_reported, put_if_open, put_open_among, settle_at, take_keys, tasks_for,
+    push_each, push_reported, put_if_open, put_one, put_open_among, settle_at, take_keys,
+    tasks_for,
 };
 use jc_model::Op;
 use jc_types::{Caller, Key, Refusal};
@@ -65,20 +67,32 @@ impl OpenCall {
         })
     }
 
-    /// The call of one operation on one key. It takes no memory.
-    pub(crate) fn single(caller: Caller, op: &Op, key: &Key) -> Self
-        ensures { result ≡ new_call caller.call caller.session (command.Single op.now key.now) }
+    /// The call of a `get` on one key, of which [`set_single`](Self::set_single) makes one of any operation. It takes no memory.
+    #[inline(always)]
+    pub(crate) fn get(caller: Caller, key: &Key) -> Self
+        ensures { result ≡ new_call caller.call caller.session (command.Single Get key.now) }
     {
         OpenCall {
             caller,
             kind: CallKind::Single,
             tasks: Tasks::One {
                 key: *key,
-                op: Some(*op),
+                op: Some(Op::Get),
             },
             sweep: None,
             cause: None,
         }
+    }
+
+    /// Makes this a call of one operation on one key, whose values aren't copied on the way.
+    ///
+    /// Condition: it looks at no stripe.
+    #[inline(always)]
+    pub(crate) fn set_single(&mut self, op: &Op, key: &Key)
+        requires { self.old.sweep ≡ None }
+        ensures { self.new ≡ record self.old { tasks = (key.now, Some op.now) ∷ [] } }
+    {
+        put_one(&mut self.tasks, key, op);
     }
 
     /// Who calls: a session, from 1 to [`SESSIONS_MAX`](jc_types::SESSIONS_MAX), and the call's number.

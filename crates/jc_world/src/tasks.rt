@@ -5,6 +5,7 @@ ghost use Rattle.std.specs.List.{list_all, list_any, IsDistinct};
 ghost use Rattle.std.specs.Map.{keys_of, lookup, set_value};
 ghost use Rattle.std.specs.Cmp.Lexicographic.{pointwise};
 ghost use Rattle.jc_world.specs.Calls.{at_each, put_each_of, tasks, op_in, is_open, open_in, sweep_of};
+ghost use Rattle.jc_world.specs.declared.tasks.Tasks.TheVariants.{One};
 ghost use Rattle.jc_world.specs.OpenCalls.{tasks_of, first_open, are_new, IsFirstKept, IsMany, IsSwept};
 ghost use Rattle.indexmap.specs.IndexMap.{spare};
 ghost use Rattle.jc_world.specs.World.{is_free_of, waits_for_process};
@@ -34,6 +35,36 @@ pub(crate) enum Tasks {
         ops: IndexMap<Key, Option<Op>>,
         first: usize,
     },
+}
+
+/// Leaves this operation in `room`: in its place if there was one, so that its values aren't copied on the way.
+#[inline(always)]
+fn put_op(room: &mut Option<Op>, op: &Op)
+    ensures { room.new ≡ Some op.now }
+{
+    match &mut *room {
+        Some(own) => own.copy_from(op),
+        _ => *room = Some(*op),
+    }
+}
+
+/// Makes these the task of one operation at one key, in its place if they were that already.
+#[inline(always)]
+pub(crate) fn put_one(tasks: &mut Tasks, key: &Key, op: &Op)
+    ensures { tasks.new ≡ One key.now (Some op.now) }
+{
+    match &mut *tasks {
+        Tasks::One { key: own, op: room } => {
+            *own = *key;
+            put_op(room, op);
+        }
+        _ => {
+            *tasks = Tasks::One {
+                key: *key,
+                op: Some(*op),
+            };
+        }
+    }
 }
 
 /// What a command does, at keys that are all open.

@@ -12,8 +12,8 @@ ghost use Rattle.jc_script.specs.Faults.{begin_fault};
 ghost use Rattle.jc_script.specs.LineEvents.{single, bulk_call, start_events};
 ghost use Rattle.jc_script.specs.Transcript.{PlaysBegin, PlaysLine};
 
-use super::LineBuffers;
 use super::acting::put_key_events;
+use super::{LineBuffers, play_events};
 use crate::fault::Fault;
 use crate::line::{Act, BulkCall, Operation};
 use jc_model::{LoadAnswer, Op};
@@ -22,6 +22,7 @@ use jc_world::command::Command;
 use jc_world::event::WorldEvent;
 use jc_world::world::World;
 use std::alloc::{AllocError, Global};
+use std::slice;
 
 /// A line that begins a call of one key, or its fault.
 pub(super) fn play_begin(
@@ -110,7 +111,8 @@ fn command_of(call: &BulkCall) -> Result<Command, AllocError>
     }
 }
 
-/// A call of one key begins, and makes its first phase. Both are known beforehand, so they are played as one list.
+/// A call of one key begins, and makes its first phase. Each is played where it is made: an event is large, and shouldn't be moved to a
+/// list.
 fn begin_single(
     world: &mut World,
     number: u32,
@@ -125,32 +127,17 @@ fn begin_single(
         × (out.new.items ≡ out.old.items ++ text)) }
 {
     let call = number as u64;
-    put_single(&mut buffers.events, call, session, operation)?;
-    world.lets_calls_begin();
-    buffers.play(world, out)?;
-    Ok(())
-}
-
-/// The begin of a call of one key, and its first phase.
-fn put_single(
-    events: &mut Vec<WorldEvent>,
-    call: u64,
-    session: u32,
-    operation: &Operation,
-) -> Result<(), AllocError>
-    ensures { OnOk result (events.new.items
-        ≡ event.Call call session (single operation.now) ∷ event.Start call operation.now.key ∷ []) }
-{
-    events.clear();
-    events.push(WorldEvent::Call {
+    let command = single(operation);
+    let begin = WorldEvent::Call {
         call,
         session,
-        command: single(operation),
-    })?;
-    events.push(WorldEvent::Start {
-        call,
-        key: operation.key,
-    })?;
+        command,
+    };
+    world.lets_calls_begin();
+    play_events(world, slice::from_ref(&begin), &mut buffers.shown, out)?;
+    let key = operation.key;
+    let start = WorldEvent::Start { call, key };
+    play_events(world, slice::from_ref(&start), &mut buffers.shown, out)?;
     Ok(())
 }
 
