@@ -105,10 +105,10 @@ pub(crate) fn begin(
     ensures err { OnErr result (calls.new.items ≡ calls.old.items) }
 {
     if let Command::Single { op, key } = command {
+        show(seen, Outcome::Begun);
         let place = calls.len();
         calls.push(OpenCall::get(caller, key))?;
         calls[place].set_single(op, key);
-        show(seen, Outcome::Begun);
         return Ok(());
     }
     begin_any(alloc, calls, caller, command, seen)

@@ -68,7 +68,6 @@ impl OpenCall {
     }
 
     /// The call of a `get` on one key, of which [`set_single`](Self::set_single) makes one of any operation. It takes no memory.
-    #[inline(always)]
     pub(crate) fn get(caller: Caller, key: &Key) -> Self
         ensures { result ≡ new_call caller.call caller.session (command.Single Get key.now) }
     {
