@@ -32,6 +32,7 @@ use Rattle.jc_session.specs.Counting.{one_more}
 use Rattle.jc_session.specs.declared.counts.Counted.TheVariants.{Nothing}
 use Rattle.jc_cache.specs.Caches.{CacheState}
 use Rattle.jc_cache.specs.PhaseCalls.{PhaseAt}
+use Rattle.jc_cache.specs.Turns.{looking}
 use Rattle.jc_cache.specs.Sessions.{IsOf, MayCall}
 use Rattle.jc_cache.specs.declared.session.Session.{Session}
 use Rattle.jc_bulk.specs.Bulk.{FailsInPart, HasLooked, IsLookedAt, IsOutOfMemory, IsSweepRefused, OnlyLooks, Succeeds, LooksFirst}
@@ -161,10 +162,7 @@ module _ {I J : Type 0} {D : I → Type 0} {E : J → Type 0} where
         (subst (λ es. list_all (is_before_call old.agent.caller.session (one_more old.agent.caller.call)) es ≡ true) (sym (looks.own i) ∙ ap (λ (v : View). v.own) (view_there new.seats.items i seat there)) (all_early cache old may i));
   }
 
-  module _ (law : OnePhase) (cache : CacheState) (old new : Session I J D E) (own : IsOf cache old) (number : ℕ) (out out' : List Bytes) (x : PhaseAt number old (λ a b. (b ≡ a) × Looks a out out') Nothing new) where
-    same_phase : State → State → Type 0
-    same_phase a b = (b ≡ a) × Looks a out out'
-
+  module _ (law : OnePhase) (cache : CacheState) (old new : Session I J D E) (own : IsOf cache old) (number : ℕ) (out out' : List Bytes) (x : PhaseAt number old (looking out out') Nothing new) where
     seats_on : (P : View → View → Type 0) → ((u : View) → P u u) → P x.before x.after → (i : ℕ) → P (view_at old.seats.items i) (view_at new.seats.items i)
     seats_on P stays moves i = ⊎_elim
         (λ t. subst (λ (u : View). P u (view_at new.seats.items i)) (sym (ap (view_at old.seats.items) t.0 ∙ view_there old.seats.items number (x.lock, x.before) x.was))

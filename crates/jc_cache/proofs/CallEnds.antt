@@ -5,12 +5,12 @@
 --     CallLeft         a whole call's seat: it is of the same lock, what it has seen, and that
 --     retries_seen     rounds in which a call joined a load and was told to retry: the seat has seen them
 --     call_left        a whole call
---     last_busy, was_busy
---                      a call that waits for nobody and wasn't made: the stripe that it found last
+--     tried_seen, tries_to
+--                      a call that waits for nobody: the seat has seen its tries; its first phase
 --     tried_left       a call that waits for nobody
 --     committed_left   a call that had somebody to ask: it is between, and its step was made, in the state in which it was committed
 --     invoked_left     a whole call that runs a processor: its step was made in a state with the entry that was found first
-use Rattle.std.proofs.Common.{◌≡◌, ◌⊎◌, ◌∷◌, ◌&&◌, ◌≤◌, ⊎_elim, inl, inr, ℕ, zero, suc, Bool, true, false, if◌then◌else◌, nat_lt, Option, None, Some, is_none, Result, Ok, Err, List, [], length, slice_get, refl, sym, ap, subst, ◌∙◌, arith}
+use Rattle.std.proofs.Common.{◌≡◌, ◌⊎◌, ◌∷◌, ◌&&◌, ◌≤◌, ◌++◌, le_refl, ⊎_elim, inl, inr, ℕ, zero, suc, Bool, true, false, if◌then◌else◌, nat_lt, Option, None, Some, is_none, Result, Ok, Err, List, [], length, slice_get, refl, sym, ap, subst, ◌∙◌, arith}
 use mathlib.Core.List.{IsPrefix}
 use Rattle.jc_types.specs.declared.caller.Caller.{Caller}
 use Rattle.jc_types.specs.declared.refusal.Refusal.{Refusal}
@@ -30,7 +30,7 @@ use Rattle.jc_stripe.specs.Tickets.{TicketClaim, JoinClaim}
 use Rattle.jc_stripe.specs.Refusals.{first_refusal, last_number, load_at, load_joined, may_join}
 use Rattle.jc_stripe.specs.OnePhase.{OnePhase}
 use Rattle.jc_stripe.specs.OwnSteps.{OwnSteps, StepsBehind, may_come_all}
-use Rattle.jc_stripe.specs.Phases.{Begins, Commits, PicksUp, after_commit}
+use Rattle.jc_stripe.specs.Phases.{Begins, after_commit}
 use Rattle.jc_stripe.specs.declared.begun.Begun.{Begun}
 use Rattle.jc_stripe.specs.declared.begun.Begun.TheVariants as begun
 use Rattle.jc_stripe.specs.declared.begun.Picked.TheVariants as picked
@@ -38,21 +38,22 @@ use Rattle.jc_stripe.specs.declared.begun.StepDone.{StepDone}
 use Rattle.jc_stripe.specs.declared.ticket.Reservation.{Reservation}
 use Rattle.jc_stripe.proofs.CallerLemmas.{call_below, may_in_all, put_off_or_full}
 use Rattle.jc_lock.specs.declared.view.View.{View}
-use Rattle.jc_lock.proofs.CallerLemmas.{prefix-trans, same_on}
+use Rattle.jc_lock.specs.Views.{after_miss}
+use Rattle.jc_lock.proofs.CallerLemmas.{prefix-refl, prefix-trans, same_itself, same_on}
 use Rattle.jc_engine.specs.Entering.{Entered}
 use Rattle.jc_engine.specs.Entering as entered
-use Rattle.jc_stripe.specs.Renewal.{RenewsIfFull}
 use Rattle.jc_stripe.specs.Tests.{asks_outside}
-use Rattle.jc_gate.specs.Lending.{Lent}
 use Rattle.jc_engine.specs.Chain.{LentPhase}
-use Rattle.jc_engine.specs.Doors.{AllFound, AllRenewed}
+use Rattle.jc_engine.specs.Doors.{HasTried, HasTriedOnce}
+use Rattle.jc_engine.specs.Turns.{StartWaits, committing, picking, starting, trying}
 use Rattle.jc_engine.specs.declared.first.How.TheVariants.{Alone}
-use Rattle.jc_engine.specs.Needs.{Starts, StartsBy, can_start}
+use Rattle.jc_engine.specs.Needs.{Starts}
 use Rattle.jc_engine.specs.MadeIn.{IsNext}
 use Rattle.jc_engine.proofs.CallerLemmas.{asks_first, next_place, not_done, shown_same}
-use Rattle.jc_engine.specs.Calls.{Rejoins, Retries, EntersAs, Enters, EndsAs, IsTried}
-use Rattle.jc_cache.specs.Fronts.{HasAllSeen, HasSeen, HasMade, WasBusy, MakesStep, SeatAfter, SeatTried, IsBetween, IsMadeIn}
-use Rattle.jc_cache.proofs.Lendings.{lock_takes, lock_gives, lock_finds, Lending, HasGrown, seen_itself, seen_on, made_on, grown_on, grown_behind, kept, added, gained, front_grows, longer_on, rests_seen, phase_lent, all_seen, lend_seat}
+use Rattle.jc_engine.specs.Calls.{Rejoins, Retries, EntersAs, Enters, EndsAs, IsTried, TriesTo as Tries}
+use Rattle.jc_cache.specs.Fronts.{HasAllSeen, HasSeen, HasMade, MakesStep, SeatAfter, SeatTried, TriesTo, IsBetween, IsMadeIn}
+use Rattle.jc_cache.proofs.Lendings.{lock_takes, lock_gives, lock_finds, Lending, HasGrown, seen_itself, seen_on, made_on, grown_on, grown_behind, kept, added, gained, front_grows, longer_on, rests_seen, phase_lent, all_seen}
+use Rattle.jc_cache.proofs.Turns.{Misses, phase_row, turn_of_phase, was_busy}
 
 -- 1. First phases.
 
@@ -135,11 +136,11 @@ module _ {G L : Type 0} where
       → Rejoins lock_takes lock_gives lock_finds caller key op g t h u → Reaches t u
   rejoins_seen law own caller key op g t h u mine free x =
       let begins = x.joined.made.first.begins in
-      let j = phase_lent law caller.session g t (Starts caller key op (begun.Joined x.join)) x.gate x.token mine free x.joined in
+      let j = phase_lent law caller.session g t (starting caller key op (begun.Joined x.join)) x.gate x.token mine free x.joined in
       let seen = kept caller.session t.1 x.joined.before x.joined.after x.token.1 j.1 (own.joins x.joined.before x.joined.after caller key op x.join begins) in
       let who = join_claim x.joined.before x.joined.after caller key op x.join begins in
       let mine' : x.token.1.session ≡ Some x.join.caller.session = seen.seat.session ∙ mine ∙ ap (λ (c : Caller). Some c.session) (sym who.0) in
-      let r = phase_lent law x.join.caller.session x.gate x.token (λ a b. PicksUp a x.join picked.Again b) h u mine' seen.seat.free x.retried in
+      let r = phase_lent law x.join.caller.session x.gate x.token (picking x.join picked.Again) h u mine' seen.seat.free x.retried in
       let again = kept x.join.caller.session x.token.1 x.retried.before x.retried.after u.1 r.1 (own.again x.retried.before x.retried.after x.join x.retried.lent.reached x.retried.made) in
       (r.0 ∙ j.0, seen_on t.1 x.token.1 u.1 seen again)
 
@@ -152,22 +153,22 @@ module _ {G L : Type 0} where
       (last.0 ∙ before.0, seen_on t.1 x.1.1 u.1 before.1 last.1)
 
   abbrev First : Caller → Bytes → Op → Begun → G → L × View → G → L × View → Type 0
-  First caller key op b g t k v = LentPhase lock_takes lock_gives lock_finds caller.session g t (Starts caller key op b) k v
+  First caller key op b g t k v = LentPhase lock_takes lock_gives lock_finds caller.session g t (starting caller key op b) k v
 
   -- a call that has joined a load, and picks its answer up
   shares : OnePhase → OwnSteps → StepsBehind → (caller : Caller) (key : Bytes) (op : Op) (join : JoinClaim) (reply : Reply) (place shared_with : ℕ) (g : G) (t : L × View) (k : G) (v : L × View) (h : G) (u : L × View)
       → t.1.session ≡ Some caller.session → t.1.holds ≡ false → may_come_all t.1.own caller key ≡ true → (x : First caller key op (begun.Joined join) g t k v)
-      → LentPhase lock_takes lock_gives lock_finds join.caller.session k v (λ a b. PicksUp a join (picked.Answer reply place shared_with) b) h u
+      → LentPhase lock_takes lock_gives lock_finds join.caller.session k v (picking join (picked.Answer reply place shared_with)) h u
       → (u.0 ≡ t.0) × IsBetween t.1 x.before u.1 × EnteredAt t.1 caller key op (entered.Done reply) u.1
   shares law own behind caller key op join reply place shared_with g t k v h u mine free may x y =
       let whole_at : ℕ = whole_place y.after place in
       let begins = x.made.first.begins in
-      let j = phase_lent law caller.session g t (Starts caller key op (begun.Joined join)) k v mine free x in
+      let j = phase_lent law caller.session g t (starting caller key op (begun.Joined join)) k v mine free x in
       let seen = kept caller.session t.1 x.before x.after v.1 j.1 (own.joins x.before x.after caller key op join begins) in
       let who = join_claim x.before x.after caller key op join begins in
       let to_get : Get ≡ op = sym (joins_get x.before key op join.load begins.1) in
       let mine' : v.1.session ≡ Some join.caller.session = seen.seat.session ∙ mine ∙ ap (λ (c : Caller). Some c.session) (sym who.0) in
-      let p = phase_lent law join.caller.session k v (λ a b. PicksUp a join (picked.Answer reply place shared_with) b) h u mine' seen.seat.free y in
+      let p = phase_lent law join.caller.session k v (picking join (picked.Answer reply place shared_with)) h u mine' seen.seat.free y in
       let gains = own.picks_up y.before y.after join reply place shared_with y.lent.reached y.made in
       let out : Out = gains.0 in
       let is : Step join.caller Get join.key out (Some shared_with) reply ≡ Step caller op key out (Some shared_with) reply = λ i. Step (who.0 i) (to_get i) (who.1 i) out (Some shared_with) reply in
@@ -184,7 +185,7 @@ module _ {G L : Type 0} where
       → (u.0 ≡ t.0) × IsBetween t.1 x.before u.1 × EnteredAt t.1 caller key op met u.1
   enters_left law own behind caller key op (begun.Done done) met g t k v h u mine free may x ends =
       let begins = x.made.first.begins in
-      let l = phase_lent law caller.session g t (Starts caller key op (begun.Done done)) k v mine free x in
+      let l = phase_lent law caller.session g t (starting caller key op (begun.Done done)) k v mine free x in
       let made = added caller.session t.1 x.before x.after v.1 (Step caller op key nothing_said None done.reply) done.place l.1 (own.done x.before x.after caller key op done x.made.first.may begins) in
       subst (λ (z : L × View). (z.0 ≡ t.0) × IsBetween t.1 x.before z.1 × EnteredAt t.1 caller key op met z.1) (sym ends.2) (
         l.0,
@@ -194,7 +195,7 @@ module _ {G L : Type 0} where
       )
   enters_left law own behind caller key op (begun.Refused refusal) met g t k v h u mine free may x ends =
       let begins = x.made.first.begins in
-      let l = phase_lent law caller.session g t (Starts caller key op (begun.Refused refusal)) k v mine free x in
+      let l = phase_lent law caller.session g t (starting caller key op (begun.Refused refusal)) k v mine free x in
       let seen = kept caller.session t.1 x.before x.after v.1 l.1 (own.refused x.before x.after caller key op refusal begins) in
       subst (λ (z : L × View). (z.0 ≡ t.0) × IsBetween t.1 x.before z.1 × EnteredAt t.1 caller key op met z.1) (sym ends.2) (
         l.0,
@@ -204,7 +205,7 @@ module _ {G L : Type 0} where
       )
   enters_left law own behind caller key op (begun.Asks ticket) met g t k v h u mine free may x ends =
       let begins = x.made.first.begins in
-      let l = phase_lent law caller.session g t (Starts caller key op (begun.Asks ticket)) k v mine free x in
+      let l = phase_lent law caller.session g t (starting caller key op (begun.Asks ticket)) k v mine free x in
       let seen = kept caller.session t.1 x.before x.after v.1 l.1 (own.reserves x.before x.after caller key op ticket begins) in
       subst (λ (z : L × View). (z.0 ≡ t.0) × IsBetween t.1 x.before z.1 × EnteredAt t.1 caller key op met z.1) (sym ends.2) (
         l.0,
@@ -235,7 +236,7 @@ module _ {G L : Type 0} where
       let y = ends.2 in
       let seen = at.0 in
       let mine' : v.1.session ≡ Some r.caller.session = seen.seat.session ∙ mine ∙ ap (λ (c : Caller). Some c.session) (sym at.2) in
-      let l = phase_lent law r.caller.session k v (λ a b. Commits a r asked done b) h u mine' seen.seat.free y in
+      let l = phase_lent law r.caller.session k v (committing r asked done) h u mine' seen.seat.free y in
       let made = added r.caller.session v.1 y.before y.after u.1 (Step r.caller r.op r.key asked None done.reply) done.place l.1 (own.commits y.before y.after r asked done y.lent.reached y.made) in
       let is : Step r.caller r.op r.key asked None done.reply ≡ Step caller op key asked None done.reply = λ i. Step (at.2 i) (at.4 i) (at.3 i) asked None done.reply in
       let here = made_on t.1 v.1 u.1 (Step caller op key asked None done.reply) (whole_place y.after done.place) seen (subst (λ (e : Event). HasMade v.1 u.1 e (whole_place y.after done.place)) is made) in
@@ -259,46 +260,64 @@ module _ {G L : Type 0} where
 
 -- 5. A call that waits for nobody.
 
+seen_missed : (v : View) → v.holds ≡ false → HasSeen v (after_miss v)
+seen_missed v free = record {
+  seat = record { session = refl; next_session = refl; spent = refl; free = free; same = same_itself v.noted; next = le_refl v.noted.next };
+  front = prefix-refl v.front;
+  own = refl;
+}
+
 module _ {G L : Type 0} where
-  -- the stripes that were found one after another, and the last of them
-  last_busy : (caller : Caller) (key : Bytes) (op : Op) (g : G) (t : L × View) (ps : List (State × State)) (h : G) (u : L × View) → Lent lock_takes lock_gives g t ps h u → AllRenewed ps
-      → AllFound (λ a. can_start Alone a caller key op ≡ false) ps → (u ≡ t) ⊎ ((found : State) × (can_start Alone found caller key op ≡ false) × RenewsIfFull found u.1.noted)
-  last_busy caller key op g t [] h u row quiet each = inl row.1
-  last_busy caller key op g t (p ∷ ps) h u row quiet each =
-      let noted : row.1.1.noted ≡ p.1 = ap (λ (z : L × View). z.1.noted) (lend_seat g t p.0 p.1 row.0 row.1 row.2) in
-      ⊎_elim
-      (λ same. inr (p.0, each.0, subst (RenewsIfFull p.0) (sym (ap (λ (z : L × View). z.1.noted) same ∙ noted)) quiet.0))
-      (λ later. inr later)
-      (last_busy caller key op row.0 row.1 ps h u row.3 quiet.1 each.1)
+  once_seen : (session : ℕ) (waits : State → State → Type 0) (again : Bool) (g : G) (t : L × View) (h : G) (u : L × View) → t.1.session ≡ Some session → t.1.holds ≡ false
+      → HasTriedOnce lock_takes lock_gives Misses waits again g t h u → Reaches t u
+  once_seen session waits again g t h u mine free x = ⊎_elim
+      (λ missed. (ap (λ (z : L × View). z.0) missed.0, subst (HasSeen t.1) (sym (ap (λ (z : L × View). z.1) missed.0)) (seen_missed t.1 free)))
+      (λ lent. rests_seen session g t h u mine free record { idle = lent.0 ∷ []; quiet = (lent.2, tt); lent = (h, u, lent.1, (refl, refl)) })
+      x.met
 
-  was_busy : (caller : Caller) (key : Bytes) (op : Op) (g : G) (t : L × View) (ps : List (State × State)) (h : G) (u : L × View) → Lent lock_takes lock_gives g t ps h u → AllRenewed ps
-      → AllFound (λ a. can_start Alone a caller key op ≡ false) ps → WasBusy t.1 caller key op u.1
-  was_busy caller key op g t ps h u row quiet each =
-      ⊎_elim (λ same. inl (ap (λ (z : L × View). z.1) same)) (λ found. inr found) (last_busy caller key op g t ps h u row quiet each)
+  tried_seen : (session : ℕ) (waits : State → State → Type 0) (g : G) (t : L × View) (h : G) (u : L × View) → t.1.session ≡ Some session → t.1.holds ≡ false → HasTried lock_takes lock_gives Misses waits g t h u → Reaches t u
+  tried_seen session waits g t h u mine free = ⊎_elim
+      (λ one. once_seen session waits false g t h u mine free one)
+      (λ two.
+      let x = once_seen session waits true g t two.0 two.1 mine free two.3 in
+      let y = once_seen session waits two.2 two.0 two.1 h u (x.1.seat.session ∙ mine) x.1.seat.free two.4 in
+      (y.0 ∙ x.0, seen_on t.1 two.1.1 u.1 x.1 y.1))
 
-  pub tried_left : OnePhase → OwnSteps → (caller : Caller) (key : Bytes) (op : Op) (ended : Result Reply Refusal) (g : G) (t : L × View) (h : G) (u : L × View) (may_fail : G → L × View → Type 0)
-      → t.1.session ≡ Some caller.session → t.1.holds ≡ false → IsTried lock_takes lock_gives lock_finds may_fail caller key op g t ended h u
+  tries_to : (caller : Caller) (key : Bytes) (op : Op) (b : Begun) (g : G) (t : L × View) (h : G) (u : L × View) → Tries lock_takes lock_gives lock_finds Misses caller key op g t b h u → TriesTo t.1 caller key op b u.1
+  tries_to caller key op b g t h u x = record {
+    row = x.lent.rests.idle ++ (x.lent.before, x.lent.after) ∷ [];
+    lent = phase_row caller.session g t (trying caller key op b) h u x.lent;
+    turn = turn_of_phase caller.session g t (trying caller key op b) h u x.lent;
+    again = x.again;
+  }
+
+  pub tried_left : OnePhase → OwnSteps → (caller : Caller) (key : Bytes) (op : Op) (ended : Result Reply Refusal) (g : G) (t : L × View) (h : G) (u : L × View)
+      → t.1.session ≡ Some caller.session → t.1.holds ≡ false → IsTried lock_takes lock_gives lock_finds Misses caller key op g t ended h u
       → (u.0 ≡ t.0) × SeatTried t.1 caller key op ended u.1 × IsBelow caller ended
-  tried_left law own caller key op (Ok reply) g t h u may_fail mine free x =
+  tried_left law own caller key op (Ok reply) g t h u mine free x =
       let done : StepDone = x.0 in
-      let y = x.2 in
+      let y = x.2.lent in
       let begins = y.made.first.begins in
-      let l = phase_lent law caller.session g t (StartsBy Alone caller key op (begun.Done done)) h u mine free y in
-      let made = added caller.session t.1 y.before y.after u.1 (Step caller op key nothing_said None done.reply) done.place l.1 (own.done y.before y.after caller key op done y.made.first.may begins) in
-      (l.0, record { out = nothing_said; shared_with = None; place = whole_place y.after done.place; asked_for = refl; made = subst (λ (z : Reply). HasMade t.1 u.1 (Step caller op key nothing_said None z) (whole_place y.after done.place)) x.1 made }, call_below y.before caller key op begins.0)
-  tried_left law own caller key op (Err refusal) g t h u may_fail mine free x =
+      let l = phase_lent law caller.session g t (trying caller key op (begun.Done done)) h u mine free y in
+      let made = added caller.session t.1 y.before y.after u.1 (Step caller op key nothing_said None done.reply) done.place l.1 (own.done y.before y.after caller key op done y.made.first.may begins) in (
+        l.0,
+        (record { out = nothing_said; shared_with = None; place = whole_place y.after done.place; asked_for = refl; made = subst (λ (z : Reply). HasMade t.1 u.1 (Step caller op key nothing_said None z) (whole_place y.after done.place)) x.1 made }, (done, x.1, tries_to caller key op (begun.Done done) g t h u x.2)),
+        call_below y.before caller key op begins.0,
+      )
+  tried_left law own caller key op (Err refusal) g t h u mine free x =
       ⊎_elim
-      (λ y.
+      (λ z.
+      let y = z.lent in
       let begins = y.made.first.begins in
-      let l = phase_lent law caller.session g t (StartsBy Alone caller key op (begun.Refused refusal)) h u mine free y in
+      let l = phase_lent law caller.session g t (trying caller key op (begun.Refused refusal)) h u mine free y in
       let seen = kept caller.session t.1 y.before y.after u.1 l.1 (own.refused y.before y.after caller key op refusal begins) in
       let noted : u.1.noted ≡ y.before = l.1.noted ∙ begins.1 in
-      (l.0, (seen, inr (ap (λ (s : State). first_refusal s caller key op) noted ∙ begins.0, ap (λ (s : State). asks_outside s key op) noted ∙ y.made.alone refl, all_seen caller.session t.1 y.before y.after u.1 l.1)), tt))
+      (l.0, (seen, inr (ap (λ (s : State). first_refusal s caller key op) noted ∙ begins.0, ap (λ (s : State). asks_outside s key op) noted ∙ y.made.alone refl, all_seen caller.session t.1 y.before y.after u.1 l.1, tries_to caller key op (begun.Refused refusal) g t h u z)), tt))
       (λ y.
-      let busy = y.1 in
-      let r = rests_seen caller.session g t h u mine free busy.rests in
-      (r.0, (r.1, inl (y.0, was_busy caller key op g t busy.rests.idle h u busy.rests.lent busy.renewed busy.each)), tt))
+      let r = tried_seen caller.session (StartWaits Alone caller key op) g t h u mine free y.1 in
+      (r.0, (r.1, inl (y.0, (was_busy caller key op g t h u y.1).1)), tt))
       x
+
 
 -- 6. A call that runs a processor.
 
@@ -320,7 +339,7 @@ module _ {G L : Type 0} where
       let y = ends.2 in
       let seen = at.0 in
       let mine' : v.1.session ≡ Some r.caller.session = seen.seat.session ∙ mine ∙ ap (λ (c : Caller). Some c.session) (sym at.2) in
-      let l = phase_lent law r.caller.session k v (λ a b. Commits a r asked done b) h u mine' seen.seat.free y in
+      let l = phase_lent law r.caller.session k v (committing r asked done) h u mine' seen.seat.free y in
       let made = added r.caller.session v.1 y.before y.after u.1 (Step r.caller r.op r.key asked None done.reply) done.place l.1 (own.commits y.before y.after r asked done y.lent.reached y.made) in
       let is : Step r.caller r.op r.key asked None done.reply ≡ Step caller op key asked None done.reply = λ i. Step (at.2 i) (at.4 i) (at.3 i) asked None done.reply in
       let here = made_on t.1 v.1 u.1 (Step caller op key asked None done.reply) (whole_place y.after done.place) seen (subst (λ (e : Event). HasMade v.1 u.1 e (whole_place y.after done.place)) is made) in

@@ -4,8 +4,9 @@
 --     ended          a cache all of whose stripes were taken
 --     closed         the same, and whose sessions were joined
 --     as_it_was, back, why_ended, why    an owner who is handed back, and why
-use Rattle.std.proofs.Common.{◌≡◌, ◌⊎◌, ⊎_elim, inl, inr, ◌∙◌, ◌<◌, ℕ, suc, List, [], ◌∷◌, length, Some, refl, sym, ap, subst, subst₂}
-use Rattle.std.proofs.lemmas.Option.{slice_get_within, get_or_from_slice_get}
+use Rattle.std.proofs.Common.{append_assoc, ◌++◌, append-nil, le_refl, ◌≡◌, ◌⊎◌, ⊎_elim, inl, inr, ◌∙◌, ◌<◌, ℕ, suc, List, [], ◌∷◌, length, Some, refl, sym, ap, subst, subst₂, arith}
+use Rattle.std.proofs.lemmas.Option.{same_Some, slice_get_within, get_or_from_slice_get}
+use Rattle.std.proofs.lemmas.List.Concat.{flat_map-append}
 use Rattle.std.specs.FinMap.{from_entries}
 use Rattle.std.specs.List.{slice_get, All, AllZip}
 use mathlib.Core.List.{IsPrefix}
@@ -20,13 +21,13 @@ use Rattle.jc_stripe.specs.Laws.{ReachedIsLegal}
 use Rattle.jc_stripe.specs.Generations.{IsChain, first_opening, IsOfSameStripe}
 use Rattle.jc_lock.proofs.CallerLemmas.{prefix-refl, same_itself}
 use Rattle.jc_cache.specs.declared.session.Session.{Session}
-use Rattle.jc_cache.specs.Caches.{OwnerState, noted_by, fronts_of}
+use Rattle.jc_cache.specs.Caches.{OwnerState, noted_by, fronts_of, logs_of}
 use Rattle.jc_cache.specs.CacheInside.{IsOwnSeat, IsWhole}
-use Rattle.jc_cache.specs.Closing.{AreClosed, HasFront, IsClosed, IsClosedAt, IsCloseRefusal, IsEndRefusal, IsHandedBack}
-use Rattle.jc_cache.specs.ClosingInside.{KeepsSeat, KeepSeats, AreIdle, IsFreeSeat, IsRowRefusal, HasTaken, HaveTaken}
-use Rattle.jc_cache.proofs.Rows.{Seated, length_locks, seat_there}
+use Rattle.jc_cache.specs.Closing.{AreClosed, HasFront, HasMissed, HasOnlyLooked, HasOnlyTaken, IsTakenAs, all_lent, lent_at, IsClosed, IsClosedAt, IsCloseRefusal, IsEndRefusal, IsHandedBack}
+use Rattle.jc_cache.specs.ClosingInside.{KeepsSeat, KeepSeats, Looks, Whatever, AreIdle, IsFreeSeat, IsRowRefusal, HasTaken, HaveTaken}
+use Rattle.jc_cache.proofs.Rows.{Seated, length_locks, map_get, seat_there}
 use Rattle.jc_cache.proofs.Noted.{noted_there, handed_back, idle_noted}
-use Rattle.jc_cache.proofs.ClosingSeats.{keep_locks, keep_at, free_at, taken_at}
+use Rattle.jc_cache.proofs.ClosingSeats.{keep_locks, keep_at, free_at, lent_there, taken_at}
 
 row_free : (seats : List Seated) → ((i : ℕ) (seat : Seated) → slice_get seats i ≡ Some seat → IsFreeSeat seat.1) → HaveTaken seats []
 row_free [] each = tt
@@ -35,18 +36,18 @@ row_free (seat ∷ seats) each = (each 0 seat refl, row_free seats (λ i other a
 pub all_free : (config : Config) (given : ℕ) (locks : List TableId) (seats : List Seated) → IsWhole config given locks seats → HaveTaken seats []
 all_free config given locks seats whole = row_free seats (λ i seat at. record { of_none = (whole.each i seat at).of_none; free = (whole.each i seat at).free })
 
-pub whole_again : (config : Config) (given : ℕ) (locks : List TableId) (old new : List Seated) → IsWhole config given locks old → KeepSeats old new → HaveTaken new [] → IsWhole config given locks new
-whole_again config given locks old new whole keeps free = record {
+pub whole_again : (lends : State → State → Type 0) (config : Config) (given : ℕ) (locks : List TableId) (old new : List Seated) → IsWhole config given locks old → KeepSeats lends old new → HaveTaken new [] → IsWhole config given locks new
+whole_again lends config given locks old new whole keeps free = record {
   fits = whole.fits;
   few = whole.few;
   count = whole.count;
-  own = keep_locks old new keeps ∙ whole.own;
+  own = keep_locks _ old new keeps ∙ whole.own;
   each = λ i seat at.
-      let was = keep_at old new i seat keeps at in
+      let was = keep_at _ old new i seat keeps at in
       own_again i was.0 seat (whole.each i was.0 was.1) was.2 (free_at new i seat free at);
 }
   where
-    own_again : (i : ℕ) (x y : Seated) → IsOwnSeat config i given x.1 → KeepsSeat x y → IsFreeSeat y.1 → IsOwnSeat config i given y.1
+    own_again : (i : ℕ) (x y : Seated) → IsOwnSeat config i given x.1 → KeepsSeat lends x y → IsFreeSeat y.1 → IsOwnSeat config i given y.1
     own_again i x y own keeps free = record {
       of_none = free.of_none;
       gives = keeps.next_session ∙ own.gives;
@@ -57,7 +58,7 @@ whole_again config given locks old new whole keeps free = record {
       origin_is = keeps.same.origin ∙ own.origin_is;
     }
 
-closed_at : (config : Config) (i given : ℕ) (x y : Seated) (state : State) → ReachedIsLegal → IsOwnSeat config i given x.1 → KeepsSeat x y → HasTaken y.1 state → IsClosedAt config i (first_opening x.1.noted) state
+closed_at : {lends : State → State → Type 0} (config : Config) (i given : ℕ) (x y : Seated) (state : State) → ReachedIsLegal → IsOwnSeat config i given x.1 → KeepsSeat lends x y → HasTaken y.1 state → IsClosedAt config i (first_opening x.1.noted) state
 closed_at config i given x y state legal own keeps taken =
     let opening : first_opening state ≡ first_opening x.1.noted = ap first_opening (sym taken.noted) ∙ keeps.same.opening in
     let shape : state.config ≡ config = ap (λ (s : State). s.config) (sym taken.noted) ∙ keeps.same.config ∙ own.config_is in
@@ -73,24 +74,51 @@ closed_at config i given x y state legal own keeps taken =
       leaves = subst (λ (c : Config). IsHistory c (from_entries state.opening) state.history state.cache) shape taken.reached.legal;
     }
 
-pub ended : (owner : OwnerState) (own seats : List Seated) (stripes : List State) → ReachedIsLegal
-    → IsWhole owner.cache.config owner.given owner.cache.locks own → owner.noted ≡ noted_by own → KeepSeats own seats → HaveTaken seats stripes → length stripes ≡ length seats → AreClosed owner stripes
-ended owner own seats stripes legal whole noted keeps taken count = record {
-  count = count ∙ length_locks seats owner.cache.locks (keep_locks own seats keeps ∙ whole.own) ∙ whole.count;
+pub ended : (lends : State → State → Type 0) (owner : OwnerState) (own seats : List Seated) (stripes : List State) → ReachedIsLegal
+    → IsWhole owner.cache.config owner.given owner.cache.locks own → owner.noted ≡ noted_by own → KeepSeats lends own seats → HaveTaken seats stripes → length stripes ≡ length seats → AreClosed owner stripes
+ended lends owner own seats stripes legal whole noted keeps taken count = record {
+  count = count ∙ length_locks seats owner.cache.locks (keep_locks _ own seats keeps ∙ whole.own) ∙ whole.count;
   each = λ i state at.
       let y = seat_there seats i (subst (λ (n : ℕ). i < n) count (slice_get_within stripes i state at)) in
-      let x = keep_at own seats i y.0 keeps y.1 in (
+      let x = keep_at _ own seats i y.0 keeps y.1 in (
         x.0.1.noted,
         ap (λ (states : List State). slice_get states i) noted ∙ noted_there own i x.0 x.1,
         closed_at owner.cache.config i owner.given x.0 y.0 state legal (whole.each i x.0 x.1) x.2 (taken_at seats stripes i y.0 state taken y.1 at),
       );
 }
 
-pub closed : {I J : Type 0} {D : I → Type 0} {E : J → Type 0} (owner : OwnerState) (own seats : List Seated) (stripes : List State) (sessions : List (Session I J D E)) → ReachedIsLegal
-    → IsWhole owner.cache.config owner.given owner.cache.locks own → owner.noted ≡ noted_by own → KeepSeats own seats → HaveTaken seats stripes → length stripes ≡ length seats → length sessions ≡ owner.given
+pub taken_as : (seats : List Seated) (stripes : List State) → HaveTaken seats stripes → length stripes ≡ length seats → AllZip IsTakenAs seats stripes
+taken_as [] [] h count = tt
+taken_as [] (s ∷ stripes) h count = absurd h
+taken_as (x ∷ seats) [] h count = absurd (omega arith)
+taken_as (x ∷ seats) (s ∷ stripes) h count = (record { holds = h.0.holds; noted = h.0.noted }, taken_as seats stripes h.1 (omega arith))
+
+pub gave_none : (lends : State → State → Type 0) (config : Config) (given : ℕ) (locks : List TableId) (old new : List Seated) → IsWhole config given locks old → KeepSeats lends old new → (i : ℕ) (seat : Seated) → slice_get new i ≡ Some seat → seat.1.next_session ≡ Some given
+gave_none lends config given locks old new whole keeps i seat at = let was = keep_at lends old new i seat keeps at in was.2.next_session ∙ (whole.each i was.0 was.1).gives
+
+pub lent_more : {I J : Type 0} {D : I → Type 0} {E : J → Type 0} (sessions : List (Session I J D E)) (session : Session I J D E) (i : ℕ) → all_lent (sessions ++ session ∷ []) i ≡ all_lent sessions i ++ lent_at session.seats.items i
+lent_more {I} {J} {D} {E} sessions session i =
+    flat_map-append (λ (s : Session I J D E). lent_at s.seats.items i) sessions (session ∷ []) ∙ ap (λ (ls : List (State × State)). all_lent sessions i ++ ls) (append-nil (lent_at session.seats.items i))
+
+pub only_taken : {I J : Type 0} {D : I → Type 0} {E : J → Type 0} (sessions : List (Session I J D E)) (logs : List (List (State × State) × ℕ)) (old mid new : List Seated) → logs ≡ logs_of old → KeepSeats Looks old mid → KeepSeats Whatever mid new
+    → ((i : ℕ) → lent_at new i ≡ lent_at mid i ++ all_lent sessions i) → (i : ℕ) (before : List (State × State) × ℕ) (seat : Seated) → slice_get logs i ≡ Some before → slice_get new i ≡ Some seat → HasOnlyTaken before (all_lent sessions i) seat
+only_taken {I} {J} {D} {E} sessions logs old mid new are looked joined handed i before seat there at =
+    let m = keep_at Whatever mid new i seat joined at in
+    let o = keep_at Looks old mid i m.0 looked m.1 in
+    let log = map_get (λ (s : Seated). (s.1.lendings, s.1.misses)) old i before (ap (λ (ls : List (List (State × State) × ℕ)). slice_get ls i) (sym are) ∙ there) in
+    let first : o.0.1.lendings ≡ before.0 = ap (λ (s : Seated). s.1.lendings) (same_Some o.0 log.0 (sym o.1 ∙ log.1)) ∙ sym (ap (λ (l : List (State × State) × ℕ). l.0) log.2) in
+    record {
+      row = o.2.row;
+      lendings = sym (lent_there new i seat at) ∙ handed i ∙ ap (λ (ls : List (State × State)). ls ++ all_lent sessions i) (lent_there mid i m.0 m.1 ∙ o.2.lendings ∙ ap (λ (ls : List (State × State)). ls ++ o.2.row) first)
+          ∙ append_assoc before.0 o.2.row (all_lent sessions i);
+      looked = o.2.each;
+    }
+
+pub closed : {I J : Type 0} {D : I → Type 0} {E : J → Type 0} (lends : State → State → Type 0) (owner : OwnerState) (own seats : List Seated) (stripes : List State) (sessions : List (Session I J D E)) → ReachedIsLegal
+    → IsWhole owner.cache.config owner.given owner.cache.locks own → owner.noted ≡ noted_by own → KeepSeats lends own seats → HaveTaken seats stripes → length stripes ≡ length seats → length sessions ≡ owner.given
     → All (λ (s : Session I J D E). HasFront stripes s.seats.items) sessions → IsClosed owner sessions stripes
-closed {I} {J} {D} {E} owner own seats stripes sessions legal whole noted keeps taken count all fronts = record {
-  stripes_are = ended owner own seats stripes legal whole noted keeps taken count;
+closed {I} {J} {D} {E} lends owner own seats stripes sessions legal whole noted keeps taken count all fronts = record {
+  stripes_are = ended _ owner own seats stripes legal whole noted keeps taken count;
   all = all;
   fronts = λ n session at.
       subst (λ (s : Session I J D E). HasFront stripes s.seats.items) (get_or_from_slice_get sessions n session session at) (fronts n session (slice_get_within sessions n session at));
@@ -104,31 +132,36 @@ prefix_all : (fronts : List (List Event)) → AllZip IsPrefix fronts fronts
 prefix_all [] = tt
 prefix_all (front ∷ fronts) = (prefix-refl front, prefix_all fronts)
 
+logs_all : (logs : List (List (State × State) × ℕ)) → AllZip HasOnlyLooked logs logs
+logs_all [] = tt
+logs_all (log ∷ logs) = (record { row = []; lendings = sym (append-nil log.0); looked = tt; misses = le_refl log.1 }, logs_all logs)
+
 pub as_it_was : (owner : OwnerState) → IsHandedBack owner owner
-as_it_was owner = record { cache = refl; given = refl; noted = same_all owner.noted; fronts = prefix_all owner.fronts }
+as_it_was owner = record { cache = refl; given = refl; noted = same_all owner.noted; fronts = prefix_all owner.fronts; logs = logs_all owner.logs }
 
 pub back : (owner left : OwnerState) (old new : List Seated) → left.cache ≡ owner.cache → left.given ≡ owner.given → owner.noted ≡ noted_by old → owner.fronts ≡ fronts_of old
-    → left.noted ≡ noted_by new → left.fronts ≡ fronts_of new → KeepSeats old new → IsHandedBack owner left
-back owner left old new cache given noted fronts noted' fronts' keeps =
+    → left.noted ≡ noted_by new → left.fronts ≡ fronts_of new → owner.logs ≡ logs_of old → left.logs ≡ logs_of new → KeepSeats Looks old new → IsHandedBack owner left
+back owner left old new cache given noted fronts noted' fronts' logs logs' keeps =
     let both = handed_back old new keeps in
     record {
       cache = cache;
       given = given;
       noted = subst₂ (AllZip IsOfSameStripe) (sym noted) (sym noted') both.0;
       fronts = subst₂ (AllZip IsPrefix) (sym fronts) (sym fronts') both.1;
+      logs = subst₂ (AllZip HasOnlyLooked) (sym logs) (sym logs') both.2;
     }
 
-pub why_ended : (states : List State) (refusal : Refusal) (own : List Seated) → states ≡ noted_by own
-    → IsRowRefusal refusal own ⊎ ((refusal ≡ OutOfMemory) × AreIdle own) → IsEndRefusal refusal states
-why_ended states refusal own noted by =
+pub why_ended : (owner left : OwnerState) (refusal : Refusal) (old own : List Seated) → left.noted ≡ noted_by own → owner.logs ≡ logs_of old → left.logs ≡ logs_of own
+    → IsRowRefusal refusal old own ⊎ ((refusal ≡ OutOfMemory) × AreIdle own) → IsEndRefusal refusal owner left
+why_ended owner left refusal old own noted before after by =
     ⊎_elim
     (λ row. ⊎_elim
     (λ out. inl (out.0, (out.1.0, out.1.1, ap (λ (all : List State). slice_get all out.1.0) noted ∙ out.1.2, out.1.3)))
-    (λ busy. inr (inr busy))
+    (λ busy. inr (inr (busy.0, subst₂ HasMissed (sym before) (sym after) busy.1)))
     row)
     (λ memory. inr (inl (memory.0, λ i state at. idle_noted own memory.1 i state (ap (λ (all : List State). slice_get all i) (sym noted) ∙ at))))
     by
 
-pub why : (owner left : OwnerState) (handed_in : ℕ) (refusal : Refusal) (own : List Seated) → handed_in ≡ owner.given → left.noted ≡ noted_by own
-    → IsRowRefusal refusal own ⊎ ((refusal ≡ OutOfMemory) × AreIdle own) → IsCloseRefusal owner handed_in refusal left
-why owner left handed_in refusal own all noted by = inr (all, why_ended left.noted refusal own noted by)
+pub why : (owner left : OwnerState) (handed_in : ℕ) (refusal : Refusal) (old own : List Seated) → handed_in ≡ owner.given → left.noted ≡ noted_by own → owner.logs ≡ logs_of old → left.logs ≡ logs_of own
+    → IsRowRefusal refusal old own ⊎ ((refusal ≡ OutOfMemory) × AreIdle own) → IsCloseRefusal owner handed_in refusal left
+why owner left handed_in refusal old own all noted before after by = inr (all, why_ended owner left refusal old own noted before after by)

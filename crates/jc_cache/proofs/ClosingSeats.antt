@@ -12,7 +12,7 @@
 --     popped_at, popped_done, popped_long   the last seat of a session that is left
 --     no_front, join_near, join_there, join_step    it is joined
 --     brought_push                          what one session more brings
-use Rattle.std.proofs.Common.{◌≡◌, ◌∙◌, ◌<◌, ◌≤◌, ◌+◌, inl, ℕ, zero, suc, true, List, [], ◌∷◌, ◌++◌, length, map, set, get_or, Option, Some, refl, sym, ap, subst, subst₂, append_assoc, length-append, arith}
+use Rattle.std.proofs.Common.{append-nil, le_refl, ◌≡◌, ◌∙◌, ◌<◌, ◌≤◌, ◌+◌, inl, ℕ, zero, suc, true, List, [], ◌∷◌, ◌++◌, length, map, set, get_or, Option, Some, refl, sym, ap, subst, subst₂, append_assoc, length-append, arith}
 use Rattle.std.proofs.lemmas.List.{length-map, map-append}
 use Rattle.std.proofs.lemmas.Option.{none-some, same_Some, slice_get_read, slice_get_within}
 use Rattle.std.specs.List.{slice_get}
@@ -25,67 +25,91 @@ use Rattle.jc_stripe.specs.Generations.{whole_history}
 use Rattle.jc_lock.specs.Views.{IsPhaseBy, IsTurnBy, after_give, after_join}
 use Rattle.jc_lock.specs.declared.view.View.{View}
 use Rattle.jc_lock.proofs.CallerLemmas.{prefix-refl, prefix-trans, same_itself, same_at, same_on}
-use Rattle.jc_cache.specs.ClosingInside.{KeepsSeat, KeepSeats, IsFreeSeat, HasTaken, HaveTaken, AreAtLocks}
+use Rattle.jc_engine.specs.Chain.{AllLend}
+use Rattle.jc_cache.specs.Closing.{lent_at}
+use Rattle.jc_cache.specs.ClosingInside.{KeepsSeat, KeepSeats, Looks, Whatever, IsFreeSeat, HasTaken, HaveTaken, AreAtLocks}
 use Rattle.jc_cache.proofs.Rows.{Seated, locks_of, length_locks, seat_there, lock_there}
 
 -- 1. The same seats.
 
-pub keeps_itself : (x : Seated) → KeepsSeat x x
-keeps_itself x = record { lock = refl; session = refl; next_session = refl; spent = refl; same = same_itself x.1.noted; front = prefix-refl x.1.front }
+lend-append : (lends : State → State → Type 0) (ps qs : List (State × State)) → AllLend lends ps → AllLend lends qs → AllLend lends (ps ++ qs)
+lend-append lends [] qs one two = two
+lend-append lends (p ∷ ps) qs one two = (one.0, lend-append lends ps qs one.1 two)
 
-pub keeps_on : (x y z : Seated) → KeepsSeat x y → KeepsSeat y z → KeepsSeat x z
-keeps_on x y z p q = record {
+any_lent : (ps : List (State × State)) → AllLend Whatever ps
+any_lent [] = tt
+any_lent (p ∷ ps) = (tt, any_lent ps)
+
+pub keeps_itself : {lends : State → State → Type 0} (x : Seated) → KeepsSeat lends x x
+keeps_itself x = record { lock = refl; session = refl; next_session = refl; spent = refl; same = same_itself x.1.noted; front = prefix-refl x.1.front; row = []; lendings = sym (append-nil x.1.lendings); each = tt; misses = le_refl x.1.misses }
+
+pub keeps_on : {lends : State → State → Type 0} (x y z : Seated) → KeepsSeat lends x y → KeepsSeat lends y z → KeepsSeat lends x z
+keeps_on {lends} x y z p q = record {
   lock = q.lock ∙ p.lock;
   session = q.session ∙ p.session;
   next_session = q.next_session ∙ p.next_session;
   spent = q.spent ∙ p.spent;
   same = same_on x.1.noted y.1.noted z.1.noted p.same q.same;
   front = prefix-trans x.1.front y.1.front z.1.front p.front q.front;
+  row = p.row ++ q.row;
+  lendings = q.lendings ∙ ap (λ (ls : List (State × State)). ls ++ q.row) p.lendings ∙ append_assoc x.1.lendings p.row q.row;
+  each = lend-append lends p.row q.row p.each q.each;
+  misses = (let one = p.misses in let two = q.misses in omega arith);
 }
 
-pub keep_all : (xs : List Seated) → KeepSeats xs xs
-keep_all [] = tt
-keep_all (x ∷ xs) = (keeps_itself x, keep_all xs)
+-- what is looked at is lent somehow
+pub looked_somehow : (xs ys : List Seated) → KeepSeats Looks xs ys → KeepSeats Whatever xs ys
+looked_somehow [] [] p = tt
+looked_somehow [] (y ∷ ys) p = absurd p
+looked_somehow (x ∷ xs) [] p = absurd p
+looked_somehow (x ∷ xs) (y ∷ ys) p = let k = p.0 in (
+  record { lock = k.lock; session = k.session; next_session = k.next_session; spent = k.spent; same = k.same; front = k.front; row = k.row; lendings = k.lendings; each = any_lent k.row; misses = k.misses },
+  looked_somehow xs ys p.1,
+)
 
-pub keep_on : (xs ys zs : List Seated) → KeepSeats xs ys → KeepSeats ys zs → KeepSeats xs zs
-keep_on [] [] [] p q = tt
-keep_on [] [] (z ∷ zs) p q = q
-keep_on [] (y ∷ ys) zs p q = absurd p
-keep_on (x ∷ xs) [] zs p q = absurd p
-keep_on (x ∷ xs) (y ∷ ys) [] p q = q
-keep_on (x ∷ xs) (y ∷ ys) (z ∷ zs) p q = (keeps_on x y z p.0 q.0, keep_on xs ys zs p.1 q.1)
+pub keep_all : (lends : State → State → Type 0) (xs : List Seated) → KeepSeats lends xs xs
+keep_all lends [] = tt
+keep_all lends (x ∷ xs) = (keeps_itself x, keep_all _ xs)
 
-pub keep_set : (xs ys : List Seated) (i : ℕ) (x y : Seated) → KeepSeats xs ys → slice_get ys i ≡ Some x → KeepsSeat x y → KeepSeats xs (set ys i y)
-keep_set xs [] i x y p at q = absurd (none-some x at)
-keep_set [] (b ∷ ys) i x y p at q = absurd p
-keep_set (a ∷ xs) (b ∷ ys) zero x y p at q = (keeps_on a b y p.0 (subst (λ (s : Seated). KeepsSeat s y) (sym (same_Some b x at)) q), p.1)
-keep_set (a ∷ xs) (b ∷ ys) (suc i) x y p at q = (p.0, keep_set xs ys i x y p.1 at q)
+pub keep_on : (lends : State → State → Type 0) (xs ys zs : List Seated) → KeepSeats lends xs ys → KeepSeats lends ys zs → KeepSeats lends xs zs
+keep_on lends [] [] [] p q = tt
+keep_on lends [] [] (z ∷ zs) p q = q
+keep_on lends [] (y ∷ ys) zs p q = absurd p
+keep_on lends (x ∷ xs) [] zs p q = absurd p
+keep_on lends (x ∷ xs) (y ∷ ys) [] p q = q
+keep_on lends (x ∷ xs) (y ∷ ys) (z ∷ zs) p q = (keeps_on x y z p.0 q.0, keep_on _ xs ys zs p.1 q.1)
 
-pub keep_locks : (xs ys : List Seated) → KeepSeats xs ys → locks_of ys ≡ locks_of xs
-keep_locks [] [] p = refl
-keep_locks [] (y ∷ ys) p = absurd p
-keep_locks (x ∷ xs) [] p = absurd p
-keep_locks (x ∷ xs) (y ∷ ys) p = let head = p.0.lock in let tail = keep_locks xs ys p.1 in λ j. head j ∷ tail j
+pub keep_set : (lends : State → State → Type 0) (xs ys : List Seated) (i : ℕ) (x y : Seated) → KeepSeats lends xs ys → slice_get ys i ≡ Some x → KeepsSeat lends x y → KeepSeats lends xs (set ys i y)
+keep_set lends xs [] i x y p at q = absurd (none-some x at)
+keep_set lends [] (b ∷ ys) i x y p at q = absurd p
+keep_set lends (a ∷ xs) (b ∷ ys) zero x y p at q = (keeps_on a b y p.0 (subst (λ (s : Seated). KeepsSeat lends s y) (sym (same_Some b x at)) q), p.1)
+keep_set lends (a ∷ xs) (b ∷ ys) (suc i) x y p at q = (p.0, keep_set _ xs ys i x y p.1 at q)
 
-pub keep_length : (xs ys : List Seated) → KeepSeats xs ys → length ys ≡ length xs
-keep_length xs ys p = sym (length-map ys (λ (seat : Seated). seat.0)) ∙ ap length (keep_locks xs ys p) ∙ length-map xs (λ (seat : Seated). seat.0)
+pub keep_locks : (lends : State → State → Type 0) (xs ys : List Seated) → KeepSeats lends xs ys → locks_of ys ≡ locks_of xs
+keep_locks lends [] [] p = refl
+keep_locks lends [] (y ∷ ys) p = absurd p
+keep_locks lends (x ∷ xs) [] p = absurd p
+keep_locks lends (x ∷ xs) (y ∷ ys) p = let head = p.0.lock in let tail = keep_locks _ xs ys p.1 in λ j. head j ∷ tail j
 
-pub keep_at : (xs ys : List Seated) (i : ℕ) (y : Seated) → KeepSeats xs ys → slice_get ys i ≡ Some y → (x : Seated) × (slice_get xs i ≡ Some x) × KeepsSeat x y
-keep_at xs [] i y p at = absurd (none-some y at)
-keep_at [] (b ∷ ys) i y p at = absurd p
-keep_at (a ∷ xs) (b ∷ ys) zero y p at = (a, refl, subst (KeepsSeat a) (same_Some b y at) p.0)
-keep_at (a ∷ xs) (b ∷ ys) (suc i) y p at = keep_at xs ys i y p.1 at
+pub keep_length : (lends : State → State → Type 0) (xs ys : List Seated) → KeepSeats lends xs ys → length ys ≡ length xs
+keep_length lends xs ys p = sym (length-map ys (λ (seat : Seated). seat.0)) ∙ ap length (keep_locks _ xs ys p) ∙ length-map xs (λ (seat : Seated). seat.0)
+
+pub keep_at : (lends : State → State → Type 0) (xs ys : List Seated) (i : ℕ) (y : Seated) → KeepSeats lends xs ys → slice_get ys i ≡ Some y → (x : Seated) × (slice_get xs i ≡ Some x) × KeepsSeat lends x y
+keep_at lends xs [] i y p at = absurd (none-some y at)
+keep_at lends [] (b ∷ ys) i y p at = absurd p
+keep_at lends (a ∷ xs) (b ∷ ys) zero y p at = (a, refl, subst (KeepsSeat lends a) (same_Some b y at) p.0)
+keep_at lends (a ∷ xs) (b ∷ ys) (suc i) y p at = keep_at _ xs ys i y p.1 at
 
 -- the own seat and the lock at one place
-pub own_there : (xs ys : List Seated) (locks : List TableId) (i : ℕ) (seat : Seated) (lock : TableId) → locks_of xs ≡ locks → KeepSeats xs ys → i < length locks
+pub own_there : (lends : State → State → Type 0) (xs ys : List Seated) (locks : List TableId) (i : ℕ) (seat : Seated) (lock : TableId) → locks_of xs ≡ locks → KeepSeats lends xs ys → i < length locks
     → seat ≡ get_or ys i seat → lock ≡ get_or locks i lock → (slice_get ys i ≡ Some seat) × (seat.0 ≡ lock)
-own_there xs ys locks i seat lock is keeps near at_seat at_lock =
-    let now = keep_locks xs ys keeps ∙ is in
+own_there lends xs ys locks i seat lock is keeps near at_seat at_lock =
+    let now = keep_locks _ xs ys keeps ∙ is in
     let there = slice_get_read ys (length locks) i seat (sym (length_locks ys locks now)) near at_seat in
     (there, lock_there ys locks i seat lock now there (slice_get_read locks (length locks) i lock refl near at_lock))
 
-pub near_row : (xs ys : List Seated) (locks : List TableId) (i : ℕ) → locks_of xs ≡ locks → KeepSeats xs ys → i < length locks → i < length ys
-near_row xs ys locks i is keeps near = subst (λ (n : ℕ). i < n) (sym (length_locks ys locks (keep_locks xs ys keeps ∙ is))) near
+pub near_row : (lends : State → State → Type 0) (xs ys : List Seated) (locks : List TableId) (i : ℕ) → locks_of xs ≡ locks → KeepSeats lends xs ys → i < length locks → i < length ys
+near_row lends xs ys locks i is keeps near = subst (λ (n : ℕ). i < n) (sym (length_locks ys locks (keep_locks _ xs ys keeps ∙ is))) near
 
 -- 2. Seats that have taken nothing.
 
@@ -168,7 +192,7 @@ taken_fits (a ∷ seats) (s ∷ states) h = let ih = taken_fits seats states h.1
 pub none_phase : (view : View) (closed stripe : State) → HasTaken view closed → stripe ≡ closed → IsTurnBy view.session view.noted stripe
 none_phase view closed stripe h is = inl (subst (λ (o : Option ℕ). IsPhaseBy o view.noted stripe) (sym h.of_none) (is ∙ sym h.noted))
 
-pub given_back : (x y : Seated) (closed stripe : State) → HasTaken x.1 closed → stripe ≡ closed → y.0 ≡ x.0 → y.1 ≡ after_give x.1 stripe → KeepsSeat x y × IsFreeSeat y.1 × (y.1.noted ≡ x.1.noted)
+pub given_back : (x y : Seated) (closed stripe : State) → HasTaken x.1 closed → stripe ≡ closed → y.0 ≡ x.0 → y.1 ≡ after_give x.1 stripe → KeepsSeat Looks x y × IsFreeSeat y.1 × (y.1.noted ≡ x.1.noted)
 given_back x y closed stripe h is lock after = (
   record {
     lock = lock;
@@ -177,12 +201,16 @@ given_back x y closed stripe h is lock after = (
     spent = ap (λ (v : View). v.spent) after;
     same = same_at x.1.noted y.1.noted (h.noted ∙ sym is ∙ sym (ap (λ (v : View). v.noted) after));
     front = subst (IsPrefix x.1.front) (ap whole_history (sym is) ∙ sym (ap (λ (v : View). v.front) after)) h.front;
+    row = (x.1.noted, stripe) ∷ [];
+    lendings = ap (λ (v : View). v.lendings) after;
+    each = (is ∙ sym h.noted, tt);
+    misses = subst (λ (n : ℕ). x.1.misses ≤ n) (sym (ap (λ (v : View). v.misses) after)) (le_refl x.1.misses);
   },
   record { of_none = ap (λ (v : View). v.session) after ∙ h.of_none; free = ap (λ (v : View). v.holds) after },
   ap (λ (v : View). v.noted) after ∙ is ∙ sym h.noted,
 )
 
-pub learned : (x y : Seated) (w : View) (state : State) → HasTaken x.1 state → y.0 ≡ x.0 → y.1 ≡ after_join x.1 w → IsPrefix x.1.front y.1.front → IsPrefix y.1.front (whole_history state) → KeepsSeat x y × HasTaken y.1 state
+pub learned : (x y : Seated) (w : View) (state : State) → HasTaken x.1 state → y.0 ≡ x.0 → y.1 ≡ after_join x.1 w → IsPrefix x.1.front y.1.front → IsPrefix y.1.front (whole_history state) → KeepsSeat Whatever x y × HasTaken y.1 state
 learned x y w state h lock after seen front = (
   record {
     lock = lock;
@@ -191,6 +219,10 @@ learned x y w state h lock after seen front = (
     spent = ap (λ (v : View). v.spent) after;
     same = same_at x.1.noted y.1.noted (sym (ap (λ (v : View). v.noted) after));
     front = seen;
+    row = w.lendings;
+    lendings = ap (λ (v : View). v.lendings) after;
+    each = any_lent w.lendings;
+    misses = (let e = ap (λ (v : View). v.misses) after in omega arith);
   },
   record {
     of_none = ap (λ (v : View). v.session) after ∙ h.of_none;
@@ -204,19 +236,19 @@ learned x y w state h lock after seen front = (
 
 -- 6. The last stripe is given back.
 
-pub give_near : (xs ys : List Seated) (locks : List TableId) (old new : List State) (closed : State) (i : ℕ) → locks_of xs ≡ locks → KeepSeats xs ys → HaveTaken ys old
+pub give_near : (lends : State → State → Type 0) (xs ys : List Seated) (locks : List TableId) (old new : List State) (closed : State) (i : ℕ) → locks_of xs ≡ locks → KeepSeats lends xs ys → HaveTaken ys old
     → old ≡ new ++ closed ∷ [] → i ≡ length new → i < length locks
-give_near xs ys locks old new closed i is keeps h popped at =
+give_near lends xs ys locks old new closed i is keeps h popped at =
     let fits = taken_fits ys old h in
-    let rows = length_locks ys locks (keep_locks xs ys keeps ∙ is) in
+    let rows = length_locks ys locks (keep_locks _ xs ys keeps ∙ is) in
     let long = ap length popped ∙ length-append new (closed ∷ []) in
     omega arith
 
-pub give_there : (xs ys : List Seated) (locks : List TableId) (old new : List State) (closed : State) (i : ℕ) (seat : Seated) (lock : TableId) → locks_of xs ≡ locks → KeepSeats xs ys → HaveTaken ys old
+pub give_there : (lends : State → State → Type 0) (xs ys : List Seated) (locks : List TableId) (old new : List State) (closed : State) (i : ℕ) (seat : Seated) (lock : TableId) → locks_of xs ≡ locks → KeepSeats lends xs ys → HaveTaken ys old
     → old ≡ new ++ closed ∷ [] → i ≡ length new → seat ≡ get_or ys i seat → lock ≡ get_or locks i lock → (slice_get ys i ≡ Some seat) × (seat.0 ≡ lock) × HasTaken seat.1 closed
-give_there xs ys locks old new closed i seat lock is keeps h popped at at_seat at_lock =
-    let near = give_near xs ys locks old new closed i is keeps h popped at in
-    let there = own_there xs ys locks i seat lock is keeps near at_seat at_lock in
+give_there lends xs ys locks old new closed i seat lock is keeps h popped at at_seat at_lock =
+    let near = give_near _ xs ys locks old new closed i is keeps h popped at in
+    let there = own_there _ xs ys locks i seat lock is keeps near at_seat at_lock in
     (there.0, there.1, last_taken ys new seat closed (subst (HaveTaken ys) popped h) (subst (λ (n : ℕ). slice_get ys n ≡ Some seat) at there.0))
 
 pub give_step : (ys : List Seated) (old new : List State) (closed : State) (i : ℕ) (y : Seated) → HaveTaken ys old → old ≡ new ++ closed ∷ [] → i ≡ length new → IsFreeSeat y.1 → HaveTaken (set ys i y) new
@@ -250,11 +282,11 @@ pub join_near : (locks : List TableId) (all : List Seated) (i : ℕ) (x : Seated
 join_near locks all i x fit at = subst (λ (n : ℕ). i < n) (length_locks all locks fit.at) (slice_get_within all i x at)
 
 -- a session's seat is at the lock of its place
-pub join_there : (xs ys : List Seated) (locks : List TableId) (all : List Seated) (i : ℕ) (x seat : Seated) (lock : TableId) → locks_of xs ≡ locks → KeepSeats xs ys → AreAtLocks locks all
+pub join_there : (lends : State → State → Type 0) (xs ys : List Seated) (locks : List TableId) (all : List Seated) (i : ℕ) (x seat : Seated) (lock : TableId) → locks_of xs ≡ locks → KeepSeats lends xs ys → AreAtLocks locks all
     → slice_get all i ≡ Some x → seat ≡ get_or ys i seat → lock ≡ get_or locks i lock → (slice_get ys i ≡ Some seat) × (seat.0 ≡ lock) × (x.0 ≡ lock)
-join_there xs ys locks all i x seat lock is keeps fit at at_seat at_lock =
+join_there lends xs ys locks all i x seat lock is keeps fit at at_seat at_lock =
     let near = join_near locks all i x fit at in
-    let there = own_there xs ys locks i seat lock is keeps near at_seat at_lock in
+    let there = own_there _ xs ys locks i seat lock is keeps near at_seat at_lock in
     (there.0, there.1, lock_there all locks i x lock fit.at at (slice_get_read locks (length locks) i lock refl near at_lock))
 
 front_step : (n m : ℕ) (stripes : List State) (all : List Seated) (x : Seated) (state : State) → m ≡ n + 1 → slice_get all n ≡ Some x → slice_get stripes n ≡ Some state → IsPrefix x.1.front (whole_history state)
@@ -269,7 +301,7 @@ front_step n m stripes all x state next at there front later i state' x' le ther
 -- one of a session's seats was joined
 pub join_step : (ys : List Seated) (stripes : List State) (all : List Seated) (n m : ℕ) (x seat after : Seated) → length stripes ≡ length all → HaveTaken ys stripes → slice_get ys n ≡ Some seat → slice_get all n ≡ Some x → m ≡ n + 1
     → after.0 ≡ seat.0 → after.1 ≡ after_join seat.1 x.1 → IsPrefix seat.1.front after.1.front → IsPrefix x.1.front after.1.front → (seat.1.holds ≡ true → IsPrefix after.1.front (whole_history seat.1.noted)) → HasFrontFrom m stripes all
-    → KeepsSeat seat after × HaveTaken (set ys n after) stripes × HasFrontFrom n stripes all
+    → KeepsSeat Whatever seat after × HaveTaken (set ys n after) stripes × HasFrontFrom n stripes all
 join_step ys stripes all n m x seat after count h at_own at next lock is seen joined held later =
     let s = seat_there stripes n (subst (λ (k : ℕ). n < k) (sym count) (slice_get_within all n x at)) in
     let taken = taken_at ys stripes n seat s.0 h at_own s.1 in
@@ -283,3 +315,45 @@ pub brought_push : {X Y : Type 0} (f : X → Y) (old now new : List Y) (xs : Lis
 brought_push {X} {Y} f old now new xs x y pushed are is =
     pushed ∙ ap (λ (ys : List Y). ys ++ y ∷ []) are ∙ append_assoc old (map f xs) (y ∷ []) ∙ ap (λ (z : Y). old ++ (map f xs ++ z ∷ [])) is
     ∙ ap (λ (ys : List Y). old ++ ys) (sym (map-append f xs (x ∷ [])))
+
+-- 9. What sessions have lent.
+
+pub lent_there : (xs : List Seated) (i : ℕ) (x : Seated) → slice_get xs i ≡ Some x → lent_at xs i ≡ x.1.lendings
+lent_there [] i x at = absurd (none-some x at)
+lent_there (a ∷ xs) zero x at = ap (λ (s : Seated). s.1.lendings) (same_Some a x at)
+lent_there (a ∷ xs) (suc i) x at = lent_there xs i x at
+
+lent_beyond : (xs : List Seated) (i : ℕ) → length xs ≤ i → lent_at xs i ≡ []
+lent_beyond [] i le = refl
+lent_beyond (a ∷ xs) zero le = absurd (omega arith)
+lent_beyond (a ∷ xs) (suc i) le = lent_beyond xs i (omega arith)
+
+lent_here : (xs : List Seated) (n : ℕ) (x y : Seated) → slice_get xs n ≡ Some x → lent_at (set xs n y) n ≡ y.1.lendings
+lent_here [] n x y at = absurd (none-some x at)
+lent_here (a ∷ xs) zero x y at = refl
+lent_here (a ∷ xs) (suc n) x y at = lent_here xs n x y at
+
+lent_other : (xs : List Seated) (n i : ℕ) (y : Seated) → (i ≡ n → ⊥) → lent_at (set xs n y) i ≡ lent_at xs i
+lent_other [] n i y ne = refl
+lent_other (a ∷ xs) zero zero y ne = absurd (ne refl)
+lent_other (a ∷ xs) zero (suc i) y ne = refl
+lent_other (a ∷ xs) (suc n) zero y ne = refl
+lent_other (a ∷ xs) (suc n) (suc i) y ne = lent_other xs n i y (λ e. ne (ap suc e))
+
+-- the seats of a session from the place `n` on were joined
+abbrev pub HandedFrom : ℕ → List Seated → List Seated → List Seated → Type 0
+HandedFrom n old all now = (i : ℕ) → (n ≤ i → lent_at now i ≡ lent_at old i ++ lent_at all i) × (i < n → lent_at now i ≡ lent_at old i)
+
+pub handed_none : (old all : List Seated) → HandedFrom (length all) old all old
+handed_none old all i = ((λ le. sym (append-nil (lent_at old i)) ∙ ap (λ (ls : List (State × State)). lent_at old i ++ ls) (sym (lent_beyond all i le))), λ lt. refl)
+
+pub handed_next : (n m : ℕ) (old all now : List Seated) (x seat after : Seated) → m ≡ n + 1 → slice_get now n ≡ Some seat → slice_get all n ≡ Some x → after.1.lendings ≡ seat.1.lendings ++ x.1.lendings
+    → HandedFrom m old all now → HandedFrom n old all (set now n after)
+handed_next n m old all now x seat after next here at joined done i = (
+  (λ le. dite (ℕ_discrete i n)
+    (λ e. subst (λ (k : ℕ). lent_at (set now n after) k ≡ lent_at old k ++ lent_at all k) (sym e)
+    (lent_here now n seat after here ∙ joined
+    ∙ (λ j. (sym (lent_there now n seat here) ∙ (done n).1 (omega arith)) j ++ sym (lent_there all n x at) j)))
+    (λ ne. lent_other now n i after ne ∙ (done i).0 (omega arith))),
+  λ lt. lent_other now n i after (λ e. omega arith) ∙ (done i).1 (omega arith),
+)

@@ -11,7 +11,7 @@ use Rattle.std.proofs.lemmas.Option.{same_Some}
 use Rattle.jc_model.specs.declared.event.Event.{Event}
 use Rattle.jc_stripe.specs.State.{State}
 use Rattle.jc_stripe.specs.Renewal.{Renewal, Renews, StaysOrRenews, EndsGeneration}
-use Rattle.jc_lock.specs.Views.{Finds, after_give, own_steps_of}
+use Rattle.jc_lock.specs.Views.{Finds, after_give, after_take, own_steps_of}
 use Rattle.jc_lock.specs.declared.view.View.{View}
 use Rattle.jc_lock.proofs.CallerLemmas.{same_on}
 use Rattle.jc_cache.specs.Caches.{CacheState}
@@ -35,7 +35,7 @@ pub end_of : {A : Type 0} (answer : Result (Option ℕ) A) (old new : List Event
 end_of (Ok ended) old new found left ok err = ok
 end_of (Err failed) old new found left ok err = err
 
-renewed_seen : (v : View) (found left : State) → (session : ℕ) × (v.session ≡ Some session) → Renewal → Finds v found → Renews found left → HasSeen v (after_give v left)
+renewed_seen : (v : View) (found left : State) → (session : ℕ) × (v.session ≡ Some session) → Renewal → Finds v found → Renews found left → HasSeen v (after_give (after_take v found) left)
 renewed_seen v found left session law finds renews =
     let r = law found left finds.reached renews in
     record {
@@ -44,9 +44,9 @@ renewed_seen v found left session law finds renews =
       own = ap (λ o. own_steps_of o left) session.1 ∙ r.own session.0 ∙ finds.own session.0 session.1;
     }
 
-pub ended_seen : (v : View) (found left : State) → (session : ℕ) × (v.session ≡ Some session) → Renewal → Finds v found → StaysOrRenews found left → HasSeen v (after_give v left)
+pub ended_seen : (v : View) (found left : State) → (session : ℕ) × (v.session ≡ Some session) → Renewal → Finds v found → StaysOrRenews found left → HasSeen v (after_give (after_take v found) left)
 ended_seen v found left session law finds turn = ⊎_elim
-    (λ same. subst (λ (s : State). HasSeen v (after_give v s)) (sym same) (refreshed_seen v (after_give v found) found session finds refl))
+    (λ same. subst (λ (s : State). HasSeen v (after_give (after_take v found) s)) (sym same) (refreshed_seen v (after_give (after_take v found) found) found session finds refl))
     (λ renews. renewed_seen v found left session law finds renews)
     turn
 

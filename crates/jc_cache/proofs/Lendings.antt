@@ -25,7 +25,7 @@ use Rattle.jc_lock.specs.declared.view.View.{View}
 use Rattle.jc_lock.specs.Views.{Finds, after_take, after_give, own_steps_of}
 use Rattle.jc_lock.proofs.CallerLemmas.{prefix-refl, prefix-trans, same_itself, same_on}
 use Rattle.jc_gate.specs.Lending.{Lends, Lent}
-use Rattle.jc_engine.specs.Chain.{IsQuiet, AllQuiet, Rests, LentPhase}
+use Rattle.jc_engine.specs.Chain.{IsQuiet, AllQuiet, Rests, LentPhase, Turn}
 use Rattle.jc_cache.specs.Fronts.{IsSameSeat, HasSeen, HasAllSeen, HasMade}
 
 -- 1. The gate of a lock.
@@ -229,9 +229,9 @@ module _ {G L : Type 0} where
       → (u.0 ≡ t.0) × HasSeen t.1 u.1
   rests_seen session g t h u mine free x = idle_seen session g t x.idle h u mine free x.lent x.quiet
 
-  pub phase_lent : OnePhase → (session : ℕ) (g : G) (t : L × View) (phase : State → State → Type 0) (h : G) (u : L × View) → t.1.session ≡ Some session → t.1.holds ≡ false
-      → (x : LentPhase lock_takes lock_gives lock_finds session g t phase h u) → (u.0 ≡ t.0) × Lending session t.1 x.before x.after u.1
-  phase_lent law session g t phase h u mine free x =
+  pub phase_lent : OnePhase → (session : ℕ) (g : G) (t : L × View) (turn : Turn) (h : G) (u : L × View) → t.1.session ≡ Some session → t.1.holds ≡ false
+      → (x : LentPhase lock_takes lock_gives lock_finds session g t turn h u) → (u.0 ≡ t.0) × Lending session t.1 x.before x.after u.1
+  phase_lent law session g t turn h u mine free x =
       let rest = rests_seen session g t x.gate x.token mine free x.rests in
       let one = one_lent law session x.gate x.token x.before x.after h u (rest.1.seat.session ∙ mine) x.one x.lent in
       (one.0 ∙ rest.0, earlier session t.1 x.token.1 x.before x.after u.1 rest.1 one.1)

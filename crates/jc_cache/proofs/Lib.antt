@@ -16,3 +16,4 @@ pub mod Readings
 pub mod EndedGenerations
 pub mod Increments
 pub mod Enlisted
+pub mod Turns

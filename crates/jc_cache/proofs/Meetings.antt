@@ -3,6 +3,7 @@
 --     row_set                     a row of seats is kept if one of them has seen more
 --     HasRest, rest_set           from a place on a row is as it was, and then from the next one on
 --     TellBelow, tell_next, tell_all    what is told at the first stripes, at one more, and at all
+--     none_lent                   a seat that was told something has lent nothing
 --     refreshed_seen, joined_seen    a seat that was refreshed, and one that was told, have seen what they had seen
 --     there_row                   the seat at a place of a row of a session's seats
 --     teller_seen, hearer_seen    each seat of a row has seen what it had seen
@@ -18,13 +19,14 @@ use Rattle.jc_model.specs.declared.event.Event.{Event}
 use Rattle.jc_stripe.specs.OwnSteps.{is_before_call}
 use Rattle.jc_stripe.specs.State.{State}
 use Rattle.jc_stripe.specs.Generations.{IsOfSameStripe}
-use Rattle.jc_lock.specs.Views.{Finds, after_give, after_join, own_steps_of}
+use Rattle.jc_lock.specs.Views.{Finds, after_give, after_join, after_take, front_note, own_steps_of}
 use Rattle.jc_lock.specs.declared.view.View.{View}
 use Rattle.jc_lock.proofs.CallerLemmas.{same_itself}
 use Rattle.jc_session.specs.Counting.{one_more}
 use Rattle.jc_session.specs.declared.agent.Agent.{Agent}
 use Rattle.jc_cache.specs.Caches.{CacheState}
 use Rattle.jc_cache.specs.Fronts.{HasSeen}
+use Rattle.jc_cache.specs.Turns.{HasLent}
 use Rattle.jc_cache.specs.Meeting.{TellsAt, TellEach, IsSessionSeat, AreSessionSeats, KeepRow}
 use Rattle.jc_cache.specs.Sessions.{IsSeatAt, MayCall, capped}
 use Rattle.jc_cache.specs.declared.session.Session.{Session}
@@ -84,7 +86,7 @@ tell_all xs ys xs' ys' n locks long le below i a b a' b' at_a = let near = slice
 own_found : (v : View) (state : State) → (session : ℕ) × (v.session ≡ Some session) → Finds v state → own_steps_of v.session state ≡ v.own
 own_found v state session finds = ap (λ o. own_steps_of o state) session.1 ∙ finds.own session.0 session.1
 
-pub refreshed_seen : (v w : View) (state : State) → (session : ℕ) × (v.session ≡ Some session) → Finds v state → w ≡ after_give v state → HasSeen v w
+pub refreshed_seen : (v w : View) (state : State) → (session : ℕ) × (v.session ≡ Some session) → Finds v state → w ≡ after_give (after_take v state) state → HasSeen v w
 refreshed_seen v w state session finds is = subst (HasSeen v) (sym is) record {
   seat = record { session = refl; next_session = refl; spent = refl; free = refl; same = finds.same; next = finds.next };
   front = finds.front;
@@ -104,6 +106,13 @@ joined_seen v w other free is front = record {
   front = front;
   own = ap (λ (z : View). z.own) is;
 }
+
+-- a seat that was told something has lent nothing
+pub none_lent : (v w from : View) → w ≡ after_join v (front_note from) → HasLent v [] w
+none_lent v w from is = record { lendings = ap (λ (z : View). z.lendings) is; misses = ap (λ (z : View). z.misses) is ∙ none v.misses }
+  where
+    none : (n : ℕ) → n + 0 ≡ n
+    none n = omega arith
 
 -- 4. A session's seats.
 

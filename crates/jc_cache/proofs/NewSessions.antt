@@ -18,12 +18,12 @@ use Rattle.jc_lock.specs.Views.{after_split, session_view, session_number}
 use Rattle.jc_lock.specs.declared.view.View.{View}
 use Rattle.jc_session.specs.Counting.{one_more}
 use Rattle.jc_session.specs.declared.counts.Counts.{Counts}
-use Rattle.jc_cache.specs.Caches.{CacheState, OwnerState, noted_by, fronts_of, session_refusal}
+use Rattle.jc_cache.specs.Caches.{CacheState, OwnerState, noted_by, fronts_of, logs_of, session_refusal}
 use Rattle.jc_cache.specs.CacheInside.{IsOwnSeat, IsWhole}
 use Rattle.jc_cache.specs.Sessions.{IsSeatAt, BeginsAt, MayCall, own_total, capped}
 use Rattle.jc_cache.specs.declared.session.Session.{Session}
 use Rattle.jc_cache.proofs.Rows.{Seated, locks_of, map_get}
-use Rattle.jc_cache.proofs.Noted.{noted_same, fronts_same}
+use Rattle.jc_cache.proofs.Noted.{noted_same, fronts_same, logs_same}
 
 -- 1. The cache's own seats.
 
@@ -58,13 +58,14 @@ whole_after config given locks own new room whole is = subst (IsWhole config (gi
       subst (λ (s : Seated). IsOwnSeat config i (given + 1) s.1) (sym t.2) (own_after config i given t.0.1 (whole.each i t.0 t.1));
 }
 
-pub given_one : (owner : OwnerState) (cache : CacheState) (given : ℕ) (own new : List Seated) → record { cache = cache; given = given; noted = noted_by own; fronts = fronts_of own } ≡ owner
+pub given_one : (owner : OwnerState) (cache : CacheState) (given : ℕ) (own new : List Seated) → record { cache = cache; given = given; noted = noted_by own; fronts = fronts_of own; logs = logs_of own } ≡ owner
     → new ≡ map (λ (seat : Seated). (seat.0, after_split seat.1)) own
-    → record { cache = cache; given = given + 1; noted = noted_by new; fronts = fronts_of new } ≡ record owner { given = owner.given + 1 }
+    → record { cache = cache; given = given + 1; noted = noted_by new; fronts = fronts_of new; logs = logs_of new } ≡ record owner { given = owner.given + 1 }
 given_one owner cache given own new view is =
     let noted : noted_by new ≡ noted_by own = ap noted_by is ∙ noted_same after_split (λ v. refl) own in
     let fronts : fronts_of new ≡ fronts_of own = ap fronts_of is ∙ fronts_same after_split (λ v. refl) own in
-    (λ j. record { cache = cache; given = given + 1; noted = noted j; fronts = fronts j }) ∙ ap (λ (o : OwnerState). record o { given = o.given + 1 }) view
+    let logs : logs_of new ≡ logs_of own = ap logs_of is ∙ logs_same after_split (λ v. refl) (λ v. refl) own in
+    (λ j. record { cache = cache; given = given + 1; noted = noted j; fronts = fronts j; logs = logs j }) ∙ ap (λ (o : OwnerState). record o { given = o.given + 1 }) view
 
 -- 2. Who is refused.
 

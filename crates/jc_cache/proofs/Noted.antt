@@ -2,16 +2,16 @@
 --     noted_there, noted_at    the state that the seat at a place has noted; whose it is
 --     noted_push, fronts_push  a row with one more seat
 --     noted_set                a row whose seat at one place is another one, which has noted the same
---     noted_same, fronts_same  views that change in something else
+--     noted_same, fronts_same, logs_same  views that change in something else
 --     handed_back              the seats of a cache that was not closed
 --     idle_set, idle_noted     nothing is out in the states that the first seats, and all, have noted
---     row_refusal, same_refusal    the stripe of one seat is not taken; another row that has noted the same
+--     row_refusal, same_refusal, refusal_since    the stripe of one seat is not taken; another row that has noted the same
 --     opening_histories, opening_len, new_history, new_within    stripes in which nothing has happened: each history is empty; how
 --                              many there are; one of them
 --     first_push, new_each     first seats at their locks
 use Rattle.std.proofs.Common.{◌≡◌, ◌∙◌, ◌⊎◌, ⊎_elim, inl, inr, ◌+◌, ◌<◌, ℕ, zero, suc, Bool, true, false, Some, List, [], ◌∷◌, ◌++◌, length, map, set, replicate, slice_get, option_map, refl, sym, ap, subst, length-append, arith}
 use Rattle.std.proofs.lemmas.List.{length-map, map-append}
-use Rattle.std.proofs.lemmas.Option.{same_Some, none-some, slice_get-map}
+use Rattle.std.proofs.lemmas.Option.{same_Some, none-some, slice_get-map, slice_get_within}
 use Rattle.std.specs.List.{AllZip}
 use mathlib.Core.List.{IsPrefix}
 use Rattle.jc_types.specs.declared.config.Config.{Config}
@@ -28,11 +28,12 @@ use Rattle.jc_stripe.specs.Reopening.{kept, opened_stripe, opened_stripes}
 use Rattle.jc_stripe.proofs.CallerLemmas.{opened_len}
 use Rattle.jc_lock.specs.Views.{first_view}
 use Rattle.jc_lock.specs.declared.view.View.{View}
-use Rattle.jc_cache.specs.Caches.{noted_by, fronts_of, stripes_opening}
+use Rattle.jc_cache.specs.Caches.{noted_by, fronts_of, logs_of, stripes_opening}
 use Rattle.jc_cache.specs.CacheInside.{IsOwnSeat}
-use Rattle.jc_cache.specs.Closing.{IsInUse}
-use Rattle.jc_cache.specs.ClosingInside.{KeepSeats, AreIdle, IsTakeRefusal, IsRowRefusal}
-use Rattle.jc_cache.proofs.Rows.{Seated, map_get, push_get}
+use Rattle.jc_cache.specs.Closing.{HasMissed, HasOnlyLooked, IsInUse}
+use Rattle.jc_cache.specs.ClosingInside.{KeepSeats, Looks, AreIdle, IsTakeRefusal, IsRowRefusal}
+use Rattle.jc_cache.proofs.ClosingSeats.{keep_at, keep_length}
+use Rattle.jc_cache.proofs.Rows.{Seated, map_get, push_get, seat_there}
 
 -- 1. Places.
 
@@ -67,11 +68,15 @@ pub fronts_same : (f : View → View) → ((v : View) → (f v).front ≡ v.fron
 fronts_same f same [] = refl
 fronts_same f same (seat ∷ seats) = let head = same seat.1 in let tail = fronts_same f same seats in λ j. head j ∷ tail j
 
-pub handed_back : (old new : List Seated) → KeepSeats old new → AllZip IsOfSameStripe (noted_by old) (noted_by new) × AllZip IsPrefix (fronts_of old) (fronts_of new)
-handed_back [] [] keeps = (tt, tt)
+pub logs_same : (f : View → View) → ((v : View) → (f v).lendings ≡ v.lendings) → ((v : View) → (f v).misses ≡ v.misses) → (seats : List Seated) → logs_of (map (λ (seat : Seated). (seat.0, f seat.1)) seats) ≡ logs_of seats
+logs_same f lendings misses [] = refl
+logs_same f lendings misses (seat ∷ seats) = let one = lendings seat.1 in let two = misses seat.1 in let tail = logs_same f lendings misses seats in λ j. (one j, two j) ∷ tail j
+
+pub handed_back : (old new : List Seated) → KeepSeats Looks old new → AllZip IsOfSameStripe (noted_by old) (noted_by new) × AllZip IsPrefix (fronts_of old) (fronts_of new) × AllZip HasOnlyLooked (logs_of old) (logs_of new)
+handed_back [] [] keeps = (tt, tt, tt)
 handed_back [] (y ∷ new) keeps = absurd keeps
 handed_back (x ∷ old) [] keeps = absurd keeps
-handed_back (x ∷ old) (y ∷ new) keeps = let rest = handed_back old new keeps.1 in ((keeps.0.same, rest.0), (keeps.0.front, rest.1))
+handed_back (x ∷ old) (y ∷ new) keeps = let rest = handed_back old new keeps.1 in ((keeps.0.same, rest.0), (keeps.0.front, rest.1), (record { row = keeps.0.row; lendings = keeps.0.lendings; looked = keeps.0.each; misses = keeps.0.misses }, rest.2))
 
 -- 3. What is out.
 
@@ -95,13 +100,41 @@ idle_set (a ∷ seats) (suc i) x y idle at is (suc k) seat near there =
 pub idle_noted : (seats : List Seated) → AreIdle seats → (i : ℕ) (state : State) → slice_get (noted_by seats) i ≡ Some state → IsIdle state
 idle_noted seats idle i state at = let there = noted_at seats i state at in subst IsIdle (sym there.2) (idle i there.0 there.1)
 
-pub row_refusal : (seats : List Seated) (i : ℕ) (x y : Seated) (refusal : Refusal) → slice_get seats i ≡ Some x → IsTakeRefusal refusal y.1.noted → IsRowRefusal refusal (set seats i y)
-row_refusal seats i x y refusal at why =
-    ⊎_elim (λ t. inl (t.0, (i, y.1.noted, noted_there (set seats i y) i y (set_get seats i x y at), t.1))) (λ t. inr t) why
+log_there : (seats : List Seated) (i : ℕ) (seat : Seated) → slice_get seats i ≡ Some seat → slice_get (logs_of seats) i ≡ Some (seat.1.lendings, seat.1.misses)
+log_there seats i seat at = slice_get-map (λ (s : Seated). (s.1.lendings, s.1.misses)) seats i ∙ ap (option_map (λ (s : Seated). (s.1.lendings, s.1.misses))) at
 
-pub same_refusal : (old new : List Seated) (refusal : Refusal) → noted_by new ≡ noted_by old → IsRowRefusal refusal old → IsRowRefusal refusal new
-same_refusal old new refusal same why =
-    subst (λ (states : List State). ((refusal ≡ StillReserved) × IsInUse states) ⊎ (refusal ≡ Busy)) (sym same) why
+pub row_refusal : (old seats : List Seated) (i : ℕ) (x y : Seated) (refusal : Refusal) → KeepSeats Looks old seats → slice_get seats i ≡ Some x → IsTakeRefusal refusal x.1 y.1 → IsRowRefusal refusal old (set seats i y)
+row_refusal old seats i x y refusal keeps at why =
+    let was = keep_at _ old seats i x keeps at in
+    ⊎_elim (λ t. inl (t.0, (i, y.1.noted, noted_there (set seats i y) i y (set_get seats i x y at), t.1)))
+    (λ t. inr (t.0, (i, (was.0.1.lendings, was.0.1.misses), (y.1.lendings, y.1.misses), log_there old i was.0 was.1, log_there (set seats i y) i y (set_get seats i x y at), (let one = was.2.misses in let two = t.1 in omega arith))))
+    why
+
+pub same_refusal : (first old new : List Seated) (refusal : Refusal) → noted_by new ≡ noted_by old → KeepSeats Looks old new → IsRowRefusal refusal first old → IsRowRefusal refusal first new
+same_refusal first old new refusal same keeps why = ⊎_elim
+    (λ out. inl (out.0, subst IsInUse (sym same) out.1))
+    (λ busy. inr (busy.0, missed_later busy.1))
+    why
+  where
+    missed_later : HasMissed (logs_of first) (logs_of old) → HasMissed (logs_of first) (logs_of new)
+    missed_later m =
+        let seat = map_get (λ (s : Seated). (s.1.lendings, s.1.misses)) old m.0 m.2 m.4 in
+        let long : m.0 < length new = subst (λ (n : ℕ). m.0 < n) (sym (keep_length _ old new keeps)) (slice_get_within old m.0 seat.0 seat.1) in
+        let now = seat_there new m.0 long in
+        let was = keep_at _ old new m.0 now.0 keeps now.1 in
+        let same_seat : was.0 ≡ seat.0 = same_Some was.0 seat.0 (sym was.1 ∙ seat.1) in
+        let counted : m.2.1 ≡ was.0.1.misses = ap (λ (l : List (State × State) × ℕ). l.1) seat.2 ∙ ap (λ (s : Seated). s.1.misses) (sym same_seat) in
+        (m.0, m.1, (now.0.1.lendings, now.0.1.misses), m.3, log_there new m.0 now.0 now.1, (let one = m.5 in let two = was.2.misses in omega arith))
+
+pub refusal_since : (old mid new : List Seated) (refusal : Refusal) → KeepSeats Looks old mid → IsRowRefusal refusal mid new → IsRowRefusal refusal old new
+refusal_since old mid new refusal keeps why = ⊎_elim (λ out. inl out) (λ busy. inr (busy.0, missed_since busy.1)) why
+  where
+    missed_since : HasMissed (logs_of mid) (logs_of new) → HasMissed (logs_of old) (logs_of new)
+    missed_since m =
+        let seat = map_get (λ (s : Seated). (s.1.lendings, s.1.misses)) mid m.0 m.1 m.3 in
+        let was = keep_at _ old mid m.0 seat.0 keeps seat.1 in
+        let counted : m.1.1 ≡ seat.0.1.misses = ap (λ (l : List (State × State) × ℕ). l.1) seat.2 in
+        (m.0, (was.0.1.lendings, was.0.1.misses), m.2, log_there old m.0 was.0 was.1, m.4, (let one = m.5 in let two = was.2.misses in omega arith))
 
 -- 4. Stripes in which nothing has happened.
 

@@ -53,7 +53,7 @@ after_call before caller key op asked (Err refusal) after x below = (x.0.seat, x
 
 pub after_try : (before : View) (caller : Caller) (key : Bytes) (op : Op) (ended : Result Reply Refusal) (after : View) → SeatTried before caller key op ended after → IsBelow caller ended
     → IsSameSeat before after × OwnAfter caller before ended after
-after_try before caller key op (Ok reply) after x below = (x.made.seat, (below, key, op, x.out, x.shared_with, x.made.own))
+after_try before caller key op (Ok reply) after x below = (x.0.made.seat, (below, key, op, x.0.out, x.0.shared_with, x.0.made.own))
 after_try before caller key op (Err refusal) after x below = (x.0.seat, x.0.own)
 
 -- 2. One seat in a row of them.

@@ -53,6 +53,7 @@ use Rattle.jc_cache.specs.Sessions.{Completes, IsOf, MayCall}
 use Rattle.jc_cache.specs.declared.session.Session.{Session}
 use Rattle.jc_cache.proofs.Lendings.{lock_takes, lock_gives, lock_finds, lock_speaks_for}
 use Rattle.jc_cache.proofs.CallEnds.{CallLeft, call_left, tried_left, invoked_left}
+use Rattle.jc_cache.proofs.Turns.{Misses, call_lent}
 use Rattle.jc_cache.proofs.Rows.{length_locks, lock_there}
 use Rattle.jc_cache.proofs.Seats.{after_call, after_try, may_after}
 
@@ -138,14 +139,14 @@ module _ {I J : Type 0} {D : I → Type 0} {E : J → Type 0} where
 
   -- 3. What it leaves.
 
-  pub tried : {G : Type 0} → OnePhase → OwnSteps → OwnNumbers → (cache : CacheState) (old new : Session I J D E) (a : Agent I J D E) (key : Bytes) (op : Op) (at : ℕ) (ended : Result Reply Refusal) (g : G) (t : TableId × View) (h : G) (u : TableId × View) (may_fail : G → TableId × View → Type 0)
+  pub tried : {G : Type 0} → OnePhase → OwnSteps → OwnNumbers → (cache : CacheState) (old new : Session I J D E) (a : Agent I J D E) (key : Bytes) (op : Op) (at : ℕ) (ended : Result Reply Refusal) (g : G) (t : TableId × View) (h : G) (u : TableId × View)
       → MayCall cache old → a ≡ (next_call old).agent → at ≡ stripe_of key cache.config.stripes → slice_get old.seats.items at ≡ Some t → new.seats.items ≡ slice_set old.seats.items at u
-      → new.agent ≡ record a { counts = record a.counts { own = own_after a.counts.own ended } } → IsTried lock_takes lock_gives lock_finds may_fail a.caller key op g t ended h u
+      → new.agent ≡ record a { counts = record a.counts { own = own_after a.counts.own ended } } → IsTried lock_takes lock_gives lock_finds Misses a.caller key op g t ended h u
       → Completes cache new (Tried cache old key op ended new)
-  tried law own numbers cache old new a key op at ended g t h u may_fail may is at_is there now agent x =
+  tried law own numbers cache old new a key op at ended g t h u may is at_is there now agent x =
       let b : Agent I J D E = (next_call old).agent in
       let seat = may.own.seats at t there in
-      let left = tried_left law own b.caller key op ended g t h u may_fail seat.of_session seat.free (subst (λ (z : Agent I J D E). IsTried lock_takes lock_gives lock_finds may_fail z.caller key op g t ended h u) is x) in
+      let left = tried_left law own b.caller key op ended g t h u seat.of_session seat.free (subst (λ (z : Agent I J D E). IsTried lock_takes lock_gives lock_finds Misses z.caller key op g t ended h u) is x) in
       let new_is : new.agent ≡ record b { counts = record b.counts { own = own_after b.counts.own ended } } = agent ∙ ap (λ (z : Agent I J D E). record z { counts = record z.counts { own = own_after z.counts.own ended } }) is in
       let hands : new.agent.hands ≡ b.hands = ap (λ (z : Agent I J D E). z.hands) new_is in
       let now' : new.seats.items ≡ slice_set old.seats.items at (t.0, u.1) = now ∙ ap (slice_set old.seats.items at) (seat_is t u left.0) in
@@ -182,7 +183,8 @@ module _ {I J : Type 0} {D : I → Type 0} {E : J → Type 0} where
     abbrev calls_at : (cache : CacheState) (old new : Session I J D E) (key : Bytes) (op : Op) (at : ℕ) (ended : Result Reply Refusal) (g : G) (t : TableId × View) (h : G) (u : TableId × View) → at ≡ stripe_of key cache.config.stripes
         → slice_get old.seats.items at ≡ Some t → new.seats.items ≡ slice_set old.seats.items at u → (x : Whole (next_call old).agent key op g t ended new.agent h u) (decided : State) → CallLeft t (next_call old).agent.caller key op x.asked ended decided u
         → change_wanted x.enters.first.before key op x.asked.process ≡ change_wanted decided key op x.asked.process → CallsAt loads load_state writes write_state cache (next_call old) key op ended new
-    calls_at cache old new key op at ended g t h u at_is there now x decided left wanted = record {
+    calls_at cache old new key op at ended g t h u at_is there now x decided left wanted =
+        let lent = call_lent (next_call old).agent.caller key op x.met x.asked ended g t x.gate x.token h u x.enters x.ends in record {
       before = t.1;
       after = u.1;
       at = record {
@@ -194,6 +196,9 @@ module _ {I J : Type 0} {D : I → Type 0} {E : J → Type 0} where
       decided = decided;
       between = left.between;
       seat = left.seat;
+      row = lent.row;
+      lent = lent.lent;
+      did = lent.made;
       loader = x.loader;
       writer = subst (λ (c : Option Change). AsksWriter (boxed writes) (boxed write_state) (next_call old).agent.hands.outside.writer key c x.asked.write new.agent.hands.outside.writer) wanted x.writer;
       types = x.types;

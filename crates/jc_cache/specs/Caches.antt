@@ -2,6 +2,7 @@
 --     CacheState        a cache: its shape, and which locks its stripes are under, by their numbers
 --     noted_by          the states of the stripes that a row of seats has noted
 --     fronts_of         what they have seen of the histories
+--     logs_of           their lendings, and how often each of them has missed
 --     OwnerState        who owns a cache: the cache, how many sessions it has given out, and of each stripe what the owner's own seat
 --                       has noted, and what it has seen of the history
 --     stripes_opening   the stripes of a cache that opens with these entries, in this shape, and lives on or doesn't
@@ -34,11 +35,15 @@ noted_by seats = map (λ (seat : TableId × View). seat.1.noted) seats
 abbrev pub fronts_of : List (TableId × View) → List (List Event)
 fronts_of seats = map (λ (seat : TableId × View). seat.1.front) seats
 
+abbrev pub logs_of : List (TableId × View) → List (List (State × State) × ℕ)
+logs_of seats = map (λ (seat : TableId × View). (seat.1.lendings, seat.1.misses)) seats
+
 pub record OwnerState : Type 0 where
   pub cache : CacheState
   pub given : ℕ
   pub noted : List State  -- stripe by stripe, as its own seat found it last, or as the stripe was opened
   pub fronts : List (List Event)
+  pub logs : List (List (State × State) × ℕ)  -- the lendings of each own seat, and its misses
 
 abbrev pub stripes_opening : Bool → Config → List (Bytes × Bytes) → List State
 stripes_opening false config entries = opened_stripes config Live entries 0 config.stripes

@@ -1,7 +1,7 @@
 -- Whole calls on a cache.
 --     next_call   a session that has begun its next call
 --     AtStripe    a session's seat at the stripe of a key goes from one view to another, and its other seats stay
---     CallsAt     a session's current call, whole, at a key, which ended so: what its seat has seen; what was asked outside, was asked of
+--     CallsAt     a session's current call, whole, at a key, which ended so: what its seat has seen, and its lendings; what was asked outside, was asked of
 --                 its loader and its writer, who stay of their types; all else of the session stays, but for the count of its steps
 --     Called      the same of the session's next call
 --     Returns     a session's next call, whole, and what it returns by how it ended
@@ -32,6 +32,7 @@ pub use Rattle.jc_engine.specs.Values.{value_in, value_into}
 use Rattle.jc_cache.specs.declared.session.Session.{Session}
 use Rattle.jc_cache.specs.Caches.{CacheState}
 use Rattle.jc_cache.specs.Fronts.{SeatAfter, SeatTried, IsBetween, IsMadeIn}
+use Rattle.jc_cache.specs.Turns.{HasLent, IsCallRow}
 
 abbrev pub next_call : {I J : Type 0} {D : I → Type 0} {E : J → Type 0} → Session I J D E → Session I J D E
 next_call session = record session { agent = record session.agent { caller = record session.agent.caller { call = one_more session.agent.caller.call } } }
@@ -57,6 +58,9 @@ pub record CallsAt
   pub decided : State
   pub between : IsBetween before decided after
   pub seat : SeatAfter before old.agent.caller key op asked ended after
+  pub row : List (State × State)
+  pub lent : HasLent before row after
+  pub did : IsCallRow old.agent.caller key op asked ended row
   pub loader : AsksLoader (boxed loads) (boxed load_state) old.agent.hands.outside.loader key asked.load new.agent.hands.outside.loader
   pub writer : AsksWriter (boxed writes) (boxed write_state) old.agent.hands.outside.writer key (change_wanted decided key op asked.process) asked.write new.agent.hands.outside.writer
   pub types : KeepsTypes old.agent new.agent

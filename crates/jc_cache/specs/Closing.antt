@@ -6,17 +6,23 @@
 --     AreClosed      the stripes of a closed cache, each from the opening that its owner has noted
 --     IsClosed       a cache is closed: its stripes, and that each session handed in has seen no more of them
 --     HasClosed      the same, and what sessions have brought comes back, in the order of the sessions
---     HasEnded       a cache was ended without its sessions: its stripes alone
+--     IsTakenAs      an own seat has taken its stripe in this state, and not given it back
+--     lent_at, all_lent    the lendings of a session's seat at a stripe, and of all these sessions
+--     HasOnlyTaken   an own seat has only looked before it took its stripe; behind that it has what the sessions have lent, all of it
+--     HasEnded       a cache was ended without its sessions: its stripes alone; its own seats have only looked before they took them, and gave
+--                    no session out
 --     IsInUse        at one of these stripes a reservation or a join is out
+--     HasOnlyLooked  an own seat has taken its stripe and given it back as it was, as often as this
+--     HasMissed      one of these seats has found its stripe held by somebody else
 --     IsHandedBack   an owner who could not close the cache owns it as before; its seats may have noted and seen more of the stripes
 --     IsEndRefusal   why stripes are not taken from a cache: a stripe's state is noted in which something is out, an allocation failed
---                    while nothing was out, or somebody held a stripe
+--                    while nothing was out, or a seat has found its stripe held
 --     IsCloseRefusal why a cache is not closed: a session is missing, and then nobody looked at a stripe; or all are there, and its
 --                    stripes are not taken
 --     HasNotClosed   the same, and owner and sessions come back
 --     HasNotEnded    a cache was not ended, and why; the owner comes back
-use Rattle.std.specs.Prelude.{◌≡◌, ◌≢◌, ◌⊎◌, ℕ, Bool, true, List, [], map, length, Some, slice_get}
-use Rattle.std.specs.List.{AllZip}
+use Rattle.std.specs.Prelude.{◌≡◌, ◌≢◌, ◌⊎◌, ◌≤◌, ◌<◌, ◌++◌, ◌∷◌, ℕ, zero, suc, Bool, true, List, [], map, length, Some, slice_get}
+use Rattle.std.specs.List.{AllZip, flat_map}
 use Rattle.std.specs.FinMap.{from_entries}
 use mathlib.Core.List.{IsPrefix}
 use Rattle.atomic_table.specs.Seated.{TableId}
@@ -31,8 +37,9 @@ use Rattle.jc_stripe.specs.State.{State, IsIdle}
 use Rattle.jc_stripe.specs.Generations.{IsChain, whole_history, first_opening, IsOfSameStripe}
 use Rattle.jc_stripe.specs.Reached.{IsReached}
 use Rattle.jc_lock.specs.declared.view.View.{View}
+use Rattle.jc_engine.specs.Chain.{AllLend}
 use Rattle.jc_cache.specs.declared.session.Session.{Session}
-use Rattle.jc_cache.specs.Caches.{OwnerState}
+use Rattle.jc_cache.specs.Caches.{OwnerState, logs_of}
 
 -- 1. A cache that is closed.
 
@@ -50,6 +57,17 @@ pub record IsClosedAt (config : Config) (stripe : ℕ) (opening : List (Bytes ×
 abbrev pub HasFront : List State → List (TableId × View) → Type 0
 HasFront stripes seats = (i : ℕ) (state : State) (seat : TableId × View) → slice_get stripes i ≡ Some state → slice_get seats i ≡ Some seat → IsPrefix seat.1.front (whole_history state)
 
+-- `before` and `after` are the log of an own seat
+pub record HasOnlyLooked (before after : List (State × State) × ℕ) : Type 0 where
+  pub row : List (State × State)
+  pub lendings : after.0 ≡ before.0 ++ row
+  pub looked : AllLend (λ found left. left ≡ found) row
+  pub misses : before.1 ≤ after.1
+
+pub record IsTakenAs (seat : TableId × View) (state : State) : Type 0 where
+  pub holds : seat.1.holds ≡ true
+  pub noted : seat.1.noted ≡ state
+
 pub record AreClosed (owner : OwnerState) (stripes : List State) : Type 0 where
   pub count : length stripes ≡ owner.cache.config.stripes
   pub each : (i : ℕ) (state : State) → slice_get stripes i ≡ Some state
@@ -60,13 +78,33 @@ pub record IsClosed {I J : Type 0} {D : I → Type 0} {E : J → Type 0} (owner 
   pub all : length sessions ≡ owner.given
   pub fronts : (n : ℕ) (session : Session I J D E) → slice_get sessions n ≡ Some session → HasFront stripes session.seats.items
 
-pub record HasClosed {I J : Type 0} {D : I → Type 0} {E : J → Type 0} (owner : OwnerState) (sessions : List (Session I J D E)) (stripes : List State) (brought : List (Outside I J D E)) (says : Bool) : Type 0 where
+abbrev pub lent_at : List (TableId × View) → ℕ → List (State × State)
+lent_at [] i = []
+lent_at (seat ∷ seats) zero = seat.1.lendings
+lent_at (seat ∷ seats) (suc i) = lent_at seats i
+
+abbrev pub all_lent : {I J : Type 0} {D : I → Type 0} {E : J → Type 0} → List (Session I J D E) → ℕ → List (State × State)
+all_lent {I} {J} {D} {E} sessions i = flat_map (λ (session : Session I J D E). lent_at session.seats.items i) sessions
+
+-- `before` is the log of an own seat, `brought` what sessions have lent
+pub record HasOnlyTaken (before : List (State × State) × ℕ) (brought : List (State × State)) (seat : TableId × View) : Type 0 where
+  pub row : List (State × State)
+  pub lendings : seat.1.lendings ≡ before.0 ++ (row ++ brought)
+  pub looked : AllLend (λ found left. left ≡ found) row
+
+pub record HasClosed {I J : Type 0} {D : I → Type 0} {E : J → Type 0} (owner : OwnerState) (sessions : List (Session I J D E)) (stripes : List State) (brought : List (Outside I J D E)) (seats : List (TableId × View)) (says : Bool) : Type 0 where
   pub closed : IsClosed owner sessions stripes
+  pub taken : AllZip IsTakenAs seats stripes
+  pub gave_none : (i : ℕ) (seat : TableId × View) → slice_get seats i ≡ Some seat → seat.1.next_session ≡ Some owner.given
+  pub lent : (i : ℕ) (before : List (State × State) × ℕ) (seat : TableId × View) → slice_get owner.logs i ≡ Some before → slice_get seats i ≡ Some seat → HasOnlyTaken before (all_lent sessions i) seat
   pub outside : brought ≡ map (λ (session : Session I J D E). session.agent.hands.outside) sessions
   pub legal : says ≡ true
 
-pub record HasEnded {I J : Type 0} {D : I → Type 0} {E : J → Type 0} (owner : OwnerState) (stripes : List State) (brought : List (Outside I J D E)) (says : Bool) : Type 0 where
+pub record HasEnded {I J : Type 0} {D : I → Type 0} {E : J → Type 0} (owner : OwnerState) (stripes : List State) (brought : List (Outside I J D E)) (seats : List (TableId × View)) (says : Bool) : Type 0 where
   pub closed : AreClosed owner stripes
+  pub looked : AllZip HasOnlyLooked owner.logs (logs_of seats)
+  pub taken : AllZip IsTakenAs seats stripes
+  pub gave_none : (i : ℕ) (seat : TableId × View) → slice_get seats i ≡ Some seat → seat.1.next_session ≡ Some owner.given
   pub outside : brought ≡ []
   pub legal : says ≡ true
 
@@ -75,26 +113,30 @@ pub record HasEnded {I J : Type 0} {D : I → Type 0} {E : J → Type 0} (owner 
 abbrev pub IsInUse : List State → Type 0
 IsInUse states = (i : ℕ) × (state : State) × (slice_get states i ≡ Some state) × (IsIdle state → ⊥)
 
+abbrev pub HasMissed : List (List (State × State) × ℕ) → List (List (State × State) × ℕ) → Type 0
+HasMissed old new = (i : ℕ) × (before : List (State × State) × ℕ) × (after : List (State × State) × ℕ) × (slice_get old i ≡ Some before) × (slice_get new i ≡ Some after) × (before.1 < after.1)
+
 pub record IsHandedBack (owner left : OwnerState) : Type 0 where
   pub cache : left.cache ≡ owner.cache
   pub given : left.given ≡ owner.given
   pub noted : AllZip IsOfSameStripe owner.noted left.noted
   pub fronts : AllZip IsPrefix owner.fronts left.fronts
+  pub logs : AllZip HasOnlyLooked owner.logs left.logs
 
-abbrev pub IsEndRefusal : Refusal → List State → Type 0
-IsEndRefusal refusal noted =
-    ((refusal ≡ StillReserved) × IsInUse noted)
-    ⊎ (((refusal ≡ OutOfMemory) × ((i : ℕ) (state : State) → slice_get noted i ≡ Some state → IsIdle state))
-    ⊎ (refusal ≡ Busy))
+abbrev pub IsEndRefusal : Refusal → OwnerState → OwnerState → Type 0
+IsEndRefusal refusal owner left =
+    ((refusal ≡ StillReserved) × IsInUse left.noted)
+    ⊎ (((refusal ≡ OutOfMemory) × ((i : ℕ) (state : State) → slice_get left.noted i ≡ Some state → IsIdle state))
+    ⊎ ((refusal ≡ Busy) × HasMissed owner.logs left.logs))
 
 abbrev pub IsCloseRefusal : OwnerState → ℕ → Refusal → OwnerState → Type 0
 IsCloseRefusal owner handed_in refusal left =
-    ((handed_in ≢ owner.given) × (refusal ≡ StillReserved) × (left ≡ owner)) ⊎ ((handed_in ≡ owner.given) × IsEndRefusal refusal left.noted)
+    ((handed_in ≢ owner.given) × (refusal ≡ StillReserved) × (left ≡ owner)) ⊎ ((handed_in ≡ owner.given) × IsEndRefusal refusal owner left)
 
 pub record HasNotClosed {I J : Type 0} {D : I → Type 0} {E : J → Type 0} (owner : OwnerState) (sessions : List (Session I J D E)) (refusal : Refusal) (left : OwnerState) (sessions' : List (Session I J D E)) : Type 0 where
   pub why : IsCloseRefusal owner (length sessions) refusal left
   pub back : IsHandedBack owner left × (sessions' ≡ sessions)
 
 pub record HasNotEnded {I J : Type 0} {D : I → Type 0} {E : J → Type 0} (owner : OwnerState) (refusal : Refusal) (left : OwnerState) (sessions : List (Session I J D E)) : Type 0 where
-  pub why : IsEndRefusal refusal left.noted
+  pub why : IsEndRefusal refusal owner left
   pub back : IsHandedBack owner left × (sessions ≡ [])

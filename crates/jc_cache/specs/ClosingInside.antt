@@ -1,5 +1,6 @@
 -- The cache's own seats while it is being closed: the first ones have taken their stripes.
---     KeepsSeat     a seat is the one that it was, at the same lock and stripe; it may have seen more of the history
+--     KeepsSeat     a seat is the one that it was, at the same lock and stripe; it may have seen more of the history, and lent the stripe so
+--     Looks, Whatever    a lending that left the stripe as it was, and any
 --     KeepSeats     each of these seats is the one that it was
 --     IsFreeSeat    a seat of no session, which has not taken its stripe
 --     HasTaken      a seat of no session, which has taken its stripe in this state: a reached one, and nothing is out there
@@ -7,10 +8,10 @@
 --     OwnsSeats     own seats are at these locks, and the first ones have taken their stripes in these states, and the others have not
 --     KeepsOwn      they are the ones that they were, and have taken these
 --     AreIdle       nothing is out in the states that these seats have noted
---     IsTakeRefusal why a stripe is not taken: something is out in the noted state, or somebody holds the stripe
+--     IsTakeRefusal why a stripe is not taken: something is out in the noted state, or the seat has found it held
 --     IsRowRefusal  why the stripes of a row of seats are not taken: one of them is not
 --     AreAtLocks    the seats of a session are at these locks, and have not taken their stripes
-use Rattle.std.specs.Prelude.{◌≡◌, ◌⊎◌, ℕ, List, [], ◌∷◌, map, true, false, None, Some, slice_get}
+use Rattle.std.specs.Prelude.{◌≡◌, ◌⊎◌, ◌≤◌, ◌<◌, ◌++◌, ℕ, List, [], ◌∷◌, map, true, false, None, Some, slice_get}
 use Rattle.std.specs.List.{AllZip}
 use mathlib.Core.List.{IsPrefix}
 use Rattle.atomic_table.specs.Seated.{TableId}
@@ -20,21 +21,33 @@ use Rattle.jc_stripe.specs.State.{State, IsIdle}
 use Rattle.jc_stripe.specs.Generations.{whole_history, IsOfSameStripe}
 use Rattle.jc_stripe.specs.Reached.{IsReached}
 use Rattle.jc_lock.specs.declared.view.View.{View}
-use Rattle.jc_cache.specs.Caches.{noted_by}
-use Rattle.jc_cache.specs.Closing.{IsInUse}
+use Rattle.jc_engine.specs.Chain.{AllLend}
+use Rattle.jc_cache.specs.Caches.{noted_by, logs_of}
+use Rattle.jc_cache.specs.Closing.{HasMissed, IsInUse}
 
 -- 1. Own seats.
 
-pub record KeepsSeat (before after : TableId × View) : Type 0 where
+-- `lends` is so of each lending of the seat
+pub record KeepsSeat (lends : State → State → Type 0) (before after : TableId × View) : Type 0 where
   pub lock : after.0 ≡ before.0
   pub session : after.1.session ≡ before.1.session
   pub next_session : after.1.next_session ≡ before.1.next_session
   pub spent : after.1.spent ≡ before.1.spent
   pub same : IsOfSameStripe before.1.noted after.1.noted
   pub front : IsPrefix before.1.front after.1.front
+  pub row : List (State × State)
+  pub lendings : after.1.lendings ≡ before.1.lendings ++ row
+  pub each : AllLend lends row
+  pub misses : before.1.misses ≤ after.1.misses
 
-abbrev pub KeepSeats : List (TableId × View) → List (TableId × View) → Type 0
-KeepSeats = AllZip KeepsSeat
+abbrev pub Looks : State → State → Type 0
+Looks found left = left ≡ found
+
+abbrev pub Whatever : State → State → Type 0
+Whatever found left = Unit {0}
+
+abbrev pub KeepSeats : (State → State → Type 0) → List (TableId × View) → List (TableId × View) → Type 0
+KeepSeats lends = AllZip (KeepsSeat lends)
 
 pub record IsFreeSeat (view : View) : Type 0 where
   pub of_none : view.session ≡ None
@@ -58,8 +71,8 @@ pub record OwnsSeats (at : List TableId) (own : List (TableId × View)) (states 
   pub locks : map (λ (seat : TableId × View). seat.0) own ≡ at
   pub taken : HaveTaken own states
 
-pub record KeepsOwn (before after : List (TableId × View)) (states : List State) : Type 0 where
-  pub keeps : KeepSeats before after
+pub record KeepsOwn (lends : State → State → Type 0) (before after : List (TableId × View)) (states : List State) : Type 0 where
+  pub keeps : KeepSeats lends before after
   pub taken : HaveTaken after states
 
 -- 2. Stripes that are not taken.
@@ -67,11 +80,11 @@ pub record KeepsOwn (before after : List (TableId × View)) (states : List State
 abbrev pub AreIdle : List (TableId × View) → Type 0
 AreIdle seats = (i : ℕ) (seat : TableId × View) → slice_get seats i ≡ Some seat → IsIdle seat.1.noted
 
-abbrev pub IsTakeRefusal : Refusal → State → Type 0
-IsTakeRefusal refusal noted = ((refusal ≡ StillReserved) × (IsIdle noted → ⊥)) ⊎ (refusal ≡ Busy)
+abbrev pub IsTakeRefusal : Refusal → View → View → Type 0
+IsTakeRefusal refusal before after = ((refusal ≡ StillReserved) × (IsIdle after.noted → ⊥)) ⊎ ((refusal ≡ Busy) × (before.misses < after.misses))
 
-abbrev pub IsRowRefusal : Refusal → List (TableId × View) → Type 0
-IsRowRefusal refusal seats = ((refusal ≡ StillReserved) × IsInUse (noted_by seats)) ⊎ (refusal ≡ Busy)
+abbrev pub IsRowRefusal : Refusal → List (TableId × View) → List (TableId × View) → Type 0
+IsRowRefusal refusal old new = ((refusal ≡ StillReserved) × IsInUse (noted_by new)) ⊎ ((refusal ≡ Busy) × HasMissed (logs_of old) (logs_of new))
 
 -- 3. Seats of sessions.
 

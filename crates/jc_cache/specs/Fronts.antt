@@ -11,14 +11,16 @@
 --     MakesStep      the call's step: its caller, operation and key, and this reply
 --     SeatAfter      a whole call: its step was made, or it was refused as the state that the view keeps says, whose whole history is the
 --                    front; of the refusals that change nothing it is the full history alone
---     WasBusy        a call that waits for nobody couldn't be made: the seat has found no stripe, or the one that it found last is one on
---                    which the call can't be made without waiting or asking; it was given back as it was, or with its generation ended, exactly if that was
---                    full and might end
+--     IsBusyAt       a call that waits for nobody can't be made on what was found without waiting or asking; it was given back as it was, or with
+--                    its generation ended, exactly if that was full and might end
+--     AreTries       tries of such a call, and how often somebody else had the stripe: one, and one more if a generation stood in the way
+--     WasBusy        it couldn't be made at any of its tries
+--     TriesTo        its first phase, at the first try, or at the second if a generation stood in the way of the first
 --     SeatTried      such a call: its step was made, it was refused as busy, or, though it need ask nobody, as the state that the view keeps
 --                    says
 --     IsBetween      a state of the stripe in which a call was decided: between the former front and the present one
 --     IsMadeIn       the call's step, if it was made, was made in this state
-use Rattle.std.specs.Prelude.{◌≡◌, ◌≤◌, ◌⊎◌, ℕ, false, length, Option, None, Some, Result, Ok, Err, slice_get}
+use Rattle.std.specs.Prelude.{◌≡◌, ◌≤◌, ◌⊎◌, ◌+◌, ℕ, List, [], ◌∷◌, ◌++◌, true, false, length, Option, None, Some, Result, Ok, Err, slice_get, MatchBool}
 use mathlib.Core.List.{IsPrefix}
 use Rattle.jc_types.specs.declared.caller.Caller.{Caller}
 use Rattle.jc_types.specs.declared.refusal.Refusal.{Refusal}
@@ -34,13 +36,20 @@ use Rattle.jc_stripe.specs.State.{State}
 use Rattle.jc_stripe.specs.Generations.{past_events, whole_history, IsOfSameStripe}
 use Rattle.jc_stripe.specs.Reached.{IsReached}
 use Rattle.jc_stripe.specs.Refusals.{first_refusal}
-use Rattle.jc_stripe.specs.Renewal.{RenewsIfFull}
+use Rattle.jc_stripe.specs.Renewal.{RenewsIfFull, is_renewable}
+use Rattle.jc_stripe.specs.declared.begun.Begun.{Begun}
+use Rattle.jc_stripe.specs.declared.begun.Begun.TheVariants as begun
+use Rattle.jc_stripe.specs.declared.begun.StepDone.{StepDone}
 use Rattle.jc_stripe.specs.Tests.{asks_outside}
 use Rattle.jc_stripe.specs.OwnSteps.{HasOneMore}
 use Rattle.jc_lock.specs.declared.view.View.{View}
+use Rattle.jc_engine.specs.Chain.{AllLend}
+use Rattle.jc_engine.specs.Doors.{IsAgain}
 use Rattle.jc_engine.specs.Needs.{can_start}
+use Rattle.jc_engine.specs.Turns.{trying}
 use Rattle.jc_engine.specs.declared.first.How.TheVariants.{Alone}
 use Rattle.jc_engine.specs.MadeIn.{IsNext}
+use Rattle.jc_cache.specs.Turns.{HasLent, IsTurn}
 
 -- 1. One seat.
 
@@ -89,16 +98,36 @@ SeatAfter before caller key op asked (Ok reply) after = MakesStep before caller 
 SeatAfter before caller key op asked (Err refusal) after =
     HasSeen before after × (asked ≡ nothing_said) × (refusal ≡ HistoryFull) × (first_refusal after.noted caller key op ≡ Some refusal) × HasAllSeen after
 
-abbrev pub WasBusy : View → Caller → Bytes → Op → View → Type 0
-WasBusy before caller key op after =
-    (after ≡ before) ⊎ ((found : State) × (can_start Alone found caller key op ≡ false) × RenewsIfFull found after.noted)
+abbrev pub IsBusyAt : Caller → Bytes → Op → State → State → Type 0
+IsBusyAt caller key op found left = (can_start Alone found caller key op ≡ false) × RenewsIfFull found left
+
+abbrev pub AreTries : List (State × State) → ℕ → Type 0
+AreTries [] missed = missed ≡ 1
+AreTries (p ∷ []) missed = MatchBool (is_renewable p.0) (missed ≡ 1) (missed ≡ 0)
+AreTries (p ∷ (q ∷ [])) missed = (is_renewable p.0 ≡ true) × (missed ≡ 0)
+AreTries (p ∷ (q ∷ (r ∷ ps))) missed = ⊥
+
+pub record WasBusy (before : View) (caller : Caller) (key : Bytes) (op : Op) (after : View) : Type 0 where
+  pub row : List (State × State)
+  pub missed : ℕ
+  pub lendings : after.lendings ≡ before.lendings ++ row
+  pub misses : after.misses ≡ before.misses + missed
+  pub each : AllLend (IsBusyAt caller key op) row
+  pub tries : AreTries row missed
+
+pub record TriesTo (before : View) (caller : Caller) (key : Bytes) (op : Op) (begun : Begun) (after : View) : Type 0 where
+  pub row : List (State × State)
+  pub lent : HasLent before row after
+  pub turn : IsTurn (trying caller key op begun) row
+  pub again : IsAgain turn.waits
 
 abbrev pub SeatTried : View → Caller → Bytes → Op → Result Reply Refusal → View → Type 0
-SeatTried before caller key op (Ok reply) after = MakesStep before caller key op nothing_said reply after
+SeatTried before caller key op (Ok reply) after =
+    MakesStep before caller key op nothing_said reply after × ((done : StepDone) × (done.reply ≡ reply) × TriesTo before caller key op (begun.Done done) after)
 SeatTried before caller key op (Err refusal) after =
     HasSeen before after
     × (((refusal ≡ Busy) × WasBusy before caller key op after)
-    ⊎ ((first_refusal after.noted caller key op ≡ Some refusal) × (asks_outside after.noted key op ≡ false) × HasAllSeen after))
+    ⊎ ((first_refusal after.noted caller key op ≡ Some refusal) × (asks_outside after.noted key op ≡ false) × HasAllSeen after × TriesTo before caller key op (begun.Refused refusal) after))
 
 pub record IsBetween (before : View) (state : State) (after : View) : Type 0 where
   pub reached : IsReached state

@@ -1,13 +1,13 @@
 -- A generation that a session ends.
 --     IsEndOf     what was answered, and appended, of a stripe's generation: how many had ended before, and its events; or that an allocation
 --                 failed, and nothing was done
---     EndsAt      a session has taken the stripe with this number, left it so, and given it back; all else of the session stays
+--     EndsAt      a session has taken the stripe with this number once, left it so, and given it back; all else of the session stays
 use Rattle.std.specs.Prelude.{◌≡◌, ℕ, List, ◌++◌, Option, Some, Result, Ok, Err, slice_get, slice_set}
 use Rattle.atomic_table.specs.Seated.{TableId}
 use Rattle.jc_model.specs.declared.event.Event.{Event}
 use Rattle.jc_stripe.specs.State.{State}
 use Rattle.jc_stripe.specs.Renewal.{EndsGeneration}
-use Rattle.jc_lock.specs.Views.{Finds, after_give}
+use Rattle.jc_lock.specs.Views.{Finds, after_give, after_take}
 use Rattle.jc_lock.specs.declared.view.View.{View}
 use Rattle.jc_cache.specs.declared.session.Session.{Session}
 use Rattle.jc_cache.specs.Fronts.{HasSeen}
@@ -24,6 +24,6 @@ pub record EndsAt {I J : Type 0} {D : I → Type 0} {E : J → Type 0} (stripe :
   pub was : slice_get old.seats.items stripe ≡ Some (lock, before)
   pub finds : Finds before found
   pub turned : turn found left
-  pub now : new.seats.items ≡ slice_set old.seats.items stripe (lock, after_give before left)
-  pub on : HasSeen before (after_give before left)
+  pub now : new.seats.items ≡ slice_set old.seats.items stripe (lock, after_give (after_take before found) left)
+  pub on : HasSeen before (after_give (after_take before found) left)
   pub stays : new.agent ≡ old.agent

@@ -11,3 +11,4 @@ pub mod Reopening
 pub mod CacheInside
 pub mod Counting
 pub mod Generations
+pub mod Turns

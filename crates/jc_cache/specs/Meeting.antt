@@ -1,21 +1,22 @@
 -- What two sessions of one cache know once they have met: one of them, the teller, has told the other, the hearer, what it has seen.
---     IsRefreshed       a seat has taken its stripe and given it back as it found it: its front is the stripe's whole history then
+--     IsRefreshed       a seat has taken its stripe once and given it back as it found it: its front is the stripe's whole history then
 --     TellsAt           at one stripe: the teller's seat was refreshed; both fronts may be longer, and the own steps are the former ones;
---                       the teller's front is a prefix of the hearer's
+--                       the teller's front is a prefix of the hearer's, who has lent nothing
 --     TellEach          so it is at each stripe, of two rows of seats before and after
 --     Meets             so it is of two sessions, and all else of both stays
 --     HaveMet           the same, and both may call the cache again
 --     IsSessionSeat     a seat of this session at this lock, which has not taken the stripe
 --     AreSessionSeats   so is each of a row, at each of these locks
 --     KeepRow           a row of seats is at the same locks, and has as many own steps
-use Rattle.std.specs.Prelude.{◌≡◌, ℕ, List, map, false, Some, slice_get}
+use Rattle.std.specs.Prelude.{◌≡◌, ℕ, List, [], map, false, Some, slice_get}
 use mathlib.Core.List.{IsPrefix}
 use Rattle.atomic_table.specs.Seated.{TableId}
 use Rattle.jc_stripe.specs.State.{State}
-use Rattle.jc_lock.specs.Views.{Finds, after_give}
+use Rattle.jc_lock.specs.Views.{Finds, after_give, after_take}
 use Rattle.jc_lock.specs.declared.view.View.{View}
 use Rattle.jc_cache.specs.declared.session.Session.{Session}
 use Rattle.jc_cache.specs.Fronts.{HasSeen}
+use Rattle.jc_cache.specs.Turns.{HasLent}
 use Rattle.jc_cache.specs.Caches.{CacheState}
 use Rattle.jc_cache.specs.Sessions.{MayCall, own_total}
 
@@ -24,13 +25,14 @@ use Rattle.jc_cache.specs.Sessions.{MayCall, own_total}
 pub record IsRefreshed (before after : View) : Type 0 where
   pub found : State
   pub finds : Finds before found
-  pub is : after ≡ after_give before found
+  pub is : after ≡ after_give (after_take before found) found
 
 pub record TellsAt (teller hearer teller' hearer' : View) : Type 0 where
   pub refreshed : IsRefreshed teller teller'
   pub teller_on : HasSeen teller teller'
   pub hearer_on : HasSeen hearer hearer'
   pub told : IsPrefix teller'.front hearer'.front
+  pub none_lent : HasLent hearer [] hearer'
 
 abbrev pub TellEach : List (TableId × View) → List (TableId × View) → List (TableId × View) → List (TableId × View) → Type 0
 TellEach tellers hearers tellers' hearers' = (i : ℕ) (a b a' b' : TableId × View) → slice_get tellers i ≡ Some a → slice_get hearers i ≡ Some b

@@ -13,7 +13,7 @@ ghost use Rattle.jc_stripe.specs.OrderOfUse.{by_use};
 ghost use Rattle.jc_stripe.specs.Reached.{IsReached};
 ghost use Rattle.jc_stripe.specs.Reopening.{shares_key};
 ghost use Rattle.jc_cache.specs.Closing.{HasClosed, HasEnded, HasNotClosed, HasNotEnded};
-ghost use Rattle.jc_cache.specs.ClosingInside.{AreIdle, HaveTaken, IsRowRefusal, KeepSeats, OwnsSeats};
+ghost use Rattle.jc_cache.specs.ClosingInside.{AreIdle, HaveTaken, IsRowRefusal, KeepSeats, Looks, OwnsSeats};
 ghost use Rattle.jc_cache.specs.Sessions.{IsOf};
 
 mod own_seats;
@@ -120,6 +120,8 @@ pub struct Closed {
     pub stripes: Vec<ClosedStripe>,
     /// The loader and the writer of each session, in the order in which the sessions were handed in.
     pub outside: Vec<Outside>,
+    /// The owner's seats. They take no bytes: contracts see in them what closing did at each stripe.
+    pub seats: Vec<Seat>,
     /// Whether each history is legal from what its stripe opened with, and leads to the stripe's entries: it always is.
     pub legal: bool,
 }
@@ -157,7 +159,7 @@ impl CacheOwner {
     pub fn close(self, alloc: Global, sessions: Vec<Session>) -> Result<Closed, CloseFault>
         requires { All (λ s. IsOf self.cache s) sessions.items }
         ensures ok { IfOk result
-            (λ c. HasClosed self sessions.items c.stripes.items c.outside.items c.legal) }
+            (λ c. HasClosed self sessions.items c.stripes.items c.outside.items c.seats.items c.legal) }
         ensures err { IfErr result
             (λ f. HasNotClosed self sessions.items f.refusal f.owner f.sessions.items) }
     {
@@ -178,7 +180,7 @@ impl CacheOwner {
     /// It is refused, and hands the owner back, if a reservation or an answer that was not picked up is out (`StillReserved`), and if an
     /// allocation failed (`OutOfMemory`), tested in this order; or as `Busy`, see there. It never waits.
     pub fn end(self, alloc: Global) -> Result<Closed, CloseFault>
-        ensures ok { IfOk result (λ c. HasEnded self c.stripes.items c.outside.items c.legal) }
+        ensures ok { IfOk result (λ c. HasEnded self c.stripes.items c.outside.items c.seats.items c.legal) }
         ensures err { IfErr result (λ f. HasNotEnded self f.refusal f.owner f.sessions.items) }
     {
         is_legal();
@@ -191,6 +193,7 @@ impl CacheOwner {
             Ok((stripes, outside)) => Ok(Closed {
                 stripes,
                 outside,
+                seats,
                 legal: true,
             }),
             Err(refusal) => Err(CloseFault {
@@ -210,7 +213,7 @@ impl CacheOwner {
         requires own { All (λ s. IsOf self.cache s) sessions.items }
         requires all { length sessions.items ≡ self.given }
         ensures ok { IfOk result
-            (λ c. HasClosed self sessions.items c.stripes.items c.outside.items c.legal) }
+            (λ c. HasClosed self sessions.items c.stripes.items c.outside.items c.seats.items c.legal) }
         ensures err { IfErr result
             (λ f. HasNotClosed self sessions.items f.refusal f.owner f.sessions.items) }
     {
@@ -226,6 +229,7 @@ impl CacheOwner {
                 Ok(Closed {
                     stripes,
                     outside,
+                    seats,
                     legal: true,
                 })
             }
@@ -250,12 +254,12 @@ fn take_stripes(
     sessions: usize,
 ) -> Result<(Vec<ClosedStripe>, Vec<Outside>), Refusal>
     requires { OwnsSeats locks.now own.old.items [] }
-    ensures keeps { KeepSeats own.old.items own.new.items }
+    ensures keeps { KeepSeats Looks own.old.items own.new.items }
     ensures ok { IfOk result (λ r. HaveTaken own.new.items r.0.items
         × (length r.0.items ≡ length own.new.items)) }
     ensures room { IfOk result (λ r. (r.1.items ≡ []) × (sessions ≤ vec_capacity r.1)) }
     ensures err { IfErr result (λ r. HaveTaken own.new.items []
-        × (IsRowRefusal r own.new.items ⊎ ((r ≡ OutOfMemory) × AreIdle own.new.items))) }
+        × (IsRowRefusal r own.old.items own.new.items ⊎ ((r ≡ OutOfMemory) × AreIdle own.new.items))) }
 {
     test_all_idle(locks, own)?;
     let Ok(outside) = Vec::with_capacity(alloc, sessions) else {

@@ -1,7 +1,7 @@
 //! Generations that a session ends, to keep what was done.
 ghost use Rattle.std.specs.Prelude.{◌≡◌, ◌<◌};
 ghost use Rattle.jc_stripe.specs.State.{State};
-ghost use Rattle.jc_lock.specs.Views.{Finds, after_give};
+ghost use Rattle.jc_lock.specs.Views.{Finds, after_give, after_take};
 ghost use Rattle.jc_cache.specs.Fronts.{HasSeen};
 ghost use Rattle.jc_cache.specs.Generations.{IsEndOf, EndsAt};
 ghost use Rattle.jc_cache.specs.Meeting.{IsSessionSeat};
@@ -60,7 +60,7 @@ fn end_at<R: Wait>(
     ensures lock { seat.new.0 ≡ seat.old.0 }
     ensures ended { (found : State) × (left : State) × Finds seat.old.1 found
         × IsEndOf result out.old.items out.new.items found left
-        × (seat.new.1 ≡ after_give seat.old.1 left) × HasSeen seat.old.1 seat.new.1 }
+        × (seat.new.1 ≡ after_give (after_take seat.old.1 found) left) × HasSeen seat.old.1 seat.new.1 }
 {
     renewal();
     let mut gate = lock;

@@ -41,7 +41,7 @@ impl Model for CacheOwner {
     ghost use Rattle.std.specs.Coded.{codes, coded_list};
     ghost use Rattle.atomic_table.specs.Seated.{table_id_coded};
     ghost use Rattle.jc_model.specs.Cache.{cache_code};
-    ghost use Rattle.jc_cache.specs.Caches.{OwnerState, noted_by, fronts_of};
+    ghost use Rattle.jc_cache.specs.Caches.{OwnerState, noted_by, fronts_of, logs_of};
     ghost use Rattle.jc_cache.specs.CacheInside.{IsWhole};
 
     ghost Value = { OwnerState };
@@ -53,6 +53,7 @@ impl Model for CacheOwner {
       given = o.given;
       noted = noted_by o.seats.items;
       fronts = fronts_of o.seats.items;
+      logs = logs_of o.seats.items;
     } };
 
     ghost invariant = { λ o. IsWhole o.cache.config o.given o.cache.locks o.seats.items };

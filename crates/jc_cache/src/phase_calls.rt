@@ -10,16 +10,18 @@ ghost use Rattle.jc_types.specs.Stripes.{stripe_of};
 ghost use Rattle.jc_model.specs.Group.{load_only, write_only};
 ghost use Rattle.jc_outside.specs.declared.done.Origin.TheVariants.{Live};
 ghost use Rattle.jc_stripe.specs.Effects.{HasReport, change_due, process_out};
-ghost use Rattle.jc_stripe.specs.Keys.{Looks};
-ghost use Rattle.jc_stripe.specs.Phases.{Commits, PicksUp, Withdraws, begun_with, with_reply};
+ghost use Rattle.jc_stripe.specs.Phases.{begun_with, with_reply};
 ghost use Rattle.jc_stripe.specs.State.{State};
 ghost use Rattle.jc_stripe.specs.Tickets.{asks_loader, asks_processor, asks_writer, claim_of};
 ghost use Rattle.jc_session.specs.Counting.{counted_picked, counted_started};
 ghost use Rattle.jc_session.specs.declared.counts.Counted.TheVariants.{Committed, Nothing, Withdrawn};
 ghost use Rattle.jc_engine.specs.Answered.{IsAnswered, out_of};
-ghost use Rattle.jc_engine.specs.Needs.{IsReported, PicksUpLate, StartsAt};
+ghost use Rattle.jc_engine.specs.Doors.{waiting};
+ghost use Rattle.jc_engine.specs.Needs.{IsReported};
+ghost use Rattle.jc_engine.specs.Turns.{committing};
 ghost use Rattle.jc_cache.specs.Sessions.{GoesOn, IsCaller, IsOf};
 ghost use Rattle.jc_cache.specs.PhaseCalls.{MayFind, MayStart, PhaseAt};
+ghost use Rattle.jc_cache.specs.Turns.{looking, picking_late, picking_now, starting_now, withdrawing};
 
 use crate::cache::Cache;
 use crate::session::Session;
@@ -48,7 +50,7 @@ impl Cache {
         requires may { MayStart self.now session.old key.now }
         ensures { GoesOn self.now session.new
             (PhaseAt (stripe_of key.now self.now.config.stripes) session.old
-            (λ a b. StartsAt session.old.agent.caller key.now op.now (begun_with result reply.new) a b)
+            (starting_now session.old.agent.caller key.now op.now (begun_with result reply.new))
             (counted_started result) session.new) }
     {
         let at = stripe_of(key, self.config.stripes);
@@ -77,7 +79,7 @@ impl Cache {
             × (done.ask ≡ claim_of ticket.reservation) × (done.origin ≡ Live) }
         ensures { GoesOn self.now session.new
             (PhaseAt (stripe_of ticket.reservation.key self.now.config.stripes) session.old
-            (λ a b. Commits a ticket.reservation (load_only done.answer) (with_reply result reply.new) b)
+            (committing ticket.reservation (load_only done.answer) (with_reply result reply.new))
             Committed session.new) }
     {
         self.commit(rt, session, ticket, done, reply)
@@ -99,7 +101,7 @@ impl Cache {
             × (done.ask ≡ claim_of ticket.reservation) × (done.origin ≡ Live) }
         ensures { GoesOn self.now session.new
             (PhaseAt (stripe_of ticket.reservation.key self.now.config.stripes) session.old
-            (λ a b. Commits a ticket.reservation (write_only done.answer) (with_reply result reply.new) b)
+            (committing ticket.reservation (write_only done.answer) (with_reply result reply.new))
             Committed session.new) }
     {
         self.commit(rt, session, ticket, done, reply)
@@ -125,7 +127,7 @@ impl Cache {
         requires report { HasReport Live ticket.reservation (change_due self.now.config done) report }
         ensures { GoesOn self.now session.new
             (PhaseAt (stripe_of ticket.reservation.key self.now.config.stripes) session.old
-            (λ a b. Commits a ticket.reservation (process_out done report) (with_reply result reply.new) b)
+            (committing ticket.reservation (process_out done report) (with_reply result reply.new))
             Committed session.new) }
     {
         self.commit(rt, session, ticket, Processed { done, report }, reply)
@@ -138,7 +140,7 @@ impl Cache {
         requires { IsCaller self.now session.old join.caller }
         ensures { GoesOn self.now session.new
             (PhaseAt (stripe_of join.key self.now.config.stripes) session.old
-            (λ a b. PicksUp a join result b) (counted_picked result) session.new) }
+            (picking_now join result) (counted_picked result) session.new) }
     {
         let at = stripe_of(join.key(), self.config.stripes);
         let pick_up = PickUp { join, waits: false };
@@ -154,7 +156,7 @@ impl Cache {
         requires reservations { session.old.agent.counts.reservations ≡ 0 }
         ensures { GoesOn self.now session.new
             (PhaseAt (stripe_of join.key self.now.config.stripes) session.old
-            (λ a b. PicksUpLate a join result b) (counted_picked result) session.new) }
+            (picking_late join result) (counted_picked result) session.new) }
     {
         let at = stripe_of(join.key(), self.config.stripes);
         let pick_up = PickUp { join, waits: true };
@@ -170,7 +172,7 @@ impl Cache {
         requires unasked { ticket.asked ≡ false }
         ensures { GoesOn self.now session.new
             (PhaseAt (stripe_of ticket.reservation.key self.now.config.stripes) session.old
-            (λ a b. Withdraws a ticket.reservation b) Withdrawn session.new) }
+            (withdrawing ticket.reservation) Withdrawn session.new) }
     {
         let at = stripe_of(&ticket.reservation().key, self.config.stripes);
         self.phase_at(rt, session, at, Withdraw { ticket }, &mut Reply::Unit);
@@ -199,7 +201,7 @@ impl Cache {
         requires room { vec_len out.old + self.now.config.capacity ≤ vec_capacity out.old }
         ensures phase { GoesOn self.now session.new
             (PhaseAt number session.old
-            (λ a b. (b ≡ a) × Looks a out.old.items out.new.items) Nothing session.new) }
+            (looking out.old.items out.new.items) Nothing session.new) }
         ensures room { (vec_len out.new ≤ vec_len out.old + self.now.config.capacity)
             × (vec_capacity out.new ≡ vec_capacity out.old) }
     {
@@ -227,7 +229,7 @@ impl Cache {
         requires reported { IsReported self.now.config ticket.reservation (A.answered answer) }
         ensures { GoesOn self.now session.new
             (PhaseAt (stripe_of ticket.reservation.key self.now.config.stripes) session.old
-            (λ a b. Commits a ticket.reservation (out_of (A.answered answer)) (with_reply result reply.new) b)
+            (committing ticket.reservation (out_of (A.answered answer)) (with_reply result reply.new))
             Committed session.new) }
     {
         let at = stripe_of(&ticket.reservation().key, self.config.stripes);
@@ -254,7 +256,7 @@ impl Cache {
         requires who { P.who phase ≡ session.old.agent.caller.session }
         requires needs { (a : State) → MayFind session.old number a → P.needs phase a }
         ensures { GoesOn self.now session.new
-            (PhaseAt number session.old (λ a b. P.makes phase a result reply.new b) (P.counts result) session.new) }
+            (PhaseAt number session.old (waiting (P.due phase) (P.puts_off phase) (λ a b. P.makes phase a result reply.new b)) (P.counts result) session.new) }
     {
         is_uniform();
         own_steps();

@@ -66,6 +66,7 @@ impl CacheOwner {
             Ok((owner, dropped)) => {
                 let Closed {
                     stripes: _stripes,
+                    seats: _seats,
                     outside,
                     legal: _,
                 } = closed;

@@ -31,6 +31,8 @@ use Rattle.jc_session.specs.declared.counts.Counted.TheVariants.{Reserved, Joine
 use Rattle.jc_engine.specs.Needs.{StartsAt}
 use Rattle.jc_cache.specs.Caches.{CacheState}
 use Rattle.jc_cache.specs.Calls.{next_call}
+use Rattle.jc_engine.specs.Chain.{Turn}
+use Rattle.jc_cache.specs.Turns.{picking_now, starting_now, withdrawing}
 use Rattle.jc_cache.specs.PhaseCalls.{PhaseAt}
 use Rattle.jc_cache.specs.Sessions.{IsOf, MayCall}
 use Rattle.jc_cache.specs.declared.session.Session.{Session}
@@ -73,9 +75,9 @@ module _ {I J : Type 0} {D : I → Type 0} {E : J → Type 0} where
   abbrev AllBefore : Session I J D E → Caller → ℕ → Type 0
   AllBefore session caller call = (i : ℕ) (seat : Seated) → slice_get session.seats.items i ≡ Some seat → AreBefore caller.session call seat.1.own
 
-  all_before : (stripe : ℕ) (old new : Session I J D E) (phase : State → State → Type 0) (counted : Counted) (call : ℕ) (x : PhaseAt stripe old phase counted new)
+  all_before : (stripe : ℕ) (old new : Session I J D E) (turn : Turn) (counted : Counted) (call : ℕ) (x : PhaseAt stripe old turn counted new)
       → all_own_steps old.agent.caller.session x.after.noted ≡ all_own_steps old.agent.caller.session x.seat.found → AllBefore old old.agent.caller call → AllBefore new new.agent.caller call
-  all_before stripe old new phase counted call x same before i seat there =
+  all_before stripe old new turn counted call x same before i seat there =
       let session : ℕ = old.agent.caller.session in
       let stays : x.after.own ≡ x.before.own = x.seat.own_is ∙ same ∙ x.seat.own in
       subst (λ (a : Agent I J D E). AreBefore a.caller.session call seat.1.own) (sym x.left)
@@ -88,12 +90,12 @@ module _ {I J : Type 0} {D : I → Type 0} {E : J → Type 0} where
 
   -- 4. First phases.
 
-  numbers_on : (old mid new : Session I J D E) (stripe : ℕ) (phase : State → State → Type 0) (counted : Counted) → mid ≡ next_call old → (x : PhaseAt stripe mid phase counted new)
+  numbers_on : (old mid new : Session I J D E) (stripe : ℕ) (turn : Turn) (counted : Counted) → mid ≡ next_call old → (x : PhaseAt stripe mid turn counted new)
       → all_own_steps mid.agent.caller.session x.after.noted ≡ all_own_steps mid.agent.caller.session x.seat.found → AllBefore old old.agent.caller (one_more old.agent.caller.call)
       → AllBefore new new.agent.caller (one_more new.agent.caller.call)
-  numbers_on old mid new stripe phase counted is x same before i seat there =
+  numbers_on old mid new stripe turn counted is x same before i seat there =
       let begun : AllBefore mid mid.agent.caller mid.agent.caller.call = subst (λ (m : Session I J D E). AllBefore m m.agent.caller m.agent.caller.call) (sym is) before in
-      let last : AreBefore new.agent.caller.session mid.agent.caller.call seat.1.own = all_before stripe mid new phase counted mid.agent.caller.call x same begun i seat there in
+      let last : AreBefore new.agent.caller.session mid.agent.caller.call seat.1.own = all_before stripe mid new turn counted mid.agent.caller.call x same begun i seat there in
       let call : new.agent.caller.call ≡ mid.agent.caller.call = ap (λ (a : Agent I J D E). a.caller.call) x.left in
       all_before_next new.agent.caller.session new.agent.caller.call seat.1.own
       (subst (λ (n : ℕ). AreBefore new.agent.caller.session n seat.1.own) (sym call) last)
@@ -103,7 +105,7 @@ module _ {I J : Type 0} {D : I → Type 0} {E : J → Type 0} where
       (ap (λ (m : Session I J D E). m.agent.counts.reservations) is ∙ may.reservations, ap (λ (m : Session I J D E). m.agent.counts.joins) is ∙ may.joins)
 
   pub reserved : OwnSteps → (cache : CacheState) (old mid new : Session I J D E) (stripe : ℕ) (key : Bytes) (op : Op) (ticket : TicketClaim) → MayCall cache old → mid ≡ next_call old → IsOf cache new
-      → PhaseAt stripe mid (λ a b. StartsAt mid.agent.caller key op (begun.Asks ticket) a b) Reserved new → HasOut cache new 1 0
+      → PhaseAt stripe mid (starting_now mid.agent.caller key op (begun.Asks ticket)) Reserved new → HasOut cache new 1 0
   reserved steps cache old mid new stripe key op ticket may is own x =
       let begins = x.seat.made.begins in
       let none = none_out old mid cache is may in
@@ -118,7 +120,7 @@ module _ {I J : Type 0} {D : I → Type 0} {E : J → Type 0} where
       }
 
   pub joined : OwnSteps → (cache : CacheState) (old mid new : Session I J D E) (stripe : ℕ) (key : Bytes) (op : Op) (join : JoinClaim) → MayCall cache old → mid ≡ next_call old → IsOf cache new
-      → PhaseAt stripe mid (λ a b. StartsAt mid.agent.caller key op (begun.Joined join) a b) Joined new → HasOut cache new 0 1
+      → PhaseAt stripe mid (starting_now mid.agent.caller key op (begun.Joined join)) Joined new → HasOut cache new 0 1
   joined steps cache old mid new stripe key op join may is own x =
       let begins = x.seat.made.begins in
       let none = none_out old mid cache is may in
@@ -134,16 +136,16 @@ module _ {I J : Type 0} {D : I → Type 0} {E : J → Type 0} where
 
   -- 5. The ends of calls that are given up.
 
-  numbers_kept : (old new : Session I J D E) (stripe : ℕ) (phase : State → State → Type 0) (counted : Counted) → (x : PhaseAt stripe old phase counted new)
+  numbers_kept : (old new : Session I J D E) (stripe : ℕ) (turn : Turn) (counted : Counted) → (x : PhaseAt stripe old turn counted new)
       → all_own_steps old.agent.caller.session x.after.noted ≡ all_own_steps old.agent.caller.session x.seat.found → AllBefore old old.agent.caller (one_more old.agent.caller.call)
       → AllBefore new new.agent.caller (one_more new.agent.caller.call)
-  numbers_kept old new stripe phase counted x same before i seat there =
+  numbers_kept old new stripe turn counted x same before i seat there =
       let call : new.agent.caller.call ≡ old.agent.caller.call = ap (λ (a : Agent I J D E). a.caller.call) x.left in
       subst (λ (n : ℕ). AreBefore new.agent.caller.session (one_more n) seat.1.own) (sym call)
-      (all_before stripe old new phase counted (one_more old.agent.caller.call) x same before i seat there)
+      (all_before stripe old new turn counted (one_more old.agent.caller.call) x same before i seat there)
 
   pub given_up : OwnSteps → (cache : CacheState) (old new : Session I J D E) (stripe : ℕ) (r : Reservation) → HasOut cache old 1 0 → IsOf cache new
-      → PhaseAt stripe old (λ a b. Withdraws a r b) Withdrawn new → MayCall cache new
+      → PhaseAt stripe old (withdrawing r) Withdrawn new → MayCall cache new
   given_up steps cache old new stripe r out own x =
       let session : ℕ = old.agent.caller.session in
       record {
@@ -156,7 +158,7 @@ module _ {I J : Type 0} {D : I → Type 0} {E : J → Type 0} where
       }
 
   pub retried : OwnSteps → (cache : CacheState) (old new : Session I J D E) (stripe : ℕ) (join : JoinClaim) → HasOut cache old 0 1 → IsOf cache new → join.caller.session ≡ old.agent.caller.session
-      → PhaseAt stripe old (λ a b. PicksUp a join picked.Again b) Retried new → MayCall cache new
+      → PhaseAt stripe old (picking_now join picked.Again) Retried new → MayCall cache new
   retried steps cache old new stripe join out own who x =
       let session : ℕ = old.agent.caller.session in
       let again = steps.again x.seat.found x.after.noted join x.seat.reached x.seat.made in

@@ -20,7 +20,7 @@ use Rattle.jc_stripe.specs.OnePhase.{OnePhase, IsPhaseOf, own_steps}
 use Rattle.jc_stripe.specs.Renewal.{Renewal, Renews, RenewsIfFull, StaysOrRenews}
 use Rattle.jc_stripe.proofs.CallerLemmas.{of_same, whole_goes_on, own_stay, stays_or_renews}
 use Rattle.jc_gate.specs.Lending.{ComesAfter}
-use Rattle.jc_engine.specs.Chain.{IsQuiet, Since, LentPhase}
+use Rattle.jc_engine.specs.Chain.{IsQuiet, Since, Turn, LentPhase}
 
 pub comes_itself : (session : ℕ) (a : State) → ComesAfter session a a
 comes_itself session a = record {
@@ -75,9 +75,9 @@ module _ {G T : Type 0} (finds : G → T → State → Type 0) (session : ℕ) w
   since_both g t h u b p q = since_on g t q.first b (p q.first q.finds_first) q.after
 
 pub since_phase : {G T : Type 0} (takes gives : G → T → State → G → T → Type 0) (finds : G → T → State → Type 0) (session : ℕ) → OnePhase
-    → (g : G) (t : T) (h : G) (u : T) (phase : State → State → Type 0) (k : G) (v : T) → ((a : State) → finds h u a → Since finds session g t a)
-    → (x : LentPhase takes gives finds session h u phase k v) → own_steps session x.after ≡ own_steps session x.before → (a : State) → finds k v a → Since finds session g t a
-since_phase takes gives finds session law g t h u phase k v all x own a found =
+    → (g : G) (t : T) (h : G) (u : T) (turn : Turn) (k : G) (v : T) → ((a : State) → finds h u a → Since finds session g t a)
+    → (x : LentPhase takes gives finds session h u turn k v) → own_steps session x.after ≡ own_steps session x.before → (a : State) → finds k v a → Since finds session g t a
+since_phase takes gives finds session law g t h u turn k v all x own a found =
     since_on finds session g t x.after a
     (since_on finds session g t x.before x.after (since_both finds session g t h u x.before all x.since) (comes_by law session x.before x.after x.lent.reached x.one own))
     (x.next a found)

@@ -12,7 +12,6 @@ use Rattle.jc_model.specs.declared.event.Op.{Op}
 use Rattle.jc_model.specs.declared.event.Out.{Out}
 use Rattle.jc_outside.specs.Calling.{LoadRelation, WriteRelation}
 use Rattle.jc_stripe.specs.State.{State}
-use Rattle.jc_stripe.specs.Phases.{Commits}
 use Rattle.jc_stripe.specs.Tickets.{TicketClaim}
 use Rattle.jc_stripe.specs.declared.begun.StepDone.{StepDone}
 use Rattle.jc_stripe.specs.declared.ticket.Reservation.{Reservation}
@@ -22,6 +21,7 @@ use Rattle.jc_session.specs.declared.agent.Agent.{Agent}
 use Rattle.jc_engine.specs.Answered.{CallAnswer, out_of}
 use Rattle.jc_engine.specs.Asking.{AsksLoader, AsksWriter, IsAsked, KeepsTypes, change_wanted}
 use Rattle.jc_engine.specs.Chain.{LentPhase}
+use Rattle.jc_engine.specs.Turns.{committing}
 use Rattle.jc_engine.specs.Calls.{AsksAndEnds, Enters, IsCall, counts_entered}
 use Rattle.jc_engine.specs.Entering as entered
 use Rattle.jc_engine.proofs.AgentAfter.{after_first, after_both}
@@ -30,10 +30,10 @@ use Rattle.jc_engine.proofs.Asking.{loader_for, writer_for}
 
 module _ {G T : Type 0} (takes gives : G → T → State → G → T → Type 0) (finds : G → T → State → Type 0) where
   pub ends_by : (n : ℕ) (ticket : TicketClaim) (r : Reservation) (out : Out) (done : StepDone) (g : G) (t : T) (h : G) (u : T) → n ≡ ticket.reservation.caller.session → r ≡ ticket.reservation
-      → LentPhase takes gives finds n g t (λ a b. Commits a r out done b) h u → LentPhase takes gives finds ticket.reservation.caller.session g t (λ a b. Commits a ticket.reservation out done b) h u
+      → LentPhase takes gives finds n g t (committing r out done) h u → LentPhase takes gives finds ticket.reservation.caller.session g t (committing ticket.reservation out done) h u
   ends_by n ticket r out done g t h u session its x =
-      subst (λ (q : Reservation). LentPhase takes gives finds ticket.reservation.caller.session g t (λ a b. Commits a q out done b) h u) its
-      (subst (λ (m : ℕ). LentPhase takes gives finds m g t (λ a b. Commits a r out done b) h u) session x)
+      subst (λ (q : Reservation). LentPhase takes gives finds ticket.reservation.caller.session g t (committing q out done) h u) its
+      (subst (λ (m : ℕ). LentPhase takes gives finds m g t (committing r out done) h u) session x)
 
 module _ {I J G T : Type 0} {D : I → Type 0} {E : J → Type 0}
     (loads : LoadRelation ((i : I) × D i)) (load_state : (i : I) × D i → List ℕ)
@@ -59,7 +59,7 @@ module _ {I J G T : Type 0} {D : I → Type 0} {E : J → Type 0}
 
   abbrev pub asked_ends : (old asked new : Agent I J D E) (ticket given : TicketClaim) (answer : CallAnswer) (done : StepDone) (g : G) (t : T) (h : G) (u : T)
       → ticket.reservation.caller.session ≡ old.caller.session → IsAsked loads load_state writes write_state old ticket answer asked given
-      → new ≡ record asked { counts = counts_ended asked.counts } → LentPhase takes gives finds asked.caller.session g t (λ a b. Commits a given.reservation (out_of answer) done b) h u
+      → new ≡ record asked { counts = counts_ended asked.counts } → LentPhase takes gives finds asked.caller.session g t (committing given.reservation (out_of answer) done) h u
       → AsksAndEnds loads load_state writes write_state takes gives finds ticket.reservation old g t done.reply new h u
   asked_ends old asked new ticket given answer done g t h u who d last x = record {
     asked = asked;
@@ -78,7 +78,7 @@ module _ {I J G T : Type 0} {D : I → Type 0} {E : J → Type 0}
 
   abbrev pub reserved_call : (n : ℕ) (old mid asked new : Agent I J D E) (key : Bytes) (op : Op) (g : G) (t : T) (ticket : TicketClaim) (h : G) (u : T) (r : Reservation) (out : Out) (done : StepDone) (k : G) (v : T)
       → (x : Enters takes gives finds old.caller key op g t (entered.Asks ticket) h u)
-      → LentPhase takes gives finds n h u (λ a b. Commits a r out done b) k v → n ≡ old.caller.session → r ≡ ticket.reservation
+      → LentPhase takes gives finds n h u (committing r out done) k v → n ≡ old.caller.session → r ≡ ticket.reservation
       → old.counts.reservations ≡ 0 → mid ≡ record old { counts = counts_entered old.counts (entered.Asks ticket) } → asked ≡ record mid { hands = asked.hands } → asked.hands.held ≡ 0
       → new ≡ record asked { counts = counts_ended asked.counts }
       → AsksLoader (boxed loads) (boxed load_state) mid.hands.outside.loader ticket.reservation.key out.load asked.hands.outside.loader

@@ -29,7 +29,8 @@ use Rattle.jc_stripe.proofs.CallerLemmas.{stays_alone}
 use Rattle.jc_session.specs.declared.agent.Agent.{Agent}
 use Rattle.jc_gate.specs.Lending.{Lent}
 use Rattle.jc_gate.specs.Owned.{OwnerState}
-use Rattle.jc_engine.specs.Chain.{AllQuiet, LentPhase}
+use Rattle.jc_engine.specs.Chain.{AllQuiet, LentPhase, Turn}
+use Rattle.jc_engine.specs.Turns.{committing, starting}
 use Rattle.jc_engine.specs.Needs.{Starts}
 use Rattle.jc_engine.specs.Calls.{Retries, EntersAs, Enters, EndsAs, IsCall}
 use Rattle.jc_engine.specs.Owned.{next_after, OneStep, EndsCall, IsOwnedCall}
@@ -56,9 +57,9 @@ module _ {T : Type 0} where
       let left : p.1 ≡ p.0 = stays_alone p.0 p.1 (ap (λ (s : State). s.lives) found ∙ alone) all.0.stays in
       idle_stays row.0 row.1 ps h u a (row.2.gave ∙ ap (λ (z : State). Some z) (left ∙ found)) alone row.3 all.1
 
-  pub owner_at : (who : ℕ) (g : OwnerState) (t : T) (phase : State → State → Type 0) (h : OwnerState) (u : T) (a : State) → g.here ≡ Some a → a.lives ≡ false
-      → (x : LentPhase owner_takes owner_gives owner_finds who g t phase h u) → (x.before ≡ a) × (h.here ≡ Some x.after)
-  owner_at who g t phase h u a is alone x = (same_Some x.before a (sym x.lent.took.0 ∙ idle_stays g t x.rests.idle x.gate x.token a is alone x.rests.lent x.rests.quiet), x.lent.gave)
+  pub owner_at : (who : ℕ) (g : OwnerState) (t : T) (turn : Turn) (h : OwnerState) (u : T) (a : State) → g.here ≡ Some a → a.lives ≡ false
+      → (x : LentPhase owner_takes owner_gives owner_finds who g t turn h u) → (x.before ≡ a) × (h.here ≡ Some x.after)
+  owner_at who g t turn h u a is alone x = (same_Some x.before a (sym x.lent.took.0 ∙ idle_stays g t x.rests.idle x.gate x.token a is alone x.rests.lent x.rests.quiet), x.lent.gave)
 
 pub there_is : (owner : Option State) → IsSome owner → (a : State) × (owner ≡ Some a)
 there_is None there = cc
@@ -79,9 +80,9 @@ none_joined a key op idle = (λ i. load_joined (record a { reservations = idle.r
 
 module _ {T : Type 0} (law : JoinsOnlyLoads) (caller : Caller) (key : Bytes) (op : Op) where
   none_joins : (join : JoinClaim) (g : OwnerState) (t : T) (h : OwnerState) (u : T) (a : State) → g.here ≡ Some a → IsAlone a
-      → LentPhase owner_takes owner_gives owner_finds caller.session g t (Starts caller key op (begun.Joined join)) h u → ⊥
+      → LentPhase owner_takes owner_gives owner_finds caller.session g t (starting caller key op (begun.Joined join)) h u → ⊥
   none_joins join g t h u a is idle x =
-      let at = owner_at caller.session g t (Starts caller key op (begun.Joined join)) h u a is idle.1 x in
+      let at = owner_at caller.session g t (starting caller key op (begun.Joined join)) h u a is idle.1 x in
       law x.before x.after caller key op join (none_joined x.before key op (subst IsIdle (sym at.0) idle.0)) x.made.first.begins
 
   pub no_retries : (n : ℕ) (g : OwnerState) (t : T) (h : OwnerState) (u : T) (a : State) → g.here ≡ Some a → IsAlone a
@@ -143,9 +144,9 @@ module _ {T : Type 0} (caller : Caller) (key : Bytes) (op : Op) where
       → (x.first.before ≡ a) × (c : State) × (h.here ≡ Some c) × EndsCall x.first.before caller key op out ended c
   ends_owned whole joins (entered.Done reply) out ended g t k v h u a is idle x ends =
       let there = no_retries joins caller key op x.rounds g t x.gate x.token a is idle x.retried in
-      let at = owner_at caller.session x.gate x.token (Starts caller key op x.begun) x.gate' x.token' a there idle.1 x.first in
+      let at = owner_at caller.session x.gate x.token (starting caller key op x.begun) x.gate' x.token' a there idle.1 x.first in
       let alone : (join : JoinClaim) → x.begun ≡ begun.Joined join → ⊥ =
-      λ join e. none_joins joins caller key op join x.gate x.token x.gate' x.token' a there idle (subst (λ (b : Begun). LentPhase owner_takes owner_gives owner_finds caller.session x.gate x.token (Starts caller key op b) x.gate' x.token') e x.first) in
+      λ join e. none_joins joins caller key op join x.gate x.token x.gate' x.token' a there idle (subst (λ (b : Begun). LentPhase owner_takes owner_gives owner_finds caller.session x.gate x.token (starting caller key op b) x.gate' x.token') e x.first) in
       let done = done_by x.begun reply x.gate' x.token' k v x.first.before x.first.after alone x.first.made x.ends in (
         at.0,
         x.first.after,
@@ -154,7 +155,7 @@ module _ {T : Type 0} (caller : Caller) (key : Bytes) (op : Op) where
       )
   ends_owned whole joins (entered.Refused refusal) out ended g t k v h u a is idle x ends =
       let there = no_retries joins caller key op x.rounds g t x.gate x.token a is idle x.retried in
-      let at = owner_at caller.session x.gate x.token (Starts caller key op x.begun) x.gate' x.token' a there idle.1 x.first in
+      let at = owner_at caller.session x.gate x.token (starting caller key op x.begun) x.gate' x.token' a there idle.1 x.first in
       let done = refused_by x.begun refusal x.gate' x.token' k v x.first.before x.first.after x.first.made x.ends in (
         at.0,
         x.first.after,
@@ -163,10 +164,10 @@ module _ {T : Type 0} (caller : Caller) (key : Bytes) (op : Op) where
       )
   ends_owned whole joins (entered.Asks ticket) out ended g t k v h u a is idle x ends =
       let there = no_retries joins caller key op x.rounds g t x.gate x.token a is idle x.retried in
-      let at = owner_at caller.session x.gate x.token (Starts caller key op x.begun) x.gate' x.token' a there idle.1 x.first in
+      let at = owner_at caller.session x.gate x.token (starting caller key op x.begun) x.gate' x.token' a there idle.1 x.first in
       let first = asks_first owner_takes owner_gives owner_finds caller key op ticket g t k v x in
       let same = asked_by owner_takes owner_gives owner_finds caller key op x.begun ticket x.gate' x.token' k v x.ends in
-      let last = owner_at ticket.reservation.caller.session k v (λ a b. Commits a ticket.reservation out ends.0 b) h u x.first.after (ap (λ (o : OwnerState). o.here) same.1 ∙ at.1) (ap (λ (s : State). s.lives) first.first.begins.5 ∙ ap (λ (s : State). s.lives) at.0 ∙ idle.1) ends.2 in
+      let last = owner_at ticket.reservation.caller.session k v (committing ticket.reservation out ends.0) h u x.first.after (ap (λ (o : OwnerState). o.here) same.1 ∙ at.1) (ap (λ (s : State). s.lives) first.first.begins.5 ∙ ap (λ (s : State). s.lives) at.0 ∙ idle.1) ends.2 in
       let commits = subst (λ (z : State). Commits z ticket.reservation out ends.0 ends.2.after) last.0 ends.2.made in (
         at.0,
         ends.2.after,

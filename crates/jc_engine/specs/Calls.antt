@@ -14,8 +14,9 @@
 --     AsksAndEnds     a call from where it has somebody to ask: the loader or the writer is asked, and then the step is committed
 --     IsCall          a whole call
 --     IsInvocation    a whole call that runs a processor, which stays of its type
---     IsBusy          a call that waits for nobody wasn't made: the stripe wasn't there, or each that was found was one on which it can't be
---                     made without waiting or asking; a generation has ended exactly if it was full and might end
+--     IsBusy          a call that waits for nobody wasn't made: somebody else had the stripe, or it was found, and the call can't be made on it
+--                     without waiting or asking; if a generation stood in the way, it was tried once more
+--     TriesTo         such a call's first phase, at the first try, or at the second if a generation stood in the way of the first
 --     IsTried         such a call: it is done at once or refused in the one state that it found, or it is refused as busy
 use Rattle.std.specs.declared.dyn_box.DynBox.{DynBox}
 use Rattle.std.specs.Prelude.{◌≡◌, ◌⊎◌, ℕ, zero, suc, List, [], true, false, Option, Result, Ok, Err, IsSome}
@@ -34,7 +35,6 @@ use Rattle.jc_outside.specs.Calling.{LoadRelation, WriteRelation}
 use Rattle.jc_outside.specs.declared.done.Origin.TheVariants.{Live}
 use Rattle.jc_mutentry.specs.Running.{ProcessRelation}
 use Rattle.jc_stripe.specs.State.{State}
-use Rattle.jc_stripe.specs.Phases.{Commits, PicksUp}
 use Rattle.jc_stripe.specs.declared.begun.StepDone.{StepDone}
 use Rattle.jc_stripe.specs.declared.begun.Begun.{Begun}
 use Rattle.jc_stripe.specs.declared.begun.Begun.TheVariants as begun
@@ -47,9 +47,10 @@ use Rattle.jc_session.specs.declared.counts.Counts.{Counts}
 use Rattle.jc_session.specs.declared.agent.Agent.{Agent}
 use Rattle.jc_engine.specs.Entering.{Entered}
 use Rattle.jc_engine.specs.Entering as entered
-use Rattle.jc_engine.specs.Chain.{Rests, Since, LentPhase}
-use Rattle.jc_engine.specs.Doors.{AllFound, AllRenewed}
-use Rattle.jc_engine.specs.Needs.{BeginsIfClear, Starts, StartsBy, can_start}
+use Rattle.jc_engine.specs.Chain.{Since, LentPhase}
+use Rattle.jc_engine.specs.Doors.{HasTried, IsAgain}
+use Rattle.jc_engine.specs.Needs.{BeginsIfClear}
+use Rattle.jc_engine.specs.Turns.{StartWaits, starting, trying, picking, committing}
 use Rattle.jc_engine.specs.declared.first.How.TheVariants.{Alone}
 use Rattle.jc_engine.specs.Asking.{AsksLoader, AsksWriter, KeepsTypes, RunsProcessor, change_wanted, own_after}
 
@@ -74,8 +75,8 @@ module _ {G T : Type 0} (takes gives : G → T → State → G → T → Type 0)
     pub join : JoinClaim
     pub gate : G
     pub token : T
-    pub joined : LentPhase takes gives finds caller.session g t (Starts caller key op (begun.Joined join)) gate token
-    pub retried : LentPhase takes gives finds join.caller.session gate token (λ a b. PicksUp a join picked.Again b) h u
+    pub joined : LentPhase takes gives finds caller.session g t (starting caller key op (begun.Joined join)) gate token
+    pub retried : LentPhase takes gives finds join.caller.session gate token (picking join picked.Again) h u
 
   abbrev pub Retries : ℕ → G → T → G → T → Type 0
   Retries zero g t h u = (h ≡ g) × (u ≡ t)
@@ -88,7 +89,7 @@ module _ {G T : Type 0} (takes gives : G → T → State → G → T → Type 0)
   EntersAs (begun.Joined join) met g t h u =
       (reply : Reply) × (place : ℕ) × (shared_with : ℕ)
       × (met ≡ entered.Done reply)
-      × LentPhase takes gives finds join.caller.session g t (λ a b. PicksUp a join (picked.Answer reply place shared_with) b) h u
+      × LentPhase takes gives finds join.caller.session g t (picking join (picked.Answer reply place shared_with)) h u
 
   pub record Enters (g : G) (t : T) (met : Entered) (h : G) (u : T) : Type 0 where
     pub rounds : ℕ
@@ -98,7 +99,7 @@ module _ {G T : Type 0} (takes gives : G → T → State → G → T → Type 0)
     pub begun : Begun
     pub gate' : G
     pub token' : T
-    pub first : LentPhase takes gives finds caller.session gate token (Starts caller key op begun) gate' token'
+    pub first : LentPhase takes gives finds caller.session gate token (starting caller key op begun) gate' token'
     pub since : Since finds caller.session g t first.before
     pub ends : EntersAs begun met gate' token' h u
 
@@ -109,7 +110,7 @@ module _ {G T : Type 0} (takes gives : G → T → State → G → T → Type 0)
   EndsAs (entered.Refused refusal) asked ended g t h u = (ended ≡ Err refusal) × (asked ≡ nothing_said) × (h ≡ g) × (u ≡ t)
   EndsAs (entered.Asks ticket) asked ended g t h u =
       (done : StepDone) × (ended ≡ Ok done.reply)
-      × LentPhase takes gives finds ticket.reservation.caller.session g t (λ a b. Commits a ticket.reservation asked done b) h u
+      × LentPhase takes gives finds ticket.reservation.caller.session g t (committing ticket.reservation asked done) h u
 
 abbrev pub counts_entered : Counts → Entered → Counts
 counts_entered counts (entered.Done reply) = record counts { own = one_more counts.own }
@@ -134,7 +135,7 @@ pub record AsksAndEnds
   pub held : asked.hands.held ≡ 0
   pub rest : asked ≡ record old { hands = asked.hands }
   pub last : new ≡ record asked { counts = counts_ended asked.counts }
-  pub phase : LentPhase takes gives finds r.caller.session g t (λ a b. Commits a r out done b) h u
+  pub phase : LentPhase takes gives finds r.caller.session g t (committing r out done) h u
 
 -- 3. The whole.
 
@@ -169,15 +170,14 @@ pub record IsInvocation
 
 -- 4. A call that waits for nobody.
 
-module _ {G T : Type 0} (takes gives : G → T → State → G → T → Type 0) (finds : G → T → State → Type 0) (may_fail : G → T → Type 0) (caller : Caller) (key : Bytes) (op : Op) where
-  pub record IsBusy (g : G) (t : T) (h : G) (u : T) : Type 0 where
-    pub rests : Rests takes gives finds g t h u
-    pub each : AllFound (λ a. can_start Alone a caller key op ≡ false) rests.idle
-    pub renewed : AllRenewed rests.idle
-    pub none : rests.idle ≡ [] → may_fail g t
+module _ {G T : Type 0} (takes gives : G → T → State → G → T → Type 0) (finds : G → T → State → Type 0) (misses : G → T → G → T → Type 0) (caller : Caller) (key : Bytes) (op : Op) where
+  abbrev pub IsBusy : G → T → G → T → Type 0
+  IsBusy g t h u = HasTried takes gives misses (StartWaits Alone caller key op) g t h u
+
+  pub record TriesTo (g : G) (t : T) (begun : Begun) (h : G) (u : T) : Type 0 where
+    pub lent : LentPhase takes gives finds caller.session g t (trying caller key op begun) h u
+    pub again : IsAgain lent.rests.idle
 
   abbrev pub IsTried : G → T → Result Reply Refusal → G → T → Type 0
-  IsTried g t (Ok reply) h u = (done : StepDone) × (done.reply ≡ reply) × LentPhase takes gives finds caller.session g t (StartsBy Alone caller key op (begun.Done done)) h u
-  IsTried g t (Err refusal) h u =
-      LentPhase takes gives finds caller.session g t (StartsBy Alone caller key op (begun.Refused refusal)) h u
-      ⊎ ((refusal ≡ Busy) × IsBusy g t h u)
+  IsTried g t (Ok reply) h u = (done : StepDone) × (done.reply ≡ reply) × TriesTo g t (begun.Done done) h u
+  IsTried g t (Err refusal) h u = TriesTo g t (begun.Refused refusal) h u ⊎ ((refusal ≡ Busy) × IsBusy g t h u)

@@ -5,17 +5,21 @@
 --     MakesCall    the session is at the door again, after this whole call
 --     IsLeft       a stripe that was found in this state is given back without a phase, with its generation ended exactly if it is full and
 --                  may end
---     AllFound     this is so of each state that was found in a row of lendings
---     AllRenewed   in each of these lendings a generation has ended exactly if it was full and might end
---     IsNotMade    a phase was tried and not made: on each stripe that was found it couldn't be made, or was put off; if none was found, a
---                  take may have failed. What the next take finds comes after what a take could have found at first
-use Rattle.std.specs.Prelude.{◌≡◌, ◌⊎◌, ℕ, List, [], ◌∷◌}
-use Rattle.jc_stripe.specs.Renewal.{RenewsIfFull}
+--     HasWaited    a lending in which the session had to wait: its phase couldn't be made on what was found, or was put off; the generation has
+--                  ended exactly if it was full and might end
+--     waiting      a turn in which the session waits so
+--     IsAgain      no lending, or one whose generation stood in the way
+--     HasTriedOnce a phase was tried once and not made: somebody else had the stripe; or it was found, and the session would have had to wait,
+--                  and this says whether its generation stood in the way
+--     HasTried     the same, and once more if a generation stood in the way
+--     IsNotMade    a phase was tried and not made. What the next take finds comes after what a take could have found at first
+use Rattle.std.specs.Prelude.{◌≡◌, ◌⊎◌, ℕ, List, [], ◌∷◌, Bool, true, false}
+use Rattle.jc_stripe.specs.Renewal.{RenewsIfFull, is_renewable}
 use Rattle.jc_stripe.specs.State.{State}
-use Rattle.jc_gate.specs.Lending.{ComesAfter}
+use Rattle.jc_gate.specs.Lending.{ComesAfter, Lends}
 use Rattle.jc_session.specs.declared.agent.Agent.{Agent}
 use Rattle.jc_session.specs.declared.counts.Counts.{Counts}
-use Rattle.jc_engine.specs.Chain.{IsQuiet, Rests, Since}
+use Rattle.jc_engine.specs.Chain.{IsQuiet, Since, Turn, turn_of}
 
 pub record IsReady {I J G T : Type 0} {D : I → Type 0} {E : J → Type 0} (is_free : G → T → Type 0) (speaks_for : T → ℕ → Type 0) (g : G) (t : T) (agent : Agent I J D E) : Type 0 where
   pub held : agent.hands.held ≡ 0
@@ -44,17 +48,28 @@ pub record IsLeft {G T : Type 0} (gives : G → T → State → G → T → Type
   pub speaks : (session : ℕ) → speaks_for t session → speaks_for u session
   pub next : (session : ℕ) (a : State) → speaks_for t session → finds h u a → ComesAfter session left a
 
-abbrev pub AllFound : (State → Type 0) → List (State × State) → Type 0
-AllFound is [] = Unit {0}
-AllFound is (p ∷ ps) = is p.0 × AllFound is ps
+-- one lending in which the session had to wait
+pub record HasWaited (due puts_off : State → Type 0) (found left : State) : Type 0 where
+  pub why : (due found → ⊥) ⊎ puts_off found
+  pub renewed : RenewsIfFull found left
 
-abbrev pub AllRenewed : List (State × State) → Type 0
-AllRenewed [] = Unit {0}
-AllRenewed (p ∷ ps) = RenewsIfFull p.0 p.1 × AllRenewed ps
+abbrev pub waiting : (due puts_off : State → Type 0) → (State → State → Type 0) → Turn
+waiting due puts_off makes = turn_of (HasWaited due puts_off) makes
 
-pub record IsNotMade {G T : Type 0} (takes gives : G → T → State → G → T → Type 0) (finds : G → T → State → Type 0) (may_fail : G → T → Type 0) (due puts_off : State → Type 0) (session : ℕ) (g : G) (t : T) (h : G) (u : T) : Type 0 where
-  pub rests : Rests takes gives finds g t h u
-  pub each : AllFound (λ a. (due a → ⊥) ⊎ puts_off a) rests.idle
-  pub renewed : AllRenewed rests.idle
-  pub none : rests.idle ≡ [] → may_fail g t
+abbrev pub IsAgain : List (State × State) → Type 0
+IsAgain [] = Unit {0}
+IsAgain (p ∷ []) = is_renewable p.0 ≡ true
+IsAgain (p ∷ (q ∷ ps)) = ⊥
+
+pub record HasTriedOnce {G T : Type 0} (takes gives : G → T → State → G → T → Type 0) (misses : G → T → G → T → Type 0) (waits : State → State → Type 0) (again : Bool) (g : G) (t : T) (h : G) (u : T) : Type 0 where
+  pub met : (misses g t h u × (again ≡ false))
+      ⊎ ((p : State × State) × Lends takes gives g t p.0 p.1 h u × IsQuiet p.0 p.1 × waits p.0 p.1 × (is_renewable p.0 ≡ again))
+
+abbrev pub HasTried : {G T : Type 0} → (takes gives : G → T → State → G → T → Type 0) → (misses : G → T → G → T → Type 0) → (waits : State → State → Type 0) → G → T → G → T → Type 0
+HasTried {G} {T} takes gives misses waits g t h u =
+    HasTriedOnce takes gives misses waits false g t h u
+    ⊎ ((gate : G) × (token : T) × (again : Bool) × HasTriedOnce takes gives misses waits true g t gate token × HasTriedOnce takes gives misses waits again gate token h u)
+
+pub record IsNotMade {G T : Type 0} (takes gives : G → T → State → G → T → Type 0) (finds : G → T → State → Type 0) (session : ℕ) (g : G) (t : T) (h : G) (u : T) (Tried : Type 0) : Type 0 where
+  pub tried : Tried
   pub since : (a : State) → finds h u a → Since finds session g t a

@@ -10,3 +10,4 @@ pub mod Values
 pub mod Doors
 pub mod MadeIn
 pub mod Increments
+pub mod Turns

@@ -11,6 +11,8 @@
 --     Starts          one that waits
 --     IsPutOff        a stripe in this state refuses a call, which waits that out
 --     Hits            whether a first phase of a get on a live stripe found its entry, and its value; if it didn't, nothing was done
+--     CannotHit       a get can't be a hit on such a stripe: it isn't clear for it, its history has no place, or the entry is missing
+--     HasMissed       it wasn't a hit: nothing was done
 --     counted_hit     what that changes of its session's counts
 --     IsReported      after a processor, the writer's report is there exactly if it is due
 --     CommitsHere     a call that was answered is to be committed on a live stripe in this state, if its reservation is out there
@@ -18,12 +20,13 @@
 --     PicksUpBy       a pick-up, which may wait
 --     IsTooEarly      one that waits would come too early to a stripe in this state
 --     PicksUpLate     a pick-up that isn't too early
-use Rattle.std.specs.Prelude.{◌≡◌, Bool, true, false, not, ◌&&◌, Some, length}
+use Rattle.std.specs.Prelude.{◌≡◌, ◌⊎◌, Bool, true, false, not, ◌&&◌, None, Some, length}
 use Rattle.jc_types.specs.declared.caller.Caller.{Caller}
 use Rattle.jc_types.specs.declared.config.Config.{Config}
+use Rattle.jc_types.specs.declared.limits.TheConstants.{HIT_PLACES}
 use Rattle.jc_types.specs.Refusals.{is_put_off}
 use Rattle.jc_types.specs.declared.refusal.Refusal.{Refusal}
-use Rattle.jc_model.specs.Cache.{Bytes}
+use Rattle.jc_model.specs.Cache.{Bytes, entry_at}
 use Rattle.jc_model.specs.declared.event.Op.{Op}
 use Rattle.jc_model.specs.declared.event.Op.TheVariants.{Get}
 use Rattle.jc_outside.specs.declared.done.Origin.TheVariants.{Live}
@@ -37,7 +40,7 @@ use Rattle.jc_stripe.specs.Renewal.{all_own_steps, is_renewable}
 use Rattle.jc_stripe.specs.OwnSteps.{may_come_all}
 use Rattle.jc_stripe.specs.declared.begun.Picked.{Picked}
 use Rattle.jc_stripe.specs.declared.begun.Picked.TheVariants as picked
-use Rattle.jc_stripe.specs.Refusals.{first_refusal}
+use Rattle.jc_stripe.specs.Refusals.{first_refusal, has_room}
 use Rattle.jc_stripe.specs.Tests.{asks_outside, is_clear}
 use Rattle.jc_stripe.specs.Phases.{MayBegin, Begins, PicksUp, hit_done}
 use Rattle.jc_session.specs.declared.counts.Counted.{Counted}
@@ -89,8 +92,15 @@ pub record IsPutOff (how : How) (caller : Caller) (key : Bytes) (op : Op) (state
   pub refused : first_refusal state caller key op ≡ Some refusal
   pub put_off : puts_off how (begun.Refused refusal) ≡ true
 
+abbrev pub CannotHit : Caller → Bytes → State → Type 0
+CannotHit caller key state = (is_clear state caller key ≡ false) ⊎ ((has_room state caller.call HIT_PLACES ≡ false) ⊎ (entry_at state.cache key ≡ None))
+
+pub record HasMissed (caller : Caller) (key : Bytes) (before after : State) : Type 0 where
+  pub same : after ≡ before
+  pub why : CannotHit caller key before
+
 abbrev pub Hits : Caller → Bytes → Bool → Bytes → State → State → Type 0
-Hits caller key false value before after = after ≡ before
+Hits caller key false value before after = HasMissed caller key before after
 Hits caller key true value before after = Starts caller key Get (begun.Done (hit_done (length before.history) value)) before after
 
 abbrev pub counted_hit : Bool → Counted

@@ -1,7 +1,7 @@
 //! A whole call on one key.
 ghost use Rattle.std.specs.Prelude.{◌≡◌, ◌||◌, true, false, IsSome};
 ghost use Rattle.jc_model.specs.Table.{is_invoke};
-ghost use Rattle.jc_stripe.specs.Phases.{Commits, with_reply};
+ghost use Rattle.jc_stripe.specs.Phases.{with_reply};
 ghost use Rattle.jc_stripe.specs.Tickets.{asks_loader, asks_writer};
 ghost use Rattle.jc_session.specs.Counting.{counts_ended};
 ghost use Rattle.jc_engine.specs.Answered.{Loaded, Written, out_of};
@@ -11,6 +11,7 @@ ghost use Rattle.jc_engine.specs.Chain.{LentPhase};
 ghost use Rattle.jc_engine.specs.Entering.{ended_with};
 ghost use Rattle.jc_engine.specs.Doors.{FitsGate, IsReady, MakesCall, MakesPhase};
 ghost use Rattle.jc_engine.specs.Needs.{CommitsHere};
+ghost use Rattle.jc_engine.specs.Turns.{committing};
 
 use crate::door::lend;
 use crate::ending::{Answer, Commit};
@@ -146,7 +147,7 @@ pub(crate) fn end<G: Gate, A: Answer, R: Wait>(
         gate.old token.old agent.old.caller.session }
     ensures { MakesPhase G.is_free G.speaks_for agent.old (counts_ended agent.old.counts) gate.new token.new agent.new
         (LentPhase G.takes G.gives G.finds agent.old.caller.session gate.old token.old
-        (λ a b. Commits a ticket.reservation (out_of (A.answered answer)) (with_reply result reply.new) b) gate.new token.new) }
+        (committing ticket.reservation (out_of (A.answered answer)) (with_reply result reply.new)) gate.new token.new) }
 {
     lend(rt, gate, token, agent, Commit { ticket, answer }, reply)
 }

@@ -1,9 +1,9 @@
 //! The door to a stripe: any phase, over any gate. It takes the stripe, makes the phase, gives the stripe back and counts.
-ghost use Rattle.std.specs.Prelude.{◌≡◌, IfOk, IfErr};
+ghost use Rattle.std.specs.Prelude.{◌≡◌, [], IfOk, IfErr};
 ghost use Rattle.jc_stripe.specs.Reached.{IsReached};
 ghost use Rattle.jc_session.specs.Counting.{IsCounted, counts_after};
 ghost use Rattle.jc_engine.specs.Chain.{LentPhase};
-ghost use Rattle.jc_engine.specs.Doors.{AllRenewed, FitsGate, IsLeft, IsNotMade, IsReady, MakesPhase};
+ghost use Rattle.jc_engine.specs.Doors.{FitsGate, HasTried, HasTriedOnce, HasWaited, IsAgain, IsLeft, IsNotMade, IsReady, MakesPhase, waiting};
 
 use jc_gate::Gate;
 use jc_model::Reply;
@@ -86,9 +86,8 @@ pub fn lend<G: Gate, P: Phase, R: Wait>(
     requires fits { FitsGate G.finds (P.needs phase) (P.who phase) gate.old token.old agent.old.caller.session }
     ensures { MakesPhase G.is_free G.speaks_for agent.old (counts_after agent.old.counts (P.counts result)) gate.new token.new agent.new
         ((lent : LentPhase G.takes G.gives G.finds agent.old.caller.session gate.old token.old
-        (λ a b. P.makes phase a result reply.new b) gate.new token.new)
-        × IsCounted (P.counts result) agent.old.caller.session lent.before lent.after
-        × AllRenewed lent.rests.idle) }
+        (waiting (P.due phase) (P.puts_off phase) (λ a b. P.makes phase a result reply.new b)) gate.new token.new)
+        × IsCounted (P.counts result) agent.old.caller.session lent.before lent.after) }
 {
     let mut next = phase;
     for _ in rt.forever() {
@@ -129,7 +128,8 @@ fn leave<G: Gate>(gate: &mut G, token: &mut G::Token, agent: &mut Agent, stripe:
 }
 
 /// Makes a phase, if the stripe is there and the phase can be made now. An `Err` gives it back: nothing was done, but that the
-/// stripe's generation may have ended. It also says whether the generation was one that may end, so that another try may do.
+/// stripe's generation may have ended. It also says whether the stripe was there and its generation was one that may end, so that
+/// another try may do.
 ///
 /// It never waits. Conditions: those of [`lend`].
 fn lend_once<G: Gate, P: Phase>(
@@ -143,10 +143,12 @@ fn lend_once<G: Gate, P: Phase>(
     requires fits { FitsGate G.finds (P.needs phase) (P.who phase) gate.old token.old agent.old.caller.session }
     ensures ready { IsReady G.is_free G.speaks_for gate.new token.new agent.new }
     ensures made { IfOk result (λ answer. (agent.new ≡ record agent.old { counts = counts_after agent.old.counts (P.counts answer) })
-        × LentPhase G.takes G.gives G.finds agent.old.caller.session gate.old token.old
-        (λ a b. P.makes phase a answer reply.new b) gate.new token.new) }
+        × (lent : LentPhase G.takes G.gives G.finds agent.old.caller.session gate.old token.old
+        (waiting (P.due phase) (P.puts_off phase) (λ a b. P.makes phase a answer reply.new b)) gate.new token.new)
+        × (lent.rests.idle ≡ [])) }
     ensures back { IfErr result (λ back. (back.0 ≡ phase) × (agent.new ≡ agent.old)
-        × IsNotMade G.takes G.gives G.finds G.may_fail (P.due phase) (P.puts_off phase) agent.old.caller.session gate.old token.old gate.new token.new) }
+        × IsNotMade G.takes G.gives G.finds agent.old.caller.session gate.old token.old gate.new token.new
+        (HasTriedOnce G.takes G.gives G.misses (HasWaited (P.due phase) (P.puts_off phase)) back.1 gate.old token.old gate.new token.new)) }
 {
     let mut stripe = match agent.try_take(gate, token) {
         Some(stripe) => stripe,
@@ -185,10 +187,12 @@ pub fn try_lend<G: Gate, P: Phase>(
     requires fits { FitsGate G.finds (P.needs phase) (P.who phase) gate.old token.old agent.old.caller.session }
     ensures ready { IsReady G.is_free G.speaks_for gate.new token.new agent.new }
     ensures made { IfOk result (λ answer. (agent.new ≡ record agent.old { counts = counts_after agent.old.counts (P.counts answer) })
-        × LentPhase G.takes G.gives G.finds agent.old.caller.session gate.old token.old
-        (λ a b. P.makes phase a answer reply.new b) gate.new token.new) }
+        × (lent : LentPhase G.takes G.gives G.finds agent.old.caller.session gate.old token.old
+        (waiting (P.due phase) (P.puts_off phase) (λ a b. P.makes phase a answer reply.new b)) gate.new token.new)
+        × IsAgain lent.rests.idle) }
     ensures back { IfErr result (λ back. (back ≡ phase) × (agent.new ≡ agent.old)
-        × IsNotMade G.takes G.gives G.finds G.may_fail (P.due phase) (P.puts_off phase) agent.old.caller.session gate.old token.old gate.new token.new) }
+        × IsNotMade G.takes G.gives G.finds agent.old.caller.session gate.old token.old gate.new token.new
+        (HasTried G.takes G.gives G.misses (HasWaited (P.due phase) (P.puts_off phase)) gate.old token.old gate.new token.new)) }
 {
     let (back, ends) = match lend_once(gate, token, agent, phase, reply) {
         Ok(answer) => return Ok(answer),

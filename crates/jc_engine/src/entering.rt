@@ -1,7 +1,6 @@
 //! A call up to where it is done, refused, or has somebody to ask.
 ghost use Rattle.std.specs.Prelude.{◌≡◌, ℕ};
 ghost use Rattle.std.specs.Bool.{OnTrue, OnFalse};
-ghost use Rattle.jc_stripe.specs.Phases.{PicksUp};
 ghost use Rattle.jc_stripe.specs.declared.begun.Picked.TheVariants.{Answer, Again};
 ghost use Rattle.jc_session.specs.Counting.{counts_after};
 ghost use Rattle.jc_session.specs.declared.counts.Counted.TheVariants.{Answered, Retried};
@@ -9,6 +8,7 @@ ghost use Rattle.jc_engine.specs.Chain.{LentPhase};
 ghost use Rattle.jc_engine.specs.Doors.{IsReady, MakesPhase};
 ghost use Rattle.jc_engine.specs.Calls.{Enters, MayCallAt, counts_entered};
 ghost use Rattle.jc_engine.specs.Entering.{entered_with};
+ghost use Rattle.jc_engine.specs.Turns.{picking};
 
 use crate::door::lend;
 use crate::first::{First, How};
@@ -85,11 +85,11 @@ fn pick_up<G: Gate, R: Wait>(
     ensures answered { OnTrue result (
         MakesPhase G.is_free G.speaks_for agent.old (counts_after agent.old.counts Answered) gate.new token.new agent.new
         ((place : ℕ) × (shared_with : ℕ) × LentPhase G.takes G.gives G.finds agent.old.caller.session gate.old token.old
-        (λ a b. PicksUp a join (Answer reply.new place shared_with) b) gate.new token.new)) }
+        (picking join (Answer reply.new place shared_with)) gate.new token.new)) }
     ensures again { OnFalse result
         (MakesPhase G.is_free G.speaks_for agent.old (counts_after agent.old.counts Retried) gate.new token.new agent.new
         (LentPhase G.takes G.gives G.finds agent.old.caller.session gate.old token.old
-        (λ a b. PicksUp a join Again b) gate.new token.new)) }
+        (picking join Again) gate.new token.new)) }
 {
     let pick_up = PickUp { join, waits: true };
     match lend(rt, gate, token, agent, pick_up, reply) {

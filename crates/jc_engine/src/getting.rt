@@ -1,5 +1,5 @@
 //! A whole `get` on one key: a hit needs one look at the stripe.
-ghost use Rattle.std.specs.Prelude.{◌≡◌, Ok, Result};
+ghost use Rattle.std.specs.Prelude.{◌≡◌, [], Ok, Result};
 ghost use Rattle.std.specs.Bool.{OnFalse};
 ghost use Rattle.jc_model.specs.declared.event.Op.TheVariants.{Get};
 ghost use Rattle.jc_model.specs.declared.event.Reply.{Reply};
@@ -7,6 +7,7 @@ ghost use Rattle.jc_types.specs.declared.refusal.Refusal.{Refusal};
 ghost use Rattle.jc_session.specs.Counting.{counts_after, IsCounted};
 ghost use Rattle.jc_engine.specs.Chain.{LentPhase};
 ghost use Rattle.jc_engine.specs.Needs.{BeginsIfClear, Hits, counted_hit};
+ghost use Rattle.jc_engine.specs.Turns.{hitting};
 ghost use Rattle.jc_engine.specs.Values.{value_into};
 ghost use Rattle.jc_engine.specs.Calls.{IsCall, MayCallAt};
 ghost use Rattle.jc_engine.specs.Doors.{IsReady, MakesCall, MakesPhase};
@@ -97,8 +98,8 @@ fn hit<G: Gate, R: Wait>(
     requires ready { IsReady G.is_free G.speaks_for gate.old token.old agent.old }
     requires may { MayCallAt G.finds key.now gate.old token.old agent.old }
     ensures made { MakesPhase G.is_free G.speaks_for agent.old (counts_after agent.old.counts (counted_hit result)) gate.new token.new agent.new
-        (LentPhase G.takes G.gives G.finds agent.old.caller.session gate.old token.old
-        (λ a b. Hits agent.old.caller key.now result value.new a b) gate.new token.new) }
+        ((lent : LentPhase G.takes G.gives G.finds agent.old.caller.session gate.old token.old
+        (hitting agent.old.caller key.now result value.new) gate.new token.new) × (lent.rests.idle ≡ [])) }
     ensures stays { OnFalse result (value.new ≡ value.old) }
 {
     let mut stripe = agent.take(rt, gate, token);

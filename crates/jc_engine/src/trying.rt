@@ -33,7 +33,7 @@ pub fn try_call<G: Gate>(
     requires ready { IsReady G.is_free G.speaks_for gate.old token.old agent.old }
     requires begins { (a : State) → G.finds gate.old token.old a → BeginsIfClear agent.old.caller key.now a }
     ensures { MakesPhase G.is_free G.speaks_for agent.old (record agent.old.counts { own = own_after agent.old.counts.own (ended_with result reply.new) }) gate.new token.new agent.new
-        (IsTried G.takes G.gives G.finds G.may_fail agent.old.caller key.now op.now
+        (IsTried G.takes G.gives G.finds G.misses agent.old.caller key.now op.now
         gate.old token.old (ended_with result reply.new) gate.new token.new) }
 {
     let first = First {

@@ -1,6 +1,7 @@
 -- What one lending of a stripe leaves, and what a row of lendings leaves.
 --     ComesAfter   what a take finds comes after what was given back: the same stripe, perhaps in a later generation, a whole history that
---                  continues the whole history, and the same own steps of a session, in all generations
+--                  continues the whole history, generations that have ended first among those that had, and the same own steps of a
+--                  session, in all generations
 --     Lends        one take that finds a state, and one give that leaves a state
 --     Lent         a row of lendings, one after another: the states that were found and left
 use Rattle.std.specs.Prelude.{◌≡◌, ◌≤◌, ℕ, List, [], ◌∷◌}
@@ -14,6 +15,7 @@ pub record ComesAfter (session : ℕ) (left found : State) : Type 0 where
   pub same : IsOfSameStripe left found
   pub front : IsPrefix (whole_history left) (whole_history found)
   pub next : left.next ≤ found.next
+  pub ended : IsPrefix left.ended found.ended
   pub own : all_own_steps session found ≡ all_own_steps session left
 
 -- `takes` and `gives` are a gate's; `g` and `t` are the gate and the token before, `h` and `u` after

@@ -35,12 +35,12 @@ pub trait Gate {
     /// What a give of the stripe in this state leaves of gate and token.
     ghost gives: { Self → Self.Token → State → Self → Self.Token → Type 0 };
 
-    /// A take may fail, since somebody else may have the stripe.
-    ghost may_fail: { Self → Self.Token → Type 0 };
+    /// What a take that fails, since somebody else has the stripe, leaves of gate and token.
+    ghost misses: { Self → Self.Token → Self → Self.Token → Type 0 };
 
     /// Takes the stripe, if it is there. Its history is legal from its opening, and leaves its entries.
     ///
-    /// None leaves gate and token as they were. It takes no memory.
+    /// None says that somebody else has it; a later take finds what this one might have found. It takes no memory.
     ///
     /// Condition: the token has not taken the stripe.
     fn try_take(&mut self, token: &mut Self::Token) -> Option<Box<Stripe>>
@@ -49,8 +49,8 @@ pub trait Gate {
         ensures taken { IfSome result (λ s. has self.new token.new s.value) }
         ensures takes { IfSome result (λ s. takes self.old token.old s.value self.new token.new) }
         ensures found { IfSome result (λ s. finds self.old token.old s.value × IsReached s.value) }
-        ensures failed { IfNone result (may_fail self.old token.old) }
-        ensures same { IfNone result ((self.new ≡ self.old) × (token.new ≡ token.old)) };
+        ensures missed { IfNone result (misses self.old token.old self.new token.new × is_free self.new token.new) }
+        ensures still { IfNone result ((a : State) → finds self.new token.new a → finds self.old token.old a) };
 
     /// Takes the stripe as [`Gate::try_take`] does, and waits as long as somebody else has it. Nothing says that it returns.
     ///

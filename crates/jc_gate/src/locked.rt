@@ -7,7 +7,7 @@ use std::sync::Wait;
 /// A lock that threads share lends its stripe to the holders of its seats. A take finds what the seat's view says.
 impl Gate for &HistLock {
     ghost use Rattle.std.specs.Prelude.{◌≡◌, Some, true, false};
-    ghost use Rattle.jc_lock.specs.Views.{Finds, after_take, after_give};
+    ghost use Rattle.jc_lock.specs.Views.{Finds, after_take, after_give, after_miss};
 
     type Token = Seat;
 
@@ -25,7 +25,7 @@ impl Gate for &HistLock {
 
     ghost gives = { λ g t b h u. u ≡ (t.0, after_give t.1 b) };
 
-    ghost may_fail = { λ g t. Unit {0} };
+    ghost misses = { λ g t h u. u ≡ (t.0, after_miss t.1) };
 
     fn try_take(&mut self, token: &mut Seat) -> Option<Box<Stripe>> {
         let lock: &HistLock = self;

@@ -93,7 +93,7 @@ impl<'a> Gate for &'a MutexGate {
 
     ghost gives = { λ g t b h u. u ≡ None };
 
-    ghost may_fail = { λ g t. Unit {0} };
+    ghost misses = { λ g t h u. (h ≡ g) × (u ≡ t) };
 
     fn try_take(&mut self, token: &mut MutexSeat<'a>) -> Option<Box<Stripe>> {
         let gate: &'a MutexGate = *self;

@@ -72,7 +72,7 @@ impl Gate for Owner {
 
     ghost gives = { λ g t b h u. h.here ≡ Some b };
 
-    ghost may_fail = { λ g t. ⊥ };
+    ghost misses = { λ g t h u. ⊥ };
 
     fn try_take(&mut self, _token: &mut ()) -> Option<Box<Stripe>> {
         match self.stripe.take() {

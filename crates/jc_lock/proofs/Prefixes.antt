@@ -11,14 +11,14 @@ use Rattle.jc_stripe.specs.State.{State}
 use Rattle.jc_stripe.specs.Generations.{IsOfSameStripe}
 use Rattle.jc_lock.specs.Views.{longer}
 
-pub prefix-refl : (xs : List Event) → IsPrefix xs xs
+pub prefix-refl : {A : Type 0} (xs : List A) → IsPrefix xs xs
 prefix-refl xs = ([], append-nil xs)
 
-pub prefix-nil : (xs : List Event) → IsPrefix [] xs
+pub prefix-nil : {A : Type 0} (xs : List A) → IsPrefix [] xs
 prefix-nil xs = (xs, refl)
 
-pub prefix-trans : (xs ys zs : List Event) → IsPrefix xs ys → IsPrefix ys zs → IsPrefix xs zs
-prefix-trans xs ys zs p q = (p.0 ++ q.0, sym (append_assoc xs p.0 q.0) ∙ ap (λ (l : List Event). l ++ q.0) p.1 ∙ q.1)
+pub prefix-trans : {A : Type 0} (xs ys zs : List A) → IsPrefix xs ys → IsPrefix ys zs → IsPrefix xs zs
+prefix-trans xs ys zs p q = (p.0 ++ q.0, sym (append_assoc xs p.0 q.0) ∙ ap (λ l. l ++ q.0) p.1 ∙ q.1)
 
 pub same_itself : (a : State) → IsOfSameStripe a a
 same_itself a = record { config = refl; stripe = refl; origin = refl; lives = refl; opening = refl }

@@ -11,12 +11,12 @@ use Rattle.atomic_table.proofs.Lists.{at_set, set_else, set_again}
 use Rattle.jc_stripe.specs.State.{State as StripeState}
 use Rattle.jc_stripe.specs.Reached.{IsReached}
 use Rattle.jc_model.specs.declared.event.Event.{Event}
-use Rattle.jc_stripe.specs.Generations.{past_events, whole_history, IsOfSameStripe}
+use Rattle.jc_stripe.specs.Generations.{past_events, whole_history, IsOfSameStripe, present_generation}
 use Rattle.jc_stripe.specs.Renewal.{Renews, Renewal, all_own_steps}
 use Rattle.jc_stripe.specs.OnePhase.{OnePhase, is_own_step}
 use Rattle.jc_stripe.proofs.CallerLemmas.{of_same, whole_goes_on, own_stay}
 use Rattle.jc_lock.specs.declared.view.View.{View}
-use Rattle.jc_lock.specs.Views.{IsPhaseBy, IsTurnBy, unopened_view, opened_view, spent_view, Finds, after_take, own_steps_of, after_give, session_number, after_split, session_view, front_note, with_note, longer, with_longer_front}
+use Rattle.jc_lock.specs.Views.{IsPhaseBy, IsTurnBy, unopened_view, opened_view, spent_view, Finds, after_take, own_steps_of, after_give, after_miss, session_number, after_split, session_view, front_note, with_note, longer, with_longer_front}
 use Rattle.jc_lock.specs.Rule.{SeatFits, LockRule, slot_while}
 use Rattle.jc_lock.specs.Plays.{Opens, state_in_hand, Takes, Gives, MergesFronts}
 use Rattle.jc_lock.proofs.Prefixes.{prefix-refl, prefix-nil, prefix-trans, same_itself, same_at, same_on, longer-left, longer-right, longer-whole}
@@ -84,8 +84,22 @@ module _ {B : Type 0} (value : B → StripeState) where
   Stepped : St → ℕ → M → (ℕ → ℕ) → (ℕ → M → Type 0) → Type 0
   Stepped s id me f then = (w : View) × (a : Act (Option B)) × Valid s.homes me.1 a × LockRule value (stepped s 0 (f (get_or s.words 0 0)) id me.1 w a) × then (get_or s.words 0 0) (w, carried_after me.1 a)
 
-  takes_it : (id : ℕ) (me : M) → me.0.spent ≡ false → me.0.holds ≡ false → Allows (LockRule value) 1 id me 0 (λ n. either (eqb n 0) 1 n) (Takes value (step 1 0 0 1 none) me)
-  takes_it id me live free s r wide at _ = let v = me.0 in let fit = r.each id v at in
+  -- what a take that misses leaves of a view says no more than the view
+  pub record IsMiss (missed : View → View) : Type 0 where
+    pub fits : (seat_of : ℕ → ℕ) (giver given : ℕ) (now : StripeState) (id : ℕ) (v : View) → SeatFits seat_of giver given now id v → SeatFits seat_of giver given now id (missed v)
+    pub calm : (v : View) → (missed v).holds ≡ true → (v.holds ≡ true) × ((missed v).noted ≡ v.noted) × ((missed v).spent ≡ v.spent)
+
+  pub stays : IsMiss (λ v. v)
+  stays = record { fits = λ seat_of giver given now id v f. f; calm = λ v h. (h, refl, refl) }
+
+  pub counts : IsMiss after_miss
+  counts = record {
+    fits = λ seat_of giver given now id v f. record { front = f.front; joined_front = f.joined_front; next = f.next; ended = f.ended; same = f.same; own = f.own; gives = f.gives };
+    calm = λ v h. (h, refl, refl);
+  }
+
+  takes_it : (missed : View → View) → IsMiss missed → (id : ℕ) (me : M) → me.0.spent ≡ false → me.0.holds ≡ false → Allows (LockRule value) 1 id me 0 (λ n. either (eqb n 0) 1 n) (Takes value missed (step 1 0 0 1 none) me)
+  takes_it missed miss_is id me live free s r wide at _ = let v = me.0 in let fit = r.each id v at in
       ⊎_elim
       (λ lies. let b : B = lies.1.0 in let st : StripeState = value b in let is : st ≡ r.now = lies.1.2 in let w : View = after_take v st in (
         w,
@@ -99,7 +113,7 @@ module _ {B : Type 0} (value : B → StripeState) where
           reached = r.reached;
           later = r.later;
           each = each_set (SeatFits r.seat_of r.giver r.given r.now) s.views id w (λ j u _ e. r.each j u e)
-              record { front = fit.front; joined_front = fit.joined_front; next = (let e : st.next ≡ r.now.next = ap (λ (z : StripeState). z.next) is in omega arith); same = λ _. same_at st r.now is; own = fit.own; gives = fit.gives };
+              record { front = fit.front; joined_front = fit.joined_front; next = (let e : st.next ≡ r.now.next = ap (λ (z : StripeState). z.next) is in omega arith); ended = subst (λ (z : StripeState). IsPrefix st.ended z.ended) is (prefix-refl st.ended); same = λ _. same_at st r.now is; own = fit.own; gives = fit.gives };
           place = inr (
             false,
             (
@@ -117,18 +131,20 @@ module _ {B : Type 0} (value : B → StripeState) where
               reached = subst IsReached (sym is) r.reached;
               front = subst (λ (z : StripeState). IsPrefix v.front (whole_history z)) (sym is) fit.front;
               next = (let e : st.next ≡ r.now.next = ap (λ (z : StripeState). z.next) is in let k = fit.next in omega arith);
+              ended = subst (λ (z : StripeState). IsPrefix v.noted.ended z.ended) (sym is) fit.ended;
               same = subst (IsOfSameStripe v.noted) (sym is) (fit.same live);
               own = λ n e. ap (λ (z : StripeState). all_own_steps n z) is ∙ (fit.own n e).2;
+              later = λ n m e le. ap (λ (z : StripeState). all_own_steps m z) is ∙ r.later m (let k : n ≡ r.given = (fit.gives n e).1 in omega arith);
             },
           )),
           λ miss. absurd (miss (ap (λ ws. get_or ws 0 0) lies.0)),
         ),
       ))
       (λ held. let out = held.1 in (
-        v,
+        missed v,
         keeps,
         tt,
-        quiet s r id v v (set s.words 0 (either (eqb (get_or s.words 0 0) 0) 1 (get_or s.words 0 0))) (ap (λ ws. set ws 0 (either (eqb (get_or ws 0 0) 0) 1 (get_or ws 0 0))) out.0 ∙ sym out.0) at fit (λ h. (h, refl, refl)),
+        quiet s r id v (missed v) (set s.words 0 (either (eqb (get_or s.words 0 0) 0) 1 (get_or s.words 0 0))) (ap (λ ws. set ws 0 (either (eqb (get_or ws 0 0) 0) 1 (get_or ws 0 0))) out.0 ∙ sym out.0) at (miss_is.fits r.seat_of r.giver r.given r.now id v fit) (miss_is.calm v),
         ((λ hit. absurd (let e : 1 ≡ 0 = sym (ap (λ ws. get_or ws 0 0) out.0) ∙ hit in omega arith)), λ _. refl),
       ))
       r.place
@@ -139,12 +155,13 @@ module _ {B : Type 0} (value : B → StripeState) where
     pub same : IsOfSameStripe a b
     pub grows : IsPrefix (whole_history a) (whole_history b)
     pub next : a.next ≤ b.next
+    pub ended : IsPrefix a.ended b.ended
     pub others : (m : ℕ) → (o ≡ Some m → ⊥) → all_own_steps m b ≡ all_own_steps m a
 
   follows : OnePhase → (o : Option ℕ) (a b : StripeState) → IsReached a → IsPhaseBy o a b → Follows o a b
-  follows law None a b reached p = subst (Follows None a) (sym p) record { reached = reached; same = same_itself a; grows = prefix-refl (whole_history a); next = le_refl a.next; others = λ m no. refl }
+  follows law None a b reached p = subst (Follows None a) (sym p) record { reached = reached; same = same_itself a; grows = prefix-refl (whole_history a); next = le_refl a.next; ended = prefix-refl a.ended; others = λ m no. refl }
   follows law (Some who) a b reached p = let u = law who a b reached p in
-      record { reached = u.reached; same = of_same a b u.grows; grows = whole_goes_on a b u.grows; next = u.next; others = λ m no. own_stay m a b u.grows.same.ended (u.others m (ne_eqb m who (λ e. no (ap (λ (k : ℕ). Some k) (sym e))))) }
+      record { reached = u.reached; same = of_same a b u.grows; grows = whole_goes_on a b u.grows; next = u.next; ended = subst (IsPrefix a.ended) (sym u.grows.same.ended) (prefix-refl a.ended); others = λ m no. own_stay m a b u.grows.same.ended (u.others m (ne_eqb m who (λ e. no (ap (λ (k : ℕ). Some k) (sym e))))) }
 
   -- so does a renewal
   renewed : Renewal → (o : Option ℕ) (a b : StripeState) → IsReached a → Renews a b → Follows o a b
@@ -153,6 +170,7 @@ module _ {B : Type 0} (value : B → StripeState) where
     same = u.same;
     grows = subst (IsPrefix (whole_history a)) (sym u.whole) (prefix-refl (whole_history a));
     next = (let e = u.next in omega arith);
+    ended = subst (λ (z : StripeState). IsPrefix a.ended z.ended) (sym p.after) (present_generation a ∷ [], refl);
     others = λ m no. u.own m;
   }
 
@@ -188,6 +206,7 @@ module _ {B : Type 0} (value : B → StripeState) where
                 front = prefix-trans u.front (whole_history r.now) (whole_history st) g.front grows;
                 joined_front = prefix-trans u.joined_front (whole_history r.now) (whole_history st) g.joined_front grows;
                 next = (let k : u.noted.next ≤ r.now.next = g.next in omega arith);
+                ended = prefix-trans u.noted.ended r.now.ended st.ended g.ended f.ended;
                 same = λ live. same_on u.noted r.now st (g.same live) f.same;
                 own = λ n is. let o = g.own n is in (o.0, o.1, fresh n (λ same. ne (sym o.0 ∙ (fit.own n same).0)) ∙ o.2);
                 gives = g.gives;
@@ -196,6 +215,7 @@ module _ {B : Type 0} (value : B → StripeState) where
                 front = prefix-refl (whole_history st);
                 joined_front = prefix-trans v.joined_front (whole_history r.now) (whole_history st) fit.joined_front grows;
                 next = le_refl st.next;
+                ended = prefix-refl st.ended;
                 same = λ _. same_itself st;
                 own = λ n is. let o = fit.own n is in (o.0, o.1, own-known v.session n st is);
                 gives = fit.gives;
@@ -217,7 +237,7 @@ module _ {B : Type 0} (value : B → StripeState) where
     keeps,
     tt,
     quiet s r id v (with_longer_front v) (set s.words 0 (get_or s.words 0 0)) (⊎_elim (λ lies. ap (λ ws. set ws 0 (get_or ws 0 0)) lies.0 ∙ sym lies.0) (λ held. ap (λ ws. set ws 0 (get_or ws 0 0)) held.1.0 ∙ sym held.1.0) r.place) at
-        record { front = longer-whole v.front v.joined_front (whole_history r.now) fit.front fit.joined_front; joined_front = prefix-nil (whole_history r.now); next = fit.next; same = fit.same; own = fit.own; gives = fit.gives }
+        record { front = longer-whole v.front v.joined_front (whole_history r.now) fit.front fit.joined_front; joined_front = prefix-nil (whole_history r.now); next = fit.next; ended = fit.ended; same = fit.same; own = fit.own; gives = fit.gives }
         (λ h. (h, refl, refl)),
     (
       refl,
@@ -246,10 +266,10 @@ module _ {B : Type 0} (value : B → StripeState) where
       }
 
   fits_note : (seat_of : ℕ → ℕ) (giver given : ℕ) (now : StripeState) (id j : ℕ) (v : View) → SeatFits seat_of giver given now id v → SeatFits seat_of giver given now j (front_note v)
-  fits_note seat_of giver given now id j v fit = record { front = fit.front; joined_front = prefix-nil (whole_history now); next = fit.next; same = fit.same; own = λ n e. absurd (none-some n e); gives = λ n e. absurd (none-some n e) }
+  fits_note seat_of giver given now id j v fit = record { front = fit.front; joined_front = prefix-nil (whole_history now); next = fit.next; ended = fit.ended; same = fit.same; own = λ n e. absurd (none-some n e); gives = λ n e. absurd (none-some n e) }
 
   fits_spent : (seat_of : ℕ → ℕ) (giver given : ℕ) (now : StripeState) (j : ℕ) → SeatFits seat_of giver given now j spent_view
-  fits_spent seat_of giver given now j = record { front = prefix-nil (whole_history now); joined_front = prefix-nil (whole_history now); next = (let k : 0 ≤ now.next = omega arith in k); same = λ live. absurd (true≢false live); own = λ n e. absurd (none-some n e); gives = λ n e. absurd (none-some n e) }
+  fits_spent seat_of giver given now j = record { front = prefix-nil (whole_history now); joined_front = prefix-nil (whole_history now); next = (let k : 0 ≤ now.next = omega arith in k); ended = (now.ended, refl); same = λ live. absurd (true≢false live); own = λ n e. absurd (none-some n e); gives = λ n e. absurd (none-some n e) }
 
   pub splits_note : (id : ℕ) (v : View) → Splits (LockRule value) id v v (front_note v)
   splits_note id v s r at = subst (λ (l : List View). LockRule value record { words = s.words; homes = s.homes; views = l ++ front_note v ∷ [] }) (sym (set_again s.views id v at))
@@ -257,7 +277,7 @@ module _ {B : Type 0} (value : B → StripeState) where
 
   pub joins_note : (id : ℕ) (v : View) (other : ℕ) (w : View) → w.holds ≡ false → Joins (LockRule value) id v other w (with_note v w) spent_view
   joins_note id v other w free s r at ne there = let fit = r.each id v at in let fo = r.each other w (sym (set_else s.views id other (with_note v w) ne) ∙ there) in
-      let one = quiet s r id v (with_note v w) s.words refl at record { front = fit.front; joined_front = fo.front; next = fit.next; same = fit.same; own = fit.own; gives = fit.gives } (λ h. (h, refl, refl)) in
+      let one = quiet s r id v (with_note v w) s.words refl at record { front = fit.front; joined_front = fo.front; next = fit.next; ended = fit.ended; same = fit.same; own = fit.own; gives = fit.gives } (λ h. (h, refl, refl)) in
       quiet record { words = s.words; homes = s.homes; views = set s.views id (with_note v w) } one other w spent_view s.words refl there
       (fits_spent one.seat_of one.giver one.given one.now other) (λ h. absurd (true≢false (sym h)))
 
@@ -283,12 +303,13 @@ module _ {B : Type 0} (value : B → StripeState) where
         later = λ m le. r.later m (omega arith);
         each = each_end (SeatFits seat_of r.giver given r.now)
             (each_set (SeatFits seat_of r.giver given r.now) s.views id w
-            (λ j x ne e. let f = r.each j x e in record { front = f.front; joined_front = f.joined_front; next = f.next; same = f.same; own = own_kept j x f; gives = λ m e'. absurd (ne (sym (f.gives m e').0 ∙ g.0)) })
-            record { front = fit.front; joined_front = fit.joined_front; next = fit.next; same = fit.same; own = own_kept id v fit; gives = λ m e'. (g.0, sym (same_Some (session_number v.next_session + 1) m e') ∙ ap (λ (k : ℕ). k + 1) is) })
+            (λ j x ne e. let f = r.each j x e in record { front = f.front; joined_front = f.joined_front; next = f.next; ended = f.ended; same = f.same; own = own_kept j x f; gives = λ m e'. absurd (ne (sym (f.gives m e').0 ∙ g.0)) })
+            record { front = fit.front; joined_front = fit.joined_front; next = fit.next; ended = fit.ended; same = fit.same; own = own_kept id v fit; gives = λ m e'. (g.0, sym (same_Some (session_number v.next_session + 1) m e') ∙ ap (λ (k : ℕ). k + 1) is) })
             record {
               front = fit.front;
               joined_front = prefix-nil (whole_history r.now);
               next = fit.next;
+              ended = fit.ended;
               same = fit.same;
               own = λ m e. let same : m ≡ r.given = sym (same_Some (session_number v.next_session) m e) ∙ is in (ap seat_of same ∙ new, (let k : m ≡ r.given = same in omega arith), r.later m (let k : m ≡ r.given = same in omega arith));
               gives = λ m e. absurd (none-some m e);
@@ -316,7 +337,7 @@ module _ {B : Type 0} (value : B → StripeState) where
         now = state;
         reached = reached;
         later = λ n _. none_own n;
-        each = only (SeatFits (λ _. 0) 0 0 state) record { front = prefix-refl (whole_history state); joined_front = prefix-nil (whole_history state); next = le_refl state.next; same = λ _. same_itself state; own = λ n e. absurd (none-some n e); gives = λ n e. (refl, sym (same_Some 0 n e)) };
+        each = only (SeatFits (λ _. 0) 0 0 state) record { front = prefix-refl (whole_history state); joined_front = prefix-nil (whole_history state); next = le_refl state.next; ended = prefix-refl state.ended; same = λ _. same_itself state; own = λ n e. absurd (none-some n e); gives = λ n e. (refl, sym (same_Some 0 n e)) };
         place = inr (true, (refl, refl, (0, only (λ j x. x.holds ≡ true → (j ≡ 0) × (x.noted ≡ state) × (x.spent ≡ true)) (λ _. (refl, refl, refl)))));
       }
 
@@ -336,7 +357,7 @@ module _ {B : Type 0} (value : B → StripeState) where
           reached = r.reached;
           later = r.later;
           each = each_set (SeatFits r.seat_of r.giver r.given r.now) s.views id w (λ j u _ e. r.each j u e)
-              record { front = fit.front; joined_front = fit.joined_front; next = fit.next; same = λ _. same_at v.noted r.now mine.1; own = fit.own; gives = fit.gives };
+              record { front = fit.front; joined_front = fit.joined_front; next = fit.next; ended = fit.ended; same = λ _. same_at v.noted r.now mine.1; own = fit.own; gives = fit.gives };
           place = inr (
             false,
             (
@@ -357,8 +378,8 @@ module _ {B : Type 0} (value : B → StripeState) where
   pub opens_at : (slots id : ℕ) (me : M) → slots ≡ 1 → me.0.spent ≡ true → me.0.holds ≡ true → Allows (LockRule value) slots id me 0 (λ n. n) (Opens (step slots 0 0 0 none) me)
   opens_at slots id me one unopened holds = subst (λ (n : ℕ). Allows (LockRule value) n id me 0 (λ x. x) (Opens (step n 0 0 0 none) me)) (sym one) (opens_it id me unopened holds)
 
-  pub takes_at : (slots id : ℕ) (me : M) → slots ≡ 1 → me.0.spent ≡ false → me.0.holds ≡ false → Allows (LockRule value) slots id me 0 (λ n. either (eqb n 0) 1 n) (Takes value (step slots 0 0 1 none) me)
-  takes_at slots id me one live free = subst (λ (n : ℕ). Allows (LockRule value) n id me 0 (λ x. either (eqb x 0) 1 x) (Takes value (step n 0 0 1 none) me)) (sym one) (takes_it id me live free)
+  pub takes_at : (missed : View → View) → IsMiss missed → (slots id : ℕ) (me : M) → slots ≡ 1 → me.0.spent ≡ false → me.0.holds ≡ false → Allows (LockRule value) slots id me 0 (λ n. either (eqb n 0) 1 n) (Takes value missed (step slots 0 0 1 none) me)
+  takes_at missed miss_is slots id me one live free = subst (λ (n : ℕ). Allows (LockRule value) n id me 0 (λ x. either (eqb x 0) 1 x) (Takes value missed (step n 0 0 1 none) me)) (sym one) (takes_it missed miss_is id me live free)
 
   pub gives_at : OnePhase → Renewal → (slots id : ℕ) (me : M) (b : B) → slots ≡ 1 → me.0.holds ≡ true → me.1 ≡ (0, Some b) ∷ rest me.1 → IsTurnBy me.0.session me.0.noted (value b) → Allows (LockRule value) slots id me 0 (λ _. 0) (λ _. Gives value (step slots 0 0 0 none) me 0)
   gives_at law renewals slots id me b one held has phase = subst (λ (n : ℕ). Allows (LockRule value) n id me 0 (λ _. 0) (λ _. Gives value (step n 0 0 0 none) me 0)) (sym one) (gives_it law renewals id me b held has phase)
@@ -370,7 +391,7 @@ module _ {B : Type 0} (value : B → StripeState) where
   slot_there l m x e = e ∙ ap (λ (t : List (ℕ × Option B)). (0, x) ∷ t) (sym (ap rest e))
 
   finds : (s : St) (r : LockRule value s) (id : ℕ) (v : View) → v.spent ≡ false → get_elem? s.views id ≡ some v → Finds v r.now
-  finds s r id v live at = let fit = r.each id v at in record { reached = r.reached; front = fit.front; next = fit.next; same = fit.same live; own = λ n e. (fit.own n e).2 }
+  finds s r id v live at = let fit = r.each id v at in record { reached = r.reached; front = fit.front; next = fit.next; ended = fit.ended; same = fit.same live; own = λ n e. (fit.own n e).2; later = λ n m e le. r.later m (let k : n ≡ r.given = (fit.gives n e).1 in omega arith) }
 
   -- a closed table whose word is free has the stripe
   pub closes : (s : St) (id : ℕ) (v : View) → v.spent ≡ false → (ws : List ℕ) (xs : List (Option B)) → Seen (LockRule value) id v s → s.words ≡ ws → ((k : ℕ) (y : Option B) → get_elem? s.homes k ≡ some (some y) → get_elem? xs k ≡ some y)

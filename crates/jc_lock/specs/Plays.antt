@@ -3,7 +3,7 @@
 --     Opens            the first seat has the slot, which is empty, and is a seat from now on
 --     state_in_hand    the state of the stripe in the slot that the seat has taken
 --     Takes            a take that finds the word free has the slot, and the state in it is one that the seat may find; one that finds
---                      it held changes nothing
+--                      it held leaves what `missed` says of the seat's view
 --     Gives            a give leaves the seat with the state that it gives
 --     MergesFronts     the front becomes the longer one of its own and the one that was joined; both are prefixes of it, and it is one
 --                      of the noted whole history if the seat holds
@@ -20,10 +20,10 @@ module _ {B : Type 0} (value : B → State) where
   state_in_hand [] = empty_stripe
   state_in_hand (slot ∷ slots) = elim slot.1 [ Some b ↦ value b | None ↦ empty_stripe ]
 
-  abbrev pub Takes : Step (Option B) → Me (Option B) View → ℕ → Me (Option B) View → Type 0
-  Takes step me found me' =
+  abbrev pub Takes : (View → View) → Step (Option B) → Me (Option B) View → ℕ → Me (Option B) View → Type 0
+  Takes missed step me found me' =
       (found ≡ 0 → (b : B) × (me' ≡ (after_take me.0 (value b), (0, Some b) ∷ me.1)) × Finds me.0 (value b))
-      × (found ≢ 0 → me' ≡ me)
+      × (found ≢ 0 → me' ≡ (missed me.0, me.1))
 
   abbrev pub Gives : Step (Option B) → Me (Option B) View → ℕ → Me (Option B) View → Type 0
   Gives step me found me' = me' ≡ (after_give me.0 (state_in_hand me.1), rest me.1)

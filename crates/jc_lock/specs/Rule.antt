@@ -1,7 +1,8 @@
 -- What a lock keeps true between any two steps of its table.
 --     SeatFits     a seat agrees with the stripe's state: its front is a prefix of the whole history, the noted reservation number is at
---                  most the next one, and unless it is spent it has noted the same stripe; of its session, whose only seat it is, the
---                  state has its own steps, in all generations; and one seat alone gives session numbers out
+--                  most the next one, the noted ended generations are the first of those that have ended, and unless it is spent it has
+--                  noted the same stripe; of its session, whose only seat it is, the state has its own steps, in all generations; and
+--                  one seat alone gives session numbers out
 --     IsFree       the word is free: the slot has the stripe, and no seat holds
 --     slot_while   the slot while the word is held: it is out with the holder, or empty at home as long as the lock isn't made
 --     IsHeld       the word is held: of all seats one alone can hold, whose view notes the state; it is unopened or not
@@ -23,6 +24,7 @@ pub record SeatFits (seat_of : ℕ → ℕ) (giver given : ℕ) (now : State) (s
   pub front : IsPrefix v.front (whole_history now)
   pub joined_front : IsPrefix v.joined_front (whole_history now)
   pub next : v.noted.next ≤ now.next
+  pub ended : IsPrefix v.noted.ended now.ended
   pub same : v.spent ≡ false → IsOfSameStripe v.noted now
   pub own : (session : ℕ) → v.session ≡ Some session → (seat_of session ≡ seat) × (session < given) × (all_own_steps session now ≡ v.own)
   pub gives : (session : ℕ) → v.next_session ≡ Some session → (giver ≡ seat) × (session ≡ given)

@@ -7,21 +7,23 @@
 --     first_view          the first seat of a lock, which gives session numbers out, beginning with 0
 --     spent_view          a seat that is gone
 --     Finds               what a take of a seat may find: a reached state of the noted stripe, whose next reservation number is at least
---                         the noted one, with the seat's front as a prefix of its whole history, and of the seat's session just the
---                         own steps, in all generations
+--                         the noted one, with the noted ended generations first among those that have ended, and the seat's front as a
+--                         prefix of its whole history; of the seat's session it has just the own steps, in all generations, and none of
+--                         a session that the seat has yet to give out
 --     after_take          a take notes the state that it found
 --     own_steps_of        the own steps of a session in a state, in all generations; none, if there is no session
---     after_give          a give leaves the seat with the whole history, all generations in a row, as its front
+--     after_give          a give leaves the seat with the whole history, all generations in a row, as its front, and one lending more
+--     after_miss          a try that found the stripe held by somebody else
 --     session_number      the number in an option, if it has one
 --     after_split         the seat that gave a session number out
 --     session_view        the seat that was given it
 --     front_note          a note of a seat's front, in a seat of its own
---     with_note           a seat into which a note was joined
+--     with_note           a seat into which a note, or a seat that ends, was joined: its lendings and misses are added
 --     longer              the longer one of two lists
 --     with_longer_front   its front is the longer one of its own and the note's
 --     after_join          both at once: a seat into which another one was joined
 --     IsSeated            a seat isn't spent; if it holds the stripe, it has the slot, which is empty, and else it has no slot
-use Rattle.std.specs.Prelude.{◌≡◌, ℕ, ◌+◌, ◌≤◌, ◌⊎◌, true, false, List, [], ◌∷◌, length, Option, Some, None, cond, nat_lt}
+use Rattle.std.specs.Prelude.{◌≡◌, ℕ, ◌+◌, ◌≤◌, ◌⊎◌, true, false, List, [], ◌∷◌, ◌++◌, length, Option, Some, None, cond, nat_lt}
 use Rattle.std.specs.FinMap as map
 use mathlib.Core.List.{IsPrefix}
 use Rattle.atomic_table.specs.Table.{Me}
@@ -47,16 +49,16 @@ abbrev pub empty_stripe : State
 empty_stripe = record { config = record { stripes = 1; capacity = 1; history = 16; read_through = false; write_through = false }; stripe = 0; origin = Played; lives = false; ended = []; opening = []; cache = map.empty; reservations = []; joiners = []; history = []; next = 0 }
 
 abbrev pub first_view : State → View
-first_view state = record { session = None; next_session = Some 0; spent = false; holds = false; front = whole_history state; joined_front = []; own = []; noted = state }
+first_view state = record { session = None; next_session = Some 0; spent = false; holds = false; front = whole_history state; joined_front = []; own = []; noted = state; lendings = (state, state) ∷ []; misses = 0 }
 
 abbrev pub unopened_view : State → View
-unopened_view state = record (first_view state) { spent = true; holds = true }
+unopened_view state = record (first_view state) { spent = true; holds = true; lendings = [] }
 
 abbrev pub opened_view : View → View
 opened_view v = record v { spent = false }
 
 abbrev pub spent_view : View
-spent_view = record { session = None; next_session = None; spent = true; holds = false; front = []; joined_front = []; own = []; noted = empty_stripe }
+spent_view = record { session = None; next_session = None; spent = true; holds = false; front = []; joined_front = []; own = []; noted = empty_stripe; lendings = []; misses = 0 }
 
 -- 2. A take and a give.
 
@@ -64,8 +66,10 @@ pub record Finds (v : View) (state : State) : Type 0 where
   pub reached : IsReached state
   pub front : IsPrefix v.front (whole_history state)
   pub next : v.noted.next ≤ state.next
+  pub ended : IsPrefix v.noted.ended state.ended
   pub same : IsOfSameStripe v.noted state
   pub own : (session : ℕ) → v.session ≡ Some session → all_own_steps session state ≡ v.own
+  pub later : (given session : ℕ) → v.next_session ≡ Some given → given ≤ session → all_own_steps session state ≡ []
 
 abbrev pub after_take : View → State → View
 after_take v state = record v { holds = true; noted = state }
@@ -75,7 +79,10 @@ own_steps_of None state = []
 own_steps_of (Some session) state = all_own_steps session state
 
 abbrev pub after_give : View → State → View
-after_give v state = record v { holds = false; front = whole_history state; own = own_steps_of v.session state; noted = state }
+after_give v state = record v { holds = false; front = whole_history state; own = own_steps_of v.session state; noted = state; lendings = v.lendings ++ (v.noted, state) ∷ [] }
+
+abbrev pub after_miss : View → View
+after_miss v = record v { misses = v.misses + 1 }
 
 -- 3. A new session.
 
@@ -87,15 +94,15 @@ abbrev pub after_split : View → View
 after_split v = record v { next_session = Some (session_number v.next_session + 1) }
 
 abbrev pub session_view : View → View
-session_view v = record { session = Some (session_number v.next_session); next_session = None; spent = v.spent; holds = false; front = v.front; joined_front = []; own = []; noted = v.noted }
+session_view v = record { session = Some (session_number v.next_session); next_session = None; spent = v.spent; holds = false; front = v.front; joined_front = []; own = []; noted = v.noted; lendings = []; misses = 0 }
 
 -- 4. What one seat has seen, told to another.
 
 abbrev pub front_note : View → View
-front_note v = record v { session = None; next_session = None; holds = false; joined_front = []; own = [] }
+front_note v = record v { session = None; next_session = None; holds = false; joined_front = []; own = []; lendings = []; misses = 0 }
 
 abbrev pub with_note : View → View → View
-with_note v w = record v { joined_front = w.front }
+with_note v w = record v { joined_front = w.front; lendings = v.lendings ++ w.lendings; misses = v.misses + w.misses }
 
 abbrev pub longer : List Event → List Event → List Event
 longer xs ys = cond (nat_lt (length xs) (length ys)) ys xs

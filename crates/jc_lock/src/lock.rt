@@ -2,9 +2,9 @@
 ghost use Rattle.std.specs.Prelude.{◌≡◌, ℕ, true, false, [], Some, IfOk, IfSome, IfNone};
 ghost use mathlib.Core.List.{IsPrefix};
 ghost use Rattle.jc_stripe.specs.Generations.{whole_history};
-ghost use Rattle.jc_lock.specs.Views.{IsTurnBy, first_view, Finds, after_take, after_give, after_split, session_view, after_join};
+ghost use Rattle.jc_lock.specs.Views.{IsTurnBy, first_view, Finds, after_take, after_give, after_miss, after_split, session_view, after_join, front_note};
 
-use crate::rule::{FrontNote, Give, MergeFronts, NewSession, Open, Rule, Slot, Take};
+use crate::rule::{FrontNote, Give, MergeFronts, NewSession, Open, Rule, Slot, Take, Try};
 use crate::view::View;
 use atomic_table::Table;
 use crossbeam_utils::Backoff;
@@ -86,7 +86,7 @@ impl HistLock {
         Ok((lock, seat))
     }
 
-    /// Takes the stripe, if nobody holds it; else None, which leaves the seat as it was. It never waits and takes no memory.
+    /// Takes the stripe, if nobody holds it; else None, which the seat counts. It never waits and takes no memory.
     ///
     /// What is taken is a stripe as every stripe is: its history is legal from its opening and leaves its entries. The history has
     /// the seat's front as a prefix and its session's own steps, which are as the seat knows them.
@@ -96,13 +96,13 @@ impl HistLock {
         requires { (seat.old.0 ≡ self.now) × (seat.old.1.holds ≡ false) }
         ensures some { IfSome result
             (λ s. (seat.new ≡ (seat.old.0, after_take seat.old.1 s.value)) × Finds seat.old.1 s.value) }
-        ensures none { IfNone result (seat.new ≡ seat.old) }
+        ensures none { IfNone result (seat.new ≡ (seat.old.0, after_miss seat.old.1)) }
     {
         let token = &mut seat.token;
         if self
             .table
             .shared
-            .compare_exchange::<Take>(token, 0, FREE, HELD)
+            .compare_exchange::<Try>(token, 0, FREE, HELD)
             != FREE
         {
             return None;
@@ -124,7 +124,7 @@ impl HistLock {
     {
         let backoff = Backoff::new();
         for _ in rt.forever() {
-            if let Some(stripe) = self.try_take(seat) {
+            if let Some(stripe) = self.take_if_free(seat) {
                 return stripe;
             }
             backoff.snooze();
@@ -132,7 +132,31 @@ impl HistLock {
         unreachable!()
     }
 
-    /// Gives the stripe back. The seat has then seen its whole history, all generations in a row. It never waits and takes no memory.
+    /// The same once: None leaves the seat as it was.
+    #[inline(always)]
+    fn take_if_free(&self, seat: &mut Seat) -> Option<Box<Stripe>>
+        requires { (seat.old.0 ≡ self.now) × (seat.old.1.holds ≡ false) }
+        ensures some { IfSome result
+            (λ s. (seat.new ≡ (seat.old.0, after_take seat.old.1 s.value)) × Finds seat.old.1 s.value) }
+        ensures none { IfNone result (seat.new ≡ seat.old) }
+    {
+        let token = &mut seat.token;
+        if self
+            .table
+            .shared
+            .compare_exchange::<Take>(token, 0, FREE, HELD)
+            != FREE
+        {
+            return None;
+        }
+        match self.table.shared.exchange(token, 0, None) {
+            Some(stripe) => Some(stripe),
+            None => unreachable!(),
+        }
+    }
+
+    /// Gives the stripe back. The seat has then seen its whole history, all generations in a row, and has one lending more: how it found
+    /// the stripe, and how it leaves it. It never waits and takes no memory.
     ///
     /// Conditions: the seat is of this lock and holds it; the stripe is the one that it took, after at most one phase of the seat's
     /// session, or after a renewal. A seat that is no session's gives it back as it was, or renewed.
@@ -165,7 +189,7 @@ impl HistLock {
     }
 
     /// Ends `other`, and tells `seat` what it has seen: the longer one of both fronts is the seat's from now on. If the seat holds
-    /// the stripe, both are prefixes of the whole history in its hands.
+    /// the stripe, both are prefixes of the whole history in its hands. The lendings of `other` are the seat's from now on, behind its own.
     ///
     /// Conditions: both seats are of this lock, and `other` doesn't hold it.
     pub fn join(&self, seat: &mut Seat, other: Seat)
@@ -188,7 +212,7 @@ impl HistLock {
     pub fn tell(&self, from: &mut Seat, to: &mut Seat)
         requires lock { (from.old.0 ≡ self.now) × (to.old.0 ≡ self.now) }
         ensures from { from.new ≡ from.old }
-        ensures to { to.new ≡ (to.old.0, after_join to.old.1 from.old.1) }
+        ensures to { to.new ≡ (to.old.0, after_join to.old.1 (front_note from.old.1)) }
         ensures fronts { IsPrefix to.old.1.front to.new.1.front × IsPrefix from.old.1.front to.new.1.front }
     {
         let token = self.table.shared.split_seat::<FrontNote>(&mut from.token);

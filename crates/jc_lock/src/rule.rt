@@ -27,13 +27,23 @@ impl Play<Slot, View> for Open {
     ghost then = { Opens };
 }
 
-/// A take.
+/// A take. If somebody holds the stripe, the seat stays as it was.
 pub(crate) struct Take;
 
 impl Play<Slot, View> for Take {
     ghost use Rattle.jc_lock.specs.Plays.{Takes};
 
-    ghost then = { Takes (λ b. b.value) };
+    ghost then = { Takes (λ b. b.value) (λ v. v) };
+}
+
+/// A try. If somebody holds the stripe, the seat counts that.
+pub(crate) struct Try;
+
+impl Play<Slot, View> for Try {
+    ghost use Rattle.jc_lock.specs.Plays.{Takes};
+    ghost use Rattle.jc_lock.specs.Views.{after_miss};
+
+    ghost then = { Takes (λ b. b.value) after_miss };
 }
 
 /// A give.

@@ -21,4 +21,9 @@ pub struct View {
     pub own: LinkedList<Event>,
     /// The stripe as it was when this seat took it or gave it back last.
     pub noted: Stripe,
+    /// Its lendings, the oldest first: how it found the stripe, and how it left it. Only a take and the give after it add one, so a
+    /// clause about those of a call is about what the call did.
+    pub lendings: LinkedList<(Stripe, Stripe)>,
+    /// How often it tried to take the stripe, and somebody else held it.
+    pub misses: u64,
 }

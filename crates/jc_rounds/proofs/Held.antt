@@ -46,7 +46,7 @@ use Rattle.jc_types.specs.declared.limits.TheConstants.{JOINERS_MAX, RESERVATION
 use Rattle.jc_stripe.specs.Tickets.{TicketClaim}
 use Rattle.jc_rounds.proofs.Asked.{among_there}
 use Rattle.jc_rounds.proofs.Out.{is_no}
-use Rattle.jc_rounds.proofs.SeatPhases.{Seated, grown_itself, grown_on}
+use Rattle.jc_rounds.proofs.SeatPhases.{Seated, found_later, found_since, grown_itself, grown_on}
 use Rattle.jc_rounds.proofs.SoFar.{refused_later, refused_since}
 use Rattle.jc_rounds.proofs.Underway.{below_or, set_get, stay_itself, stay_on, stay_set}
 
@@ -72,35 +72,39 @@ goes_set a b ps i q p grown at unended keeps = record {
 
 -- 2. One key.
 
-joined_later : (u v w : View) (key : Bytes) (op : Op) → HasGrown v w → HasJoined u v key op → HasJoined u w key op
-joined_later u v w key op grown was = record {
+joined_later : (caller : Caller) (u v w : View) (key : Bytes) (op : Op) → HasGrown v w → HasJoined caller u v key op → HasJoined caller u w key op
+joined_later caller u v w key op grown was = record {
   seen = was.seen;
   reached = was.reached;
   since = was.since;
   later = prefix-trans (whole_history was.seen) v.front w.front was.later grown.front;
   same = same_on was.seen v.noted w.noted was.same grown.same;
   load = was.load;
+  found = found_later u v w was.seen grown was.found;
+  may = was.may;
   why = was.why;
 }
 
-joined_since : (u v w : View) (key : Bytes) (op : Op) → HasGrown u v → HasJoined v w key op → HasJoined u w key op
-joined_since u v w key op grown was = record {
+joined_since : (caller : Caller) (u v w : View) (key : Bytes) (op : Op) → HasGrown u v → HasJoined caller v w key op → HasJoined caller u w key op
+joined_since caller u v w key op grown was = record {
   seen = was.seen;
   reached = was.reached;
   since = prefix-trans u.front v.front (whole_history was.seen) grown.front was.since;
   later = was.later;
   same = was.same;
   load = was.load;
+  found = found_since u v w was.seen grown was.found;
+  may = was.may;
   why = was.why;
 }
 
 pub held_later : (caller : Caller) (u v w : View) (key : Bytes) (op : Op) → HasGrown v w → IsHeldBack caller u v key op → IsHeldBack caller u w key op
 held_later caller u v w key op grown (inl was) = inl (was.0, was.1, refused_later caller u v w key op was.0 grown was.2)
-held_later caller u v w key op grown (inr was) = inr (joined_later u v w key op grown was)
+held_later caller u v w key op grown (inr was) = inr (joined_later caller u v w key op grown was)
 
 pub held_since : (caller : Caller) (u v w : View) (key : Bytes) (op : Op) → HasGrown u v → IsHeldBack caller v w key op → IsHeldBack caller u w key op
 held_since caller u v w key op grown (inl was) = inl (was.0, was.1, refused_since caller u v w key op was.0 grown was.2)
-held_since caller u v w key op grown (inr was) = inr (joined_since u v w key op grown was)
+held_since caller u v w key op grown (inr was) = inr (joined_since caller u v w key op grown was)
 
 refused_held : (refusal : Refusal) (b : Bool) (p : Progress) → p ≡ (if b then Waiting else Ended (Err refusal)) → is_held_back p ≡ true → b ≡ true
 refused_held refusal true p is held = refl
@@ -232,9 +236,9 @@ all_joined Q (t ∷ ts) (Ended e ∷ ps) h = all_joined Q ts ps (λ place. h (su
 
 -- no room: the key at this place waits, so it is neither reserved nor has it joined a load
 pub full_by : (caller : Caller) (config : Config) (before : Bytes → View) (stripes : ℕ) (ts : List (Bytes × Op)) (ps : List Progress) (a b : List Seated) (calls : List Reservation) (joins : List JoinClaim) (most room place asked : ℕ) → IsDistinct (pointwise ◌==◌) (keys_of ts)
-    → length ps ≡ length ts → slice_get ps place ≡ Some Waiting → HaveJoined stripes ts a b ps
+    → length ps ≡ length ts → slice_get ps place ≡ Some Waiting → HaveJoined caller stripes ts a b ps
     → AreIn is_reserved (IsTicketFor caller config) ts ps calls → AreIn is_joined (λ key op join. IsJoinFor caller (before key) key op join) ts ps joins → IsRoomFor RESERVATIONS_MAX (length ts) stripes most → IsRoomFor JOINERS_MAX (length ts) stripes room
-    → asked ≡ length calls → (most ≤ asked) ⊎ (room ≤ length joins) → IsFull stripes ts a b asked
+    → asked ≡ length calls → (most ≤ asked) ⊎ (room ≤ length joins) → IsFull caller stripes ts a b asked
 full_by caller config before stripes ts ps a b calls joins most room place asked d many waits have are joined most_is room_is same full = by full most_is room_is
   where
     fewer : length calls < length ts
@@ -243,38 +247,38 @@ full_by caller config before stripes ts ps a b calls joins most room place asked
     fewer_joined : length joins < length ts
     fewer_joined = fewer_out is_joined (λ key op join. IsJoinFor caller (before key) key op join) ts ps joins place Waiting many waits refl joined
 
-    many_joined : JOINERS_MAX * stripes < length joins → AreManyJoined stripes ts a b
+    many_joined : JOINERS_MAX * stripes < length joins → AreManyJoined caller stripes ts a b
     many_joined more = record {
       joined = joined_keys ts ps;
       distinct = distinct_joined ts ps d;
       many = (let n = many_keys (λ key op join. IsJoinFor caller (before key) key op join) ts ps joins joined in omega (arith, more, n));
-      each = all_joined (λ (key : Bytes). IsAmong ts (key, Get) × HasJoined (view_of stripes a key) (view_of stripes b key) key Get) ts ps
-          (λ i key op at there. let h = have i key op at there in (among_there ts i (key, Get) (at ∙ ap (λ o. Some (key, o)) h.0), subst (HasJoined (view_of stripes a key) (view_of stripes b key) key) h.0 h.1));
+      each = all_joined (λ (key : Bytes). IsAmong ts (key, Get) × HasJoined caller (view_of stripes a key) (view_of stripes b key) key Get) ts ps
+          (λ i key op at there. let h = have i key op at there in (among_there ts i (key, Get) (at ∙ ap (λ o. Some (key, o)) h.0), subst (HasJoined caller (view_of stripes a key) (view_of stripes b key) key) h.0 h.1));
     }
 
-    by : (most ≤ asked) ⊎ (room ≤ length joins) → IsRoomFor RESERVATIONS_MAX (length ts) stripes most → IsRoomFor JOINERS_MAX (length ts) stripes room → IsFull stripes ts a b asked
+    by : (most ≤ asked) ⊎ (room ≤ length joins) → IsRoomFor RESERVATIONS_MAX (length ts) stripes most → IsRoomFor JOINERS_MAX (length ts) stripes room → IsFull caller stripes ts a b asked
     by (inl none) (inl all) rooms = absurd (omega (arith, fewer, none, all, same))
     by (inl none) (inr more) rooms = inl (omega (arith, none, more))
     by (inr none) mosts (inl all) = absurd (omega (arith, fewer_joined, none, all))
     by (inr none) mosts (inr more) = inr (many_joined (omega (arith, none, more)))
 
 -- a round stays full in a later view
-all_later : (stripes : ℕ) (ts : List (Bytes × Op)) (a b c : List Seated) → ((i : ℕ) → HasGrown (view_at b i) (view_at c i)) → (keys : List Bytes)
-    → AllByRecursion (λ (key : Bytes). IsAmong ts (key, Get) × HasJoined (view_of stripes a key) (view_of stripes b key) key Get) keys → AllByRecursion (λ (key : Bytes). IsAmong ts (key, Get) × HasJoined (view_of stripes a key) (view_of stripes c key) key Get) keys
-all_later stripes ts a b c grown [] all = tt
-all_later stripes ts a b c grown (k ∷ keys) all = ((all.0.0, joined_later (view_of stripes a k) (view_of stripes b k) (view_of stripes c k) k Get (grown (stripe_of k stripes)) all.0.1), all_later stripes ts a b c grown keys all.1)
+all_later : (caller : Caller) (stripes : ℕ) (ts : List (Bytes × Op)) (a b c : List Seated) → ((i : ℕ) → HasGrown (view_at b i) (view_at c i)) → (keys : List Bytes)
+    → AllByRecursion (λ (key : Bytes). IsAmong ts (key, Get) × HasJoined caller (view_of stripes a key) (view_of stripes b key) key Get) keys → AllByRecursion (λ (key : Bytes). IsAmong ts (key, Get) × HasJoined caller (view_of stripes a key) (view_of stripes c key) key Get) keys
+all_later caller stripes ts a b c grown [] all = tt
+all_later caller stripes ts a b c grown (k ∷ keys) all = ((all.0.0, joined_later caller (view_of stripes a k) (view_of stripes b k) (view_of stripes c k) k Get (grown (stripe_of k stripes)) all.0.1), all_later caller stripes ts a b c grown keys all.1)
 
-pub full_later : (stripes : ℕ) (ts : List (Bytes × Op)) (a b c : List Seated) (m n : ℕ) → m ≤ n → ((i : ℕ) → HasGrown (view_at b i) (view_at c i)) → IsFull stripes ts a b m → IsFull stripes ts a c n
-full_later stripes ts a b c m n more grown (inl many) = inl (omega (arith, many, more))
-full_later stripes ts a b c m n more grown (inr j) = inr (record { joined = j.joined; distinct = j.distinct; many = j.many; each = all_later stripes ts a b c grown j.joined j.each })
+pub full_later : (caller : Caller) (stripes : ℕ) (ts : List (Bytes × Op)) (a b c : List Seated) (m n : ℕ) → m ≤ n → ((i : ℕ) → HasGrown (view_at b i) (view_at c i)) → IsFull caller stripes ts a b m → IsFull caller stripes ts a c n
+full_later caller stripes ts a b c m n more grown (inl many) = inl (omega (arith, many, more))
+full_later caller stripes ts a b c m n more grown (inr j) = inr (record { joined = j.joined; distinct = j.distinct; many = j.many; each = all_later caller stripes ts a b c grown j.joined j.each })
 
 -- a first phase, at the key of a place
 pub have_more : (caller : Caller) (config : Config) (stripes : ℕ) (ts : List (Bytes × Op)) (a b c : List Seated) (ps : List Progress) (i : ℕ) (k : Bytes) (o : Op) (begin : Begun) (p : Progress) (xs xs' : List TicketClaim) (joins joins' : List JoinClaim)
     → slice_get ts i ≡ Some (k, o) → ((j : ℕ) → HasGrown (view_at a j) (view_at b j)) → ((j : ℕ) → HasGrown (view_at b j) (view_at c j)) → HasBegun caller config (view_of stripes b k) (view_of stripes c k) k o begin → IsKept begin p xs xs' joins joins'
-    → HaveJoined stripes ts a b ps → HaveJoined stripes ts a c (set ps i p)
+    → HaveJoined caller stripes ts a b ps → HaveJoined caller stripes ts a c (set ps i p)
 have_more caller config stripes ts a b c ps i k o begin p xs xs' joins joins' at one two has kept have place key op there is = by (set_get ps i place p Joined is)
   where
-    joins_now : (b' : Begun) → HasBegun caller config (view_of stripes b k) (view_of stripes c k) k o b' → IsKept b' p xs xs' joins joins' → Joined ≡ p → (o ≡ Get) × HasJoined (view_of stripes b k) (view_of stripes c k) k o
+    joins_now : (b' : Begun) → HasBegun caller config (view_of stripes b k) (view_of stripes c k) k o b' → IsKept b' p xs xs' joins joins' → Joined ≡ p → (o ≡ Get) × HasJoined caller (view_of stripes b k) (view_of stripes c k) k o
     joins_now (begun.Joined join) has kept is = (has.1.op_is, has.2)
     joins_now (begun.Done done) has kept is = (let bad = is ∙ kept.0 in cc)
     joins_now (begun.Asks ticket) has kept is = (let bad = is ∙ kept.0 in cc)
@@ -284,9 +288,9 @@ have_more caller config stripes ts a b c ps i k o begin p xs xs' joins joins' at
         not_joined refusal true bad = cc
         not_joined refusal false bad = cc
 
-    by : ((place ≡ i) × (Joined ≡ p)) ⊎ ((place ≡ i → ⊥) × (slice_get ps place ≡ Some Joined)) → (op ≡ Get) × HasJoined (view_of stripes a key) (view_of stripes c key) key op
+    by : ((place ≡ i) × (Joined ≡ p)) ⊎ ((place ≡ i → ⊥) × (slice_get ps place ≡ Some Joined)) → (op ≡ Get) × HasJoined caller (view_of stripes a key) (view_of stripes c key) key op
     by (inl here) =
         let same : (k, o) ≡ (key, op) = same_Some (k, o) (key, op) (sym at ∙ ap (slice_get ts) (sym here.0) ∙ there) in
         let now = joins_now begin has kept here.1 in
-        subst (λ (u : Bytes × Op). (u.1 ≡ Get) × HasJoined (view_of stripes a u.0) (view_of stripes c u.0) u.0 u.1) same (now.0, joined_since (view_of stripes a k) (view_of stripes b k) (view_of stripes c k) k o (one (stripe_of k stripes)) now.1)
-    by (inr other) = let h = have place key op there other.1 in (h.0, joined_later (view_of stripes a key) (view_of stripes b key) (view_of stripes c key) key op (two (stripe_of key stripes)) h.1)
+        subst (λ (u : Bytes × Op). (u.1 ≡ Get) × HasJoined caller (view_of stripes a u.0) (view_of stripes c u.0) u.0 u.1) same (now.0, joined_since caller (view_of stripes a k) (view_of stripes b k) (view_of stripes c k) k o (one (stripe_of k stripes)) now.1)
+    by (inr other) = let h = have place key op there other.1 in (h.0, joined_later caller (view_of stripes a key) (view_of stripes b key) (view_of stripes c key) key op (two (stripe_of key stripes)) h.1)

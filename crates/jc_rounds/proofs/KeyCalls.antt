@@ -14,7 +14,6 @@ use Rattle.jc_model.specs.declared.event.Out.{Out}
 use Rattle.jc_stripe.specs.State.{State}
 use Rattle.jc_stripe.specs.OnePhase.{OnePhase}
 use Rattle.jc_stripe.specs.OwnSteps.{OwnSteps, StepsBehind, may_come_all}
-use Rattle.jc_stripe.specs.Phases.{Commits}
 use Rattle.jc_stripe.specs.Tickets.{JoinClaim}
 use Rattle.jc_stripe.specs.declared.begun.Begun.{Begun}
 use Rattle.jc_stripe.specs.declared.begun.Picked.{Picked}
@@ -23,7 +22,10 @@ use Rattle.jc_stripe.specs.declared.begun.StepDone.{StepDone}
 use Rattle.jc_stripe.specs.declared.ticket.Reservation.{Reservation}
 use Rattle.jc_lock.specs.declared.view.View.{View}
 use Rattle.jc_session.specs.declared.counts.Counted.{Counted}
-use Rattle.jc_engine.specs.Needs.{PicksUpLate, StartsAt}
+use Rattle.jc_engine.specs.Chain.{Turn}
+use Rattle.jc_engine.specs.Needs.{PicksUpLate}
+use Rattle.jc_engine.specs.Turns.{committing}
+use Rattle.jc_cache.specs.Turns.{picking_late, starting_now}
 use Rattle.jc_cache.specs.Caches.{CacheState}
 use Rattle.jc_cache.specs.PhaseCalls.{MayStart, PhaseAt}
 use Rattle.jc_cache.specs.Sessions.{IsOf}
@@ -47,14 +49,14 @@ module _ {I J : Type 0} {D : I → Type 0} {E : J → Type 0} where
       subst (λ (v : View). may_come_all v.own session.agent.caller key ≡ true) (view_there session.seats.items (stripe_of key cache.config.stripes) seat there)
       (may-come-all session.agent.caller key (view_of cache.config.stripes session.seats.items key).own (before (stripe_of key cache.config.stripes)) none)
 
-  view_was : {old new : Session I J D E} {stripe : ℕ} {phase : State → State → Type 0} {counted : Counted} → (x : PhaseAt stripe old phase counted new) → view_at old.seats.items stripe ≡ x.before
+  view_was : {old new : Session I J D E} {stripe : ℕ} {turn : Turn} {counted : Counted} → (x : PhaseAt stripe old turn counted new) → view_at old.seats.items stripe ≡ x.before
   view_was {old} {new} {stripe} x = view_there old.seats.items stripe (x.lock, x.before) x.was
 
-  view_now : {old new : Session I J D E} {stripe : ℕ} {phase : State → State → Type 0} {counted : Counted} → (x : PhaseAt stripe old phase counted new) → view_at new.seats.items stripe ≡ x.after
+  view_now : {old new : Session I J D E} {stripe : ℕ} {turn : Turn} {counted : Counted} → (x : PhaseAt stripe old turn counted new) → view_at new.seats.items stripe ≡ x.after
   view_now {old} {new} {stripe} x = ap (λ (xs : List Seated). view_at xs stripe) x.now ∙ view_here old.seats.items stripe (x.lock, x.before) (x.lock, x.after) x.was
 
   module _ (law : OnePhase) (steps : OwnSteps) (cache : CacheState) (old new : Session I J D E) (own : IsOf cache old) where
-    pub start_told : (key : Bytes) (op : Op) (b : Begun) (counted : Counted) → PhaseAt (stripe_of key cache.config.stripes) old (λ a z. StartsAt old.agent.caller key op b a z) counted new
+    pub start_told : (key : Bytes) (op : Op) (b : Begun) (counted : Counted) → PhaseAt (stripe_of key cache.config.stripes) old (starting_now old.agent.caller key op b) counted new
         → AreBefore old.agent.caller old.seats.items → steps_of old.agent.caller key (view_of cache.config.stripes old.seats.items key).own ≡ []
         → Moves old.agent.caller cache.config.stripes key old.seats.items new.seats.items
         × HasBegun old.agent.caller cache.config (view_of cache.config.stripes old.seats.items key) (view_of cache.config.stripes new.seats.items key) key op b
@@ -67,7 +69,7 @@ module _ {I J : Type 0} {D : I → Type 0} {E : J → Type 0} where
           subst (λ (v : View). HasBegun caller cache.config v (view_of n new.seats.items key) key op b) (sym (view_was x)) (subst (λ (w : View). HasBegun caller cache.config x.before w key op b) (sym (view_now x)) k.1),
         )
 
-    pub commit_told : (r : Reservation) (out : Out) (done : StepDone) (counted : Counted) → PhaseAt (stripe_of r.key cache.config.stripes) old (λ a b. Commits a r out done b) counted new → r.caller ≡ old.agent.caller → IsEarly old.agent.caller
+    pub commit_told : (r : Reservation) (out : Out) (done : StepDone) (counted : Counted) → PhaseAt (stripe_of r.key cache.config.stripes) old (committing r out done) counted new → r.caller ≡ old.agent.caller → IsEarly old.agent.caller
         → steps_of old.agent.caller r.key (view_of cache.config.stripes old.seats.items r.key).own ≡ []
         → Moves old.agent.caller cache.config.stripes r.key old.seats.items new.seats.items
         × IsCommitted cache.config old.agent.caller r out (view_of cache.config.stripes old.seats.items r.key) (view_of cache.config.stripes new.seats.items r.key) done.reply
@@ -80,7 +82,7 @@ module _ {I J : Type 0} {D : I → Type 0} {E : J → Type 0} where
               (subst (λ (v : View). IsCommitted cache.config r.caller r out v (view_of n new.seats.items r.key) done.reply) (sym (view_was x)) (subst (λ (w : View). IsCommitted cache.config r.caller r out x.before w done.reply) (sym (view_now x)) k.1)),
         )
 
-    pub pick_told : StepsBehind → (join : JoinClaim) (p : Picked) (counted : Counted) → PhaseAt (stripe_of join.key cache.config.stripes) old (λ a b. PicksUpLate a join p b) counted new → join.caller ≡ old.agent.caller → IsEarly old.agent.caller
+    pub pick_told : StepsBehind → (join : JoinClaim) (p : Picked) (counted : Counted) → PhaseAt (stripe_of join.key cache.config.stripes) old (picking_late join p) counted new → join.caller ≡ old.agent.caller → IsEarly old.agent.caller
         → steps_of old.agent.caller join.key (view_of cache.config.stripes old.seats.items join.key).own ≡ []
         → Moves old.agent.caller cache.config.stripes join.key old.seats.items new.seats.items
         × ((first : View) → HasGrown first (view_of cache.config.stripes old.seats.items join.key) → IsJoinFor old.agent.caller first join.key Get join

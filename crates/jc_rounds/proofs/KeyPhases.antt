@@ -26,7 +26,7 @@ use Rattle.jc_stripe.specs.Generations.{whole_history, whole_place}
 use Rattle.jc_stripe.specs.Renewal.{all_own_steps}
 use Rattle.jc_stripe.specs.OnePhase.{OnePhase, own_steps}
 use Rattle.jc_stripe.specs.OwnSteps.{AddsOwn, OwnSteps, StepsBehind, may_come_all}
-use Rattle.jc_stripe.specs.Phases.{Commits, after_commit}
+use Rattle.jc_stripe.specs.Phases.{after_commit}
 use Rattle.jc_stripe.specs.Refusals.{first_asked, first_refusal, may_join}
 use Rattle.jc_stripe.specs.Tickets.{TicketClaim, JoinClaim}
 use Rattle.jc_stripe.specs.declared.begun.Begun.{Begun}
@@ -38,7 +38,9 @@ use Rattle.jc_stripe.specs.declared.ticket.Reservation.{Reservation}
 use Rattle.jc_lock.specs.declared.view.View.{View}
 use Rattle.jc_lock.proofs.CallerLemmas.{prefix-refl, prefix-trans}
 use Rattle.jc_engine.specs.MadeIn.{IsNext}
-use Rattle.jc_engine.specs.Needs.{PicksUpLate, StartsAt}
+use Rattle.jc_engine.specs.Chain.{Turn}
+use Rattle.jc_engine.specs.Turns.{committing}
+use Rattle.jc_cache.specs.Turns.{picking_late, starting_now}
 use Rattle.jc_engine.proofs.CallerLemmas.{next_place}
 use Rattle.jc_stripe.proofs.Beside.{ask_found}
 use Rattle.jc_stripe.proofs.CallerLemmas.{adds_whole, call_below, gains_whole, may_in_all, of_same, put_off_or_full}
@@ -47,7 +49,7 @@ use Rattle.jc_rounds.specs.Keys.{HasBegun, HasPicked, IsCommitted, IsEarly, IsJo
 use Rattle.jc_rounds.specs.Recorded.{steps_of}
 use Rattle.jc_rounds.specs.Seats.{HasGrown}
 use Rattle.jc_rounds.proofs.CallSteps.{steps-gained}
-use Rattle.jc_rounds.proofs.SeatPhases.{MovesSeat, all_now, front_found, gained_phase, grown_phase, seen_own, seen_phase, uniform}
+use Rattle.jc_rounds.proofs.SeatPhases.{MovesSeat, all_now, front_found, found_phase, gained_phase, grown_phase, seen_own, seen_phase, uniform}
 
 -- 1. Refusals.
 
@@ -74,21 +76,21 @@ get_joins op is = cc
 
 module _ (law : OnePhase) (steps : OwnSteps) where
   -- a step that the phase adds behind all that was there
-  added : (session : ℕ) (phase : State → State → Type 0) (caller : Caller) (key : Bytes) (op : Op) (out : Out) (reply : Reply) (place : ℕ) (v w : View) (x : SeatPhase session v phase w) → session ≡ caller.session
+  added : (session : ℕ) (turn : Turn) (caller : Caller) (key : Bytes) (op : Op) (out : Out) (reply : Reply) (place : ℕ) (v w : View) (x : SeatPhase session v turn w) → session ≡ caller.session
       → AddsOwn caller.session x.found w.noted (Step caller op key out None reply) place → IsEarly caller → steps_of caller key v.own ≡ []
       → MovesSeat caller key v w × (steps_of caller key w.own ≡ Step caller op key out None reply ∷ []) × (slice_get w.front (whole_place w.noted place) ≡ Some (Step caller op key out None reply)) × (length v.front ≤ whole_place w.noted place)
-  added session phase caller key op out reply place v w x mine adds early none =
-      let whole = adds_whole caller.session x.found w.noted (Step caller op key out None reply) place (uniform law session phase v w x).grows.same.ended adds in
+  added session turn caller key op out reply place v w x mine adds early none =
+      let whole = adds_whole caller.session x.found w.noted (Step caller op key out None reply) place (uniform law session turn v w x).grows.same.ended adds in
       let more = whole.2 in
       let was : v.own ≡ more.before ++ more.after = sym x.own ∙ ap (λ (n : ℕ). all_own_steps n x.found) mine ∙ more.was in
       let is : w.own ≡ more.before ++ Step caller op key out None reply ∷ more.after = x.own_is ∙ ap (λ (n : ℕ). all_own_steps n w.noted) mine ∙ more.is in (
-        gained_phase law session phase v w x caller key op out None reply more.before more.after was is early,
+        gained_phase law session turn v w x caller key op out None reply more.before more.after was is early,
         steps-gained caller key op out None reply v.own w.own more.before more.after was is none,
         ap (λ (es : List Event). slice_get es (whole_place w.noted place)) x.front_is ∙ whole.1,
         (let one = longer v.front (whole_history x.found) x.front in let two = whole.0 in omega arith),
       )
 
-  pub key_begun : (caller : Caller) (config : Config) (key : Bytes) (op : Op) (b : Begun) (v w : View) (x : SeatPhase caller.session v (StartsAt caller key op b) w) → v.noted.config ≡ config → may_come_all v.own caller key ≡ true → steps_of caller key v.own ≡ []
+  pub key_begun : (caller : Caller) (config : Config) (key : Bytes) (op : Op) (b : Begun) (v w : View) (x : SeatPhase caller.session v (starting_now caller key op b) w) → v.noted.config ≡ config → may_come_all v.own caller key ≡ true → steps_of caller key v.own ≡ []
       → MovesSeat caller key v w × HasBegun caller config v w key op b
   key_begun caller config key op (begun.Done done) v w x shape may none =
       let early = early_none x.found caller key op x.made.begins.0 in
@@ -120,20 +122,22 @@ module _ (law : OnePhase) (steps : OwnSteps) where
       let same = steps.refused x.found w.noted caller key op refusal x.made.begins in
       let own = seen_own law caller.session _ v w x same in
       let why : first_refusal w.noted caller key op ≡ Some refusal = ap (λ (s : State). first_refusal s caller key op) x.made.begins.1 ∙ x.made.begins.0 in
-      let grown = grown_phase law caller.session _ v w x in (
+      (
         seen_phase law caller.session _ v w x caller key same,
         (
           ap (steps_of caller key) own ∙ none,
           put_off_or_full w.noted caller key op refusal why,
           why,
           record {
-            seen = w.noted;
-            reached = (uniform law caller.session _ v w x).reached;
-            since = subst (IsPrefix v.front) x.front_is grown.front;
-            later = subst (IsPrefix (whole_history w.noted)) (sym x.front_is) (prefix-refl (whole_history w.noted));
-            next = le_refl w.noted.next;
-            same = record { config = refl; stripe = refl; origin = refl; lives = refl; opening = refl };
-            why = why;
+            seen = x.found;
+            reached = x.reached;
+            since = x.front;
+            later = front_found law caller.session _ v w x;
+            next = (uniform law caller.session _ v w x).next;
+            same = of_same x.found w.noted (uniform law caller.session _ v w x).grows;
+            found = found_phase law caller.session _ v w x;
+            may = x.made.may;
+            why = x.made.begins.0;
           },
         ),
       )
@@ -179,13 +183,15 @@ module _ (law : OnePhase) (steps : OwnSteps) where
             since = x.front;
             later = front_found law caller.session _ v w x;
             same = of_same x.found w.noted (uniform law caller.session _ v w x).grows;
+            found = found_phase law caller.session _ v w x;
+            may = x.made.may;
             load = join.load;
             why = b.1;
           },
         ),
       )
 
-  pub key_committed : (config : Config) (session : ℕ) (r : Reservation) (out : Out) (done : StepDone) (v w : View) (x : SeatPhase session v (λ a b. Commits a r out done b) w) → v.noted.config ≡ config → session ≡ r.caller.session → IsEarly r.caller → steps_of r.caller r.key v.own ≡ []
+  pub key_committed : (config : Config) (session : ℕ) (r : Reservation) (out : Out) (done : StepDone) (v w : View) (x : SeatPhase session v (committing r out done) w) → v.noted.config ≡ config → session ≡ r.caller.session → IsEarly r.caller → steps_of r.caller r.key v.own ≡ []
       → MovesSeat r.caller r.key v w × IsCommitted config r.caller r out v w done.reply
   key_committed config session r out done v w x shape mine early none =
       let a = added session _ r.caller r.key r.op out done.reply done.place v w x mine (steps.commits x.found w.noted r out done x.reached x.made) early none in (
@@ -207,7 +213,7 @@ module _ (law : OnePhase) (steps : OwnSteps) where
         },
       )
 
-  pub key_picked : (config : Config) → StepsBehind → (session : ℕ) (join : JoinClaim) (p : Picked) (v w : View) (x : SeatPhase session v (λ a b. PicksUpLate a join p b) w) → session ≡ join.caller.session → IsEarly join.caller → steps_of join.caller join.key v.own ≡ []
+  pub key_picked : (config : Config) → StepsBehind → (session : ℕ) (join : JoinClaim) (p : Picked) (v w : View) (x : SeatPhase session v (picking_late join p) w) → session ≡ join.caller.session → IsEarly join.caller → steps_of join.caller join.key v.own ≡ []
       → MovesSeat join.caller join.key v w × ((first : View) → HasGrown first v → IsJoinFor join.caller first join.key Get join → HasPicked config join.caller first w join.key Get p)
   key_picked config places session join (picked.Answer reply place shared_with) v w x mine early none =
       let gains = steps.picks_up x.found w.noted join reply place shared_with x.reached x.made in

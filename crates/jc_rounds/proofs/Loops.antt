@@ -83,7 +83,7 @@ module _ {I J : Type 0} {D : I → Type 0} {E : J → Type 0} where
 
   abbrev pub Held : CacheState → Past → Session I J D E → Session I J D E → BulkCall → ℕ → Type 0
   Held cache past old new call end =
-      AreHeldBack (IsFull cache.config.stripes (ops_of call.targets.now) old.seats.items new.seats.items (length call.tickets.items)) end past.caller cache.config.stripes (ops_of call.targets.now) old.seats.items new.seats.items call.progress.items
+      AreHeldBack (IsFull past.caller cache.config.stripes (ops_of call.targets.now) old.seats.items new.seats.items (length call.tickets.items)) end past.caller cache.config.stripes (ops_of call.targets.now) old.seats.items new.seats.items call.progress.items
 
   pub start_from : (cache : CacheState) (past : Past) (session : Session I J D E) (call : BulkCall) → IsBetween cache past session call → IsStarting cache past session call 0
   start_from cache past session call between =
@@ -97,19 +97,19 @@ module _ {I J : Type 0} {D : I → Type 0} {E : J → Type 0} where
       }
 
   -- nothing has joined a load before the first phases
-  pub none_joined : (cache : CacheState) (past : Past) (session : Session I J D E) (call : BulkCall) → IsBetween cache past session call → HaveJoined cache.config.stripes (ops_of call.targets.now) session.seats.items session.seats.items call.progress.items
+  pub none_joined : (cache : CacheState) (past : Past) (session : Session I J D E) (call : BulkCall) → IsBetween cache past session call → HaveJoined past.caller cache.config.stripes (ops_of call.targets.now) session.seats.items session.seats.items call.progress.items
   none_joined cache past session call between place key op at there =
       let u = between.on.under in
       absurd (true≢false (none_in is_joined _ (ops_of call.targets.now) call.progress.items u.so_far.many u.joins_are place Joined there))
 
   -- one key more
   pub start_more : (cache : CacheState) (past : Past) (a b c : Session I J D E) (x y z : BulkCall) (place : ℕ) → Advances a b x y → Advances b c y z → Held cache past a b y place → length y.tickets.items ≤ length z.tickets.items
-      → HaveJoined cache.config.stripes (ops_of z.targets.now) a.seats.items c.seats.items z.progress.items → IsStarting cache past c z (place + 1)
+      → HaveJoined past.caller cache.config.stripes (ops_of z.targets.now) a.seats.items c.seats.items z.progress.items → IsStarting cache past c z (place + 1)
       → IsHeldAt (StillWaits z.progress.items place × HasNoRoom z) place past.caller cache.config.stripes (ops_of z.targets.now) b.seats.items c.seats.items z.progress.items → Held cache past a c z (place + 1)
   start_more cache past a b c x y z place one two held more have starting here =
-      held_next (IsFull n ops a.seats.items b.seats.items (length y.tickets.items)) (IsFull n ops a.seats.items c.seats.items (length z.tickets.items)) place past.caller n ops
-      a.seats.items b.seats.items c.seats.items x.progress.items y.progress.items z.progress.items (full_later n ops a.seats.items b.seats.items c.seats.items (length y.tickets.items) (length z.tickets.items) more two.goes.grown) one.goes two.goes
-      (subst (λ t. AreHeldBack (IsFull n (ops_of t.now) a.seats.items b.seats.items (length y.tickets.items)) place past.caller n (ops_of t.now) a.seats.items b.seats.items y.progress.items) (sym two.targets) held)
+      held_next (IsFull past.caller n ops a.seats.items b.seats.items (length y.tickets.items)) (IsFull past.caller n ops a.seats.items c.seats.items (length z.tickets.items)) place past.caller n ops
+      a.seats.items b.seats.items c.seats.items x.progress.items y.progress.items z.progress.items (full_later past.caller n ops a.seats.items b.seats.items c.seats.items (length y.tickets.items) (length z.tickets.items) more two.goes.grown) one.goes two.goes
+      (subst (λ t. AreHeldBack (IsFull past.caller n (ops_of t.now) a.seats.items b.seats.items (length y.tickets.items)) place past.caller n (ops_of t.now) a.seats.items b.seats.items y.progress.items) (sym two.targets) held)
       (λ key op p at there is. ⊎_elim (λ none. inl (full none)) (λ back. inr back) (here key op p at there is))
     where
       n : ℕ
@@ -118,7 +118,7 @@ module _ {I J : Type 0} {D : I → Type 0} {E : J → Type 0} where
       ops : List (Bytes × Op)
       ops = ops_of z.targets.now
 
-      full : StillWaits z.progress.items place × HasNoRoom z → IsFull n ops a.seats.items c.seats.items (length z.tickets.items)
+      full : StillWaits z.progress.items place × HasNoRoom z → IsFull past.caller n ops a.seats.items c.seats.items (length z.tickets.items)
       full none =
           let on = starting.on in
           full_by past.caller cache.config (view_of n past.first) n ops z.progress.items a.seats.items c.seats.items (map reserved_by z.tickets.items) z.joins.items
@@ -128,7 +128,7 @@ module _ {I J : Type 0} {D : I → Type 0} {E : J → Type 0} where
   pub start_else : (cache : CacheState) (past : Past) (session : Session I J D E) (call : BulkCall) (place : ℕ) → slice_get call.progress.items place ≡ Some Waiting → HasNoRoom call
       → IsStarting cache past session call place
       → IsStarting cache past session call (place + 1) × (length call.tickets.items ≤ length call.tickets.items)
-      × IsHeldAt (StillWaits call.progress.items place × HasNoRoom call) place past.caller cache.config.stripes (ops_of call.targets.now) session.seats.items session.seats.items call.progress.items × KeepsJoined cache session session call call
+      × IsHeldAt (StillWaits call.progress.items place × HasNoRoom call) place past.caller cache.config.stripes (ops_of call.targets.now) session.seats.items session.seats.items call.progress.items × KeepsJoined past.caller cache session session call call
   start_else cache past session call place waits full starting = (
     record { on = starting.on; fresh = starting.fresh; few = starting.few; settled = settled_next call.progress.items place starting.settled },
     omega arith,
@@ -139,7 +139,7 @@ module _ {I J : Type 0} {D : I → Type 0} {E : J → Type 0} where
   -- the key at this place doesn't wait
   pub start_past : (cache : CacheState) (past : Past) (session : Session I J D E) (call : BulkCall) (place : ℕ) (q : Progress) → slice_get call.progress.items place ≡ Some q → is_waiting q ≡ false → IsStarting cache past session call place
       → IsStarting cache past session call (place + 1) × (length call.tickets.items ≤ length call.tickets.items)
-      × IsHeldAt (StillWaits call.progress.items place × HasNoRoom call) place past.caller cache.config.stripes (ops_of call.targets.now) session.seats.items session.seats.items call.progress.items × KeepsJoined cache session session call call
+      × IsHeldAt (StillWaits call.progress.items place × HasNoRoom call) place past.caller cache.config.stripes (ops_of call.targets.now) session.seats.items session.seats.items call.progress.items × KeepsJoined past.caller cache session session call call
   start_past cache past session call place q here isnt starting = (
     record { on = starting.on; fresh = starting.fresh; few = starting.few; settled = settled_next call.progress.items place starting.settled },
     omega arith,

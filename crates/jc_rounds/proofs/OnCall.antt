@@ -239,12 +239,14 @@ module _ {I J : Type 0} {D : I → Type 0} {E : J → Type 0} (cache : CacheStat
   pub kept_joined : (place : ℕ) (key : Bytes) (op : Op) (b : Begun) (p : Progress) → later.progress.items ≡ set call.progress.items place p → slice_get (ops_of call.targets.now) place ≡ Some (key, op)
       → IsKept b p call.tickets.items later.tickets.items call.joins.items later.joins.items
       → IsKeyPhase cache old key (counted_begun b) new (HasBegun old.agent.caller cache.config (view_of cache.config.stripes old.seats.items key) (view_of cache.config.stripes new.seats.items key) key op b)
-      → KeepsJoined cache old new call later
-  kept_joined place key op b p is at kept phase start grown have =
+      → IsStarting cache past old call place → KeepsJoined past.caller cache old new call later
+  kept_joined place key op b p is at kept phase starting start grown have =
       let n = cache.config.stripes in
-      subst (λ t. HaveJoined n (ops_of t.now) start new.seats.items later.progress.items) (sym same.targets)
-      (subst (HaveJoined n (ops_of call.targets.now) start new.seats.items) (sym is)
-      (have_more old.agent.caller cache.config n (ops_of call.targets.now) start old.seats.items new.seats.items call.progress.items place key op b p call.tickets.items later.tickets.items call.joins.items later.joins.items at grown phase.moves.grown phase.made kept have))
+      let has : HasBegun past.caller cache.config (view_of n old.seats.items key) (view_of n new.seats.items key) key op b =
+      subst (λ (c : Caller). HasBegun c cache.config (view_of n old.seats.items key) (view_of n new.seats.items key) key op b) starting.on.under.caller_is phase.made in
+      subst (λ t. HaveJoined past.caller n (ops_of t.now) start new.seats.items later.progress.items) (sym same.targets)
+      (subst (HaveJoined past.caller n (ops_of call.targets.now) start new.seats.items) (sym is)
+      (have_more past.caller cache.config n (ops_of call.targets.now) start old.seats.items new.seats.items call.progress.items place key op b p call.tickets.items later.tickets.items call.joins.items later.joins.items at grown phase.moves.grown has kept have))
 
   -- 4. Last phases.
 

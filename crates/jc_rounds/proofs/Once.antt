@@ -115,11 +115,11 @@ module _ (caller : Caller) (stripes : ℕ) (targets : List (Bytes × Op)) (confi
           (held_later caller (view_of stripes old key) (view_of stripes e.seats key) (view_of stripes new key) key op
           (subst (λ (seats : List Seated). HasGrown (view_of stripes e.seats key) (view_of stripes seats key)) last (seats_grow caller stripes targets e.seats es each.3 (stripe_of key stripes))) back)
 
-      none_joins : (keys : List Bytes) → 0 < length keys → AllByRecursion (λ (key : Bytes). IsAmong targets (key, Get) × HasJoined (view_of stripes old key) (view_of stripes e.seats key) key Get) keys → ⊥
+      none_joins : (keys : List Bytes) → 0 < length keys → AllByRecursion (λ (key : Bytes). IsAmong targets (key, Get) × HasJoined caller (view_of stripes old key) (view_of stripes e.seats key) key Get) keys → ⊥
       none_joins [] many all = omega (arith, many)
       none_joins (k ∷ keys) many all = held_on k Get all.0.0 (inr all.0.1)
 
-      never : (key : Bytes) (op : Op) → IsAmong targets (key, op) → IsFull stripes targets old e.seats (length (asked_in e.calls)) ⊎ IsHeldBack caller (view_of stripes old key) (view_of stripes e.seats key) key op → ⊥
+      never : (key : Bytes) (op : Op) → IsAmong targets (key, op) → IsFull caller stripes targets old e.seats (length (asked_in e.calls)) ⊎ IsHeldBack caller (view_of stripes old key) (view_of stripes e.seats key) key op → ⊥
       never key op among (inl (inl full)) = omega (arith, full, few)
       never key op among (inl (inr full)) = none_joins full.joined (let many = full.many in omega (arith, many)) full.each
       never key op among (inr back) = held_on key op among back

@@ -1,11 +1,13 @@
 -- One phase at one seat, and what it leaves of all of a session's seats.
 --     MovesSeat          what a phase of the call at this key leaves of the key's seat
 --     grown_phase, grown_itself, grown_on    a phase, no phase, and two phases: the front has grown
+--     found_later, found_since               a state that was found, up to a later view, and from an earlier one on
+--     found_phase                            what a phase has found
 --     seen_phase, gained_phase               a phase that leaves the own steps, and one that makes one more, at any place
 --     view_set           the views after one seat was replaced
 --     view_there         the view of a seat that is there
 --     moves_all          what a phase leaves of all seats
-use Rattle.std.proofs.Common.{◌≡◌, ◌==◌, ◌&&◌, ◌⊎◌, ⊎_elim, inl, inr, ℕ, zero, suc, List, [], ◌∷◌, ◌++◌, Bool, true, false, Option, Some, slice_get, slice_set, refl, sym, ap, subst, ◌∙◌, arith, le_refl}
+use Rattle.std.proofs.Common.{◌≡◌, ◌==◌, ◌&&◌, ◌⊎◌, ⊎_elim, inl, inr, ℕ, zero, suc, List, [], ◌∷◌, ◌++◌, Bool, true, false, Option, Some, slice_get, slice_set, refl, sym, ap, subst, ◌∙◌, arith, le_refl, append_assoc, append-nil}
 use Rattle.std.proofs.lemmas.Bool.Decides.{nat_tests}
 use Rattle.std.proofs.lemmas.Option.{same_Some}
 use Rattle.std.specs.Cmp.Lexicographic.{pointwise}
@@ -25,11 +27,12 @@ use Rattle.jc_stripe.specs.OnePhase.{OnePhase, IsUniform, own_steps}
 use Rattle.jc_stripe.proofs.CallerLemmas.{whole_goes_on, own_stay}
 use Rattle.jc_lock.specs.declared.view.View.{View}
 use Rattle.jc_lock.proofs.CallerLemmas.{prefix-refl, prefix-trans, same_itself, same_on}
+use Rattle.jc_engine.specs.Chain.{Turn}
 use Rattle.jc_cache.specs.Fronts.{HasAllSeen}
 use Rattle.jc_cache.specs.PhaseCalls.{SeatPhase}
 use Rattle.jc_rounds.specs.Keys.{IsEarly}
 use Rattle.jc_rounds.specs.Recorded.{steps_of, former_steps, are_before}
-use Rattle.jc_rounds.specs.Seats.{HasGrown, Moves, view_at}
+use Rattle.jc_rounds.specs.Seats.{HasFound, HasGrown, Moves, view_at}
 use Rattle.jc_rounds.proofs.CallSteps.{before-gained, former-gained, others-gained}
 
 abbrev pub Seated : Type 0
@@ -44,12 +47,31 @@ pub record MovesSeat (caller : Caller) (key : Bytes) (v w : View) : Type 0 where
   pub numbers : are_before caller v.own ≡ true → are_before caller w.own ≡ true
 
 pub grown_itself : (v : View) → HasGrown v v
-grown_itself v = record { front = prefix-refl v.front; same = same_itself v.noted; next = le_refl v.noted.next; all = λ a. a }
+grown_itself v = record { front = prefix-refl v.front; same = same_itself v.noted; next = le_refl v.noted.next; all = λ a. a; row = []; lendings = sym (append-nil v.lendings) }
 
 pub grown_on : (u v w : View) → HasGrown u v → HasGrown v w → HasGrown u w
-grown_on u v w p q = record { front = prefix-trans u.front v.front w.front p.front q.front; same = same_on u.noted v.noted w.noted p.same q.same; next = (let one = p.next in let two = q.next in omega arith); all = λ a. q.all (p.all a) }
+grown_on u v w p q = record { front = prefix-trans u.front v.front w.front p.front q.front; same = same_on u.noted v.noted w.noted p.same q.same; next = (let one = p.next in let two = q.next in omega arith); all = λ a. q.all (p.all a); row = p.row ++ q.row; lendings = q.lendings ∙ ap (λ (ls : List (State × State)). ls ++ q.row) p.lendings ∙ append_assoc u.lendings p.row q.row }
 
-module _ (law : OnePhase) (session : ℕ) (phase : State → State → Type 0) (v w : View) (x : SeatPhase session v phase w) where
+-- a state that was found, up to a later view, and from an earlier one on
+pub found_later : (u v w : View) (seen : State) → HasGrown v w → HasFound u seen v → HasFound u seen w
+found_later u v w seen grown was = record {
+  earlier = was.earlier;
+  left = was.left;
+  since = was.since ++ grown.row;
+  lendings = grown.lendings ∙ ap (λ (ls : List (State × State)). ls ++ grown.row) was.lendings ∙ append_assoc u.lendings (was.earlier ++ (seen, was.left) ∷ was.since) grown.row
+      ∙ ap (λ (ls : List (State × State)). u.lendings ++ ls) (append_assoc was.earlier ((seen, was.left) ∷ was.since) grown.row);
+}
+
+pub found_since : (u v w : View) (seen : State) → HasGrown u v → HasFound v seen w → HasFound u seen w
+found_since u v w seen grown was = record {
+  earlier = grown.row ++ was.earlier;
+  left = was.left;
+  since = was.since;
+  lendings = was.lendings ∙ ap (λ (ls : List (State × State)). ls ++ (was.earlier ++ (seen, was.left) ∷ was.since)) grown.lendings ∙ append_assoc u.lendings grown.row (was.earlier ++ (seen, was.left) ∷ was.since)
+      ∙ ap (λ (ls : List (State × State)). u.lendings ++ ls) (sym (append_assoc grown.row was.earlier ((seen, was.left) ∷ was.since)));
+}
+
+module _ (law : OnePhase) (session : ℕ) (turn : Turn) (v w : View) (x : SeatPhase session v turn w) where
   pub uniform : IsUniform session x.found w.noted
   uniform = law session x.found w.noted x.reached x.one
 
@@ -65,7 +87,12 @@ module _ (law : OnePhase) (session : ℕ) (phase : State → State → Type 0) (
     same = x.seat.same;
     next = x.seat.next;
     all = λ a. all_now;
+    row = x.waits ++ (x.found, w.noted) ∷ [];
+    lendings = x.lent.lendings;
   }
+
+  pub found_phase : HasFound v x.found w
+  found_phase = record { earlier = x.waits; left = w.noted; since = []; lendings = x.lent.lendings }
 
   pub seen_own : own_steps session w.noted ≡ own_steps session x.found → w.own ≡ v.own
   seen_own same = x.own_is ∙ own_stay session x.found w.noted uniform.grows.same.ended same ∙ x.own

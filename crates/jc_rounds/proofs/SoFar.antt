@@ -45,7 +45,7 @@ use Rattle.jc_rounds.specs.Rounds.{Round, asked_in, keys_asked}
 use Rattle.jc_rounds.specs.Seats.{HasGrown, Moves, is_at, view_at, view_of}
 use Rattle.jc_rounds.specs.SoFar.{IsSoFar, is_due}
 use Rattle.jc_rounds.proofs.CallSteps.{no-steps, still-before}
-use Rattle.jc_rounds.proofs.SeatPhases.{Seated, grown_itself, grown_on}
+use Rattle.jc_rounds.proofs.SeatPhases.{Seated, found_later, found_since, grown_itself, grown_on}
 
 -- 1. Rounds.
 
@@ -79,6 +79,8 @@ refused_later caller u v w key op refusal grown was = record {
   later = prefix-trans (whole_history was.seen) v.front w.front was.later grown.front;
   next = (let one = was.next in let two = grown.next in omega arith);
   same = same_on was.seen v.noted w.noted was.same grown.same;
+  found = found_later u v w was.seen grown was.found;
+  may = was.may;
   why = was.why;
 }
 
@@ -90,6 +92,8 @@ refused_since caller u v w key op refusal grown was = record {
   later = was.later;
   next = was.next;
   same = was.same;
+  found = found_since u v w was.seen grown was.found;
+  may = was.may;
   why = was.why;
 }
 

@@ -56,7 +56,7 @@ module _ (caller : Caller) (stripes : ℕ) (targets : List (Bytes × Op)) where
     held_less e.seats es a b ps qs goes held.1,
   )
 
-  held_more : (old : List Seated) (es : List RoundEnd) (e : RoundEnd) (ps : List Progress) → AreHeldBack (IsFull stripes targets (seats_after old es) e.seats (length (asked_in e.calls))) (length targets) caller stripes targets (seats_after old es) e.seats ps
+  held_more : (old : List Seated) (es : List RoundEnd) (e : RoundEnd) (ps : List Progress) → AreHeldBack (IsFull caller stripes targets (seats_after old es) e.seats (length (asked_in e.calls))) (length targets) caller stripes targets (seats_after old es) e.seats ps
       → HeldInEach caller stripes targets old es ps → HeldInEach caller stripes targets old (es ++ e ∷ []) ps
   held_more old [] e ps here held = (here, tt)
   held_more old (f ∷ es) e ps here held = (held.0, held_more f.seats es e ps here held.1)
@@ -68,7 +68,7 @@ module _ (caller : Caller) (stripes : ℕ) (targets : List (Bytes × Op)) where
   starts_more old (f ∷ es) e ps few grown waited held each = (each.0, each.1, (λ key op among asked. by key op among (either_asked (calls_of es) e.calls key (ap (λ cs. is_among (asked_in cs) key) (sym (calls_more es e)) ∙ asked))), starts_more f.seats es e ps few grown waited held.1 each.3)
     where
       by : (key : Bytes) (op : Op) → IsAmong targets (key, op) → (is_among (asked_in (calls_of es)) key ≡ true) ⊎ (is_among (asked_in e.calls) key ≡ true)
-          → IsFull stripes targets old f.seats (length (asked_in f.calls)) ⊎ IsHeldBack caller (view_of stripes old key) (view_of stripes f.seats key) key op
+          → IsFull caller stripes targets old f.seats (length (asked_in f.calls)) ⊎ IsHeldBack caller (view_of stripes old key) (view_of stripes f.seats key) key op
       by key op among (inl before) = each.2 key op among before
       by key op among (inr now) = let at = place_among targets (key, op) among in held.0 at.0 at.1 key op Waiting at.2 (waited at.0 key op at.2 now) refl
 
@@ -102,7 +102,7 @@ module _ {I J : Type 0} {D : I → Type 0} {E : J → Type 0} where
         };
         held = subst (λ t. HeldInEach caller n t past.first (es ++ e ∷ []) later.progress.items) goes
             (held_more caller n (ops_of call.targets.now) past.first es e later.progress.items
-            (subst (λ (seats : List Seated). AreHeldBack (IsFull n (ops_of call.targets.now) seats new.seats.items (length (asked_in calls))) (length (ops_of call.targets.now)) caller n (ops_of call.targets.now) seats new.seats.items later.progress.items) (sym run.started.seats_are) round.held)
+            (subst (λ (seats : List Seated). AreHeldBack (IsFull caller n (ops_of call.targets.now) seats new.seats.items (length (asked_in calls))) (length (ops_of call.targets.now)) caller n (ops_of call.targets.now) seats new.seats.items later.progress.items) (sym run.started.seats_are) round.held)
             (held_less caller n (ops_of call.targets.now) past.first es old.seats.items new.seats.items call.progress.items later.progress.items round.goes run.held));
         first = first_more cache.config caller n (ops_of later.targets.now) [] es e (past.rounds ++ calls) past.first later.progress.items call.cause later.cause (ap (λ rs. rs ++ calls) run.started.calls_are) keeps
             between.on.under.so_far between.cause (subst (λ t. IsFirst caller n t [] es call.cause) goes run.first);

@@ -116,7 +116,7 @@ near_full caller before after key op was =
     (λ full. inl (too_long (length s.history) (promised s) needed s.config.history (over_by (length s.history + promised s + needed) s.config.history full) (few_promised s was.reached) (few_needed (needs_free_key s key op))))
     (λ number. ⊎_elim (λ call. inr (inl (at_end caller.call last_number call))) (λ next. inr (inr (at_end s.next last_number next))) number)
     (which (nat_le (length s.history + promised s + needed) s.config.history) (nat_lt caller.call last_number) (nat_lt s.next last_number) none) in
-    record { seen = s; reached = was.reached; same = was.same; since = was.since; later = was.later; full = full }
+    record { seen = s; reached = was.reached; same = was.same; since = was.since; later = was.later; found = was.found; full = full }
 
 refused_near : (config : Config) (caller : Caller) (rounds : List Round) (v w : View) (key : Bytes) (op : Op) (ended : Result Reply Refusal) → HasEnded config caller rounds v w key op ended → ended ≡ Err HistoryFull → WasNearFull caller v w
 refused_near config caller rounds v w key op (Ok reply) has is = let bad : Ok reply ≡ Err HistoryFull = is in cc
@@ -248,9 +248,9 @@ module _ {I J : Type 0} {D : I → Type 0} {E : J → Type 0} where
   round_of cache past old mid new call begun later calls between started same one two few keys = record {
     few = few;
     goes = goes_both old.seats.items mid.seats.items new.seats.items call.progress.items begun.progress.items later.progress.items one two;
-    held = held_after (IsFull n ops old.seats.items mid.seats.items (length begun.tickets.items)) (IsFull n ops old.seats.items new.seats.items (length (asked_in calls))) (length ops) past.caller n ops old.seats.items mid.seats.items new.seats.items begun.progress.items
-        later.progress.items (full_later n ops old.seats.items mid.seats.items new.seats.items (length begun.tickets.items) (length (asked_in calls)) (omega (arith, many)) two.grown) two
-        (subst (λ t. AreHeldBack (IsFull n (ops_of t.now) old.seats.items mid.seats.items (length begun.tickets.items)) (length (ops_of t.now)) past.caller n (ops_of t.now) old.seats.items mid.seats.items begun.progress.items) same started.held);
+    held = held_after (IsFull past.caller n ops old.seats.items mid.seats.items (length begun.tickets.items)) (IsFull past.caller n ops old.seats.items new.seats.items (length (asked_in calls))) (length ops) past.caller n ops old.seats.items mid.seats.items new.seats.items begun.progress.items
+        later.progress.items (full_later past.caller n ops old.seats.items mid.seats.items new.seats.items (length begun.tickets.items) (length (asked_in calls)) (omega (arith, many)) two.grown) two
+        (subst (λ t. AreHeldBack (IsFull past.caller n (ops_of t.now) old.seats.items mid.seats.items (length begun.tickets.items)) (length (ops_of t.now)) past.caller n (ops_of t.now) old.seats.items mid.seats.items begun.progress.items) same started.held);
     waited = λ place key op at asked.
         let p = some_there ops call.progress.items place (key, op) between.on.under.so_far.many at in
         p.1 ∙ ap Some (by place key op at asked p.0 p.1 (settled_by p.0 (none_in is_reserved _ ops call.progress.items between.on.under.so_far.many between.on.under.calls_are place p.0 p.1) (none_in is_joined _ ops call.progress.items between.on.under.so_far.many between.on.under.joins_are place p.0 p.1)));

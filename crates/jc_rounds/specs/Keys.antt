@@ -4,15 +4,16 @@
 --                    such an entry makes the call ask, and said this; or it shares another call's load, and no round asked for the key
 --     HasStep        of the call's steps at this key there is exactly one, with this operation and reply and with answers that it was told;
 --                    it is in the front, which is the whole history of the noted state, behind the former front
---     WasRefused     the stripe was in a state, between the former front and the present one, in which this is the first refusal of the
---                    call at this key
+--     WasRefused     the seat has found the stripe, between these views, in a state in which the call might begin at this key, and this was its
+--                    first refusal
 --     HasEnded       the key's end: the call has made its one step there; or it was refused, has none, and no round asked for the key; for want
 --                    of memory only after a round that asked outside
 --     IsAt           the key is so far: it has no step of the call yet, or has ended
 --     IsEarly        the call's number isn't the last one
 --     IsTicketFor    a reservation of the call for this key, which asks whom the operation asks first, in a cache of this shape
 --     IsJoinFor      a join of the call, a `Get`, at this key: a step of the call at the key may come after the former front
---     HasJoined      the stripe was in a state, between these views, in which the call joins another call's load of the key
+--     HasJoined      the seat has found the stripe, between these views, in a state in which the call might begin at this key, and joins another
+--                    call's load
 --     IsHeldBack     between these views the key was put off, or has joined a load
 --     HasBegun       how far a first phase leaves the key; a refusal is that of the state that the view keeps
 --     IsCommitted    what a commit leaves: the call's one step at the key of its reservation, with these outside answers; the entry that
@@ -40,6 +41,7 @@ use Rattle.jc_stripe.specs.Generations.{whole_history, IsOfSameStripe}
 use Rattle.jc_stripe.specs.Reached.{IsReached}
 use Rattle.jc_stripe.specs.Refusals.{first_asked, first_refusal, last_number, load_joined, reserves}
 use Rattle.jc_stripe.specs.OwnSteps.{may_come_all}
+use Rattle.jc_stripe.specs.Phases.{MayBegin}
 use Rattle.jc_stripe.specs.Tickets.{JoinClaim}
 use Rattle.jc_stripe.specs.declared.ticket.First.TheVariants.{Nobody}
 use Rattle.jc_stripe.specs.declared.ticket.Reservation.{Reservation}
@@ -53,6 +55,7 @@ use Rattle.jc_cache.specs.Fronts.{HasAllSeen}
 use Rattle.jc_rounds.specs.declared.progress.Progress.{Progress}
 use Rattle.jc_rounds.specs.declared.progress.Progress.TheVariants.{Waiting, Reserved, Joined, Ended}
 use Rattle.jc_rounds.specs.Recorded.{steps_of}
+use Rattle.jc_rounds.specs.Seats.{HasFound}
 use Rattle.jc_rounds.specs.Rounds.{Round, IsAnswer, asked_in, keys_asked}
 
 -- 1. Ends. `before` is the view from before the call.
@@ -88,6 +91,8 @@ pub record WasRefused (caller : Caller) (before after : View) (key : Bytes) (op 
   pub later : IsPrefix (whole_history seen) after.front
   pub next : seen.next ≤ after.noted.next
   pub same : IsOfSameStripe seen after.noted
+  pub found : HasFound before seen after
+  pub may : MayBegin seen caller key
   pub why : first_refusal seen caller key op ≡ Some refusal
 
 abbrev pub HasEnded : Config → Caller → List Round → View → View → Bytes → Op → Result Reply Refusal → Type 0
@@ -123,17 +128,19 @@ pub record IsJoinFor (caller : Caller) (before : View) (key : Bytes) (op : Op) (
   pub early : IsEarly caller
   pub fresh : may_come_all before.front caller key ≡ true
 
-pub record HasJoined (before after : View) (key : Bytes) (op : Op) : Type 0 where
+pub record HasJoined (caller : Caller) (before after : View) (key : Bytes) (op : Op) : Type 0 where
   pub seen : State
   pub reached : IsReached seen
   pub since : IsPrefix before.front (whole_history seen)
   pub later : IsPrefix (whole_history seen) after.front
   pub same : IsOfSameStripe seen after.noted
+  pub found : HasFound before seen after
+  pub may : MayBegin seen caller key
   pub load : ℕ
   pub why : load_joined seen key op ≡ Some load
 
 abbrev pub IsHeldBack : Caller → View → View → Bytes → Op → Type 0
-IsHeldBack caller before after key op = ((refusal : Refusal) × (is_put_off refusal ≡ true) × WasRefused caller before after key op refusal) ⊎ HasJoined before after key op
+IsHeldBack caller before after key op = ((refusal : Refusal) × (is_put_off refusal ≡ true) × WasRefused caller before after key op refusal) ⊎ HasJoined caller before after key op
 
 -- 3. Phases. `before` is the view from before the phase.
 
@@ -144,7 +151,7 @@ HasBegun caller config before after key op (begun.Refused refusal) =
     × (first_refusal after.noted caller key op ≡ Some refusal) × WasRefused caller before after key op refusal
 HasBegun caller config before after key op (begun.Asks ticket) =
     (steps_of caller key after.own ≡ []) × (ticket.asked ≡ false) × (ticket.writer_asked ≡ false) × IsTicketFor caller config key op ticket.reservation
-HasBegun caller config before after key op (begun.Joined join) = (steps_of caller key after.own ≡ []) × IsJoinFor caller before key op join × HasJoined before after key op
+HasBegun caller config before after key op (begun.Joined join) = (steps_of caller key after.own ≡ []) × IsJoinFor caller before key op join × HasJoined caller before after key op
 
 -- the step of a commit, with what was answered outside
 pub record IsCommitted (config : Config) (caller : Caller) (r : Reservation) (out : Out) (before after : View) (reply : Reply) : Type 0 where

@@ -7,7 +7,7 @@
 --                    it met
 --     near_places    how many places of a history may be held by promises, and how many one step more needs
 --     IsNearFull     the present generation's history has hardly any place left, or a number has come to its end
---     WasNearFull    so was the stripe in a state between the former front and the present one
+--     WasNearFull    so was the stripe in a state in which the seat has found it between these views
 --     IsCarriedOut   a session's next call, carried out for these keys, each of which ended in one way, in rounds that asked this outside
 use Rattle.std.specs.Prelude.{◌≡◌, ◌≤◌, ◌<◌, ◌+◌, ◌*◌, ◌⊎◌, ◌++◌, ℕ, List, [], ◌∷◌, length, All, true, false, Some, Err, slice_get}
 use mathlib.Core.List.{IsPrefix}
@@ -35,7 +35,7 @@ use Rattle.jc_rounds.specs.Ends.{KeyEnd, key_ops}
 use Rattle.jc_rounds.specs.Keys.{HasEnded}
 use Rattle.jc_rounds.specs.Recorded.{former_steps, steps_of}
 use Rattle.jc_rounds.specs.Rounds.{Round, asked_in}
-use Rattle.jc_rounds.specs.Seats.{HasGrown, view_at, view_of}
+use Rattle.jc_rounds.specs.Seats.{HasFound, HasGrown, view_at, view_of}
 use Rattle.jc_rounds.specs.SoFar.{AreHeldBack, GoesOn, is_due}
 use Rattle.jc_rounds.specs.Starting.{AsksAtMostOnce, HasStartedAll, IsFull, RoundEnd}
 use Rattle.jc_rounds.specs.Targets.{ops_of}
@@ -47,13 +47,13 @@ module _ (caller : Caller) (stripes : ℕ) (targets : List (Bytes × Op)) where
   abbrev pub HeldInEach : List (TableId × View) → List RoundEnd → List Progress → Type 0
   HeldInEach old [] progress = Unit {0}
   HeldInEach old (e ∷ es) progress =
-      AreHeldBack (IsFull stripes targets old e.seats (length (asked_in e.calls))) (length targets) caller stripes targets old e.seats progress × HeldInEach e.seats es progress
+      AreHeldBack (IsFull caller stripes targets old e.seats (length (asked_in e.calls))) (length targets) caller stripes targets old e.seats progress × HeldInEach e.seats es progress
 
   -- `calls` is what it has asked outside
   pub record IsRound (old new : List (TableId × View)) (progress later : List Progress) (calls : List Round) : Type 0 where
     pub few : length calls ≤ 1
     pub goes : GoesOn old new progress later
-    pub held : AreHeldBack (IsFull stripes targets old new (length (asked_in calls))) (length targets) caller stripes targets old new later
+    pub held : AreHeldBack (IsFull caller stripes targets old new (length (asked_in calls))) (length targets) caller stripes targets old new later
     pub waited : (place : ℕ) (key : Bytes) (op : Op) → slice_get targets place ≡ Some (key, op) → is_among (asked_in calls) key ≡ true → slice_get progress place ≡ Some Waiting
 
 abbrev pub with_rounds : Past → List Round → Past
@@ -79,6 +79,7 @@ pub record WasNearFull (caller : Caller) (before after : View) : Type 0 where
   pub same : IsOfSameStripe seen after.noted
   pub since : IsPrefix before.front (whole_history seen)
   pub later : IsPrefix (whole_history seen) after.front
+  pub found : HasFound before seen after
   pub full : IsNearFull caller seen
 
 -- `old` and `new` are the session before and after

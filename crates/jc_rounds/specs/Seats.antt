@@ -2,18 +2,20 @@
 --     view_at      the view of the session's seat at the stripe with this number; one of a seat that is gone, if there is no such stripe
 --     view_of      that of the key's stripe, of so many stripes
 --     HasGrown     the front begins with the former one, the stripe is the same, its next reservation's number hasn't fallen, and a front
---                  that is the whole history of the noted state stays so
+--                  that is the whole history of the noted state stays so; there are these lendings more
+--     HasFound     the seat has taken the stripe in this state, between these views
 --     is_at        this is the key, and it is of the stripe with this number
 --     Moves        one phase of the call at this key: every front may have grown; what is said of any other key stays, and so do the steps
 --                  of former calls
 --     AreBefore    the steps that the session has made are all of this call or of former ones
-use Rattle.std.specs.Prelude.{◌≡◌, ◌≤◌, ◌==◌, ◌&&◌, ℕ, zero, suc, List, [], ◌∷◌, Bool, true, false}
+use Rattle.std.specs.Prelude.{◌≡◌, ◌≤◌, ◌==◌, ◌&&◌, ℕ, zero, suc, List, [], ◌∷◌, ◌++◌, Bool, true, false}
 use Rattle.std.specs.Cmp.Lexicographic.{pointwise}
 use mathlib.Core.List.{IsPrefix}
 use Rattle.atomic_table.specs.Seated.{TableId}
 use Rattle.jc_types.specs.declared.caller.Caller.{Caller}
 use Rattle.jc_types.specs.Stripes.{stripe_of}
 use Rattle.jc_model.specs.Cache.{Bytes}
+use Rattle.jc_stripe.specs.State.{State}
 use Rattle.jc_stripe.specs.Generations.{IsOfSameStripe}
 use Rattle.jc_lock.specs.declared.view.View.{View}
 use Rattle.jc_lock.specs.Views.{spent_view}
@@ -33,6 +35,14 @@ pub record HasGrown (before after : View) : Type 0 where
   pub same : IsOfSameStripe before.noted after.noted
   pub next : before.noted.next ≤ after.noted.next
   pub all : HasAllSeen before → HasAllSeen after
+  pub row : List (State × State)
+  pub lendings : after.lendings ≡ before.lendings ++ row
+
+pub record HasFound (before : View) (seen : State) (after : View) : Type 0 where
+  pub earlier : List (State × State)
+  pub left : State
+  pub since : List (State × State)
+  pub lendings : after.lendings ≡ before.lendings ++ (earlier ++ (seen, left) ∷ since)
 
 abbrev pub is_at : ℕ → Bytes → Bytes → ℕ → Bool
 is_at stripes key other i = pointwise ◌==◌ key other && (stripe_of key stripes == i)

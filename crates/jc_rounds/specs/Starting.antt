@@ -32,19 +32,19 @@ use Rattle.jc_rounds.specs.Seats.{HasGrown, view_at, view_of}
 abbrev pub IsRoomFor : ℕ → ℕ → ℕ → ℕ → Type 0
 IsRoomFor most keys stripes room = (keys ≤ room) ⊎ (most * stripes < room)
 
-pub record AreManyJoined (stripes : ℕ) (targets : List (Bytes × Op)) (old new : List (TableId × View)) : Type 0 where
+pub record AreManyJoined (caller : Caller) (stripes : ℕ) (targets : List (Bytes × Op)) (old new : List (TableId × View)) : Type 0 where
   pub joined : List Bytes
   pub distinct : IsDistinct (pointwise ◌==◌) joined
   pub many : JOINERS_MAX * stripes < length joined
-  pub each : AllByRecursion (λ (key : Bytes). IsAmong targets (key, Get) × HasJoined (view_of stripes old key) (view_of stripes new key) key Get) joined
+  pub each : AllByRecursion (λ (key : Bytes). IsAmong targets (key, Get) × HasJoined caller (view_of stripes old key) (view_of stripes new key) key Get) joined
 
 -- `old` and `new` are the seats before and after the round, `asked` is for how many keys it has asked
-abbrev pub IsFull : ℕ → List (Bytes × Op) → List (TableId × View) → List (TableId × View) → ℕ → Type 0
-IsFull stripes targets old new asked = (RESERVATIONS_MAX * stripes < asked) ⊎ AreManyJoined stripes targets old new
+abbrev pub IsFull : Caller → ℕ → List (Bytes × Op) → List (TableId × View) → List (TableId × View) → ℕ → Type 0
+IsFull caller stripes targets old new asked = (RESERVATIONS_MAX * stripes < asked) ⊎ AreManyJoined caller stripes targets old new
 
-abbrev pub HaveJoined : ℕ → List (Bytes × Op) → List (TableId × View) → List (TableId × View) → List Progress → Type 0
-HaveJoined stripes targets old new progress = (place : ℕ) (key : Bytes) (op : Op) → slice_get targets place ≡ Some (key, op) → slice_get progress place ≡ Some Joined
-    → (op ≡ Get) × HasJoined (view_of stripes old key) (view_of stripes new key) key op
+abbrev pub HaveJoined : Caller → ℕ → List (Bytes × Op) → List (TableId × View) → List (TableId × View) → List Progress → Type 0
+HaveJoined caller stripes targets old new progress = (place : ℕ) (key : Bytes) (op : Op) → slice_get targets place ≡ Some (key, op) → slice_get progress place ≡ Some Joined
+    → (op ≡ Get) × HasJoined caller (view_of stripes old key) (view_of stripes new key) key op
 
 pub record RoundEnd : Type 0 where
   pub calls : List Round
@@ -59,7 +59,7 @@ seats_after old (e ∷ es) = seats_after e.seats es
 
 module _ (caller : Caller) (stripes : ℕ) (targets : List (Bytes × Op)) where
   abbrev pub IsPutOff : ℕ → List (TableId × View) → List (TableId × View) → Bytes → Op → Type 0
-  IsPutOff asked old new key op = IsFull stripes targets old new asked ⊎ IsHeldBack caller (view_of stripes old key) (view_of stripes new key) key op
+  IsPutOff asked old new key op = IsFull caller stripes targets old new asked ⊎ IsHeldBack caller (view_of stripes old key) (view_of stripes new key) key op
 
   abbrev pub EachStartsAll : List (TableId × View) → List RoundEnd → Type 0
   EachStartsAll old [] = Unit {0}

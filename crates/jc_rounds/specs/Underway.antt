@@ -114,7 +114,7 @@ module _ {I J : Type 0} {D : I → Type 0} {E : J → Type 0} (cache : CacheStat
     pub on : IsOn new call call.tickets.items call.joins.items
     pub fresh : are_fresh past.rounds call.tickets.items
     pub few : length call.tickets.items ≤ call.most
-    pub held : AreHeldBack (IsFull cache.config.stripes (ops_of call.targets.now) old.seats.items new.seats.items (length call.tickets.items)) (length (ops_of call.targets.now)) past.caller cache.config.stripes (ops_of call.targets.now) old.seats.items new.seats.items call.progress.items
+    pub held : AreHeldBack (IsFull past.caller cache.config.stripes (ops_of call.targets.now) old.seats.items new.seats.items (length call.tickets.items)) (length (ops_of call.targets.now)) past.caller cache.config.stripes (ops_of call.targets.now) old.seats.items new.seats.items call.progress.items
 
   -- 2. Last phases. The tickets stand in the other order.
 
@@ -168,9 +168,9 @@ abbrev pub HasNoRoom : BulkCall → Type 0
 HasNoRoom call = (call.most ≤ length call.tickets.items) ⊎ (vec_capacity call.joins ≤ length call.joins.items)
 
 -- `start` is what the session had seen before the round
-abbrev pub KeepsJoined : {I J : Type 0} {D : I → Type 0} {E : J → Type 0} → CacheState → Session I J D E → Session I J D E → BulkCall → BulkCall → Type 0
-KeepsJoined cache old new call later = (start : List (TableId × View)) → ((i : ℕ) → HasGrown (view_at start i) (view_at old.seats.items i))
-    → HaveJoined cache.config.stripes (ops_of call.targets.now) start old.seats.items call.progress.items → HaveJoined cache.config.stripes (ops_of later.targets.now) start new.seats.items later.progress.items
+abbrev pub KeepsJoined : {I J : Type 0} {D : I → Type 0} {E : J → Type 0} → Caller → CacheState → Session I J D E → Session I J D E → BulkCall → BulkCall → Type 0
+KeepsJoined caller cache old new call later = (start : List (TableId × View)) → ((i : ℕ) → HasGrown (view_at start i) (view_at old.seats.items i))
+    → HaveJoined caller cache.config.stripes (ops_of call.targets.now) start old.seats.items call.progress.items → HaveJoined caller cache.config.stripes (ops_of later.targets.now) start new.seats.items later.progress.items
 
 pub record HasRoom (call : BulkCall) : Type 0 where
   pub tickets : length call.tickets.items < call.most

@@ -44,7 +44,7 @@ impl<'a> BulkCall<'a> {
             × IsHeldAt (StillWaits self.new.progress.items place × HasNoRoom self.new)
             place past.caller cache.now.config.stripes (ops_of self.new.targets.now)
             session.old.seats.items session.new.seats.items self.new.progress.items
-            × KeepsJoined cache.now session.old session.new self.old self.new }
+            × KeepsJoined past.caller cache.now session.old session.new self.old self.new }
     {
         if self.progress[place].is_waiting() {
             if self.has_room() {
@@ -64,7 +64,7 @@ impl<'a> BulkCall<'a> {
             × (length self.old.tickets.items ≤ length self.new.tickets.items)
             × IsHeldAt ⊥ place past.caller cache.now.config.stripes (ops_of self.new.targets.now)
             session.old.seats.items session.new.seats.items self.new.progress.items
-            × KeepsJoined cache.now session.old session.new self.old self.new }
+            × KeepsJoined past.caller cache.now session.old session.new self.old self.new }
     {
         let _types: Option<&(Key, Reply, Value)> = None;
         let key = *self.targets.key(place);

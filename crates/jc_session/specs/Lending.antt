@@ -1,6 +1,6 @@
 -- What an agent leaves when it takes a stripe, and when it gives it back.
 --     Taken       the agent holds one stripe, which the token has taken in this state; it is one that a take may find, and is reached
---     NotTaken    no stripe was there: agent, gate and token stay
+--     NotTaken    no stripe was there: the agent stays, and a later take finds what this one might have found
 --     Given       the agent holds no stripe, and has counted what its phase was; what the next take finds comes after what was given
 use Rattle.std.specs.Prelude.{◌≡◌, ℕ}
 use Rattle.jc_stripe.specs.State.{State}
@@ -10,7 +10,7 @@ use Rattle.jc_session.specs.Counting.{counts_after}
 use Rattle.jc_session.specs.declared.agent.Agent.{Agent}
 use Rattle.jc_session.specs.declared.counts.Counted.{Counted}
 
--- `has`, `take`, `give`, `finds`, `is_free`, `speaks_for` and `may_fail` are a gate's; `g` and `t` are the gate and the token before, `h`
+-- `has`, `take`, `give`, `misses`, `finds`, `is_free` and `speaks_for` are a gate's; `g` and `t` are the gate and the token before, `h`
 -- and `u` after
 module _ {I J G T : Type 0} {D : I → Type 0} {E : J → Type 0} where
   pub record Taken (has : G → T → State → Type 0) (take : G → T → State → G → T → Type 0) (finds : G → T → State → Type 0) (speaks_for : T → ℕ → Type 0)
@@ -21,10 +21,13 @@ module _ {I J G T : Type 0} {D : I → Type 0} {E : J → Type 0} where
     pub takes : take g t a h u
     pub found : finds g t a × IsReached a
 
-  pub record NotTaken (may_fail : G → T → Type 0) (old : Agent I J D E) (g : G) (t : T) (new : Agent I J D E) (h : G) (u : T) : Type 0 where
+  pub record NotTaken (misses : G → T → G → T → Type 0) (finds : G → T → State → Type 0) (is_free : G → T → Type 0) (speaks_for : T → ℕ → Type 0)
+      (old : Agent I J D E) (g : G) (t : T) (new : Agent I J D E) (h : G) (u : T) : Type 0 where
     pub none : new ≡ old
-    pub failed : may_fail g t
-    pub same : (h ≡ g) × (u ≡ t)
+    pub missed : misses g t h u
+    pub free : is_free h u
+    pub speaks : (n : ℕ) → speaks_for t n → speaks_for u n
+    pub still : (a : State) → finds h u a → finds g t a
 
   pub record Given (give : G → T → State → G → T → Type 0) (finds : G → T → State → Type 0) (is_free : G → T → Type 0) (speaks_for : T → ℕ → Type 0)
       (counted : Counted) (old : Agent I J D E) (g : G) (t : T) (a : State) (new : Agent I J D E) (h : G) (u : T) : Type 0 where

@@ -118,14 +118,14 @@ impl Agent {
         self.counts
     }
 
-    /// Takes a stripe, if it is there. None leaves everything as it was.
+    /// Takes a stripe, if it is there. None says that somebody else has it.
     ///
     /// Conditions: the agent holds no stripe, and the token has not taken the gate's.
     pub fn try_take<G: Gate>(&mut self, gate: &mut G, token: &mut G::Token) -> Option<Box<Stripe>>
         requires { (self.old.hands.held ≡ 0) × G.is_free gate.old token.old }
         ensures some { IfSome result (λ s. Taken G.has G.takes G.finds G.speaks_for
             self.old gate.old token.old s.value self.new gate.new token.new) }
-        ensures none { IfNone result (NotTaken G.may_fail
+        ensures none { IfNone result (NotTaken G.misses G.finds G.is_free G.speaks_for
             self.old gate.old token.old self.new gate.new token.new) }
     {
         let stripe = gate.try_take(token)?;

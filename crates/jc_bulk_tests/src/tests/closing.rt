@@ -108,6 +108,7 @@ pub fn closed(
     let Closed {
         stripes,
         outside: _outside,
+        seats: _seats,
         legal,
     } = closed.expect(rt, "a closed cache");
     assert!(rt; legal);

@@ -1,13 +1,13 @@
 //! The cache's own seats take all stripes, and learn what the sessions have seen.
 //!
 //! They are passed as a `&mut Vec<Seat>`: a seat takes no bytes, and a pointer to an element of no size in a slice gets no proof.
-ghost use Rattle.std.specs.Prelude.{◌≡◌, ◌≤◌, ◌+◌, ◌++◌, [], IfOk, IfErr, OnOk, All, length, map, vec_len, vec_capacity};
+ghost use Rattle.std.specs.Prelude.{ℕ, ◌≡◌, ◌≤◌, ◌+◌, ◌++◌, [], IfOk, IfErr, OnOk, All, length, map, vec_len, vec_capacity};
 ghost use Rattle.atomic_table.specs.Seated.{TableId};
 ghost use Rattle.jc_stripe.specs.State.{IsIdle};
 ghost use Rattle.jc_lock.specs.declared.view.View.{View};
 ghost use Rattle.jc_cache.specs.Caches.{noted_by};
-ghost use Rattle.jc_cache.specs.Closing.{HasFront};
-ghost use Rattle.jc_cache.specs.ClosingInside.{AreAtLocks, AreIdle, HasTaken, HaveTaken, IsFreeSeat, IsRowRefusal, IsTakeRefusal, KeepSeats, KeepsSeat, KeepsOwn, OwnsSeats};
+ghost use Rattle.jc_cache.specs.Closing.{HasFront, all_lent, lent_at};
+ghost use Rattle.jc_cache.specs.ClosingInside.{AreAtLocks, AreIdle, HasTaken, HaveTaken, IsFreeSeat, IsRowRefusal, IsTakeRefusal, KeepSeats, KeepsSeat, KeepsOwn, Looks, OwnsSeats, Whatever};
 
 use crate::closing::ClosedStripe;
 use crate::session::Session;
@@ -18,10 +18,10 @@ use jc_types::Refusal;
 /// Tests that nothing is out at the stripe, and nobody else holds it. It is given back as it was.
 fn test_idle(lock: &HistLock, seat: &mut Seat) -> Result<(), Refusal>
     requires { (seat.old.0 ≡ lock.now) × IsFreeSeat seat.old.1 }
-    ensures keeps { KeepsSeat seat.old seat.new }
+    ensures keeps { KeepsSeat Looks seat.old seat.new }
     ensures free { IsFreeSeat seat.new.1 }
     ensures ok { OnOk result (IsIdle seat.new.1.noted) }
-    ensures err { IfErr result (λ r. IsTakeRefusal r seat.new.1.noted) }
+    ensures err { IfErr result (λ r. IsTakeRefusal r seat.old.1 seat.new.1) }
 {
     let Some(stripe) = lock.try_take(seat) else {
         return Err(Refusal::Busy);
@@ -37,9 +37,9 @@ fn test_idle(lock: &HistLock, seat: &mut Seat) -> Result<(), Refusal>
 /// Tests that nothing is out at any stripe, and nobody else holds one. All are given back as they were.
 pub(super) fn test_all_idle(locks: &[HistLock], own: &mut Vec<Seat>) -> Result<(), Refusal>
     requires { OwnsSeats locks.now own.old.items [] }
-    ensures own { KeepsOwn own.old.items own.new.items [] }
+    ensures own { KeepsOwn Looks own.old.items own.new.items [] }
     ensures ok { OnOk result (AreIdle own.new.items) }
-    ensures err { IfErr result (λ r. IsRowRefusal r own.new.items) }
+    ensures err { IfErr result (λ r. IsRowRefusal r own.old.items own.new.items) }
 {
     for i in 0..locks.len() {
         test_idle(&locks[i], &mut own[i])?;
@@ -50,9 +50,9 @@ pub(super) fn test_all_idle(locks: &[HistLock], own: &mut Vec<Seat>) -> Result<(
 /// The stripe, if nothing is out there and nobody else holds it.
 fn take_idle(lock: &HistLock, seat: &mut Seat) -> Result<ClosedStripe, Refusal>
     requires { (seat.old.0 ≡ lock.now) × IsFreeSeat seat.old.1 }
-    ensures keeps { KeepsSeat seat.old seat.new }
+    ensures keeps { KeepsSeat Looks seat.old seat.new }
     ensures ok { IfOk result (λ s. HasTaken seat.new.1 s) }
-    ensures err { IfErr result (λ r. IsFreeSeat seat.new.1 × IsTakeRefusal r seat.new.1.noted) }
+    ensures err { IfErr result (λ r. IsFreeSeat seat.new.1 × IsTakeRefusal r seat.old.1 seat.new.1) }
 {
     let Some(stripe) = lock.try_take(seat) else {
         return Err(Refusal::Busy);
@@ -73,10 +73,10 @@ pub(super) fn take_all(
     requires own { OwnsSeats locks.now own.old.items [] }
     requires empty { stripes.items ≡ [] }
     requires room { length locks.now ≤ vec_capacity stripes }
-    ensures keeps { KeepSeats own.old.items own.new.items }
+    ensures keeps { KeepSeats Looks own.old.items own.new.items }
     ensures ok { IfOk result (λ s. HaveTaken own.new.items s.items
         × (length s.items ≡ length own.new.items)) }
-    ensures err { IfErr result (λ r. HaveTaken own.new.items [] × IsRowRefusal r own.new.items) }
+    ensures err { IfErr result (λ r. HaveTaken own.new.items [] × IsRowRefusal r own.old.items own.new.items) }
 {
     let mut stripes = stripes;
     for i in 0..locks.len() {
@@ -94,7 +94,7 @@ pub(super) fn take_all(
 /// Gives these stripes back to their locks.
 fn give_all(locks: &[HistLock], own: &mut Vec<Seat>, stripes: Vec<ClosedStripe>)
     requires { OwnsSeats locks.now own.old.items stripes.items }
-    ensures own { KeepsOwn own.old.items own.new.items [] }
+    ensures own { KeepsOwn Looks own.old.items own.new.items [] }
     ensures noted { noted_by own.new.items ≡ noted_by own.old.items }
 {
     let mut stripes = stripes;
@@ -110,8 +110,9 @@ fn join_seats(locks: &[HistLock], own: &mut Vec<Seat>, stripes: &[ClosedStripe],
     requires own { OwnsSeats locks.now own.old.items stripes.now }
     requires count { length stripes.now ≡ length locks.now }
     requires seats { AreAtLocks locks.now seats.items }
-    ensures own { KeepsOwn own.old.items own.new.items stripes.now }
+    ensures own { KeepsOwn Whatever own.old.items own.new.items stripes.now }
     ensures front { HasFront stripes.now seats.items }
+    ensures handed { (i : ℕ) → lent_at own.new.items i ≡ lent_at own.old.items i ++ lent_at seats.items i }
 {
     let mut seats = seats;
     while let Some(seat) = seats.pop() {
@@ -147,8 +148,9 @@ pub(super) fn join_all(
     requires count { length stripes.now ≡ length locks.now }
     requires sessions { All (λ s. AreAtLocks locks.now s.seats.items × (s.agent.hands.held ≡ 0)) sessions.items }
     requires room { vec_len outside.old + length sessions.items ≤ vec_capacity outside.old }
-    ensures own { KeepsOwn own.old.items own.new.items stripes.now }
+    ensures own { KeepsOwn Whatever own.old.items own.new.items stripes.now }
     ensures fronts { All (λ s. HasFront stripes.now s.seats.items) sessions.items }
+    ensures handed { (i : ℕ) → lent_at own.new.items i ≡ lent_at own.old.items i ++ all_lent sessions.items i }
     ensures outside { outside.new.items ≡ outside.old.items ++ map (λ s. s.agent.hands.outside) sessions.items }
 {
     for session in sessions {

@@ -121,6 +121,7 @@ pub fn closed<R: Abort + Wait>(
     let Closed {
         stripes,
         outside: _outside,
+        seats: _seats,
         legal,
     } = closed.expect(rt, "a closed cache");
     assert!(rt; legal);

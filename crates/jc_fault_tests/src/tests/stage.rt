@@ -197,6 +197,7 @@ fn close<R: Abort + Wait>(
     let Closed {
         stripes,
         outside: _outside,
+        seats: _seats,
         legal,
     } = closed.expect(rt, "a closed cache");
     assert!(rt; legal);

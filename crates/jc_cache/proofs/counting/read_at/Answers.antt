@@ -1,5 +1,5 @@
 use Rattle.std.proofs.Common.{◌≡◌, ◌∙◌, ap, inl, refl}
-use Rattle.jc_lock.specs.Views.{after_give}
+use Rattle.jc_lock.specs.Views.{after_give, after_take}
 use Rattle.jc_cache.proofs.Meetings.{refreshed_seen}
 use Rattle.jc_cache.proofs.SessionPhases.{agent_same, holds_one}
 use Rattle.jc_cache.proofs.counting.read_at.Goals as goal
@@ -17,7 +17,7 @@ pub returns-clause-reads : goal.returns-clause-reads
 returns-clause-reads g c =
     let v = c.args.seat.now.1 in
     let state = c.take-stripe.result.value in
-    let is : c.give_back.new.token.1 ≡ after_give v state = ap (λ z. z.1) c.give_back.ensures.gives ∙ ap (λ z. after_give z.1 state) c.take-stripe.ensures.takes.0 in
+    let is : c.give_back.new.token.1 ≡ after_give (after_take v state) state = ap (λ z. z.1) c.give_back.ensures.gives ∙ ap (λ z. after_give z.1 state) c.take-stripe.ensures.takes.0 in
     record {
       refreshed = record { found = state; finds = c.take-stripe.ensures.found.0; is = is };
       on = refreshed_seen v _ state (_, c.requires.1.session_is) c.take-stripe.ensures.found.0 is;

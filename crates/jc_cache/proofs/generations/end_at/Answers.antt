@@ -1,6 +1,6 @@
 use Rattle.std.proofs.Common.{◌≡◌, ◌∙◌, ap, subst, sym}
 use Rattle.jc_stripe.specs.State.{State}
-use Rattle.jc_lock.specs.Views.{after_give}
+use Rattle.jc_lock.specs.Views.{after_give, after_take}
 use Rattle.jc_cache.specs.Fronts.{HasSeen}
 use Rattle.jc_cache.specs.Generations.{IsEndOf}
 use Rattle.jc_cache.proofs.EndedGenerations.{end_of, turn_of, ended_seen}
@@ -28,7 +28,7 @@ returns-clause-ended g c =
     let left : State = c.end_generation-ended.new.self in
     let end = subst (λ (s : State). IsEndOf c.end_generation-ended.result c.args.out.now.items c.end_generation-ended.new.out.items s left) c.deref_mut.ensures.value
     (end_of c.end_generation-ended.result _ _ c.deref_mut.result.now left c.end_generation-ended.ensures.ended c.end_generation-ended.ensures.err) in
-    let is : c.give_back.new.token.1 ≡ after_give v left = ap (λ z. z.1) c.give_back.ensures.gives ∙ ap (λ z. after_give z.1 left) c.take-stripe.ensures.takes.0 in (
+    let is : c.give_back.new.token.1 ≡ after_give (after_take v found) left = ap (λ z. z.1) c.give_back.ensures.gives ∙ ap (λ z. after_give z.1 left) c.take-stripe.ensures.takes.0 in (
       found,
       left,
       c.take-stripe.ensures.found.0,

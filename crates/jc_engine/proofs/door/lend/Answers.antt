@@ -1,7 +1,8 @@
-use Rattle.std.proofs.Common.{rules, ◌∙◌, ap, refl, subst}
+use Rattle.std.proofs.Common.{rules, ◌∙◌, ap, inl, inr, refl, subst, sym}
+use Rattle.std.proofs.lemmas.Bool.{true≢false}
 use Rattle.jc_session.proofs.CallerLemmas.{phase_of}
 use Rattle.jc_stripe.specs.State.{State}
-use Rattle.jc_engine.specs.Doors.{IsLeft}
+use Rattle.jc_engine.specs.Doors.{HasWaited, IsLeft}
 use Rattle.jc_engine.proofs.Coming.{since_start}
 use Rattle.jc_engine.proofs.Chains.{tries-start, tries-left, tries-since}
 use Rattle.jc_engine.proofs.door.lend.Goals as goal
@@ -55,6 +56,7 @@ returns-in-Ok g c = record {
       gate = c.loop.gate;
       token = c.loop.token;
       rests = c.loop.invariant.2.rests;
+      waited = c.loop.invariant.2.waited;
       before = c.take-stripe.result.value;
       after = c.make.new.stripe;
       since = c.loop.invariant.3 _ c.take-stripe.ensures.found.0;
@@ -64,7 +66,6 @@ returns-in-Ok g c = record {
       next = λ a f. c.give.ensures.next _ a (c.take-stripe.ensures.speaks _ (c.loop.invariant.2.speaks _ c.requires.ready.speaks)) f;
     },
     rw (← c.requires.fits.who_is, ← c.loop.invariant.1, ← c.deref_mut.ensures.value) c.in-Ok.ensures.made.1,
-    c.loop.invariant.2.renewed,
   );
 }
 
@@ -72,7 +73,7 @@ pub loop-init : goal.loop-init
 loop-init g c = (
   refl,
   refl,
-  tries-start g.G.Gate.takes g.G.Gate.gives g.G.Gate.finds g.G.Gate.is_free g.G.Gate.speaks_for _ _ _ c.requires.ready.free c.requires.fits.needs_it,
+  tries-start g.G.Gate.takes g.G.Gate.gives g.G.Gate.finds g.G.Gate.is_free g.G.Gate.speaks_for _ _ _ _ c.requires.ready.free c.requires.fits.needs_it,
   since_start g.G.Gate.finds _ c.args.gate.now c.args.token.now,
 )
 
@@ -80,10 +81,11 @@ pub loop-preserved-then-not-is_due : goal.loop-preserved-then-not-is_due
 loop-preserved-then-not-is_due g c = (
   search rules,
   c.loop.invariant.1,
-  tries-left g.G.Gate.takes g.G.Gate.gives g.G.Gate.finds g.G.Gate.is_free g.G.Gate.speaks_for (g.P.Phase.needs c.args.phase) _ _ _ _ c.take-stripe.result.value _ _ _ _ c.args.agent.now.caller.session
+  tries-left g.G.Gate.takes g.G.Gate.gives g.G.Gate.finds g.G.Gate.is_free g.G.Gate.speaks_for (HasWaited (g.P.Phase.due c.args.phase) (g.P.Phase.puts_off c.args.phase)) (g.P.Phase.needs c.args.phase) _ _ _ _ c.take-stripe.result.value _ _ _ _ c.args.agent.now.caller.session
       (λ x y after. g.met.P.Phase.stays c.args.phase x y (rw c.requires.fits.who_is after))
-      c.loop.invariant.2 c.take-stripe.ensures.takes c.take-stripe.ensures.found.0 c.take-stripe.ensures.found.1 c.take-stripe.ensures.speaks c.requires.ready.speaks c.leave.ensures.left,
-  tries-since g.G.Gate.takes g.G.Gate.gives g.G.Gate.finds g.G.Gate.is_free g.G.Gate.speaks_for (g.P.Phase.needs c.args.phase) _ _ _ _ c.take-stripe.result.value _ _ _ _ c.args.agent.now.caller.session
+      c.loop.invariant.2 c.take-stripe.ensures.takes c.take-stripe.ensures.found.0 c.take-stripe.ensures.found.1 c.take-stripe.ensures.speaks c.requires.ready.speaks c.leave.ensures.left
+      record { why = inl (λ due. true≢false (sym (c.is_due.ensures.1 (rw (c.loop.invariant.1, c.deref.ensures) due)) ∙ c.if-not-is_due.true)); renewed = c.leave.ensures.left.renewed },
+  tries-since g.G.Gate.takes g.G.Gate.gives g.G.Gate.finds g.G.Gate.is_free g.G.Gate.speaks_for (HasWaited (g.P.Phase.due c.args.phase) (g.P.Phase.puts_off c.args.phase)) (g.P.Phase.needs c.args.phase) _ _ _ _ c.take-stripe.result.value _ _ _ _ c.args.agent.now.caller.session
       c.loop.invariant.2 c.take-stripe.ensures.speaks c.requires.ready.speaks (c.loop.invariant.3 _ c.take-stripe.ensures.found.0) c.leave.ensures.left,
 )
 
@@ -95,9 +97,10 @@ loop-preserved g c =
     (c.in-Err.ensures.back.1 ∙ c.deref_mut.ensures.value) c.leave-in-Err.ensures.left in (
       search rules,
       c.in-Err.ensures.back.0 ∙ c.loop.invariant.1,
-      tries-left g.G.Gate.takes g.G.Gate.gives g.G.Gate.finds g.G.Gate.is_free g.G.Gate.speaks_for (g.P.Phase.needs c.args.phase) _ _ _ _ found c.take-stripe.new.gate c.take-stripe.new.token c.leave-in-Err.new.gate c.leave-in-Err.new.token c.args.agent.now.caller.session
+      tries-left g.G.Gate.takes g.G.Gate.gives g.G.Gate.finds g.G.Gate.is_free g.G.Gate.speaks_for (HasWaited (g.P.Phase.due c.args.phase) (g.P.Phase.puts_off c.args.phase)) (g.P.Phase.needs c.args.phase) _ _ _ _ found c.take-stripe.new.gate c.take-stripe.new.token c.leave-in-Err.new.gate c.leave-in-Err.new.token c.args.agent.now.caller.session
           (λ x y after. g.met.P.Phase.stays c.args.phase x y (rw c.requires.fits.who_is after))
-          c.loop.invariant.2 c.take-stripe.ensures.takes c.take-stripe.ensures.found.0 c.take-stripe.ensures.found.1 c.take-stripe.ensures.speaks c.requires.ready.speaks left,
-      tries-since g.G.Gate.takes g.G.Gate.gives g.G.Gate.finds g.G.Gate.is_free g.G.Gate.speaks_for (g.P.Phase.needs c.args.phase) _ _ _ _ found c.take-stripe.new.gate c.take-stripe.new.token c.leave-in-Err.new.gate c.leave-in-Err.new.token c.args.agent.now.caller.session
+          c.loop.invariant.2 c.take-stripe.ensures.takes c.take-stripe.ensures.found.0 c.take-stripe.ensures.found.1 c.take-stripe.ensures.speaks c.requires.ready.speaks left
+          record { why = inr (rw (← c.loop.invariant.1, ← c.deref_mut.ensures.value) c.in-Err.ensures.back.2); renewed = left.renewed },
+      tries-since g.G.Gate.takes g.G.Gate.gives g.G.Gate.finds g.G.Gate.is_free g.G.Gate.speaks_for (HasWaited (g.P.Phase.due c.args.phase) (g.P.Phase.puts_off c.args.phase)) (g.P.Phase.needs c.args.phase) _ _ _ _ found c.take-stripe.new.gate c.take-stripe.new.token c.leave-in-Err.new.gate c.leave-in-Err.new.token c.args.agent.now.caller.session
           c.loop.invariant.2 c.take-stripe.ensures.speaks c.requires.ready.speaks (c.loop.invariant.3 _ c.take-stripe.ensures.found.0) left,
     )

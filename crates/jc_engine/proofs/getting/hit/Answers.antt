@@ -1,7 +1,6 @@
-use Rattle.std.proofs.Common.{rules, ◌≡◌, ◌∙◌, ap}
+use Rattle.std.proofs.Common.{rules, [], ◌≡◌, ◌∙◌, ap, refl}
 use Rattle.jc_session.proofs.CallerLemmas.{phase_of}
 use Rattle.jc_engine.proofs.Coming.{since_start}
-use Rattle.jc_engine.proofs.Chains.{rests-start}
 use Rattle.jc_engine.proofs.getting.hit.Goals as goal
 
 pub give-requires-clause-phase : goal.give-requires-clause-phase
@@ -17,10 +16,11 @@ returns-clause-made g c =
     record {
       ready = search rules;
       agent = search rules;
-      phase = record {
+      phase = (record {
         gate = c.args.gate.now;
         token = c.args.token.now;
-        rests = rests-start g.G.Gate.takes g.G.Gate.gives g.G.Gate.finds c.args.gate.now c.args.token.now;
+        rests = record { idle = []; quiet = tt; lent = (refl, refl) };
+        waited = tt;
         before = c.take-stripe.result.value;
         after = c.hit_on-is_hit.new.stripe;
         since = since_start g.G.Gate.finds _ c.args.gate.now c.args.token.now _ c.take-stripe.ensures.found.0;
@@ -28,5 +28,5 @@ returns-clause-made g c =
         made = rw (← who, ← c.deref_mut.ensures.value) c.hit_on-is_hit.ensures.made;
         one = rw (← who, ← c.deref_mut.ensures.value) (phase_of _ _ _ _ c.hit_on-is_hit.ensures.counted);
         next = λ a f. c.give.ensures.next _ a (c.take-stripe.ensures.speaks _ c.requires.ready.speaks) f;
-      };
+      }, refl);
     }

@@ -1,13 +1,14 @@
-use Rattle.std.proofs.Common.{◌∙◌, ◌≡◌, Bool, true, false, ⊎_elim, ap, inl, inr, refl, subst, sym}
-use Rattle.std.proofs.lemmas.Bool.{true≢false}
+use Rattle.std.proofs.Common.{◌∙◌, ap, inl, inr, refl, subst, sym}
 use Rattle.jc_types.specs.declared.caller.Caller.{Caller}
 use Rattle.jc_stripe.specs.declared.begun.Started.{Started}
 use Rattle.jc_stripe.specs.Phases.{Begins, begun_with, with_reply}
 use Rattle.jc_session.specs.Counting.{counts_after, counted_started}
 use Rattle.jc_engine.specs.declared.first.How.TheVariants.{Alone}
-use Rattle.jc_engine.specs.Needs.{BeginsIfClear, StartsBy, can_start}
+use Rattle.jc_stripe.specs.declared.begun.Begun.TheVariants as begun
+use Rattle.jc_engine.specs.Doors.{HasTried}
+use Rattle.jc_engine.specs.Needs.{BeginsIfClear, StartsBy}
+use Rattle.jc_engine.specs.Turns.{StartWaits, trying}
 use Rattle.jc_engine.proofs.Chains.{lent-map}
-use Rattle.jc_engine.proofs.NotMade.{each_is}
 use Rattle.jc_engine.proofs.Unasked.{no_ticket, no_share}
 use Rattle.jc_engine.proofs.trying.try_call.Goals as goal
 
@@ -38,7 +39,12 @@ returns-in-Done g c = record {
   phase = (
     with_reply c.in-Done._step c.try_lend.new.reply,
     refl,
-    lent-map g.G.Gate.takes g.G.Gate.gives g.G.Gate.finds _ _ _ _ _ _ _ (λ a b tried. subst (λ (s : Started). StartsBy Alone c.args.agent.now.caller c.args.key.now c.args.op.now (begun_with s c.try_lend.new.reply) a b) c.in-Done.is (rw (← c.caller.ensures) tried)) c.in-Ok.ensures.made.1,
+    record {
+      lent = lent-map g.G.Gate.takes g.G.Gate.gives g.G.Gate.finds _ _ _ _ (trying c.args.agent.now.caller c.args.key.now c.args.op.now (begun.Done (with_reply c.in-Done._step c.try_lend.new.reply))) _ _
+          (λ a b waited. subst (λ (who : Caller). StartWaits Alone who c.args.key.now c.args.op.now a b) c.caller.ensures waited)
+          (λ a b tried. subst (λ (s : Started). StartsBy Alone c.args.agent.now.caller c.args.key.now c.args.op.now (begun_with s c.try_lend.new.reply) a b) c.in-Done.is (rw (← c.caller.ensures) tried)) c.in-Ok.ensures.made.1;
+      again = c.in-Ok.ensures.made.2;
+    },
   );
 }
 
@@ -48,29 +54,20 @@ returns-in-Refused g c = record {
   agent =
       c.in-Ok.ensures.made.0
       ∙ ap (λ (s : Started). record c.args.agent.now { counts = counts_after c.args.agent.now.counts (counted_started s) }) c.in-Refused.is;
-  phase = inl (lent-map g.G.Gate.takes g.G.Gate.gives g.G.Gate.finds _ _ _ _ _ _ _ (λ a b tried. subst (λ (s : Started). StartsBy Alone c.args.agent.now.caller c.args.key.now c.args.op.now (begun_with s c.try_lend.new.reply) a b) c.in-Refused.is (rw (← c.caller.ensures) tried)) c.in-Ok.ensures.made.1);
+  phase = inl (record {
+      lent = lent-map g.G.Gate.takes g.G.Gate.gives g.G.Gate.finds _ _ _ _ (trying c.args.agent.now.caller c.args.key.now c.args.op.now (begun.Refused c.in-Refused.refusal)) _ _
+          (λ a b waited. subst (λ (who : Caller). StartWaits Alone who c.args.key.now c.args.op.now a b) c.caller.ensures waited)
+          (λ a b tried. subst (λ (s : Started). StartsBy Alone c.args.agent.now.caller c.args.key.now c.args.op.now (begun_with s c.try_lend.new.reply) a b) c.in-Refused.is (rw (← c.caller.ensures) tried)) c.in-Ok.ensures.made.1;
+      again = c.in-Ok.ensures.made.2;
+    });
 }
-
-not_so : (b : Bool) → (b ≡ true → ⊥) → b ≡ false
-not_so true never = absurd (never refl)
-not_so false never = refl
 
 pub returns-in-Err : goal.returns-in-Err
 returns-in-Err g c = record {
   ready = c.try_lend.ensures.ready;
   agent = c.in-Err.ensures.back.1;
-  phase =
-      let missed = c.in-Err.ensures.back.2 in
-      inr (
-        refl,
-        record {
-          rests = missed.rests;
-          each = each_is _ _ missed.rests.idle
-              (λ a why. subst (λ (who : Caller). can_start Alone a who c.args.key.now c.args.op.now ≡ false) c.caller.ensures
-              (⊎_elim (λ never. not_so _ never) (λ put_off. absurd (true≢false (sym put_off.put_off))) why))
-              missed.each;
-          renewed = missed.renewed;
-          none = missed.none;
-        },
-      );
+  phase = inr (
+    refl,
+    subst (λ (who : Caller). HasTried g.G.Gate.takes g.G.Gate.gives g.G.Gate.misses (StartWaits Alone who c.args.key.now c.args.op.now) c.args.gate.now c.args.token.now c.try_lend.new.gate c.try_lend.new.token) c.caller.ensures c.in-Err.ensures.back.2.tried,
+  );
 }

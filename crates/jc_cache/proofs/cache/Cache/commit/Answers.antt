@@ -20,4 +20,4 @@ pub returns : goal.returns
 returns g c =
     phase_map c.args.self.now _ c.stripe_of-at.result c.args.session.now _ _ _ _
     (at_key c.args.self.now _ c.reservation.result.now.key _ (ap (λ (z : CacheState). z.config) c.self.view_is) c.stripe_of-at.ensures ∙ ap (λ (r : Reservation). stripe_of r.key c.args.self.now.config.stripes) c.reservation.ensures)
-    (λ a b m. m) c.phase_at.ensures
+    (λ a b w. w) (λ a b m. m) c.phase_at.ensures

@@ -3,9 +3,11 @@ use Rattle.jc_types.specs.declared.config.Config.{Config}
 use Rattle.jc_stripe.specs.Keys.{Looks}
 use Rattle.jc_stripe.specs.State.{State}
 use Rattle.jc_session.specs.declared.counts.Counted.TheVariants.{Nothing}
+use Rattle.jc_engine.specs.Chain.{Turn}
+use Rattle.jc_cache.specs.Turns.{looking}
 use Rattle.jc_cache.specs.Caches.{CacheState}
 use Rattle.jc_cache.proofs.WholeCalls.{free_at}
-use Rattle.jc_cache.proofs.SessionPhases.{LooksSo, look_lent, number_at, shape_found, agent_same, holds_one, phase_left}
+use Rattle.jc_cache.proofs.SessionPhases.{look_lent, number_at, shape_found, agent_same, holds_one, phase_left}
 use Rattle.jc_cache.proofs.cache.Cache.look.Goals as goal
 
 pub take-stripe-requires : goal.take-stripe-requires
@@ -43,9 +45,9 @@ pub returns-clause-phase : goal.returns-clause-phase
 returns-clause-phase g c = let old = c.args.session.now in
     let t = c.index_mut-seat.result.now in let a : State = c.take-stripe.result.value in
     let there = number_at c.args.self.now old c.args.number t c.requires.own c.requires.stripe c.index_mut-seat.ensures.value in
-    let makes : State → State → Type 0 = λ x y. LooksSo x c.args.out.now.items c.keys.new.out.items y in
+    let turn : Turn = looking c.args.out.now.items c.keys.new.out.items in
     let looks : Looks a c.args.out.now.items c.keys.new.out.items = subst (λ (s : State). Looks s c.args.out.now.items c.keys.new.out.items) c.deref.ensures c.keys.ensures.keys in
-    let lent = look_lent old.agent.caller.session makes c.take-stripe.new.gate t a c.take-stripe.new.gate c.take-stripe.new.token c.give.new.gate c.give.new.token (c.requires.own.seats c.args.number t there).of_session
+    let lent = look_lent old.agent.caller.session turn c.take-stripe.new.gate t a c.take-stripe.new.gate c.take-stripe.new.token c.give.new.gate c.give.new.token (c.requires.own.seats c.args.number t there).of_session
     c.take-stripe.ensures.takes c.take-stripe.ensures.found.1 c.give.ensures.gives c.give.ensures.next (refl, looks) in
-    phase_left c.is_uniform.ensures c.own_steps.ensures c.args.self.now old _ c.args.number Nothing makes c.take-stripe.new.gate t c.give.new.gate c.give.new.token c.requires.own there refl
+    phase_left c.is_uniform.ensures c.own_steps.ensures c.args.self.now old _ c.args.number Nothing turn c.take-stripe.new.gate t c.give.new.gate c.give.new.token c.requires.own there refl
     (agent_same old.agent c.take-stripe.new.self c.give.new.self c.requires.own.held c.take-stripe.ensures.agent c.give.ensures.agent) lent.0 lent.1

@@ -2,6 +2,8 @@ use Rattle.std.proofs.Common.{ap, subst}
 use Rattle.jc_types.specs.declared.caller.Caller.{Caller}
 use Rattle.jc_stripe.specs.Phases.{begun_with}
 use Rattle.jc_engine.specs.Needs.{StartsAt}
+use Rattle.jc_engine.specs.Turns.{StartWaits}
+use Rattle.jc_engine.specs.declared.first.How.TheVariants.{Now}
 use Rattle.jc_cache.specs.Caches.{CacheState}
 use Rattle.jc_cache.proofs.WholeCalls.{some_stripe, at_key, number_near}
 use Rattle.jc_cache.proofs.SessionPhases.{start_needs, phase_map}
@@ -24,5 +26,6 @@ phase_at-requires-clause-needs g c a found =
 pub returns : goal.returns
 returns g c =
     phase_map c.args.self.now _ c.stripe_of-at.result c.args.session.now _ _ _ _ (at_key c.args.self.now _ c.args.key.now _ (ap (λ (z : CacheState). z.config) c.self.view_is) c.stripe_of-at.ensures)
+    (λ a b m. subst (λ (w : Caller). StartWaits Now w c.args.key.now c.args.op.now a b) c.caller.ensures m)
     (λ a b m. subst (λ (w : Caller). StartsAt w c.args.key.now c.args.op.now (begun_with c.phase_at.result c.phase_at.new.reply) a b) c.caller.ensures m.first)
     c.phase_at.ensures

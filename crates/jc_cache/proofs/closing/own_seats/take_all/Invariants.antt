@@ -1,10 +1,10 @@
 use Rattle.std.proofs.Common.{◌≡◌, ◌≤◌, length, vec_capacity}
-use Rattle.jc_cache.specs.ClosingInside.{KeepSeats, HaveTaken}
+use Rattle.jc_cache.specs.ClosingInside.{KeepSeats, Looks, HaveTaken}
 use Rattle.jc_cache.proofs.closing.own_seats.take_all.Given as goal
 
 abbrev pub invariant-loop-i : goal.invariant-loop-i
 invariant-loop-i l = record {
-  keeps : KeepSeats l.initial.own.items l.own.items;
+  keeps : KeepSeats Looks l.initial.own.items l.own.items;
   taken : HaveTaken l.own.items l.stripes.items;
   long : l.i ≡ length l.stripes.items;
   room : length l.locks ≤ vec_capacity l.stripes;

@@ -1,11 +1,11 @@
 use Rattle.std.proofs.Common.{[]}
-use Rattle.jc_cache.specs.ClosingInside.{KeepSeats, HaveTaken}
+use Rattle.jc_cache.specs.ClosingInside.{KeepSeats, Looks, HaveTaken}
 use Rattle.jc_cache.proofs.Noted.{AreIdleBelow}
 use Rattle.jc_cache.proofs.closing.own_seats.test_all_idle.Given as goal
 
 abbrev pub invariant-loop-i : goal.invariant-loop-i
 invariant-loop-i l = record {
-  keeps : KeepSeats l.initial.own.items l.own.items;
+  keeps : KeepSeats Looks l.initial.own.items l.own.items;
   free : HaveTaken l.own.items [];
   idle : AreIdleBelow l.i l.own.items;
 }

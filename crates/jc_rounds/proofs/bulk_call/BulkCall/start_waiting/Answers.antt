@@ -28,5 +28,5 @@ returns-clause-starting g c past starting =
       starting_on c.args.cache.now past c.args.session.now c.start_key-started.new.session c.args.self.now _ same c.args.place c.key.result.now c.op-op.result (begun_with c.start_key-started.result c.start_key-started.new.reply) p is at c.requires.waits c.requires.room c.keep-progress.ensures.kept c.start_key-started.ensures starting,
       (kept_more (begun_with c.start_key-started.result c.start_key-started.new.reply) p c.args.self.now.tickets.items mid.tickets.items c.args.self.now.joins.items mid.joins.items c.keep-progress.ensures.kept).0,
       held_by c.args.cache.now past c.args.session.now c.start_key-started.new.session c.args.self.now _ same c.args.place c.key.result.now c.op-op.result (begun_with c.start_key-started.result c.start_key-started.new.reply) p is at c.requires.waits c.keep-progress.ensures.kept c.start_key-started.ensures starting,
-      kept_joined c.args.cache.now past c.args.session.now c.start_key-started.new.session c.args.self.now _ same c.args.place c.key.result.now c.op-op.result (begun_with c.start_key-started.result c.start_key-started.new.reply) p is at c.keep-progress.ensures.kept c.start_key-started.ensures,
+      kept_joined c.args.cache.now past c.args.session.now c.start_key-started.new.session c.args.self.now _ same c.args.place c.key.result.now c.op-op.result (begun_with c.start_key-started.result c.start_key-started.new.reply) p is at c.keep-progress.ensures.kept c.start_key-started.ensures starting,
     )
