@@ -218,7 +218,7 @@ look_lent session turn g t a gate token h u mine took reached gave next is = (
     waited = tt;
     before = a;
     after = a;
-    since = record { first = a; finds_first = took.1; after = record { same = same_itself a; front = prefix-refl (whole_history a); next = le_refl a.next; own = refl } };
+    since = record { first = a; finds_first = took.1; after = record { same = same_itself a; front = prefix-refl (whole_history a); next = le_refl a.next; ended = prefix-refl a.ended; own = refl } };
     lent = record { gate = gate; token = token; took = took; reached = reached; gave = gave };
     made = is;
     one = inl refl;

@@ -10,12 +10,12 @@
 --     since_on        of what is found after what was found
 --     since_both      of what is found after what a take could have found in between
 --     since_phase     of what a take finds after a phase that leaves the session's own steps
-use Rattle.std.proofs.Common.{◌≡◌, ℕ, List, [], ◌++◌, inl, ⊎_elim, refl, sym, ap, subst, ◌∙◌, append_assoc, append-nil, le_refl, arith}
+use Rattle.std.proofs.Common.{◌≡◌, ℕ, List, [], ◌∷◌, ◌++◌, inl, ⊎_elim, refl, sym, ap, subst, ◌∙◌, append_assoc, append-nil, le_refl, arith}
 use mathlib.Core.List.{IsPrefix}
 use Rattle.jc_model.specs.declared.event.Event.{Event}
 use Rattle.jc_stripe.specs.State.{State}
 use Rattle.jc_stripe.specs.Reached.{IsReached}
-use Rattle.jc_stripe.specs.Generations.{whole_history}
+use Rattle.jc_stripe.specs.Generations.{whole_history, present_generation}
 use Rattle.jc_stripe.specs.OnePhase.{OnePhase, IsPhaseOf, own_steps}
 use Rattle.jc_stripe.specs.Renewal.{Renewal, Renews, RenewsIfFull, StaysOrRenews}
 use Rattle.jc_stripe.proofs.CallerLemmas.{of_same, whole_goes_on, own_stay, stays_or_renews}
@@ -27,30 +27,32 @@ comes_itself session a = record {
   same = record { config = refl; stripe = refl; origin = refl; lives = refl; opening = refl };
   front = ([], append-nil (whole_history a));
   next = le_refl a.next;
+  ended = ([], append-nil a.ended);
   own = refl;
 }
 
-prefix_on : (xs ys zs : List Event) → IsPrefix xs ys → IsPrefix ys zs → IsPrefix xs zs
-prefix_on xs ys zs p q = (p.0 ++ q.0, sym (append_assoc xs p.0 q.0) ∙ ap (λ (l : List Event). l ++ q.0) p.1 ∙ q.1)
+prefix_on : {A : Type 0} (xs ys zs : List A) → IsPrefix xs ys → IsPrefix ys zs → IsPrefix xs zs
+prefix_on xs ys zs p q = (p.0 ++ q.0, sym (append_assoc xs p.0 q.0) ∙ ap (λ l. l ++ q.0) p.1 ∙ q.1)
 
 pub comes_on : (session : ℕ) (a b c : State) → ComesAfter session a b → ComesAfter session b c → ComesAfter session a c
 comes_on session a b c p q = record {
   same = record { config = q.same.config ∙ p.same.config; stripe = q.same.stripe ∙ p.same.stripe; origin = q.same.origin ∙ p.same.origin; lives = q.same.lives ∙ p.same.lives; opening = q.same.opening ∙ p.same.opening };
   front = prefix_on (whole_history a) (whole_history b) (whole_history c) p.front q.front;
   next = (let one = p.next in let two = q.next in omega arith);
+  ended = prefix_on a.ended b.ended c.ended p.ended q.ended;
   own = q.own ∙ p.own;
 }
 
 pub comes_by : OnePhase → (session : ℕ) (a b : State) → IsReached a → IsPhaseOf session a b → own_steps session b ≡ own_steps session a → ComesAfter session a b
 comes_by law session a b reached one own =
     let u = law session a b reached one in
-    record { same = of_same a b u.grows; front = whole_goes_on a b u.grows; next = u.next; own = own_stay session a b u.grows.same.ended own }
+    record { same = of_same a b u.grows; front = whole_goes_on a b u.grows; next = u.next; ended = subst (IsPrefix a.ended) (sym u.grows.same.ended) ([], append-nil a.ended); own = own_stay session a b u.grows.same.ended own }
 
 -- so does a renewal
 comes_renewed : Renewal → (session : ℕ) (a b : State) → IsReached a → Renews a b → ComesAfter session a b
 comes_renewed law session a b reached renews =
     let u = law a b reached renews in
-    record { same = u.same; front = subst (IsPrefix (whole_history a)) (sym u.whole) ([], append-nil (whole_history a)); next = (let e = u.next in omega arith); own = u.own session }
+    record { same = u.same; front = subst (IsPrefix (whole_history a)) (sym u.whole) ([], append-nil (whole_history a)); next = (let e = u.next in omega arith); ended = subst (λ (z : State). IsPrefix a.ended z.ended) (sym renews.after) (present_generation a ∷ [], refl); own = u.own session }
 
 pub left_by : (found seen left : State) → seen ≡ found → RenewsIfFull seen left → StaysOrRenews found left
 left_by found seen left is renews = subst (λ s. StaysOrRenews s left) is (stays_or_renews seen left renews)
