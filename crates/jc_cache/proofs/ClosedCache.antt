@@ -18,15 +18,15 @@ use Rattle.jc_model.specs.Legal.{Legal, IsHistory}
 use Rattle.jc_model.specs.declared.event.Event.{Event}
 use Rattle.jc_stripe.specs.State.{State}
 use Rattle.jc_stripe.specs.Laws.{ReachedIsLegal}
-use Rattle.jc_stripe.specs.Generations.{IsChain, first_opening, IsOfSameStripe}
+use Rattle.jc_stripe.specs.Generations.{IsChain, IsOfSameStripe}
 use Rattle.jc_lock.proofs.CallerLemmas.{prefix-refl, same_itself}
 use Rattle.jc_cache.specs.declared.session.Session.{Session}
 use Rattle.jc_cache.specs.Caches.{OwnerState, noted_by, fronts_of, logs_of}
 use Rattle.jc_cache.specs.CacheInside.{IsOwnSeat, IsWhole}
-use Rattle.jc_cache.specs.Closing.{AreClosed, HasFront, HasMissed, HasOnlyLooked, HasOnlyTaken, IsTakenAs, all_lent, lent_at, IsClosed, IsClosedAt, IsCloseRefusal, IsEndRefusal, IsHandedBack}
-use Rattle.jc_cache.specs.ClosingInside.{KeepsSeat, KeepSeats, Looks, Whatever, AreIdle, IsFreeSeat, IsRowRefusal, HasTaken, HaveTaken}
+use Rattle.jc_cache.specs.Closing.{AreClosed, AreIdle, HasFront, HasMissed, IsInUse, HasOnlyLooked, HasOnlyTaken, IsTakenAs, all_lent, lent_at, IsClosed, IsClosedAt, IsCloseRefusal, IsEndRefusal, IsHandedBack}
+use Rattle.jc_cache.specs.ClosingInside.{KeepsSeat, KeepSeats, Looks, Whatever, IsFreeSeat, IsRowRefusal, HasTaken, HaveTaken}
 use Rattle.jc_cache.proofs.Rows.{Seated, length_locks, map_get, seat_there}
-use Rattle.jc_cache.proofs.Noted.{noted_there, handed_back, idle_noted}
+use Rattle.jc_cache.proofs.Noted.{noted_there, handed_back}
 use Rattle.jc_cache.proofs.ClosingSeats.{keep_locks, keep_at, free_at, lent_there, taken_at}
 
 row_free : (seats : List Seated) → ((i : ℕ) (seat : Seated) → slice_get seats i ≡ Some seat → IsFreeSeat seat.1) → HaveTaken seats []
@@ -58,20 +58,21 @@ whole_again lends config given locks old new whole keeps free = record {
       origin_is = keeps.same.origin ∙ own.origin_is;
     }
 
-closed_at : {lends : State → State → Type 0} (config : Config) (i given : ℕ) (x y : Seated) (state : State) → ReachedIsLegal → IsOwnSeat config i given x.1 → KeepsSeat lends x y → HasTaken y.1 state → IsClosedAt config i (first_opening x.1.noted) state
+closed_at : {lends : State → State → Type 0} (config : Config) (i given : ℕ) (x y : Seated) (state : State) → ReachedIsLegal → IsOwnSeat config i given x.1 → KeepsSeat lends x y → HasTaken y.1 state → IsClosedAt config i given x.1.noted state
 closed_at config i given x y state legal own keeps taken =
-    let opening : first_opening state ≡ first_opening x.1.noted = ap first_opening (sym taken.noted) ∙ keeps.same.opening in
-    let shape : state.config ≡ config = ap (λ (s : State). s.config) (sym taken.noted) ∙ keeps.same.config ∙ own.config_is in
+    let same : IsOfSameStripe x.1.noted state = subst (IsOfSameStripe x.1.noted) taken.noted keeps.same in
+    let shape : state.config ≡ config = same.config ∙ own.config_is in
     record {
       reached = taken.reached;
       idle = taken.idle;
       config_is = shape;
-      stripe_is = ap (λ (s : State). s.stripe) (sym taken.noted) ∙ keeps.same.stripe ∙ own.stripe_is;
-      opening_is = opening;
-      origin_is = ap (λ (s : State). s.origin) (sym taken.noted) ∙ keeps.same.origin ∙ own.origin_is;
+      stripe_is = same.stripe ∙ own.stripe_is;
+      same = same;
+      origin_is = same.origin ∙ own.origin_is;
       chain = subst (λ (c : Config). IsChain c state.ended state.opening) shape taken.reached.chain;
       legal = subst (λ (c : Config). Legal c state.opening state.history) shape (legal state taken.reached);
       leaves = subst (λ (c : Config). IsHistory c (from_entries state.opening) state.history state.cache) shape taken.reached.legal;
+      none_later = λ session le. taken.later given session (keeps.next_session ∙ own.gives) le;
     }
 
 pub ended : (lends : State → State → Type 0) (owner : OwnerState) (own seats : List Seated) (stripes : List State) → ReachedIsLegal
@@ -151,17 +152,17 @@ back owner left old new cache given noted fronts noted' fronts' logs logs' keeps
       logs = subst₂ (AllZip HasOnlyLooked) (sym logs) (sym logs') both.2;
     }
 
-pub why_ended : (owner left : OwnerState) (refusal : Refusal) (old own : List Seated) → left.noted ≡ noted_by own → owner.logs ≡ logs_of old → left.logs ≡ logs_of own
-    → IsRowRefusal refusal old own ⊎ ((refusal ≡ OutOfMemory) × AreIdle own) → IsEndRefusal refusal owner left
-why_ended owner left refusal old own noted before after by =
+pub why_ended : (owner left : OwnerState) (refusal : Refusal) (old own : List Seated) → owner.logs ≡ logs_of old → left.logs ≡ logs_of own
+    → IsRowRefusal refusal old own ⊎ ((refusal ≡ OutOfMemory) × AreIdle (logs_of old) (logs_of own)) → IsEndRefusal refusal owner left
+why_ended owner left refusal old own before after by =
     ⊎_elim
     (λ row. ⊎_elim
-    (λ out. inl (out.0, (out.1.0, out.1.1, ap (λ (all : List State). slice_get all out.1.0) noted ∙ out.1.2, out.1.3)))
+    (λ out. inl (out.0, subst₂ IsInUse (sym before) (sym after) out.1))
     (λ busy. inr (inr (busy.0, subst₂ HasMissed (sym before) (sym after) busy.1)))
     row)
-    (λ memory. inr (inl (memory.0, λ i state at. idle_noted own memory.1 i state (ap (λ (all : List State). slice_get all i) (sym noted) ∙ at))))
+    (λ memory. inr (inl (memory.0, subst₂ AreIdle (sym before) (sym after) memory.1)))
     by
 
-pub why : (owner left : OwnerState) (handed_in : ℕ) (refusal : Refusal) (old own : List Seated) → handed_in ≡ owner.given → left.noted ≡ noted_by own → owner.logs ≡ logs_of old → left.logs ≡ logs_of own
-    → IsRowRefusal refusal old own ⊎ ((refusal ≡ OutOfMemory) × AreIdle own) → IsCloseRefusal owner handed_in refusal left
-why owner left handed_in refusal old own all noted before after by = inr (all, why_ended owner left refusal old own noted before after by)
+pub why : (owner left : OwnerState) (handed_in : ℕ) (refusal : Refusal) (old own : List Seated) → handed_in ≡ owner.given → owner.logs ≡ logs_of old → left.logs ≡ logs_of own
+    → IsRowRefusal refusal old own ⊎ ((refusal ≡ OutOfMemory) × AreIdle (logs_of old) (logs_of own)) → IsCloseRefusal owner handed_in refusal left
+why owner left handed_in refusal old own all before after by = inr (all, why_ended owner left refusal old own before after by)

@@ -6,9 +6,10 @@
 --     free_at, free_set                     of a row that has taken nothing
 --     next_free, next_stays, take_next      the first seat that has taken nothing, when it stays so, and when it takes its stripe
 --     last_taken, give_last                 the last one that has taken its stripe, and when it gives it back
+--     has_taken                             a seat has taken its stripe, at which nothing is out
 --     taken_at, taken_set, taken_fits       one of those that have taken their stripes, and when it learns something; how many they are
 --     none_phase, given_back, learned       what calls of the lock ask for, and leave of a seat
---     give_near, give_there, give_step      the last stripe is given back
+--     give_near, fewer, not_beyond, give_there, give_step    the last stripe is given back
 --     popped_at, popped_done, popped_long   the last seat of a session that is left
 --     no_front, join_near, join_there, join_step    it is joined
 --     brought_push                          what one session more brings
@@ -20,9 +21,9 @@ use mathlib.Core.List.{IsPrefix}
 use mathlib.Core.Logic.{dite}
 use native.Mathlib.Decide.{ℕ_discrete}
 use Rattle.atomic_table.specs.Seated.{TableId}
-use Rattle.jc_stripe.specs.State.{State}
+use Rattle.jc_stripe.specs.State.{State, IsIdle}
 use Rattle.jc_stripe.specs.Generations.{whole_history}
-use Rattle.jc_lock.specs.Views.{IsPhaseBy, IsTurnBy, after_give, after_join}
+use Rattle.jc_lock.specs.Views.{Finds, IsPhaseBy, IsTurnBy, after_give, after_join, after_take}
 use Rattle.jc_lock.specs.declared.view.View.{View}
 use Rattle.jc_lock.proofs.CallerLemmas.{prefix-refl, prefix-trans, same_itself, same_at, same_on}
 use Rattle.jc_engine.specs.Chain.{AllLend}
@@ -166,6 +167,11 @@ give_last (a ∷ seats) [] y state h free = (free, h.1)
 give_last [] (s ∷ states) y state h free = absurd h
 give_last (a ∷ seats) (s ∷ states) y state h free = (h.0, give_last seats states y state h.1 free)
 
+-- a seat that has found nothing out
+pub has_taken : (x y : Seated) (state : State) → IsFreeSeat x.1 → y ≡ (x.0, after_take x.1 state) → Finds x.1 state → IsIdle state → HasTaken y.1 state
+has_taken x y state free is finds idle = subst (λ (s : Seated). HasTaken s.1 state) (sym is)
+    record { of_none = free.of_none; holds = refl; noted = refl; front = finds.front; reached = finds.reached; idle = idle; later = finds.later }
+
 -- 4. One of those that have taken their stripes.
 
 pub taken_at : (seats : List Seated) (states : List State) (i : ℕ) (x : Seated) (state : State) → HaveTaken seats states → slice_get seats i ≡ Some x → slice_get states i ≡ Some state → HasTaken x.1 state
@@ -231,6 +237,7 @@ learned x y w state h lock after seen front = (
     front = front;
     reached = h.reached;
     idle = h.idle;
+    later = λ given session gives le. h.later given session (sym (ap (λ (v : View). v.next_session) after) ∙ gives) le;
   },
 )
 
@@ -243,6 +250,13 @@ give_near lends xs ys locks old new closed i is keeps h popped at =
     let rows = length_locks ys locks (keep_locks _ xs ys keeps ∙ is) in
     let long = ap length popped ∙ length-append new (closed ∷ []) in
     omega arith
+
+-- those that are left are fewer, and the one that is given back isn't beyond them all
+pub fewer : (most old new : List State) (closed : State) → old ≡ new ++ closed ∷ [] → length old ≤ length most → length new ≤ length most
+fewer most old new closed popped few = let long = ap length popped ∙ length-append new (closed ∷ []) in omega arith
+
+pub not_beyond : (most old new : List State) (closed : State) (i at : ℕ) → old ≡ new ++ closed ∷ [] → length old ≤ length most → at ≡ length new → length most ≤ i → i ≡ at → ⊥
+not_beyond most old new closed i at popped few is beyond e = let long = ap length popped ∙ length-append new (closed ∷ []) in omega arith
 
 pub give_there : (lends : State → State → Type 0) (xs ys : List Seated) (locks : List TableId) (old new : List State) (closed : State) (i : ℕ) (seat : Seated) (lock : TableId) → locks_of xs ≡ locks → KeepSeats lends xs ys → HaveTaken ys old
     → old ≡ new ++ closed ∷ [] → i ≡ length new → seat ≡ get_or ys i seat → lock ≡ get_or locks i lock → (slice_get ys i ≡ Some seat) × (seat.0 ≡ lock) × HasTaken seat.1 closed

@@ -8,7 +8,7 @@ use Rattle.std.specs.List.{All}
 use Rattle.jc_outside.specs.declared.hands.Outside.{Outside}
 use Rattle.jc_cache.specs.declared.session.Session.{Session}
 use Rattle.jc_cache.specs.Caches.{OwnerState}
-use Rattle.jc_cache.specs.Clients.{AreGivenOut}
+use Rattle.jc_cache.specs.Clients.{AreGivenOut, HaveNumbers}
 use Rattle.jc_cache.specs.Sessions.{BeginsAt, IsGivenOut, MayCall}
 
 pub given_none : {I J : Type 0} {D : I → Type 0} {E : J → Type 0} (owner : OwnerState) → AreGivenOut {I = I} {J = J} {D = D} {E = E} owner owner [] []
@@ -16,8 +16,14 @@ given_none owner = record {
   owner = (let e : owner.given ≡ owner.given + 0 = omega arith in ap (λ (n : ℕ). record owner { given = n }) e);
   boxes = refl;
   fresh = All-nil _;
+  numbers = tt;
   may = All-nil _;
 }
+
+numbered_next : {I J : Type 0} {D : I → Type 0} {E : J → Type 0} (number last : ℕ) (sessions : List (Session I J D E)) (session : Session I J D E) → HaveNumbers number sessions
+    → last ≡ number + length sessions → session.agent.caller ≡ record { session = last; call = 0 } → HaveNumbers number (sessions ++ session ∷ [])
+numbered_next number last [] session have is caller = (let e : last ≡ number = omega arith in caller ∙ ap (λ (n : ℕ). record { session = n; call = 0 }) e, tt)
+numbered_next number last (s ∷ sessions) session have is caller = (have.0, numbered_next (number + 1) last sessions session have.1 (omega arith) caller)
 
 pub given_next : {I J : Type 0} {D : I → Type 0} {E : J → Type 0} (from mid left : OwnerState) (outside : List (Outside I J D E)) (sessions : List (Session I J D E)) (one : Outside I J D E) (session : Session I J D E)
     → AreGivenOut from mid outside sessions → IsGivenOut mid left one session → AreGivenOut from left (outside ++ one ∷ []) (sessions ++ session ∷ [])
@@ -35,7 +41,9 @@ given_next {I} {J} {D} {E} from mid left outside sessions one session are is = r
     record {
       noted = is.begins.noted ∙ ap (λ (o : OwnerState). o.noted) are.owner;
       fronts = is.begins.fronts ∙ ap (λ (o : OwnerState). o.fronts) are.owner;
+      none_lent = is.begins.none_lent;
     },
   );
+  numbers = numbered_next from.given mid.given sessions session are.numbers (ap (λ (o : OwnerState). o.given) are.owner) is.caller;
   may = All-push (λ (s : Session I J D E). MayCall left.cache s) sessions session (subst (λ cache. All (λ (s : Session I J D E). MayCall cache s) sessions) (sym (ap (λ (o : OwnerState). o.cache) is.owner)) are.may) is.may;
 }

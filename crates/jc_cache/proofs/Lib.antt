@@ -17,3 +17,5 @@ pub mod EndedGenerations
 pub mod Increments
 pub mod Enlisted
 pub mod Turns
+pub mod Following
+pub mod Served

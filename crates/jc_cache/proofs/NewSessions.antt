@@ -110,6 +110,8 @@ module _ {I J : Type 0} {D : I → Type 0} {E : J → Type 0} where
   begins_at owner own session noted fronts are = record {
     noted = ap noted_by are ∙ noted_same session_view (λ v. refl) own ∙ sym noted;
     fronts = ap fronts_of are ∙ fronts_same session_view (λ v. refl) own ∙ sym fronts;
+    none_lent = λ i seat there. let t = map_get given_out own i seat (ap (λ (seats : List Seated). slice_get seats i) (sym are) ∙ there) in
+        (ap (λ (s : Seated). s.1.lendings) t.2, ap (λ (s : Seated). s.1.misses) t.2);
   }
 
   pub may_fresh : (cache : CacheState) (given : ℕ) (own : List Seated) (session : Session I J D E) → IsWhole cache.config given cache.locks own

@@ -1,15 +1,15 @@
 -- What a row of seats has noted, and seen.
 --     noted_there, noted_at    the state that the seat at a place has noted; whose it is
 --     noted_push, fronts_push  a row with one more seat
---     noted_set                a row whose seat at one place is another one, which has noted the same
 --     noted_same, fronts_same, logs_same  views that change in something else
 --     handed_back              the seats of a cache that was not closed
---     idle_set, idle_noted     nothing is out in the states that the first seats, and all, have noted
---     row_refusal, same_refusal, refusal_since    the stripe of one seat is not taken; another row that has noted the same
+--     set_get, set_else        the seat that was set, and another one
+--     idle_set, idle_logs, idle_since    the first seats, and all, have last found nothing out; since when
+--     row_refusal, refusal_since    the stripe of one seat is not taken; since when
 --     opening_histories, opening_len, new_history, new_within    stripes in which nothing has happened: each history is empty; how
 --                              many there are; one of them
 --     first_push, new_each     first seats at their locks
-use Rattle.std.proofs.Common.{◌≡◌, ◌∙◌, ◌⊎◌, ⊎_elim, inl, inr, ◌+◌, ◌<◌, ℕ, zero, suc, Bool, true, false, Some, List, [], ◌∷◌, ◌++◌, length, map, set, replicate, slice_get, option_map, refl, sym, ap, subst, length-append, arith}
+use Rattle.std.proofs.Common.{◌≡◌, ◌∙◌, ◌⊎◌, ⊎_elim, inl, inr, ◌+◌, ◌<◌, ℕ, zero, suc, Bool, true, false, Some, List, [], ◌∷◌, ◌++◌, length, map, set, replicate, slice_get, option_map, refl, sym, ap, subst, subst₂, append_assoc, length-append, arith}
 use Rattle.std.proofs.lemmas.List.{length-map, map-append}
 use Rattle.std.proofs.lemmas.Option.{same_Some, none-some, slice_get-map, slice_get_within}
 use Rattle.std.specs.List.{AllZip}
@@ -30,8 +30,8 @@ use Rattle.jc_lock.specs.Views.{first_view}
 use Rattle.jc_lock.specs.declared.view.View.{View}
 use Rattle.jc_cache.specs.Caches.{noted_by, fronts_of, logs_of, stripes_opening}
 use Rattle.jc_cache.specs.CacheInside.{IsOwnSeat}
-use Rattle.jc_cache.specs.Closing.{HasMissed, HasOnlyLooked, IsInUse}
-use Rattle.jc_cache.specs.ClosingInside.{KeepSeats, Looks, AreIdle, IsTakeRefusal, IsRowRefusal}
+use Rattle.jc_cache.specs.Closing.{AreIdle, HasLastFound, HasMissed, HasOnlyLooked, IsInUse}
+use Rattle.jc_cache.specs.ClosingInside.{KeepsSeat, KeepSeats, Looks, IsTakeRefusal, IsRowRefusal}
 use Rattle.jc_cache.proofs.ClosingSeats.{keep_at, keep_length}
 use Rattle.jc_cache.proofs.Rows.{Seated, map_get, push_get, seat_there}
 
@@ -52,11 +52,6 @@ pub fronts_push : (seats : List Seated) (states : List State) (seat : Seated) (s
 fronts_push seats states seat state are is =
     map-append (λ (s : Seated). s.1.front) seats (seat ∷ []) ∙ ap (λ (ss : List (List Event)). ss ++ seat.1.front ∷ []) are
     ∙ ap (λ (front : List Event). map whole_history states ++ front ∷ []) is ∙ sym (map-append whole_history states (state ∷ []))
-
-pub noted_set : (seats : List Seated) (i : ℕ) (x y : Seated) → slice_get seats i ≡ Some x → y.1.noted ≡ x.1.noted → noted_by (set seats i y) ≡ noted_by seats
-noted_set [] i x y at is = absurd (none-some x at)
-noted_set (a ∷ seats) zero x y at is = ap (λ (s : State). s ∷ noted_by seats) (is ∙ ap (λ (s : Seated). s.1.noted) (sym (same_Some a x at)))
-noted_set (a ∷ seats) (suc i) x y at is = ap (λ (ss : List State). a.1.noted ∷ ss) (noted_set seats i x y at is)
 
 -- 2. Whole rows.
 
@@ -80,58 +75,100 @@ handed_back (x ∷ old) (y ∷ new) keeps = let rest = handed_back old new keeps
 
 -- 3. What is out.
 
-set_get : (seats : List Seated) (i : ℕ) (x y : Seated) → slice_get seats i ≡ Some x → slice_get (set seats i y) i ≡ Some y
+pub set_get : (seats : List Seated) (i : ℕ) (x y : Seated) → slice_get seats i ≡ Some x → slice_get (set seats i y) i ≡ Some y
 set_get [] i x y at = absurd (none-some x at)
 set_get (a ∷ seats) zero x y at = refl
 set_get (a ∷ seats) (suc i) x y at = set_get seats i x y at
 
--- the first seats have noted states in which nothing is out
-abbrev pub AreIdleBelow : ℕ → List Seated → Type 0
-AreIdleBelow n seats = (k : ℕ) (seat : Seated) → k < n → slice_get seats k ≡ Some seat → IsIdle seat.1.noted
-
-pub idle_set : (seats : List Seated) (i : ℕ) (x y : Seated) → AreIdleBelow i seats → slice_get seats i ≡ Some x → IsIdle y.1.noted → AreIdleBelow (i + 1) (set seats i y)
-idle_set [] i x y idle at is k seat near there = absurd (none-some x at)
-idle_set (a ∷ seats) zero x y idle at is zero seat near there = subst (λ (s : Seated). IsIdle s.1.noted) (same_Some y seat there) is
-idle_set (a ∷ seats) zero x y idle at is (suc k) seat near there = absurd (omega arith)
-idle_set (a ∷ seats) (suc i) x y idle at is zero seat near there = idle 0 seat (omega arith) there
-idle_set (a ∷ seats) (suc i) x y idle at is (suc k) seat near there =
-    idle_set seats i x y (λ m s below here. idle (suc m) s (omega arith) here) at is k seat (omega arith) there
-
-pub idle_noted : (seats : List Seated) → AreIdle seats → (i : ℕ) (state : State) → slice_get (noted_by seats) i ≡ Some state → IsIdle state
-idle_noted seats idle i state at = let there = noted_at seats i state at in subst IsIdle (sym there.2) (idle i there.0 there.1)
-
 log_there : (seats : List Seated) (i : ℕ) (seat : Seated) → slice_get seats i ≡ Some seat → slice_get (logs_of seats) i ≡ Some (seat.1.lendings, seat.1.misses)
 log_there seats i seat at = slice_get-map (λ (s : Seated). (s.1.lendings, s.1.misses)) seats i ∙ ap (option_map (λ (s : Seated). (s.1.lendings, s.1.misses))) at
 
-pub row_refusal : (old seats : List Seated) (i : ℕ) (x y : Seated) (refusal : Refusal) → KeepSeats Looks old seats → slice_get seats i ≡ Some x → IsTakeRefusal refusal x.1 y.1 → IsRowRefusal refusal old (set seats i y)
-row_refusal old seats i x y refusal keeps at why =
-    let was = keep_at _ old seats i x keeps at in
-    ⊎_elim (λ t. inl (t.0, (i, y.1.noted, noted_there (set seats i y) i y (set_get seats i x y at), t.1)))
-    (λ t. inr (t.0, (i, (was.0.1.lendings, was.0.1.misses), (y.1.lendings, y.1.misses), log_there old i was.0 was.1, log_there (set seats i y) i y (set_get seats i x y at), (let one = was.2.misses in let two = t.1 in omega arith))))
-    why
+log_at : (seats : List Seated) (i : ℕ) (log : List (State × State) × ℕ) → slice_get (logs_of seats) i ≡ Some log → (seat : Seated) × (slice_get seats i ≡ Some seat) × (log ≡ (seat.1.lendings, seat.1.misses))
+log_at seats i log at = map_get (λ (s : Seated). (s.1.lendings, s.1.misses)) seats i log at
 
-pub same_refusal : (first old new : List Seated) (refusal : Refusal) → noted_by new ≡ noted_by old → KeepSeats Looks old new → IsRowRefusal refusal first old → IsRowRefusal refusal first new
-same_refusal first old new refusal same keeps why = ⊎_elim
-    (λ out. inl (out.0, subst IsInUse (sym same) out.1))
-    (λ busy. inr (busy.0, missed_later busy.1))
+-- what a seat has last found since later, it has last found since earlier
+last_since : {lends : State → State → Type 0} (x y : Seated) (after : List (State × State)) (found : State) → KeepsSeat lends x y → HasLastFound y.1.lendings after found → HasLastFound x.1.lendings after found
+last_since x y after found keeps last = record {
+  earlier = keeps.row ++ last.earlier;
+  lendings =
+      last.lendings ∙ ap (λ (ls : List (State × State)). ls ++ (last.earlier ++ (found, found) ∷ [])) keeps.lendings
+      ∙ append_assoc x.1.lendings keeps.row (last.earlier ++ (found, found) ∷ [])
+      ∙ ap (λ (ls : List (State × State)). x.1.lendings ++ ls) (sym (append_assoc keeps.row last.earlier ((found, found) ∷ [])));
+}
+
+-- the first seats have last found nothing out
+abbrev pub AreIdleBelow : ℕ → List Seated → List Seated → Type 0
+AreIdleBelow n old new = (k : ℕ) (x y : Seated) → k < n → slice_get old k ≡ Some x → slice_get new k ≡ Some y → HasLastFound x.1.lendings y.1.lendings y.1.noted × IsIdle y.1.noted
+
+set_here : (seats : List Seated) (i k : ℕ) (x y z : Seated) → slice_get seats i ≡ Some x → slice_get (set seats i y) k ≡ Some z → ((k ≡ i) × (z ≡ y)) ⊎ ((k ≡ i → ⊥) × (slice_get seats k ≡ Some z))
+set_here [] i k x y z at there = absurd (none-some x at)
+set_here (a ∷ seats) zero zero x y z at there = inl (refl, sym (same_Some y z there))
+set_here (a ∷ seats) zero (suc k) x y z at there = inr ((λ e. absurd (omega arith)), there)
+set_here (a ∷ seats) (suc i) zero x y z at there = inr ((λ e. absurd (omega arith)), there)
+set_here (a ∷ seats) (suc i) (suc k) x y z at there = ⊎_elim (λ t. inl (ap suc t.0, t.1)) (λ t. inr ((λ e. t.0 (omega arith)), t.1)) (set_here seats i k x y z at there)
+
+pub set_else : (seats : List Seated) (i k : ℕ) (y : Seated) → (k ≡ i → ⊥) → slice_get (set seats i y) k ≡ slice_get seats k
+set_else [] i k y ne = refl
+set_else (a ∷ seats) zero zero y ne = absurd (ne refl)
+set_else (a ∷ seats) zero (suc k) y ne = refl
+set_else (a ∷ seats) (suc i) zero y ne = refl
+set_else (a ∷ seats) (suc i) (suc k) y ne = set_else seats i k y (λ e. ne (ap suc e))
+
+pub idle_set : (old seats : List Seated) (i : ℕ) (x y : Seated) → KeepSeats Looks old seats → AreIdleBelow i old seats → slice_get seats i ≡ Some x → HasLastFound x.1.lendings y.1.lendings y.1.noted × IsIdle y.1.noted → AreIdleBelow (i + 1) old (set seats i y)
+idle_set old seats i x y keeps idle at is k w z near first there =
+    ⊎_elim
+    (λ t.
+        let was = keep_at _ old seats i x keeps at in
+        let same : was.0 ≡ w = same_Some was.0 w (sym was.1 ∙ ap (slice_get old) (sym t.0) ∙ first) in
+        subst₂ (λ (a b : Seated). HasLastFound a.1.lendings b.1.lendings b.1.noted × IsIdle b.1.noted) same (sym t.1) (last_since was.0 x y.1.lendings y.1.noted was.2 is.0, is.1))
+    (λ t. idle k w z (omega (arith, t.0)) first t.1)
+    (set_here seats i k x y z at there)
+
+pub idle_logs : (old new : List Seated) → ((k : ℕ) (x y : Seated) → slice_get old k ≡ Some x → slice_get new k ≡ Some y → HasLastFound x.1.lendings y.1.lendings y.1.noted × IsIdle y.1.noted) → AreIdle (logs_of old) (logs_of new)
+idle_logs old new idle i before after there at =
+    let x = log_at old i before there in
+    let y = log_at new i after at in
+    let found = idle i x.0 y.0 x.1 y.1 in (
+      y.0.1.noted,
+      subst₂ (λ (b a : List (State × State) × ℕ). HasLastFound b.0 a.0 y.0.1.noted) (sym x.2) (sym y.2) found.0,
+      found.1,
+    )
+
+pub idle_since : (old mid new : List Seated) → KeepSeats Looks old mid → KeepSeats Looks mid new → AreIdle (logs_of mid) (logs_of new) → AreIdle (logs_of old) (logs_of new)
+idle_since old mid new first keeps idle i before after there at =
+    let x = log_at old i before there in
+    let y = log_at new i after at in
+    let m = keep_at _ mid new i y.0 keeps y.1 in
+    let o = keep_at _ old mid i m.0 first m.1 in
+    let found = idle i (m.0.1.lendings, m.0.1.misses) after (log_there mid i m.0 m.1) at in
+    let same : o.0 ≡ x.0 = same_Some o.0 x.0 (sym o.1 ∙ x.1) in (
+      found.0,
+      subst (λ (ls : List (State × State)). HasLastFound ls after.0 found.0) (ap (λ (s : Seated). s.1.lendings) same ∙ sym (ap (λ (l : List (State × State) × ℕ). l.0) x.2)) (last_since o.0 m.0 after.0 found.0 o.2 found.1),
+      found.2,
+    )
+
+-- the stripe of the seat at one place isn't taken
+pub row_refusal : (old seats new : List Seated) (i : ℕ) (x y : Seated) (refusal : Refusal) → KeepSeats Looks old seats → slice_get seats i ≡ Some x → slice_get new i ≡ Some y → IsTakeRefusal refusal x.1 y.1 → IsRowRefusal refusal old new
+row_refusal old seats new i x y refusal keeps at now why =
+    let was = keep_at _ old seats i x keeps at in
+    ⊎_elim
+    (λ t. inl (t.0, (i, (was.0.1.lendings, was.0.1.misses), (y.1.lendings, y.1.misses), log_there old i was.0 was.1, log_there new i y now, (y.1.noted, last_since was.0 x y.1.lendings y.1.noted was.2 t.1, t.2))))
+    (λ t. inr (t.0, (i, (was.0.1.lendings, was.0.1.misses), (y.1.lendings, y.1.misses), log_there old i was.0 was.1, log_there new i y now, (let one = was.2.misses in let two = t.1 in omega arith))))
     why
-  where
-    missed_later : HasMissed (logs_of first) (logs_of old) → HasMissed (logs_of first) (logs_of new)
-    missed_later m =
-        let seat = map_get (λ (s : Seated). (s.1.lendings, s.1.misses)) old m.0 m.2 m.4 in
-        let long : m.0 < length new = subst (λ (n : ℕ). m.0 < n) (sym (keep_length _ old new keeps)) (slice_get_within old m.0 seat.0 seat.1) in
-        let now = seat_there new m.0 long in
-        let was = keep_at _ old new m.0 now.0 keeps now.1 in
-        let same_seat : was.0 ≡ seat.0 = same_Some was.0 seat.0 (sym was.1 ∙ seat.1) in
-        let counted : m.2.1 ≡ was.0.1.misses = ap (λ (l : List (State × State) × ℕ). l.1) seat.2 ∙ ap (λ (s : Seated). s.1.misses) (sym same_seat) in
-        (m.0, m.1, (now.0.1.lendings, now.0.1.misses), m.3, log_there new m.0 now.0 now.1, (let one = m.5 in let two = was.2.misses in omega arith))
 
 pub refusal_since : (old mid new : List Seated) (refusal : Refusal) → KeepSeats Looks old mid → IsRowRefusal refusal mid new → IsRowRefusal refusal old new
-refusal_since old mid new refusal keeps why = ⊎_elim (λ out. inl out) (λ busy. inr (busy.0, missed_since busy.1)) why
+refusal_since old mid new refusal keeps why = ⊎_elim (λ out. inl (out.0, used_since out.1)) (λ busy. inr (busy.0, missed_since busy.1)) why
   where
+    used_since : IsInUse (logs_of mid) (logs_of new) → IsInUse (logs_of old) (logs_of new)
+    used_since u =
+        let seat = log_at mid u.0 u.1 u.3 in
+        let was = keep_at _ old mid u.0 seat.0 keeps seat.1 in
+        let last = subst (λ (ls : List (State × State)). HasLastFound ls u.2.0 u.5.0) (ap (λ (l : List (State × State) × ℕ). l.0) seat.2) u.5.1 in
+        (u.0, (was.0.1.lendings, was.0.1.misses), u.2, log_there old u.0 was.0 was.1, u.4, (u.5.0, last_since was.0 seat.0 u.2.0 u.5.0 was.2 last, u.5.2))
+
     missed_since : HasMissed (logs_of mid) (logs_of new) → HasMissed (logs_of old) (logs_of new)
     missed_since m =
-        let seat = map_get (λ (s : Seated). (s.1.lendings, s.1.misses)) mid m.0 m.1 m.3 in
+        let seat = log_at mid m.0 m.1 m.3 in
         let was = keep_at _ old mid m.0 seat.0 keeps seat.1 in
         let counted : m.1.1 ≡ seat.0.1.misses = ap (λ (l : List (State × State) × ℕ). l.1) seat.2 in
         (m.0, (was.0.1.lendings, was.0.1.misses), m.2, log_there old m.0 was.0 was.1, m.4, (let one = m.5 in let two = was.2.misses in omega arith))

@@ -1,20 +1,58 @@
--- Clients, each a session beside the one cache that it may call.
+-- Clients, each a session beside the one cache that it may call, and services of many of them.
+--     HaveNumbers     sessions have these numbers, one after another, and have begun no call
 --     AreGivenOut     sessions that an owner has given out one after another, each with its loader and writer: they have made no step, and
 --                     may call
+--     IsNotEnlisted   why an owner gave out only the first ones of the sessions that it was to: an allocation failed, or the next one is
+--                     refused
 --     OnSameCache     a client is one of the cache that it was of, and this was done; X is what a contract sees of its cache
-use Rattle.std.specs.Prelude.{◌≡◌, ◌+◌, List, length, map}
+--     HasServed       a service was served whole: its cache opened with nothing, as many sessions were given out as brought something, each
+--                     of their clients has returned, and the cache was ended
+--     IsServeRefusal  why a service wasn't served whole: the cache's shape is out of its limits, an allocation failed, a session is refused,
+--                     or the cache couldn't be ended
+use Rattle.std.specs.Prelude.{◌≡◌, ◌+◌, ◌⊎◌, ℕ, List, [], ◌∷◌, length, map, is_some, true, Some, Err, slice_get}
 use Rattle.std.specs.List.{All}
+use Rattle.jc_types.specs.declared.config.Config.{Config}
+use Rattle.jc_types.specs.declared.refusal.Refusal.{Refusal}
+use Rattle.jc_types.specs.declared.refusal.Refusal.TheVariants.{OutOfMemory}
+use Rattle.jc_types.specs.Limits.{check}
 use Rattle.jc_outside.specs.declared.hands.Outside.{Outside}
+use Rattle.jc_stripe.specs.State.{State}
 use Rattle.jc_cache.specs.declared.session.Session.{Session}
-use Rattle.jc_cache.specs.Caches.{OwnerState}
+use Rattle.jc_cache.specs.Caches.{OpensWith, OwnerState, session_refusal}
+use Rattle.jc_cache.specs.Closing.{AreClosed, IsEndRefusal}
 use Rattle.jc_cache.specs.Sessions.{BeginsAt, MayCall}
+
+abbrev pub HaveNumbers : {I J : Type 0} {D : I → Type 0} {E : J → Type 0} → ℕ → List (Session I J D E) → Type 0
+HaveNumbers number [] = Unit {0}
+HaveNumbers number (session ∷ sessions) = (session.agent.caller ≡ record { session = number; call = 0 }) × HaveNumbers (number + 1) sessions
 
 pub record AreGivenOut {I J : Type 0} {D : I → Type 0} {E : J → Type 0} (from left : OwnerState) (outside : List (Outside I J D E)) (sessions : List (Session I J D E)) : Type 0 where
   pub owner : left ≡ record from { given = from.given + length sessions }
   pub boxes : map (λ (session : Session I J D E). session.agent.hands.outside) sessions ≡ outside
   pub fresh : All (λ (session : Session I J D E). (session.agent.counts.own ≡ 0) × BeginsAt from session) sessions
+  pub numbers : HaveNumbers from.given sessions
   pub may : All (λ (session : Session I J D E). MayCall left.cache session) sessions
+
+-- `made` is how many were given out
+pub record IsNotEnlisted {I J : Type 0} {D : I → Type 0} {E : J → Type 0} (from left : OwnerState) (outside : List (Outside I J D E)) (refusal : Refusal) : Type 0 where
+  pub made : ℕ
+  pub owner : left ≡ record from { given = from.given + made }
+  pub why : (refusal ≡ OutOfMemory)
+      ⊎ ((one : Outside I J D E) × (slice_get outside made ≡ Some one) × (session_refusal left (is_some one.loader) (is_some one.writer) ≡ Some refusal))
 
 pub record OnSameCache {X : Type 0} (before after : X) (Done : Type 0) : Type 0 where
   pub cache : after ≡ before
   pub call : Done
+
+-- `brought` is how many have brought a loader or a writer, or nothing, and `returned` how many clients have returned
+pub record HasServed (config : Config) (brought : ℕ) (stripes : List State) (returned : ℕ) : Type 0 where
+  pub opened : OwnerState
+  pub opens : OpensWith true config [] opened
+  pub closed : AreClosed (record opened { given = brought }) stripes
+  pub each : returned ≡ brought
+
+pub record IsServeRefusal {I J : Type 0} {D : I → Type 0} {E : J → Type 0} (config : Config) (outside : List (Outside I J D E)) (refusal : Refusal) : Type 0 where
+  pub why : (check config ≡ Err refusal)
+      ⊎ ((refusal ≡ OutOfMemory)
+      ⊎ ((opened : OwnerState) × (left : OwnerState) × OpensWith true config [] opened
+      × (IsNotEnlisted opened left outside refusal ⊎ IsEndRefusal refusal (record opened { given = length outside }) left)))

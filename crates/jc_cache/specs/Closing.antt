@@ -1,7 +1,8 @@
 -- What a closed cache tells.
---     IsClosedAt     the stripe with this number of a closed cache of this shape, which was opened with these entries: its first
---                    generation opened with them, each one left what the next one opened with, the last one's history is legal from its
---                    opening and leads to the stripe's entries, nothing is out, and its outside answers were live
+--     IsClosedAt     the stripe with this number of a closed cache of this shape, whose owner had noted it so: it lives on exactly if it did
+--                    then, and its first generation opened with the same entries; each generation left what the next one opened with, the
+--                    last one's history is legal from its opening and leads to the stripe's entries; nothing is out, its outside answers
+--                    were live, and it has no step of a session that was never given out
 --     HasFront       a session has seen no more of each stripe than is in its whole history
 --     AreClosed      the stripes of a closed cache, each from the opening that its owner has noted
 --     IsClosed       a cache is closed: its stripes, and that each session handed in has seen no more of them
@@ -11,12 +12,14 @@
 --     HasOnlyTaken   an own seat has only looked before it took its stripe; behind that it has what the sessions have lent, all of it
 --     HasEnded       a cache was ended without its sessions: its stripes alone; its own seats have only looked before they took them, and gave
 --                    no session out
---     IsInUse        at one of these stripes a reservation or a join is out
 --     HasOnlyLooked  an own seat has taken its stripe and given it back as it was, as often as this
+--     HasLastFound   of its lendings since then there is a last one, which found the stripe in this state and left it so
+--     IsInUse        one of these seats has last found its stripe with a reservation or a join out
+--     AreIdle        each of these seats has last found its stripe with nothing out
 --     HasMissed      one of these seats has found its stripe held by somebody else
 --     IsHandedBack   an owner who could not close the cache owns it as before; its seats may have noted and seen more of the stripes
---     IsEndRefusal   why stripes are not taken from a cache: a stripe's state is noted in which something is out, an allocation failed
---                    while nothing was out, or a seat has found its stripe held
+--     IsEndRefusal   why stripes are not taken from a cache: an own seat has last found something out at its stripe; each has found nothing
+--                    out, and an allocation failed; or one has found its stripe held
 --     IsCloseRefusal why a cache is not closed: a session is missing, and then nobody looked at a stripe; or all are there, and its
 --                    stripes are not taken
 --     HasNotClosed   the same, and owner and sessions come back
@@ -31,11 +34,11 @@ use Rattle.jc_types.specs.declared.refusal.Refusal.{Refusal}
 use Rattle.jc_types.specs.declared.refusal.Refusal.TheVariants.{Busy, OutOfMemory, StillReserved}
 use Rattle.jc_outside.specs.declared.done.Origin.TheVariants.{Live}
 use Rattle.jc_outside.specs.declared.hands.Outside.{Outside}
-use Rattle.jc_model.specs.Cache.{Bytes}
 use Rattle.jc_model.specs.Legal.{Legal, IsHistory}
 use Rattle.jc_stripe.specs.State.{State, IsIdle}
-use Rattle.jc_stripe.specs.Generations.{IsChain, whole_history, first_opening, IsOfSameStripe}
+use Rattle.jc_stripe.specs.Generations.{IsChain, whole_history, IsOfSameStripe}
 use Rattle.jc_stripe.specs.Reached.{IsReached}
+use Rattle.jc_stripe.specs.Renewal.{all_own_steps}
 use Rattle.jc_lock.specs.declared.view.View.{View}
 use Rattle.jc_engine.specs.Chain.{AllLend}
 use Rattle.jc_cache.specs.declared.session.Session.{Session}
@@ -43,16 +46,17 @@ use Rattle.jc_cache.specs.Caches.{OwnerState, logs_of}
 
 -- 1. A cache that is closed.
 
-pub record IsClosedAt (config : Config) (stripe : ℕ) (opening : List (Bytes × Bytes)) (state : State) : Type 0 where
+pub record IsClosedAt (config : Config) (stripe given : ℕ) (noted state : State) : Type 0 where
   pub reached : IsReached state
   pub idle : IsIdle state
   pub config_is : state.config ≡ config
   pub stripe_is : state.stripe ≡ stripe
-  pub opening_is : first_opening state ≡ opening
+  pub same : IsOfSameStripe noted state
   pub origin_is : state.origin ≡ Live
   pub chain : IsChain config state.ended state.opening
   pub legal : Legal config state.opening state.history
   pub leaves : IsHistory config (from_entries state.opening) state.history state.cache
+  pub none_later : (session : ℕ) → given ≤ session → all_own_steps session state ≡ []
 
 abbrev pub HasFront : List State → List (TableId × View) → Type 0
 HasFront stripes seats = (i : ℕ) (state : State) (seat : TableId × View) → slice_get stripes i ≡ Some state → slice_get seats i ≡ Some seat → IsPrefix seat.1.front (whole_history state)
@@ -71,7 +75,7 @@ pub record IsTakenAs (seat : TableId × View) (state : State) : Type 0 where
 pub record AreClosed (owner : OwnerState) (stripes : List State) : Type 0 where
   pub count : length stripes ≡ owner.cache.config.stripes
   pub each : (i : ℕ) (state : State) → slice_get stripes i ≡ Some state
-      → (noted : State) × (slice_get owner.noted i ≡ Some noted) × IsClosedAt owner.cache.config i (first_opening noted) state
+      → (noted : State) × (slice_get owner.noted i ≡ Some noted) × IsClosedAt owner.cache.config i owner.given noted state
 
 pub record IsClosed {I J : Type 0} {D : I → Type 0} {E : J → Type 0} (owner : OwnerState) (sessions : List (Session I J D E)) (stripes : List State) : Type 0 where
   pub stripes_are : AreClosed owner stripes
@@ -110,8 +114,18 @@ pub record HasEnded {I J : Type 0} {D : I → Type 0} {E : J → Type 0} (owner 
 
 -- 2. A cache that is not closed.
 
-abbrev pub IsInUse : List State → Type 0
-IsInUse states = (i : ℕ) × (state : State) × (slice_get states i ≡ Some state) × (IsIdle state → ⊥)
+pub record HasLastFound (before after : List (State × State)) (found : State) : Type 0 where
+  pub earlier : List (State × State)
+  pub lendings : after ≡ before ++ (earlier ++ (found, found) ∷ [])
+
+-- `old` and `new` are the logs of the own seats
+abbrev pub IsInUse : (old new : List (List (State × State) × ℕ)) → Type 0
+IsInUse old new = (i : ℕ) × (before : List (State × State) × ℕ) × (after : List (State × State) × ℕ) × (slice_get old i ≡ Some before) × (slice_get new i ≡ Some after)
+    × ((found : State) × HasLastFound before.0 after.0 found × (IsIdle found → ⊥))
+
+abbrev pub AreIdle : (old new : List (List (State × State) × ℕ)) → Type 0
+AreIdle old new = (i : ℕ) (before after : List (State × State) × ℕ) → slice_get old i ≡ Some before → slice_get new i ≡ Some after
+    → (found : State) × HasLastFound before.0 after.0 found × IsIdle found
 
 abbrev pub HasMissed : List (List (State × State) × ℕ) → List (List (State × State) × ℕ) → Type 0
 HasMissed old new = (i : ℕ) × (before : List (State × State) × ℕ) × (after : List (State × State) × ℕ) × (slice_get old i ≡ Some before) × (slice_get new i ≡ Some after) × (before.1 < after.1)
@@ -125,9 +139,8 @@ pub record IsHandedBack (owner left : OwnerState) : Type 0 where
 
 abbrev pub IsEndRefusal : Refusal → OwnerState → OwnerState → Type 0
 IsEndRefusal refusal owner left =
-    ((refusal ≡ StillReserved) × IsInUse left.noted)
-    ⊎ (((refusal ≡ OutOfMemory) × ((i : ℕ) (state : State) → slice_get left.noted i ≡ Some state → IsIdle state))
-    ⊎ ((refusal ≡ Busy) × HasMissed owner.logs left.logs))
+    ((refusal ≡ StillReserved) × IsInUse owner.logs left.logs)
+    ⊎ (((refusal ≡ OutOfMemory) × AreIdle owner.logs left.logs) ⊎ ((refusal ≡ Busy) × HasMissed owner.logs left.logs))
 
 abbrev pub IsCloseRefusal : OwnerState → ℕ → Refusal → OwnerState → Type 0
 IsCloseRefusal owner handed_in refusal left =

@@ -3,12 +3,12 @@
 --     Looks, Whatever    a lending that left the stripe as it was, and any
 --     KeepSeats     each of these seats is the one that it was
 --     IsFreeSeat    a seat of no session, which has not taken its stripe
---     HasTaken      a seat of no session, which has taken its stripe in this state: a reached one, and nothing is out there
+--     HasTaken      a seat of no session, which has taken its stripe in this state: a reached one, nothing is out there, and it has no step of
+--                   a session that the seat has yet to give out
 --     HaveTaken     of these seats the first ones have taken their stripes in these states, and the others have not
 --     OwnsSeats     own seats are at these locks, and the first ones have taken their stripes in these states, and the others have not
 --     KeepsOwn      they are the ones that they were, and have taken these
---     AreIdle       nothing is out in the states that these seats have noted
---     IsTakeRefusal why a stripe is not taken: something is out in the noted state, or the seat has found it held
+--     IsTakeRefusal why a stripe is not taken: the seat has last found something out there, or has found it held
 --     IsRowRefusal  why the stripes of a row of seats are not taken: one of them is not
 --     AreAtLocks    the seats of a session are at these locks, and have not taken their stripes
 use Rattle.std.specs.Prelude.{◌≡◌, ◌⊎◌, ◌≤◌, ◌<◌, ◌++◌, ℕ, List, [], ◌∷◌, map, true, false, None, Some, slice_get}
@@ -20,10 +20,11 @@ use Rattle.jc_types.specs.declared.refusal.Refusal.TheVariants.{Busy, StillReser
 use Rattle.jc_stripe.specs.State.{State, IsIdle}
 use Rattle.jc_stripe.specs.Generations.{whole_history, IsOfSameStripe}
 use Rattle.jc_stripe.specs.Reached.{IsReached}
+use Rattle.jc_stripe.specs.Renewal.{all_own_steps}
 use Rattle.jc_lock.specs.declared.view.View.{View}
 use Rattle.jc_engine.specs.Chain.{AllLend}
-use Rattle.jc_cache.specs.Caches.{noted_by, logs_of}
-use Rattle.jc_cache.specs.Closing.{HasMissed, IsInUse}
+use Rattle.jc_cache.specs.Caches.{logs_of}
+use Rattle.jc_cache.specs.Closing.{HasLastFound, HasMissed, IsInUse}
 
 -- 1. Own seats.
 
@@ -60,6 +61,7 @@ pub record HasTaken (view : View) (state : State) : Type 0 where
   pub front : IsPrefix view.front (whole_history state)
   pub reached : IsReached state
   pub idle : IsIdle state
+  pub later : (given session : ℕ) → view.next_session ≡ Some given → given ≤ session → all_own_steps session state ≡ []
 
 abbrev pub HaveTaken : List (TableId × View) → List State → Type 0
 HaveTaken [] [] = Unit {0}
@@ -77,14 +79,13 @@ pub record KeepsOwn (lends : State → State → Type 0) (before after : List (T
 
 -- 2. Stripes that are not taken.
 
-abbrev pub AreIdle : List (TableId × View) → Type 0
-AreIdle seats = (i : ℕ) (seat : TableId × View) → slice_get seats i ≡ Some seat → IsIdle seat.1.noted
-
 abbrev pub IsTakeRefusal : Refusal → View → View → Type 0
-IsTakeRefusal refusal before after = ((refusal ≡ StillReserved) × (IsIdle after.noted → ⊥)) ⊎ ((refusal ≡ Busy) × (before.misses < after.misses))
+IsTakeRefusal refusal before after =
+    ((refusal ≡ StillReserved) × HasLastFound before.lendings after.lendings after.noted × (IsIdle after.noted → ⊥))
+    ⊎ ((refusal ≡ Busy) × (before.misses < after.misses))
 
 abbrev pub IsRowRefusal : Refusal → List (TableId × View) → List (TableId × View) → Type 0
-IsRowRefusal refusal old new = ((refusal ≡ StillReserved) × IsInUse (noted_by new)) ⊎ ((refusal ≡ Busy) × HasMissed (logs_of old) (logs_of new))
+IsRowRefusal refusal old new = ((refusal ≡ StillReserved) × IsInUse (logs_of old) (logs_of new)) ⊎ ((refusal ≡ Busy) × HasMissed (logs_of old) (logs_of new))
 
 -- 3. Seats of sessions.
 

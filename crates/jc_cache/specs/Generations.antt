@@ -2,10 +2,15 @@
 --     IsEndOf     what was answered, and appended, of a stripe's generation: how many had ended before, and its events; or that an allocation
 --                 failed, and nothing was done
 --     EndsAt      a session has taken the stripe with this number once, left it so, and given it back; all else of the session stays
-use Rattle.std.specs.Prelude.{◌≡◌, ℕ, List, ◌++◌, Option, Some, Result, Ok, Err, slice_get, slice_set}
+--     GenerationsFollow    the law: if a generation was ended and told with a number, and one that was ended later was told with the next
+--                 number, then the second one's events come behind those of the first, and nothing lies between
+use Rattle.std.specs.Prelude.{◌≡◌, ◌+◌, ◌<◌, ℕ, List, ◌++◌, Option, Some, Result, Ok, Err, slice_get, slice_set}
+use mathlib.Core.List.{IsPrefix}
 use Rattle.atomic_table.specs.Seated.{TableId}
 use Rattle.jc_model.specs.declared.event.Event.{Event}
 use Rattle.jc_stripe.specs.State.{State}
+use Rattle.jc_types.specs.declared.limits.TheConstants.{LAST_NUMBER}
+use Rattle.jc_stripe.specs.Generations.{whole_history}
 use Rattle.jc_stripe.specs.Renewal.{EndsGeneration}
 use Rattle.jc_lock.specs.Views.{Finds, after_give, after_take}
 use Rattle.jc_lock.specs.declared.view.View.{View}
@@ -27,3 +32,9 @@ pub record EndsAt {I J : Type 0} {D : I → Type 0} {E : J → Type 0} (stripe :
   pub now : new.seats.items ≡ slice_set old.seats.items stripe (lock, after_give (after_take before found) left)
   pub on : HasSeen before (after_give (after_take before found) left)
   pub stays : new.agent ≡ old.agent
+
+-- that the ended generations of `left` are the first ones of `found` is so of all that a seat finds later
+abbrev pub GenerationsFollow : Type 0
+GenerationsFollow = (old left found new : State) (number : ℕ) (events later : List Event) → number + 1 < LAST_NUMBER
+    → EndsGeneration old (Some number) events left → IsPrefix left.ended found.ended → EndsGeneration found (Some (number + 1)) later new
+    → whole_history found ≡ whole_history old ++ later

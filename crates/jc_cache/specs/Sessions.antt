@@ -8,7 +8,8 @@
 --     GoesOn        a session is still one of this cache's, after this
 --     HoldsNothing  a session's hands hold nothing, and none of its seats has taken its stripe
 --     HasAsked      a session has asked so, and nothing else of it has changed: it is of the same cache
---     BeginsAt      a session's seats have noted and seen what those of the cache's owner have: so it begins
+--     BeginsAt      a session's seats have noted and seen what those of the cache's owner have, and have lent nothing and missed nothing: so it
+--                   begins
 --     MayCall       such a session may begin its next call: it has no reservation and no join out, and its own steps are all of calls
 --                   before that one
 --     IsGivenOut    a session that its owner has just given out, with this loader and this writer: it has made no step, and may call
@@ -74,6 +75,7 @@ pub record HasAsked {I J : Type 0} {D : I → Type 0} {E : J → Type 0} (old ne
 pub record BeginsAt {I J : Type 0} {D : I → Type 0} {E : J → Type 0} (owner : OwnerState) (session : Session I J D E) : Type 0 where
   pub noted : noted_by session.seats.items ≡ owner.noted
   pub fronts : fronts_of session.seats.items ≡ owner.fronts
+  pub none_lent : (i : ℕ) (seat : TableId × View) → slice_get session.seats.items i ≡ Some seat → (seat.1.lendings ≡ []) × (seat.1.misses ≡ 0)
 
 pub record MayCall {I J : Type 0} {D : I → Type 0} {E : J → Type 0} (cache : CacheState) (session : Session I J D E) : Type 0 where
   pub own : IsOf cache session

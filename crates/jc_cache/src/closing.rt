@@ -12,8 +12,9 @@ ghost use Rattle.jc_stripe.specs.Generations.{whole_history};
 ghost use Rattle.jc_stripe.specs.OrderOfUse.{by_use};
 ghost use Rattle.jc_stripe.specs.Reached.{IsReached};
 ghost use Rattle.jc_stripe.specs.Reopening.{shares_key};
-ghost use Rattle.jc_cache.specs.Closing.{HasClosed, HasEnded, HasNotClosed, HasNotEnded};
-ghost use Rattle.jc_cache.specs.ClosingInside.{AreIdle, HaveTaken, IsRowRefusal, KeepSeats, Looks, OwnsSeats};
+ghost use Rattle.jc_cache.specs.Caches.{logs_of};
+ghost use Rattle.jc_cache.specs.Closing.{AreIdle, HasClosed, HasEnded, HasNotClosed, HasNotEnded};
+ghost use Rattle.jc_cache.specs.ClosingInside.{HaveTaken, IsRowRefusal, KeepSeats, Looks, OwnsSeats};
 ghost use Rattle.jc_cache.specs.Sessions.{IsOf};
 
 mod own_seats;
@@ -259,7 +260,8 @@ fn take_stripes(
         × (length r.0.items ≡ length own.new.items)) }
     ensures room { IfOk result (λ r. (r.1.items ≡ []) × (sessions ≤ vec_capacity r.1)) }
     ensures err { IfErr result (λ r. HaveTaken own.new.items []
-        × (IsRowRefusal r own.old.items own.new.items ⊎ ((r ≡ OutOfMemory) × AreIdle own.new.items))) }
+        × (IsRowRefusal r own.old.items own.new.items ⊎ ((r ≡ OutOfMemory)
+        × AreIdle (logs_of own.old.items) (logs_of own.new.items)))) }
 {
     test_all_idle(locks, own)?;
     let Ok(outside) = Vec::with_capacity(alloc, sessions) else {

@@ -1,6 +1,6 @@
 //! Sessions and clients, a list at a time.
-ghost use Rattle.std.specs.Prelude.{◌≡◌, All, IfOk, map};
-ghost use Rattle.jc_cache.specs.Clients.{AreGivenOut};
+ghost use Rattle.std.specs.Prelude.{◌≡◌, All, IfOk, IfErr, map};
+ghost use Rattle.jc_cache.specs.Clients.{AreGivenOut, IsNotEnlisted};
 ghost use Rattle.jc_cache.specs.Sessions.{IsOf, MayCall};
 
 use crate::client::Client;
@@ -22,6 +22,7 @@ impl CacheOwner {
     ) -> Result<Vec<Session>, Refusal>
         ensures cache { self.new.cache ≡ self.old.cache }
         ensures ok { IfOk result (λ s. AreGivenOut self.old self.new outside.items s.items) }
+        ensures err { IfErr result (λ r. IsNotEnlisted self.old self.new outside.items r) }
     {
         let Ok(mut sessions) = Vec::with_capacity(alloc, outside.len()) else {
             return Err(Refusal::OutOfMemory);

@@ -21,6 +21,7 @@ mod closing;
 mod counting;
 mod enlisting;
 mod generations;
+pub mod laws;
 mod meeting;
 mod owner;
 mod phase_calls;

@@ -1,4 +1,7 @@
 //! A service whole: a cache is opened, clients of it work on threads of their own, and it is ended.
+ghost use Rattle.std.specs.Prelude.{◌≡◌, length, IfOk, IfErr};
+ghost use Rattle.jc_cache.specs.Clients.{HasServed, IsServeRefusal};
+
 use crate::client::Client;
 use crate::closing::Closed;
 use crate::owner::CacheOwner;
@@ -27,6 +30,7 @@ pub fn work_all<R: Threads + Wait + Sync, X: Send + Drop, S: Service<R, X> + Syn
     clients: Vec<Client<'_>>,
 ) -> Result<Vec<X>, AllocError>
     requires { Unit {0} }
+    ensures each { IfOk result (λ v. length v.items ≡ length clients.entry.items) }
 {
     thread::map_vec(
         rt,
@@ -51,6 +55,8 @@ pub fn serve<R: Threads + Wait + Sync, X: Send + Drop, S: Service<R, X> + Sync>(
     service: &S,
 ) -> Result<(Closed, Vec<X>), Refusal>
     requires { Unit {0} }
+    ensures served { IfOk result (λ r. HasServed config.now (length outside.items) r.0.stripes.items (length r.1.items)) }
+    ensures refused { IfErr result (λ r. IsServeRefusal config.now outside.items r) }
 {
     let mut owner = CacheOwner::living(alloc, config)?;
     let sessions = owner.enlist_all(alloc, outside)?;

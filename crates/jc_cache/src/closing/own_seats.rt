@@ -1,13 +1,13 @@
 //! The cache's own seats take all stripes, and learn what the sessions have seen.
 //!
 //! They are passed as a `&mut Vec<Seat>`: a seat takes no bytes, and a pointer to an element of no size in a slice gets no proof.
-ghost use Rattle.std.specs.Prelude.{ℕ, ◌≡◌, ◌≤◌, ◌+◌, ◌++◌, [], IfOk, IfErr, OnOk, All, length, map, vec_len, vec_capacity};
+ghost use Rattle.std.specs.Prelude.{ℕ, ◌≡◌, ◌≤◌, ◌+◌, ◌++◌, [], IfOk, IfErr, OnOk, All, length, map, slice_get, vec_len, vec_capacity};
 ghost use Rattle.atomic_table.specs.Seated.{TableId};
 ghost use Rattle.jc_stripe.specs.State.{IsIdle};
 ghost use Rattle.jc_lock.specs.declared.view.View.{View};
-ghost use Rattle.jc_cache.specs.Caches.{noted_by};
-ghost use Rattle.jc_cache.specs.Closing.{HasFront, all_lent, lent_at};
-ghost use Rattle.jc_cache.specs.ClosingInside.{AreAtLocks, AreIdle, HasTaken, HaveTaken, IsFreeSeat, IsRowRefusal, IsTakeRefusal, KeepSeats, KeepsSeat, KeepsOwn, Looks, OwnsSeats, Whatever};
+ghost use Rattle.jc_cache.specs.Caches.{logs_of};
+ghost use Rattle.jc_cache.specs.Closing.{AreIdle, HasFront, HasLastFound, all_lent, lent_at};
+ghost use Rattle.jc_cache.specs.ClosingInside.{AreAtLocks, HasTaken, HaveTaken, IsFreeSeat, IsRowRefusal, IsTakeRefusal, KeepSeats, KeepsSeat, KeepsOwn, Looks, OwnsSeats, Whatever};
 
 use crate::closing::ClosedStripe;
 use crate::session::Session;
@@ -20,7 +20,8 @@ fn test_idle(lock: &HistLock, seat: &mut Seat) -> Result<(), Refusal>
     requires { (seat.old.0 ≡ lock.now) × IsFreeSeat seat.old.1 }
     ensures keeps { KeepsSeat Looks seat.old seat.new }
     ensures free { IsFreeSeat seat.new.1 }
-    ensures ok { OnOk result (IsIdle seat.new.1.noted) }
+    ensures ok { OnOk result (HasLastFound seat.old.1.lendings seat.new.1.lendings seat.new.1.noted
+        × IsIdle seat.new.1.noted) }
     ensures err { IfErr result (λ r. IsTakeRefusal r seat.old.1 seat.new.1) }
 {
     let Some(stripe) = lock.try_take(seat) else {
@@ -38,7 +39,7 @@ fn test_idle(lock: &HistLock, seat: &mut Seat) -> Result<(), Refusal>
 pub(super) fn test_all_idle(locks: &[HistLock], own: &mut Vec<Seat>) -> Result<(), Refusal>
     requires { OwnsSeats locks.now own.old.items [] }
     ensures own { KeepsOwn Looks own.old.items own.new.items [] }
-    ensures ok { OnOk result (AreIdle own.new.items) }
+    ensures ok { OnOk result (AreIdle (logs_of own.old.items) (logs_of own.new.items)) }
     ensures err { IfErr result (λ r. IsRowRefusal r own.old.items own.new.items) }
 {
     for i in 0..locks.len() {
@@ -95,7 +96,7 @@ pub(super) fn take_all(
 fn give_all(locks: &[HistLock], own: &mut Vec<Seat>, stripes: Vec<ClosedStripe>)
     requires { OwnsSeats locks.now own.old.items stripes.items }
     ensures own { KeepsOwn Looks own.old.items own.new.items [] }
-    ensures noted { noted_by own.new.items ≡ noted_by own.old.items }
+    ensures rest { (i : ℕ) → length stripes.items ≤ i → slice_get own.new.items i ≡ slice_get own.old.items i }
 {
     let mut stripes = stripes;
     while let Some(closed) = stripes.pop() {

@@ -2,11 +2,11 @@ use Rattle.std.proofs.Common.{arith, rules, ◌∙◌}
 use Rattle.std.proofs.lemmas.Option.{slice_get_within}
 use Rattle.jc_cache.proofs.Rows.{length_locks}
 use Rattle.jc_cache.proofs.ClosingSeats.{keep_all, keep_set, keep_locks, own_there, free_at, free_set}
-use Rattle.jc_cache.proofs.Noted.{idle_set, row_refusal}
+use Rattle.jc_cache.proofs.Noted.{idle_logs, idle_set, row_refusal, set_get}
 use Rattle.jc_cache.proofs.closing.own_seats.test_all_idle.Goals as goal
 
 pub loop-i-init : goal.loop-i-init
-loop-i-init c = record { keeps = keep_all _ _; free = c.requires.taken; idle = λ k seat near there. absurd (omega arith) }
+loop-i-init c = record { keeps = keep_all _ _; free = c.requires.taken; idle = λ k x y near first there. absurd (omega arith) }
 
 pub test_idle-requires : goal.test_idle-requires
 test_idle-requires c =
@@ -21,7 +21,7 @@ returns-in_err-test_idle-clause-own c =
 pub returns-in_err-test_idle-clause-err : goal.returns-in_err-test_idle-clause-err
 returns-in_err-test_idle-clause-err c =
     let at = own_there _ _ _ _ c.loop-i.i _ _ c.requires.locks c.loop-i.invariant.keeps c.loop-i-test.true c.index_mut.ensures.value c.index-locks-i.is in
-    search (rules, row_refusal _ _ c.loop-i.i _ c.test_idle.new.seat _ c.loop-i.invariant.keeps at.0 c.in_err-test_idle.ensures.err)
+    search (rules, row_refusal _ _ _ c.loop-i.i _ c.test_idle.new.seat _ c.loop-i.invariant.keeps at.0 (set_get _ c.loop-i.i _ _ at.0) c.in_err-test_idle.ensures.err)
 
 pub loop-i-preserved : goal.loop-i-preserved
 loop-i-preserved c =
@@ -29,13 +29,14 @@ loop-i-preserved c =
     record {
       keeps = keep_set _ _ _ c.loop-i.i _ _ c.loop-i.invariant.keeps at.0 c.test_idle.ensures.keeps;
       free = free_set _ c.loop-i.i _ c.loop-i.invariant.free c.test_idle.ensures.free;
-      idle = idle_set _ c.loop-i.i _ _ c.loop-i.invariant.idle at.0 c.in_ok-test_idle.ensures.ok;
+      idle = idle_set _ _ c.loop-i.i _ _ c.loop-i.invariant.keeps c.loop-i.invariant.idle at.0 c.in_ok-test_idle.ensures.ok;
     }
 
 pub returns-clause-ok : goal.returns-clause-ok
 returns-clause-ok c =
     let i = c.loop-i.invariant in
     let long = length_locks _ _ (keep_locks _ _ _ i.keeps ∙ c.requires.locks) in
-    λ k seat there. let near = slice_get_within _ k seat there in
-    let past = c.loop-i-test.false in
-    i.idle k seat (omega arith) there
+    idle_logs _ _ (λ k x y first there.
+        let near = slice_get_within _ k y there in
+        let past = c.loop-i-test.false in
+        i.idle k x y (omega arith) first there)

@@ -7,5 +7,5 @@ abbrev pub invariant-loop-i : goal.invariant-loop-i
 invariant-loop-i l = record {
   keeps : KeepSeats Looks l.initial.own.items l.own.items;
   free : HaveTaken l.own.items [];
-  idle : AreIdleBelow l.i l.own.items;
+  idle : AreIdleBelow l.i l.initial.own.items l.own.items;
 }

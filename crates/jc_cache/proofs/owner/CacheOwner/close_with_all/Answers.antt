@@ -38,6 +38,6 @@ pub returns-in-Err-clause-err : goal.returns-in-Err-clause-err
 returns-in-Err-clause-err g c =
     let all = c.requires.all ∙ sym (ap (λ (owner : OwnerState). owner.given) c.self.view_is) in
     record {
-      why = why c.args.self _ _ _ c.self.inside.seats.items c.take_stripes.new.own.items c.requires.all refl (sym (ap (λ (o : OwnerState). o.logs) c.self.view_is)) refl c.in-Err.ensures.err.1;
+      why = why c.args.self _ _ _ c.self.inside.seats.items c.take_stripes.new.own.items c.requires.all (sym (ap (λ (o : OwnerState). o.logs) c.self.view_is)) refl c.in-Err.ensures.err.1;
       back = rw (← c.self.view_is) (back _ _ c.self.inside.seats.items c.take_stripes.new.own.items refl refl refl refl refl refl refl refl c.take_stripes.ensures.keeps, refl);
     }

@@ -25,6 +25,6 @@ returns-in-Ok-clause-ok g c = record {
 
 pub returns-in-Err-clause-err : goal.returns-in-Err-clause-err
 returns-in-Err-clause-err g c = record {
-  why = why_ended c.args.self (record { cache = c.self.inside.cache; given = c.self.inside.given; noted = noted_by c.take_stripes.new.own.items; fronts = fronts_of c.take_stripes.new.own.items; logs = logs_of c.take_stripes.new.own.items }) _ c.self.inside.seats.items c.take_stripes.new.own.items refl (sym (ap (λ (o : OwnerState). o.logs) c.self.view_is)) refl c.in-Err.ensures.err.1;
+  why = why_ended c.args.self (record { cache = c.self.inside.cache; given = c.self.inside.given; noted = noted_by c.take_stripes.new.own.items; fronts = fronts_of c.take_stripes.new.own.items; logs = logs_of c.take_stripes.new.own.items }) _ c.self.inside.seats.items c.take_stripes.new.own.items (sym (ap (λ (o : OwnerState). o.logs) c.self.view_is)) refl c.in-Err.ensures.err.1;
   back = rw (← c.self.view_is) (back _ _ c.self.inside.seats.items c.take_stripes.new.own.items refl refl refl refl refl refl refl refl c.take_stripes.ensures.keeps, c.new.ensures.items);
 }

@@ -1,0 +1,22 @@
+use Rattle.std.proofs.Common.{◌∙◌, ap, length, rules, subst, sym}
+use Rattle.std.proofs.lemmas.List.{length-map}
+use Rattle.jc_cache.specs.Caches.{OwnerState}
+use Rattle.jc_cache.specs.Closing.{AreClosed}
+use Rattle.jc_cache.specs.Clients.{IsServeRefusal}
+use Rattle.jc_cache.proofs.Served.{all_given, as_many, err_is, not_enlisted, not_ended}
+use Rattle.jc_cache.proofs.serving.serve.Goals as goal
+
+pub returns-in_err-sessions-clause-refused : goal.returns-in_err-sessions-clause-refused
+returns-in_err-sessions-clause-refused g c = let told = not_enlisted c.args.config.now c.in_ok-owner.owner c.enlist_all.new.self c.args.outside.items _ c.in_ok-owner.ensures.ok c.in_err-sessions.ensures.err in
+    err_is c.from_residual-in_err-sessions.result _ _ (λ refusal is. subst (IsServeRefusal c.args.config.now c.args.outside.items) (sym is) told) c.from_residual-in_err-sessions.ensures.1
+
+pub returns-in-Ok-end-clause-served : goal.returns-in-Ok-end-clause-served
+returns-in-Ok-end-clause-served g c = record {
+  opened = c.in_ok-owner.owner;
+  opens = c.in_ok-owner.ensures.ok;
+  closed = subst (λ (owner : OwnerState). AreClosed owner c.in-Ok-end.closed.stripes.items) (all_given c.args.config.now c.in_ok-owner.owner c.enlist_all.new.self c.args.outside.items _ c.in_ok-owner.ensures.ok c.in_ok-sessions.ensures.ok) c.in-Ok-end.ensures.ok.closed;
+  each = c.in-Ok-work_all.ensures.each ∙ sym (length-map c.in-Ok.clients.items (λ client. client.session)) ∙ ap length c.in-Ok.ensures.sessions ∙ as_many c.in_ok-owner.owner c.enlist_all.new.self c.args.outside.items _ c.in_ok-sessions.ensures.ok;
+}
+
+pub returns-in-Err-clause-refused : goal.returns-in-Err-clause-refused
+returns-in-Err-clause-refused g c = not_ended c.args.config.now c.in_ok-owner.owner c.enlist_all.new.self c.in-Err.fault.owner c.args.outside.items _ _ c.in_ok-owner.ensures.ok c.in_ok-sessions.ensures.ok c.in-Err.ensures.err.why
