@@ -1,8 +1,10 @@
 -- Lemmas for the crates above: in which state a step was made, and on which entry; what a whole history leaves.
 --     next_place     the place of a step that is appended is the next one
 --     shown_same     a processor's call: the entry is the same in the state in which it was committed as in the one that was found first
---     asks_first     a processor's call that has somebody to ask asks its processor, on the entry that was found
---     not_done       and is not done before
+--     no_done, no_join
+--                    it is not done by its first phase, and joins no load
+--     row_append .. picks_phase
+--                    rows of lendings (`Rows`)
 --     reached_cache  what is cached is what the whole history leaves of the first opening
 use Rattle.std.proofs.Common.{◌≡◌, ◌==◌, ◌&&◌, ◌+◌, ◌++◌, ◌∷◌, map, inl, inr, ℕ, Bool, true, false, if◌then◌else◌, Option, None, Some, is_some, is_none, List, length, slice_get, append_assoc, refl, sym, ap, subst, ◌∙◌, arith}
 use Rattle.std.proofs.lemmas.List.{length-append}
@@ -17,7 +19,6 @@ use Rattle.jc_model.specs.declared.event.Event.TheVariants.{Evict}
 use Rattle.jc_model.specs.declared.event.Op.{Op}
 use Rattle.jc_model.specs.declared.event.Op.TheVariants.{Invoke}
 use Rattle.jc_model.specs.declared.event.Out.{Out}
-use Rattle.jc_model.specs.declared.event.Reply.{Reply}
 use Rattle.jc_stripe.specs.State.{State, is_key}
 use Rattle.jc_stripe.specs.Generations.{past_events, whole_history, whole_place}
 use Rattle.jc_stripe.specs.OrderOfUse.{least_used}
@@ -25,20 +26,14 @@ use Rattle.jc_stripe.specs.Reached.{IsReached}
 use Rattle.jc_stripe.specs.Tickets.{TicketClaim, entry_seen}
 use Rattle.jc_stripe.specs.Refusals.{first_asked}
 use Rattle.jc_stripe.specs.Phases.{Commits, Steps, new_group}
-use Rattle.jc_stripe.specs.declared.begun.Begun.{Begun}
-use Rattle.jc_stripe.specs.declared.begun.Begun.TheVariants as begun
 use Rattle.jc_stripe.specs.declared.begun.StepDone.{StepDone}
-use Rattle.jc_stripe.specs.declared.ticket.First.{First as Whom}
-use Rattle.jc_stripe.specs.declared.ticket.First.TheVariants as first
 use Rattle.jc_stripe.specs.declared.ticket.Reservation.{Reservation}
 use Rattle.jc_stripe.proofs.Beside.{ask_found}
 use Rattle.jc_stripe.proofs.SharedSteps.{stands_at}
-use Rattle.jc_engine.specs.Entering.{Entered}
-use Rattle.jc_engine.specs.Entering as entered
-use Rattle.jc_engine.specs.Needs.{Starts}
-use Rattle.jc_engine.specs.Calls.{EntersAs}
 use Rattle.jc_engine.specs.MadeIn.{IsNext}
 pub use Rattle.jc_engine.proofs.Increments.{reached_cache}
+pub use Rattle.jc_engine.proofs.Rows.{Keeps, all_append, all_map, asked_keeps, commits_phase, joined_keeps, picks_phase, rejoins_keep, row_split, start_keeps, starts_phase, turn_keeps, turn_map, waited_keeps}
+pub use Rattle.jc_engine.proofs.Unasked.{no_done, no_join}
 
 -- 1. The place of a step.
 
@@ -74,12 +69,6 @@ next_place old new caller key op out callers done x =
 
 -- 2. The entry that a processor is shown.
 
--- whom an entered call asks first
-abbrev first_of : Entered → Whom
-first_of (entered.Done reply) = first.Nobody
-first_of (entered.Refused refusal) = first.Nobody
-first_of (entered.Asks ticket) = ticket.reservation.first
-
 -- what a processor's reservation asks is the entry
 pub shown_same : (before : State) (caller : Caller) (key : Bytes) (ticket : TicketClaim) (first : State) (out : Out) (done : StepDone) (after : State) → IsReached before → Commits before ticket.reservation out done after
     → ticket.reservation.key ≡ key → ticket.reservation.op ≡ Invoke → first_asked first.config Invoke (entry_at first.cache key) ≡ ticket.reservation.first
@@ -89,21 +78,3 @@ shown_same before caller key ticket first out done after reached commits key_is 
     let now : first_asked before.config r.op (entry_at before.cache r.key) ≡ r.first = ask_found before.config before.cache (is_key r.key) before.reservations r commits.0 reached.asks in
     let here : first_asked before.config Invoke (entry_at before.cache key) ≡ r.first = subst (λ (p : Op × Bytes). first_asked before.config p.0 (entry_at before.cache p.1) ≡ r.first) (λ i. (op_is i, key_is i)) now in
     ap entry_seen (here ∙ sym asks)
-
-module _ {G T : Type 0} (takes gives : G → T → State → G → T → Type 0) (finds : G → T → State → Type 0) where
-  -- a processor's call that has somebody to ask asks its processor, on the entry that was found
-  pub asks_first : (caller : Caller) (key : Bytes) (b : Begun) (ticket : TicketClaim) (before after : State) (g : G) (t : T) (h : G) (u : T)
-      → Starts caller key Invoke b before after → EntersAs takes gives finds caller key Invoke b (entered.Asks ticket) g t h u
-      → first_asked before.config Invoke (entry_at before.cache key) ≡ ticket.reservation.first
-  asks_first caller key (begun.Done done) ticket before after g t h u s ends = let bad = ends.0 in cc
-  asks_first caller key (begun.Refused refusal) ticket before after g t h u s ends = let bad = ends.0 in cc
-  asks_first caller key (begun.Asks mine) ticket before after g t h u s ends = s.first.begins.2 ∙ sym (ap first_of ends.0)
-  asks_first caller key (begun.Joined join) ticket before after g t h u s ends = let bad = ends.3 in cc
-
-  -- and is not done before
-  pub not_done : (caller : Caller) (key : Bytes) (b : Begun) (reply : Reply) (before after : State) (g : G) (t : T) (h : G) (u : T)
-      → Starts caller key Invoke b before after → EntersAs takes gives finds caller key Invoke b (entered.Done reply) g t h u → ⊥
-  not_done caller key (begun.Done done) reply before after g t h u s ends = let bad = s.first.begins.1 in cc
-  not_done caller key (begun.Refused refusal) reply before after g t h u s ends = let bad = ends.0 in cc
-  not_done caller key (begun.Asks mine) reply before after g t h u s ends = let bad = ends.0 in cc
-  not_done caller key (begun.Joined join) reply before after g t h u s ends = let bad = s.first.begins.1 in cc

@@ -1,6 +1,6 @@
 pub mod Beginning
-pub mod Chains
-pub mod Coming
+pub mod Rows
+pub mod Tries
 pub mod Rounds
 pub mod AgentAfter
 pub mod Asked
@@ -11,7 +11,6 @@ pub mod Processing
 pub mod Unasked
 pub mod Wanted
 pub mod Later
-pub mod NotMade
 pub mod Counted
 pub mod CallerLemmas
 pub mod Increments

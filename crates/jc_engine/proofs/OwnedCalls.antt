@@ -1,16 +1,17 @@
 -- A whole call on a stripe that nobody else has.
 --     there_is      the stripe that the owner has
---     owner_at      the one phase leads from what the owner had to what it has
---     no_retries    nobody is told to retry on an idle stripe
+--     turn_at       one turn leads from what the owner had to what it has
+--     no_rejoins    nobody is told to retry on an idle stripe
 --     ends_owned    how the call ends there
 --     owned_call    the whole call
-use Rattle.std.proofs.Common.{◌≡◌, ◌+◌, ◌∙◌, ℕ, zero, suc, List, [], ◌∷◌, Bool, true, false, cond, Option, Some, None, IsSome, Result, Ok, Err, refl, sym, ap, subst}
+use Rattle.std.proofs.Common.{◌≡◌, ◌⊎◌, ⊎_elim, ◌+◌, ◌∙◌, ℕ, zero, suc, List, [], ◌∷◌, Bool, true, false, cond, Option, Some, None, IsSome, Result, refl, sym, ap, subst}
 use Rattle.std.proofs.lemmas.Option.{same_Some}
 use Rattle.jc_types.specs.declared.caller.Caller.{Caller}
 use Rattle.jc_types.specs.declared.refusal.Refusal.{Refusal}
 use Rattle.jc_model.specs.Cache.{Bytes, entry_at}
 use Rattle.jc_model.specs.Group.{nothing_said}
 use Rattle.jc_model.specs.declared.event.Op.{Op}
+use Rattle.jc_model.specs.declared.event.Op.TheVariants.{Get}
 use Rattle.jc_model.specs.declared.event.Out.{Out}
 use Rattle.jc_model.specs.declared.event.Reply.{Reply}
 use Rattle.jc_outside.specs.Calling.{LoadRelation, WriteRelation}
@@ -25,18 +26,17 @@ use Rattle.jc_stripe.specs.Refusals.{first_asked, load_joined, reserves}
 use Rattle.jc_stripe.specs.Phases.{Steps, Begins, Commits}
 use Rattle.jc_stripe.specs.Reached.{IsReached}
 use Rattle.jc_stripe.specs.OwnSteps.{WholeCall, JoinsOnlyLoads}
-use Rattle.jc_stripe.proofs.CallerLemmas.{stays_alone}
+use Rattle.jc_stripe.proofs.CallerLemmas.{stays_alone, stays_or_renews}
 use Rattle.jc_session.specs.declared.agent.Agent.{Agent}
-use Rattle.jc_gate.specs.Lending.{Lent}
 use Rattle.jc_gate.specs.Owned.{OwnerState}
-use Rattle.jc_engine.specs.Chain.{AllQuiet, LentPhase, Turn}
-use Rattle.jc_engine.specs.Turns.{committing, starting}
-use Rattle.jc_engine.specs.Needs.{Starts}
-use Rattle.jc_engine.specs.Calls.{Retries, EntersAs, Enters, EndsAs, IsCall}
+use Rattle.jc_engine.specs.Rows.{AllLend, IsTurn, Row, Turn}
+use Rattle.jc_engine.specs.Doors.{HasWaited}
+use Rattle.jc_engine.specs.Turns.{AreRejoins, EndsBy, IsCallRow, StartWaits, committing, starting, state_found}
+use Rattle.jc_engine.specs.Needs.{HasMissed, Starts}
+use Rattle.jc_engine.specs.declared.first.How.TheVariants.{Waits}
+use Rattle.jc_engine.specs.Calls.{IsCall}
 use Rattle.jc_engine.specs.Owned.{next_after, OneStep, EndsCall, IsOwnedCall}
-use Rattle.jc_engine.specs.Entering.{Entered}
-use Rattle.jc_engine.specs.Entering as entered
-use Rattle.jc_engine.proofs.Asked.{asked_by, asks_first}
+use Rattle.jc_engine.proofs.Rows.{all_map, row_split}
 
 -- 1. One phase.
 
@@ -49,17 +49,34 @@ owner_gives g t b h u = h.here ≡ Some b
 abbrev pub owner_finds : {T : Type 0} → OwnerState → T → State → Type 0
 owner_finds g t a = g.here ≡ Some a
 
-module _ {T : Type 0} where
-  idle_stays : (g : OwnerState) (t : T) (ps : List (State × State)) (h : OwnerState) (u : T) (a : State) → g.here ≡ Some a → a.lives ≡ false → Lent owner_takes owner_gives g t ps h u → AllQuiet ps → h.here ≡ Some a
+-- a stripe that doesn't live on stays
+abbrev StaysAlone : State → State → Type 0
+StaysAlone a b = a.lives ≡ false → b ≡ a
+
+waited_stays : (due puts_off : State → Type 0) (a b : State) → HasWaited due puts_off a b → StaysAlone a b
+waited_stays due puts_off a b x alone = stays_alone a b alone (stays_or_renews a b x.renewed)
+
+start_stays : (caller : Caller) (key : Bytes) (op : Op) (a b : State) → StartWaits Waits caller key op a b ⊎ ((op ≡ Get) × HasMissed caller key a b) → StaysAlone a b
+start_stays caller key op a b = ⊎_elim (λ waited. waited_stays _ _ a b waited) (λ missed alone. missed.1.same)
+
+module _ {T : Type 0} (session : ℕ) where
+  abbrev OwnerRow : OwnerState → T → List (State × State) → OwnerState → T → Type 0
+  OwnerRow g t row h u = Row owner_takes owner_gives owner_finds session g t row h u
+
+  idle_stays : (g : OwnerState) (t : T) (ps : List (State × State)) (h : OwnerState) (u : T) (a : State) → g.here ≡ Some a → a.lives ≡ false → OwnerRow g t ps h u → AllLend StaysAlone ps → h.here ≡ Some a
   idle_stays g t [] h u a is alone row all = ap (λ (o : OwnerState). o.here) row.0 ∙ is
   idle_stays g t (p ∷ ps) h u a is alone row all =
-      let found : p.0 ≡ a = same_Some p.0 a (sym row.2.took.0 ∙ is) in
-      let left : p.1 ≡ p.0 = stays_alone p.0 p.1 (ap (λ (s : State). s.lives) found ∙ alone) all.0.stays in
-      idle_stays row.0 row.1 ps h u a (row.2.gave ∙ ap (λ (z : State). Some z) (left ∙ found)) alone row.3 all.1
+      let found : p.0 ≡ a = same_Some p.0 a (sym row.2.finds_it ∙ is) in
+      let left : p.1 ≡ p.0 = all.0 (ap (λ (s : State). s.lives) found ∙ alone) in
+      idle_stays row.0 row.1 ps h u a (row.2.lends.gave ∙ ap (λ (z : State). Some z) (left ∙ found)) alone row.3 all.1
 
-  pub owner_at : (who : ℕ) (g : OwnerState) (t : T) (turn : Turn) (h : OwnerState) (u : T) (a : State) → g.here ≡ Some a → a.lives ≡ false
-      → (x : LentPhase owner_takes owner_gives owner_finds who g t turn h u) → (x.before ≡ a) × (h.here ≡ Some x.after)
-  owner_at who g t turn h u a is alone x = (same_Some x.before a (sym x.lent.took.0 ∙ idle_stays g t x.rests.idle x.gate x.token a is alone x.rests.lent x.rests.quiet), x.lent.gave)
+  turn_at : (turn : Turn) → ((a b : State) → turn.waits a b → StaysAlone a b) → (g : OwnerState) (t : T) (row : List (State × State)) (h : OwnerState) (u : T) (a : State) → g.here ≡ Some a → a.lives ≡ false
+      → OwnerRow g t row h u → (x : IsTurn turn row) → (x.found ≡ a) × (h.here ≡ Some x.left) × IsReached x.found
+  turn_at turn waits g t row h u a is alone lent x =
+      let parts = row_split owner_takes owner_gives owner_finds session g t x.waits ((x.found, x.left) ∷ []) h u (subst (λ (ps : List (State × State)). OwnerRow g t ps h u) x.row_is lent) in
+      let there = idle_stays g t x.waits parts.0 parts.1 a is alone parts.2 (all_map turn.waits StaysAlone x.waits waits x.waited) in
+      let last = parts.3 in
+      (same_Some x.found a (sym last.2.finds_it ∙ there), ap (λ (o : OwnerState). o.here) last.3.0 ∙ last.2.lends.gave, last.2.lends.reached)
 
 pub there_is : (owner : Option State) → IsSome owner → (a : State) × (owner ≡ Some a)
 there_is None there = cc
@@ -79,17 +96,19 @@ none_joined : (a : State) (key : Bytes) (op : Op) → IsIdle a → load_joined a
 none_joined a key op idle = (λ i. load_joined (record a { reservations = idle.reservations i }) key op) ∙ either_way _ None
 
 module _ {T : Type 0} (law : JoinsOnlyLoads) (caller : Caller) (key : Bytes) (op : Op) where
-  none_joins : (join : JoinClaim) (g : OwnerState) (t : T) (h : OwnerState) (u : T) (a : State) → g.here ≡ Some a → IsAlone a
-      → LentPhase owner_takes owner_gives owner_finds caller.session g t (starting caller key op (begun.Joined join)) h u → ⊥
-  none_joins join g t h u a is idle x =
-      let at = owner_at caller.session g t (starting caller key op (begun.Joined join)) h u a is idle.1 x in
-      law x.before x.after caller key op join (none_joined x.before key op (subst IsIdle (sym at.0) idle.0)) x.made.first.begins
+  none_joins : (join : JoinClaim) (g : OwnerState) (t : T) (row : List (State × State)) (h : OwnerState) (u : T) (a : State) → g.here ≡ Some a → IsAlone a
+      → OwnerRow caller.session g t row h u → IsTurn (starting caller key op (begun.Joined join)) row → ⊥
+  none_joins join g t row h u a is idle lent x =
+      let at = turn_at caller.session (starting caller key op (begun.Joined join)) (start_stays caller key op) g t row h u a is idle.1 lent x in
+      law x.found x.left caller key op join (none_joined x.found key op (subst IsIdle (sym at.0) idle.0)) x.made.first.begins
 
-  pub no_retries : (n : ℕ) (g : OwnerState) (t : T) (h : OwnerState) (u : T) (a : State) → g.here ≡ Some a → IsAlone a
-      → Retries owner_takes owner_gives owner_finds caller key op n g t h u → h.here ≡ Some a
-  no_retries zero g t h u a is idle rounds = ap (λ (o : OwnerState). o.here) rounds.0 ∙ is
-  no_retries (suc n) g t h u a is idle rounds =
-      absurd (none_joins rounds.3.join rounds.0 rounds.1 rounds.3.gate rounds.3.token a (no_retries n g t rounds.0 rounds.1 a is idle rounds.2) idle rounds.3.joined)
+  no_rejoins : (n : ℕ) (g : OwnerState) (t : T) (row : List (State × State)) (h : OwnerState) (u : T) (a : State) → g.here ≡ Some a → IsAlone a → OwnerRow caller.session g t row h u → AreRejoins caller key op n row → h.here ≡ Some a
+  no_rejoins zero g t row h u a is idle lent x = let same = subst (λ (ps : List (State × State)). OwnerRow caller.session g t ps h u) x lent in ap (λ (o : OwnerState). o.here) same.0 ∙ is
+  no_rejoins (suc n) g t row h u a is idle lent x =
+      let parts = row_split owner_takes owner_gives owner_finds caller.session g t x.0 x.1 h u (subst (λ (ps : List (State × State)). OwnerRow caller.session g t ps h u) x.2 lent) in
+      let last = x.4 in
+      let joins = row_split owner_takes owner_gives owner_finds caller.session parts.0 parts.1 last.joins last.retries h u (subst (λ (ps : List (State × State)). OwnerRow caller.session parts.0 parts.1 ps h u) last.row_is parts.3) in
+      absurd (none_joins last.join parts.0 parts.1 last.joins joins.0 joins.1 a (no_rejoins n g t x.0 parts.0 parts.1 a is idle parts.2 x.3) idle joins.2 last.joined)
 
 -- 3. One step.
 
@@ -109,72 +128,42 @@ reserved_step law a m c caller key op ticket out done reached begins commits =
 
 -- 4. How the call ends.
 
-reply_or : Reply → Entered → Reply
-reply_or reply (entered.Done other) = other
-reply_or reply (entered.Refused refusal) = reply
-reply_or reply (entered.Asks ticket) = reply
+module _ {T : Type 0} (whole : WholeCall) (joins : JoinsOnlyLoads) (caller : Caller) (key : Bytes) (op : Op) where
+  -- from the state that the first phase left
+  ends_from : (b : Begun) (asked : Out) (ended : Result Reply Refusal) (first next : State) (g : OwnerState) (t : T) (row : List (State × State)) (h : OwnerState) (u : T) → ((join : JoinClaim) → b ≡ begun.Joined join → ⊥)
+      → IsReached first → first.lives ≡ false → Starts caller key op b first next → g.here ≡ Some next → OwnerRow caller.session g t row h u → EndsBy b asked ended row → (c : State) × (h.here ≡ Some c) × EndsCall first caller key op asked ended c
+  ends_from (begun.Done done) asked ended first next g t row h u alone reached lives made is lent ends =
+      let same = subst (λ (ps : List (State × State)). OwnerRow caller.session g t ps h u) ends.2 lent in (
+        next,
+        ap (λ (o : OwnerState). o.here) same.0 ∙ is,
+        subst (λ (z : Out × Result Reply Refusal). EndsCall first caller key op z.0 z.1 next) (λ i. (sym ends.1 i, sym ends.0 i)) (made.first.begins.0, done_step first next caller key op done made.first.begins),
+      )
+  ends_from (begun.Refused refusal) asked ended first next g t row h u alone reached lives made is lent ends =
+      let same = subst (λ (ps : List (State × State)). OwnerRow caller.session g t ps h u) ends.2 lent in (
+        next,
+        ap (λ (o : OwnerState). o.here) same.0 ∙ is,
+        subst (λ (z : Out × Result Reply Refusal). EndsCall first caller key op z.0 z.1 next) (λ i. (sym ends.1 i, sym ends.0 i)) (made.first.begins.0, refl, made.first.begins.1),
+      )
+  ends_from (begun.Asks ticket) asked ended first next g t row h u alone reached lives made is lent ends =
+      let begins = made.first.begins in
+      let x = ends.2 in
+      let at = turn_at caller.session (committing ticket.reservation asked ends.0) (waited_stays _ _) g t row h u next is (ap (λ (s : State). s.lives) begins.5 ∙ lives) lent x in
+      let commits = subst (λ (z : State). Commits z ticket.reservation asked ends.0 x.left) at.0 x.made in
+      (x.left, at.1, subst (λ (z : Result Reply Refusal). EndsCall first caller key op asked z x.left) (sym ends.1) (begins.0, reserved_step whole first next x.left caller key op ticket asked ends.0 reached begins commits))
+  ends_from (begun.Joined join) asked ended first next g t row h u alone reached lives made is lent ends = absurd (alone join refl)
 
-refusal_or : Refusal → Entered → Refusal
-refusal_or refusal (entered.Done reply) = refusal
-refusal_or refusal (entered.Refused other) = other
-refusal_or refusal (entered.Asks ticket) = refusal
-
-module _ {T : Type 0} (caller : Caller) (key : Bytes) (op : Op) where
-  -- a call that is done, or refused, at once
-  done_by : (b : Begun) (reply : Reply) (m : OwnerState) (w : T) (k : OwnerState) (v : T) (a c : State) → ((join : JoinClaim) → b ≡ begun.Joined join → ⊥) → Starts caller key op b a c
-      → EntersAs owner_takes owner_gives owner_finds caller key op b (entered.Done reply) m w k v → EndsCall a caller key op nothing_said (Ok reply) c × (k ≡ m)
-  unfolding reply_or
-  done_by (begun.Done done) reply m w k v a c alone made ends =
-      (subst (λ (z : Reply). EndsCall a caller key op nothing_said (Ok z) c) (ap (reply_or reply) (sym ends.0)) (made.first.begins.0, done_step a c caller key op done made.first.begins), ends.1)
-  done_by (begun.Refused refusal) reply m w k v a c alone made ends = let e = ends.0 in cc
-  done_by (begun.Asks ticket) reply m w k v a c alone made ends = let e = ends.0 in cc
-  done_by (begun.Joined join) reply m w k v a c alone made ends = absurd (alone join refl)
-
-  refused_by : (b : Begun) (refusal : Refusal) (m : OwnerState) (w : T) (k : OwnerState) (v : T) (a c : State) → Starts caller key op b a c
-      → EntersAs owner_takes owner_gives owner_finds caller key op b (entered.Refused refusal) m w k v → EndsCall a caller key op nothing_said (Err refusal) c × (k ≡ m)
-  unfolding refusal_or
-  refused_by (begun.Done done) refusal m w k v a c made ends = let e = ends.0 in cc
-  refused_by (begun.Refused other) refusal m w k v a c made ends =
-      (subst (λ (z : Refusal). EndsCall a caller key op nothing_said (Err z) c) (ap (refusal_or refusal) (sym ends.0)) (made.first.begins.0, refl, made.first.begins.1), ends.1)
-  refused_by (begun.Asks ticket) refusal m w k v a c made ends = let e = ends.0 in cc
-  refused_by (begun.Joined join) refusal m w k v a c made ends = let e = ends.3 in cc
-
-  pub ends_owned : WholeCall → JoinsOnlyLoads → (met : Entered) (out : Out) (ended : Result Reply Refusal) (g : OwnerState) (t : T) (k : OwnerState) (v : T) (h : OwnerState) (u : T) (a : State) → g.here ≡ Some a → IsAlone a
-      → (x : Enters owner_takes owner_gives owner_finds caller key op g t met k v) → EndsAs owner_takes owner_gives owner_finds caller key op met out ended k v h u
-      → (x.first.before ≡ a) × (c : State) × (h.here ≡ Some c) × EndsCall x.first.before caller key op out ended c
-  ends_owned whole joins (entered.Done reply) out ended g t k v h u a is idle x ends =
-      let there = no_retries joins caller key op x.rounds g t x.gate x.token a is idle x.retried in
-      let at = owner_at caller.session x.gate x.token (starting caller key op x.begun) x.gate' x.token' a there idle.1 x.first in
+  pub ends_owned : (asked : Out) (ended : Result Reply Refusal) (g : OwnerState) (t : T) (row : List (State × State)) (h : OwnerState) (u : T) (a : State) → g.here ≡ Some a → IsAlone a → OwnerRow caller.session g t row h u
+      → (x : IsCallRow caller key op asked ended row) → (state_found x ≡ a) × (c : State) × (h.here ≡ Some c) × EndsCall (state_found x) caller key op asked ended c
+  ends_owned asked ended g t row h u a is idle lent x =
+      let start = x.begins in
+      let parts = row_split owner_takes owner_gives owner_finds caller.session g t x.start x.last h u (subst (λ (ps : List (State × State)). OwnerRow caller.session g t ps h u) x.row_is lent) in
+      let first = row_split owner_takes owner_gives owner_finds caller.session g t start.rejoins start.first parts.0 parts.1 (subst (λ (ps : List (State × State)). OwnerRow caller.session g t ps parts.0 parts.1) start.row_is parts.2) in
+      let there = no_rejoins joins caller key op start.rounds g t start.rejoins first.0 first.1 a is idle first.2 start.rejoined in
+      let at = turn_at caller.session (starting caller key op x.begun) (start_stays caller key op) first.0 first.1 start.first parts.0 parts.1 a there idle.1 first.3 start.starts in
       let alone : (join : JoinClaim) → x.begun ≡ begun.Joined join → ⊥ =
-      λ join e. none_joins joins caller key op join x.gate x.token x.gate' x.token' a there idle (subst (λ (b : Begun). LentPhase owner_takes owner_gives owner_finds caller.session x.gate x.token (starting caller key op b) x.gate' x.token') e x.first) in
-      let done = done_by x.begun reply x.gate' x.token' k v x.first.before x.first.after alone x.first.made x.ends in (
-        at.0,
-        x.first.after,
-        ap (λ (o : OwnerState). o.here) (ends.2 ∙ done.1) ∙ at.1,
-        subst (λ (z : Out × Result Reply Refusal). EndsCall x.first.before caller key op z.0 z.1 x.first.after) (λ i. (sym ends.1 i, sym ends.0 i)) done.0,
-      )
-  ends_owned whole joins (entered.Refused refusal) out ended g t k v h u a is idle x ends =
-      let there = no_retries joins caller key op x.rounds g t x.gate x.token a is idle x.retried in
-      let at = owner_at caller.session x.gate x.token (starting caller key op x.begun) x.gate' x.token' a there idle.1 x.first in
-      let done = refused_by x.begun refusal x.gate' x.token' k v x.first.before x.first.after x.first.made x.ends in (
-        at.0,
-        x.first.after,
-        ap (λ (o : OwnerState). o.here) (ends.2 ∙ done.1) ∙ at.1,
-        subst (λ (z : Out × Result Reply Refusal). EndsCall x.first.before caller key op z.0 z.1 x.first.after) (λ i. (sym ends.1 i, sym ends.0 i)) done.0,
-      )
-  ends_owned whole joins (entered.Asks ticket) out ended g t k v h u a is idle x ends =
-      let there = no_retries joins caller key op x.rounds g t x.gate x.token a is idle x.retried in
-      let at = owner_at caller.session x.gate x.token (starting caller key op x.begun) x.gate' x.token' a there idle.1 x.first in
-      let first = asks_first owner_takes owner_gives owner_finds caller key op ticket g t k v x in
-      let same = asked_by owner_takes owner_gives owner_finds caller key op x.begun ticket x.gate' x.token' k v x.ends in
-      let last = owner_at ticket.reservation.caller.session k v (committing ticket.reservation out ends.0) h u x.first.after (ap (λ (o : OwnerState). o.here) same.1 ∙ at.1) (ap (λ (s : State). s.lives) first.first.begins.5 ∙ ap (λ (s : State). s.lives) at.0 ∙ idle.1) ends.2 in
-      let commits = subst (λ (z : State). Commits z ticket.reservation out ends.0 ends.2.after) last.0 ends.2.made in (
-        at.0,
-        ends.2.after,
-        last.1,
-        subst (λ (z : Result Reply Refusal). EndsCall x.first.before caller key op out z ends.2.after) (sym ends.1)
-            (first.first.begins.0, reserved_step whole x.first.before x.first.after ends.2.after caller key op ticket out ends.0 x.first.lent.reached first.first.begins commits),
-      )
+      λ join e. none_joins joins caller key op join first.0 first.1 start.first parts.0 parts.1 a there idle first.3 (subst (λ (b : Begun). IsTurn (starting caller key op b) start.first) e start.starts) in
+      let ends = ends_from x.begun asked ended start.starts.found start.starts.left parts.0 parts.1 x.last h u alone at.2 (ap (λ (s : State). s.lives) at.0 ∙ idle.1) start.starts.made at.1 parts.3 x.ends in
+      (at.0, ends.0, ends.1, ends.2)
 
 -- 5. The whole.
 
@@ -185,9 +174,9 @@ module _ {I J T : Type 0} {D : I → Type 0} {E : J → Type 0}
       → IsCall loads load_state writes write_state owner_takes owner_gives owner_finds old key op g t ended new h u
       → IsOwnedCall loads load_state writes write_state old key op g.here ended new h.here
   owned_call whole joins old new key op g t ended h u a is idle x =
-      let ends = ends_owned old.caller key op whole joins x.met x.asked ended g t x.gate x.token h u a is idle x.enters x.ends in
+      let ends = ends_owned whole joins old.caller key op x.asked ended g t x.row h u a is idle x.lent x.did in
       record {
-        before = x.enters.first.before;
+        before = state_found x.did;
         after = ends.1;
         out = x.asked;
         was = is ∙ ap (λ (s : State). Some s) (sym ends.0);

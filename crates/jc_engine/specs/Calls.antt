@@ -3,14 +3,7 @@
 --                     live, and the session's own steps there let the call come; with write-through on there, the agent has a writer
 --     MayEnd          an agent may have a ticket's call answered and committed: the ticket has asked nobody and is of its session; each
 --                     state in which a take may find the stripe is live; if the writer is asked first, the agent has one
---     Rejoins         a round in which the call joined a load and was told to retry
---     Retries         so many such rounds, one after another
---     EntersAs        how a first phase goes on until the call is done, refused, or has somebody to ask: a call that has joined a load picks
---                     its answer up
---     Enters          a call up to there: rounds in which it was told to retry, and a last one, whose first phase found what comes after
---                     what a take could have found at first
---     counts_entered  the counts up to there: a step more, a reservation more, or nothing
---     EndsAs          how it goes on from there: if it has somebody to ask, it is committed with what was answered
+--     Enters          a call up to where it is done, refused, or has somebody to ask: a row of lendings
 --     AsksAndEnds     a call from where it has somebody to ask: the loader or the writer is asked, and then the step is committed
 --     IsCall          a whole call
 --     IsInvocation    a whole call that runs a processor, which stays of its type
@@ -19,12 +12,11 @@
 --     TriesTo         such a call's first phase, at the first try, or at the second if a generation stood in the way of the first
 --     IsTried         such a call: it is done at once or refused in the one state that it found, or it is refused as busy
 use Rattle.std.specs.declared.dyn_box.DynBox.{DynBox}
-use Rattle.std.specs.Prelude.{◌≡◌, ◌⊎◌, ℕ, zero, suc, List, [], true, false, Option, Result, Ok, Err, IsSome}
+use Rattle.std.specs.Prelude.{◌≡◌, ◌⊎◌, ℕ, List, true, false, Option, Result, Ok, Err, IsSome}
 use Rattle.jc_types.specs.declared.caller.Caller.{Caller}
 use Rattle.jc_types.specs.declared.refusal.Refusal.{Refusal}
 use Rattle.jc_types.specs.declared.refusal.Refusal.TheVariants.{Busy}
 use Rattle.jc_model.specs.Cache.{Bytes}
-use Rattle.jc_model.specs.Group.{nothing_said}
 use Rattle.jc_model.specs.declared.event.Op.{Op}
 use Rattle.jc_model.specs.declared.event.Op.TheVariants.{Invoke}
 use Rattle.jc_model.specs.declared.event.Out.{Out}
@@ -38,19 +30,16 @@ use Rattle.jc_stripe.specs.State.{State}
 use Rattle.jc_stripe.specs.declared.begun.StepDone.{StepDone}
 use Rattle.jc_stripe.specs.declared.begun.Begun.{Begun}
 use Rattle.jc_stripe.specs.declared.begun.Begun.TheVariants as begun
-use Rattle.jc_stripe.specs.declared.begun.Picked.TheVariants as picked
-use Rattle.jc_stripe.specs.Tickets.{JoinClaim, TicketClaim, asks_writer, change_asked}
+use Rattle.jc_stripe.specs.Tickets.{TicketClaim, asks_writer, change_asked}
 use Rattle.jc_stripe.specs.declared.ticket.Reservation.{Reservation}
 use Rattle.jc_session.specs.Boxed.{boxed}
-use Rattle.jc_session.specs.Counting.{one_more, counts_ended}
-use Rattle.jc_session.specs.declared.counts.Counts.{Counts}
+use Rattle.jc_session.specs.Counting.{counts_ended}
 use Rattle.jc_session.specs.declared.agent.Agent.{Agent}
-use Rattle.jc_engine.specs.Entering.{Entered}
-use Rattle.jc_engine.specs.Entering as entered
-use Rattle.jc_engine.specs.Chain.{Since, LentPhase}
+use Rattle.jc_engine.specs.Entering.{EntersBy}
+use Rattle.jc_engine.specs.Rows.{LentPhase, Row}
 use Rattle.jc_engine.specs.Doors.{HasTried, IsAgain}
 use Rattle.jc_engine.specs.Needs.{BeginsIfClear}
-use Rattle.jc_engine.specs.Turns.{StartWaits, starting, trying, picking, committing}
+use Rattle.jc_engine.specs.Turns.{IsCallRow, StartWaits, committing, state_found, trying}
 use Rattle.jc_engine.specs.declared.first.How.TheVariants.{Alone}
 use Rattle.jc_engine.specs.Asking.{AsksLoader, AsksWriter, KeepsTypes, RunsProcessor, change_wanted, own_after}
 
@@ -68,54 +57,12 @@ pub record MayEnd {I J G T : Type 0} {D : I → Type 0} {E : J → Type 0} (find
   pub live : (a : State) → finds g t a → a.origin ≡ Live
   pub writes : asks_writer ticket.reservation.first ≡ true → IsSome agent.hands.outside.writer
 
-module _ {G T : Type 0} (takes gives : G → T → State → G → T → Type 0) (finds : G → T → State → Type 0) (caller : Caller) (key : Bytes) (op : Op) where
-  -- 1. Up to where the call is done, refused, or has somebody to ask.
+-- 1. Up to where it is done, refused, or has somebody to ask, and from there on.
 
-  pub record Rejoins (g : G) (t : T) (h : G) (u : T) : Type 0 where
-    pub join : JoinClaim
-    pub gate : G
-    pub token : T
-    pub joined : LentPhase takes gives finds caller.session g t (starting caller key op (begun.Joined join)) gate token
-    pub retried : LentPhase takes gives finds join.caller.session gate token (picking join picked.Again) h u
-
-  abbrev pub Retries : ℕ → G → T → G → T → Type 0
-  Retries zero g t h u = (h ≡ g) × (u ≡ t)
-  Retries (suc n) g t h u = (gate : G) × (token : T) × Retries n g t gate token × Rejoins gate token h u
-
-  abbrev pub EntersAs : Begun → Entered → G → T → G → T → Type 0
-  EntersAs (begun.Done done) met g t h u = (met ≡ entered.Done done.reply) × (h ≡ g) × (u ≡ t)
-  EntersAs (begun.Refused refusal) met g t h u = (met ≡ entered.Refused refusal) × (h ≡ g) × (u ≡ t)
-  EntersAs (begun.Asks ticket) met g t h u = (met ≡ entered.Asks ticket) × (h ≡ g) × (u ≡ t)
-  EntersAs (begun.Joined join) met g t h u =
-      (reply : Reply) × (place : ℕ) × (shared_with : ℕ)
-      × (met ≡ entered.Done reply)
-      × LentPhase takes gives finds join.caller.session g t (picking join (picked.Answer reply place shared_with)) h u
-
-  pub record Enters (g : G) (t : T) (met : Entered) (h : G) (u : T) : Type 0 where
-    pub rounds : ℕ
-    pub gate : G
-    pub token : T
-    pub retried : Retries rounds g t gate token
-    pub begun : Begun
-    pub gate' : G
-    pub token' : T
-    pub first : LentPhase takes gives finds caller.session gate token (starting caller key op begun) gate' token'
-    pub since : Since finds caller.session g t first.before
-    pub ends : EntersAs begun met gate' token' h u
-
-  -- 2. From there on.
-
-  abbrev pub EndsAs : Entered → Out → Result Reply Refusal → G → T → G → T → Type 0
-  EndsAs (entered.Done reply) asked ended g t h u = (ended ≡ Ok reply) × (asked ≡ nothing_said) × (h ≡ g) × (u ≡ t)
-  EndsAs (entered.Refused refusal) asked ended g t h u = (ended ≡ Err refusal) × (asked ≡ nothing_said) × (h ≡ g) × (u ≡ t)
-  EndsAs (entered.Asks ticket) asked ended g t h u =
-      (done : StepDone) × (ended ≡ Ok done.reply)
-      × LentPhase takes gives finds ticket.reservation.caller.session g t (committing ticket.reservation asked done) h u
-
-abbrev pub counts_entered : Counts → Entered → Counts
-counts_entered counts (entered.Done reply) = record counts { own = one_more counts.own }
-counts_entered counts (entered.Refused refusal) = counts
-counts_entered counts (entered.Asks ticket) = record counts { reservations = one_more counts.reservations }
+pub record Enters {G T : Type 0} (takes gives : G → T → State → G → T → Type 0) (finds : G → T → State → Type 0) (caller : Caller) (key : Bytes) (op : Op) (g : G) (t : T) (result : Result (Option TicketClaim) Refusal) (reply : Reply) (h : G) (u : T) : Type 0 where
+  pub row : List (State × State)
+  pub lent : Row takes gives finds caller.session g t row h u
+  pub did : EntersBy caller key op result reply row
 
 pub record AsksAndEnds
     {I J G T : Type 0} {D : I → Type 0} {E : J → Type 0}
@@ -135,9 +82,9 @@ pub record AsksAndEnds
   pub held : asked.hands.held ≡ 0
   pub rest : asked ≡ record old { hands = asked.hands }
   pub last : new ≡ record asked { counts = counts_ended asked.counts }
-  pub phase : LentPhase takes gives finds r.caller.session g t (committing r out done) h u
+  pub phase : LentPhase takes gives finds old.caller.session g t (committing r out done) h u
 
--- 3. The whole.
+-- 2. The whole.
 
 pub record IsCall
     {I J G T : Type 0} {D : I → Type 0} {E : J → Type 0}
@@ -145,14 +92,12 @@ pub record IsCall
     (writes : WriteRelation ((j : J) × E j)) (write_state : (j : J) × E j → List ℕ)
     (takes gives : G → T → State → G → T → Type 0) (finds : G → T → State → Type 0)
     (old : Agent I J D E) (key : Bytes) (op : Op) (g : G) (t : T) (ended : Result Reply Refusal) (new : Agent I J D E) (h : G) (u : T) : Type 0 where
-  pub met : Entered
-  pub gate : G
-  pub token : T
-  pub enters : Enters takes gives finds old.caller key op g t met gate token
+  pub row : List (State × State)
+  pub lent : Row takes gives finds old.caller.session g t row h u
   pub asked : Out
-  pub ends : EndsAs takes gives finds old.caller key op met asked ended gate token h u
+  pub did : IsCallRow old.caller key op asked ended row
   pub loader : AsksLoader (boxed loads) (boxed load_state) old.hands.outside.loader key asked.load new.hands.outside.loader
-  pub writer : AsksWriter (boxed writes) (boxed write_state) old.hands.outside.writer key (change_wanted enters.first.before key op asked.process) asked.write new.hands.outside.writer
+  pub writer : AsksWriter (boxed writes) (boxed write_state) old.hands.outside.writer key (change_wanted (state_found did) key op asked.process) asked.write new.hands.outside.writer
   pub types : KeepsTypes old new
   pub held : new.hands.held ≡ 0
   pub agent : new ≡ record old { counts = record old.counts { own = own_after old.counts.own ended }; hands = new.hands }
@@ -165,18 +110,18 @@ pub record IsInvocation
     (takes gives : G → T → State → G → T → Type 0) (finds : G → T → State → Type 0)
     (old : Agent I J D E) (key : Bytes) (args : List Bytes) (processor : DynBox P Z F) (g : G) (t : T) (ended : Result Reply Refusal) (new : Agent I J D E) (processor' : DynBox P Z F) (h : G) (u : T) : Type 0 where
   pub call : IsCall loads load_state writes write_state takes gives finds old key Invoke g t ended new h u
-  pub run : RunsProcessor processes process_state processor call.enters.first.before key args call.asked processor'
+  pub run : RunsProcessor processes process_state processor (state_found call.did) key args call.asked processor'
   pub type : processor'.vtable ≡ processor.vtable
 
--- 4. A call that waits for nobody.
+-- 3. A call that waits for nobody.
 
 module _ {G T : Type 0} (takes gives : G → T → State → G → T → Type 0) (finds : G → T → State → Type 0) (misses : G → T → G → T → Type 0) (caller : Caller) (key : Bytes) (op : Op) where
   abbrev pub IsBusy : G → T → G → T → Type 0
-  IsBusy g t h u = HasTried takes gives misses (StartWaits Alone caller key op) g t h u
+  IsBusy g t h u = HasTried takes gives finds misses caller.session (StartWaits Alone caller key op) g t h u
 
   pub record TriesTo (g : G) (t : T) (begun : Begun) (h : G) (u : T) : Type 0 where
     pub lent : LentPhase takes gives finds caller.session g t (trying caller key op begun) h u
-    pub again : IsAgain lent.rests.idle
+    pub again : IsAgain lent.did.waits
 
   abbrev pub IsTried : G → T → Result Reply Refusal → G → T → Type 0
   IsTried g t (Ok reply) h u = (done : StepDone) × (done.reply ≡ reply) × TriesTo g t (begun.Done done) h u

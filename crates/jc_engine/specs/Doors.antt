@@ -9,17 +9,18 @@
 --                  ended exactly if it was full and might end
 --     waiting      a turn in which the session waits so
 --     IsAgain      no lending, or one whose generation stood in the way
+--     AreTries     tries of a phase, and how often somebody else had the stripe: one, and one more if a generation stood in the way
+--     Misses       so many tries in which somebody else had the stripe, at most one; what the next take finds, it might have found
 --     HasTriedOnce a phase was tried once and not made: somebody else had the stripe; or it was found, and the session would have had to wait,
 --                  and this says whether its generation stood in the way
---     HasTried     the same, and once more if a generation stood in the way
---     IsNotMade    a phase was tried and not made. What the next take finds comes after what a take could have found at first
-use Rattle.std.specs.Prelude.{◌≡◌, ◌⊎◌, ℕ, List, [], ◌∷◌, Bool, true, false}
+--     HasTried     the same, and once more if a generation stood in the way: a row of lendings, and perhaps a miss
+use Rattle.std.specs.Prelude.{◌≡◌, ◌⊎◌, ℕ, zero, suc, List, [], ◌∷◌, Bool, true, false, MatchBool}
 use Rattle.jc_stripe.specs.Renewal.{RenewsIfFull, is_renewable}
 use Rattle.jc_stripe.specs.State.{State}
-use Rattle.jc_gate.specs.Lending.{ComesAfter, Lends}
+use Rattle.jc_gate.specs.Lending.{ComesAfter}
 use Rattle.jc_session.specs.declared.agent.Agent.{Agent}
 use Rattle.jc_session.specs.declared.counts.Counts.{Counts}
-use Rattle.jc_engine.specs.Chain.{IsQuiet, Since, Turn, turn_of}
+use Rattle.jc_engine.specs.Rows.{AllLend, IsLending, Row, Turn, turn_of}
 
 pub record IsReady {I J G T : Type 0} {D : I → Type 0} {E : J → Type 0} (is_free : G → T → Type 0) (speaks_for : T → ℕ → Type 0) (g : G) (t : T) (agent : Agent I J D E) : Type 0 where
   pub held : agent.hands.held ≡ 0
@@ -41,7 +42,7 @@ pub record MakesCall {I J G T : Type 0} {D : I → Type 0} {E : J → Type 0} (i
 
 pub record IsLeft {G T : Type 0} (gives : G → T → State → G → T → Type 0) (finds : G → T → State → Type 0) (is_free : G → T → Type 0) (speaks_for : T → ℕ → Type 0) (g : G) (t : T) (found : State) (h : G) (u : T) : Type 0 where
   pub left : State
-  pub quiet : IsQuiet found left
+  pub after : (session : ℕ) → ComesAfter session found left
   pub renewed : RenewsIfFull found left
   pub gave : gives g t left h u
   pub free : is_free h u
@@ -61,15 +62,28 @@ IsAgain [] = Unit {0}
 IsAgain (p ∷ []) = is_renewable p.0 ≡ true
 IsAgain (p ∷ (q ∷ ps)) = ⊥
 
-pub record HasTriedOnce {G T : Type 0} (takes gives : G → T → State → G → T → Type 0) (misses : G → T → G → T → Type 0) (waits : State → State → Type 0) (again : Bool) (g : G) (t : T) (h : G) (u : T) : Type 0 where
-  pub met : (misses g t h u × (again ≡ false))
-      ⊎ ((p : State × State) × Lends takes gives g t p.0 p.1 h u × IsQuiet p.0 p.1 × waits p.0 p.1 × (is_renewable p.0 ≡ again))
+abbrev pub AreTries : List (State × State) → ℕ → Type 0
+AreTries [] missed = missed ≡ 1
+AreTries (p ∷ []) missed = MatchBool (is_renewable p.0) (missed ≡ 1) (missed ≡ 0)
+AreTries (p ∷ (q ∷ [])) missed = (is_renewable p.0 ≡ true) × (missed ≡ 0)
+AreTries (p ∷ (q ∷ (r ∷ ps))) missed = ⊥
 
-abbrev pub HasTried : {G T : Type 0} → (takes gives : G → T → State → G → T → Type 0) → (misses : G → T → G → T → Type 0) → (waits : State → State → Type 0) → G → T → G → T → Type 0
-HasTried {G} {T} takes gives misses waits g t h u =
-    HasTriedOnce takes gives misses waits false g t h u
-    ⊎ ((gate : G) × (token : T) × (again : Bool) × HasTriedOnce takes gives misses waits true g t gate token × HasTriedOnce takes gives misses waits again gate token h u)
+module _ {G T : Type 0} (takes gives : G → T → State → G → T → Type 0) (finds : G → T → State → Type 0) (misses : G → T → G → T → Type 0) (session : ℕ) where
+  abbrev pub Misses : ℕ → G → T → G → T → Type 0
+  Misses zero g t h u = (h ≡ g) × (u ≡ t)
+  Misses (suc n) g t h u = (n ≡ 0) × misses g t h u × ((a : State) → finds h u a → finds g t a)
 
-pub record IsNotMade {G T : Type 0} (takes gives : G → T → State → G → T → Type 0) (finds : G → T → State → Type 0) (session : ℕ) (g : G) (t : T) (h : G) (u : T) (Tried : Type 0) : Type 0 where
-  pub tried : Tried
-  pub since : (a : State) → finds h u a → Since finds session g t a
+  abbrev pub HasTriedOnce : (State → State → Type 0) → Bool → G → T → G → T → Type 0
+  HasTriedOnce waits again g t h u =
+      (Misses 1 g t h u × (again ≡ false))
+      ⊎ ((p : State × State) × IsLending takes gives finds session g t p.0 p.1 h u × waits p.0 p.1 × (is_renewable p.0 ≡ again))
+
+  pub record HasTried (waits : State → State → Type 0) (g : G) (t : T) (h : G) (u : T) : Type 0 where
+    pub row : List (State × State)
+    pub gate : G
+    pub token : T
+    pub lent : Row takes gives finds session g t row gate token
+    pub missed : ℕ
+    pub none : Misses missed gate token h u
+    pub waited : AllLend waits row
+    pub tries : AreTries row missed

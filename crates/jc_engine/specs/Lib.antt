@@ -1,4 +1,4 @@
-pub mod Chain
+pub mod Rows
 pub mod Needs
 pub mod Entering
 pub mod Stays

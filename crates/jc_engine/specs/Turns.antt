@@ -1,28 +1,44 @@
--- The turns of a call at its key's stripe: each is a phase that it makes there, and why it had to wait before.
+-- The turns of a call at its key's stripe: each is a phase that it makes there, and why it had to wait before; and the row of lendings of a
+-- whole call, turn by turn.
 --     StartWaits    a first phase had to wait: it couldn't be made, or was put off
 --     starting      a first phase that waits; a get may also have looked for a hit in vain
 --     trying        one that is made only if it asks nobody, and waits for nothing
 --     picking       a pick-up that waits
 --     committing    a commit
---     hitting       a get that is a hit, or isn't, at the first look
-use Rattle.std.specs.Prelude.{◌≡◌, ◌⊎◌, Bool, true, IsTrue}
+--     IsRejoin      these lendings are two turns: a load was joined, and the call was told to retry
+--     AreRejoins    so many times that
+--     IsBegunRow    the same, and a first phase that is the last one, which began so
+--     EndsBy        how a call ends after its first phase, what was asked outside for it, and its lendings from there on
+--     IsCallRow     the lendings of a whole call: loads that it joined in vain, its first phase, and its end
+--     state_of_step the state in which a call's step was made, by what its first phase began: that in which it was committed, if it had
+--                   somebody to ask, and else that in which the stripe was found first
+--     state_found, state_decided
+--                   the state in which a call's first phase found the stripe, and the one in which its step was made
+use Rattle.std.specs.Prelude.{◌≡◌, ◌⊎◌, ◌++◌, ℕ, zero, suc, List, [], true, IsTrue, Result, Ok, Err}
 use Rattle.jc_types.specs.declared.caller.Caller.{Caller}
+use Rattle.jc_types.specs.declared.refusal.Refusal.{Refusal}
 use Rattle.jc_model.specs.Cache.{Bytes}
+use Rattle.jc_model.specs.Group.{nothing_said}
 use Rattle.jc_model.specs.declared.event.Op.{Op}
 use Rattle.jc_model.specs.declared.event.Op.TheVariants.{Get}
 use Rattle.jc_model.specs.declared.event.Out.{Out}
+use Rattle.jc_model.specs.declared.event.Reply.{Reply}
 use Rattle.jc_stripe.specs.State.{State, IsJoined, IsOut}
 use Rattle.jc_stripe.specs.Phases.{Commits, PicksUp}
 use Rattle.jc_stripe.specs.Tickets.{JoinClaim}
 use Rattle.jc_stripe.specs.declared.begun.Begun.{Begun}
+use Rattle.jc_stripe.specs.declared.begun.Begun.TheVariants as begun
 use Rattle.jc_stripe.specs.declared.begun.Picked.{Picked}
+use Rattle.jc_stripe.specs.declared.begun.Picked.TheVariants as picked
 use Rattle.jc_stripe.specs.declared.begun.StepDone.{StepDone}
 use Rattle.jc_stripe.specs.declared.ticket.Reservation.{Reservation}
 use Rattle.jc_engine.specs.declared.first.How.{How}
 use Rattle.jc_engine.specs.declared.first.How.TheVariants.{Waits, Alone}
-use Rattle.jc_engine.specs.Chain.{Turn, turn_of}
+use Rattle.jc_engine.specs.Rows.{IsTurn, Turn, turn_of}
 use Rattle.jc_engine.specs.Doors.{HasWaited}
-use Rattle.jc_engine.specs.Needs.{HasMissed, Hits, IsPutOff, IsTooEarly, Starts, StartsBy, can_start}
+use Rattle.jc_engine.specs.Needs.{HasMissed, IsPutOff, IsTooEarly, Starts, StartsBy, can_start}
+
+-- 1. One turn.
 
 abbrev pub StartWaits : How → Caller → Bytes → Op → State → State → Type 0
 StartWaits how caller key op = HasWaited (λ a. IsTrue (can_start how a caller key op)) (IsPutOff how caller key op)
@@ -39,5 +55,55 @@ picking join picked = turn_of (HasWaited (λ a. IsJoined a join) (IsTooEarly tru
 abbrev pub committing : Reservation → Out → StepDone → Turn
 committing r out done = turn_of (HasWaited (λ a. IsOut a r) (λ a. ⊥)) (λ a b. Commits a r out done b)
 
-abbrev pub hitting : Caller → Bytes → Bool → Bytes → Turn
-hitting caller key is_hit value = turn_of (λ a b. ⊥) (Hits caller key is_hit value)
+-- 2. A whole call.
+
+module _ (caller : Caller) (key : Bytes) (op : Op) where
+  pub record IsRejoin (row : List (State × State)) : Type 0 where
+    pub join : JoinClaim
+    pub joins : List (State × State)
+    pub retries : List (State × State)
+    pub row_is : row ≡ joins ++ retries
+    pub joined : IsTurn (starting caller key op (begun.Joined join)) joins
+    pub retried : IsTurn (picking join picked.Again) retries
+
+  abbrev pub AreRejoins : ℕ → List (State × State) → Type 0
+  AreRejoins zero row = row ≡ []
+  AreRejoins (suc n) row = (before : List (State × State)) × (last : List (State × State)) × (row ≡ before ++ last) × AreRejoins n before × IsRejoin last
+
+  pub record IsBegunRow (begun : Begun) (row : List (State × State)) : Type 0 where
+    pub rounds : ℕ
+    pub rejoins : List (State × State)
+    pub first : List (State × State)
+    pub row_is : row ≡ rejoins ++ first
+    pub rejoined : AreRejoins rounds rejoins
+    pub starts : IsTurn (starting caller key op begun) first
+
+abbrev pub EndsBy : Begun → Out → Result Reply Refusal → List (State × State) → Type 0
+EndsBy (begun.Done done) asked ended row = (ended ≡ Ok done.reply) × (asked ≡ nothing_said) × (row ≡ [])
+EndsBy (begun.Refused refusal) asked ended row = (ended ≡ Err refusal) × (asked ≡ nothing_said) × (row ≡ [])
+EndsBy (begun.Asks ticket) asked ended row = (done : StepDone) × (ended ≡ Ok done.reply) × IsTurn (committing ticket.reservation asked done) row
+EndsBy (begun.Joined join) asked ended row =
+    (reply : Reply) × (place : ℕ) × (shared_with : ℕ) × (ended ≡ Ok reply) × (asked ≡ nothing_said) × IsTurn (picking join (picked.Answer reply place shared_with)) row
+
+pub record IsCallRow (caller : Caller) (key : Bytes) (op : Op) (asked : Out) (ended : Result Reply Refusal) (row : List (State × State)) : Type 0 where
+  pub begun : Begun
+  pub start : List (State × State)
+  pub last : List (State × State)
+  pub row_is : row ≡ start ++ last
+  pub begins : IsBegunRow caller key op begun start
+  pub ends : EndsBy begun asked ended last
+
+-- 3. The states that decide a call.
+
+abbrev pub state_of_step : (b : Begun) (asked : Out) (ended : Result Reply Refusal) (row : List (State × State)) → State → EndsBy b asked ended row → State
+state_of_step (begun.Asks ticket) asked ended row first ends = ends.2.found
+state_of_step (begun.Done done) asked ended row first ends = first
+state_of_step (begun.Refused refusal) asked ended row first ends = first
+state_of_step (begun.Joined join) asked ended row first ends = first
+
+module _ {caller : Caller} {key : Bytes} {op : Op} {asked : Out} {ended : Result Reply Refusal} {row : List (State × State)} where
+  abbrev pub state_found : IsCallRow caller key op asked ended row → State
+  state_found did = did.begins.starts.found
+
+  abbrev pub state_decided : IsCallRow caller key op asked ended row → State
+  state_decided did = state_of_step did.begun asked ended did.last (state_found did) did.ends

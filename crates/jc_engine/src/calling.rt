@@ -7,7 +7,7 @@ ghost use Rattle.jc_session.specs.Counting.{counts_ended};
 ghost use Rattle.jc_engine.specs.Answered.{Loaded, Written, out_of};
 ghost use Rattle.jc_engine.specs.Asking.{IsAsked};
 ghost use Rattle.jc_engine.specs.Calls.{IsCall, AsksAndEnds, MayCallAt, MayEnd};
-ghost use Rattle.jc_engine.specs.Chain.{LentPhase};
+ghost use Rattle.jc_engine.specs.Rows.{LentPhase};
 ghost use Rattle.jc_engine.specs.Entering.{ended_with};
 ghost use Rattle.jc_engine.specs.Doors.{FitsGate, IsReady, MakesCall, MakesPhase};
 ghost use Rattle.jc_engine.specs.Needs.{CommitsHere};
@@ -16,6 +16,7 @@ ghost use Rattle.jc_engine.specs.Turns.{committing};
 use crate::door::lend;
 use crate::ending::{Answer, Commit};
 use crate::entering::enter;
+use crate::laws::one_lending;
 use jc_gate::Gate;
 use jc_model::{Op, Reply};
 use jc_session::Agent;
@@ -52,6 +53,7 @@ pub fn call<G: Gate, R: Wait>(
         (IsCall loads load_state writes write_state G.takes G.gives G.finds
         agent.old key.now op.now gate.old token.old (ended_with result reply.new) agent.new gate.new token.new) }
 {
+    one_lending();
     match enter(rt, gate, token, agent, key, op, reply) {
         Ok(Some(ticket)) => {
             ask_and_end(rt, gate, token, agent, ticket, reply);

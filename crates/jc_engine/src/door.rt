@@ -1,10 +1,13 @@
 //! The door to a stripe: any phase, over any gate. It takes the stripe, makes the phase, gives the stripe back and counts.
-ghost use Rattle.std.specs.Prelude.{◌≡◌, [], IfOk, IfErr};
+ghost use Rattle.std.specs.Prelude.{◌≡◌, IfOk, IfErr};
+ghost use Rattle.jc_stripe.specs.State.{State};
+ghost use Rattle.jc_stripe.specs.OnePhase.{IsPhaseOf};
 ghost use Rattle.jc_stripe.specs.Reached.{IsReached};
 ghost use Rattle.jc_session.specs.Counting.{IsCounted, counts_after};
-ghost use Rattle.jc_engine.specs.Chain.{LentPhase};
-ghost use Rattle.jc_engine.specs.Doors.{FitsGate, HasTried, HasTriedOnce, HasWaited, IsAgain, IsLeft, IsNotMade, IsReady, MakesPhase, waiting};
+ghost use Rattle.jc_engine.specs.Doors.{FitsGate, HasTried, HasTriedOnce, HasWaited, IsAgain, IsLeft, IsReady, MakesPhase, waiting};
+ghost use Rattle.jc_engine.specs.Rows.{IsLending, LentPhase};
 
+use crate::laws::one_lending;
 use jc_gate::Gate;
 use jc_model::Reply;
 use jc_session::{Agent, Counted};
@@ -87,7 +90,7 @@ pub fn lend<G: Gate, P: Phase, R: Wait>(
     ensures { MakesPhase G.is_free G.speaks_for agent.old (counts_after agent.old.counts (P.counts result)) gate.new token.new agent.new
         ((lent : LentPhase G.takes G.gives G.finds agent.old.caller.session gate.old token.old
         (waiting (P.due phase) (P.puts_off phase) (λ a b. P.makes phase a result reply.new b)) gate.new token.new)
-        × IsCounted (P.counts result) agent.old.caller.session lent.before lent.after) }
+        × IsCounted (P.counts result) agent.old.caller.session lent.did.found lent.did.left) }
 {
     let mut next = phase;
     for _ in rt.forever() {
@@ -143,12 +146,11 @@ fn lend_once<G: Gate, P: Phase>(
     requires fits { FitsGate G.finds (P.needs phase) (P.who phase) gate.old token.old agent.old.caller.session }
     ensures ready { IsReady G.is_free G.speaks_for gate.new token.new agent.new }
     ensures made { IfOk result (λ answer. (agent.new ≡ record agent.old { counts = counts_after agent.old.counts (P.counts answer) })
-        × (lent : LentPhase G.takes G.gives G.finds agent.old.caller.session gate.old token.old
-        (waiting (P.due phase) (P.puts_off phase) (λ a b. P.makes phase a answer reply.new b)) gate.new token.new)
-        × (lent.rests.idle ≡ [])) }
+        × (found : State) × (left : State) × P.makes phase found answer reply.new left
+        × IsPhaseOf agent.old.caller.session found left
+        × IsLending G.takes G.gives G.finds agent.old.caller.session gate.old token.old found left gate.new token.new) }
     ensures back { IfErr result (λ back. (back.0 ≡ phase) × (agent.new ≡ agent.old)
-        × IsNotMade G.takes G.gives G.finds agent.old.caller.session gate.old token.old gate.new token.new
-        (HasTriedOnce G.takes G.gives G.misses (HasWaited (P.due phase) (P.puts_off phase)) back.1 gate.old token.old gate.new token.new)) }
+        × HasTriedOnce G.takes G.gives G.finds G.misses agent.old.caller.session (HasWaited (P.due phase) (P.puts_off phase)) back.1 gate.old token.old gate.new token.new) }
 {
     let mut stripe = match agent.try_take(gate, token) {
         Some(stripe) => stripe,
@@ -189,11 +191,11 @@ pub fn try_lend<G: Gate, P: Phase>(
     ensures made { IfOk result (λ answer. (agent.new ≡ record agent.old { counts = counts_after agent.old.counts (P.counts answer) })
         × (lent : LentPhase G.takes G.gives G.finds agent.old.caller.session gate.old token.old
         (waiting (P.due phase) (P.puts_off phase) (λ a b. P.makes phase a answer reply.new b)) gate.new token.new)
-        × IsAgain lent.rests.idle) }
+        × IsAgain lent.did.waits) }
     ensures back { IfErr result (λ back. (back ≡ phase) × (agent.new ≡ agent.old)
-        × IsNotMade G.takes G.gives G.finds agent.old.caller.session gate.old token.old gate.new token.new
-        (HasTried G.takes G.gives G.misses (HasWaited (P.due phase) (P.puts_off phase)) gate.old token.old gate.new token.new)) }
+        × HasTried G.takes G.gives G.finds G.misses agent.old.caller.session (HasWaited (P.due phase) (P.puts_off phase)) gate.old token.old gate.new token.new) }
 {
+    one_lending();
     let (back, ends) = match lend_once(gate, token, agent, phase, reply) {
         Ok(answer) => return Ok(answer),
         Err(back) => back,

@@ -4,19 +4,19 @@ ghost use Rattle.std.specs.Bool.{OnTrue, OnFalse};
 ghost use Rattle.jc_stripe.specs.declared.begun.Picked.TheVariants.{Answer, Again};
 ghost use Rattle.jc_session.specs.Counting.{counts_after};
 ghost use Rattle.jc_session.specs.declared.counts.Counted.TheVariants.{Answered, Retried};
-ghost use Rattle.jc_engine.specs.Chain.{LentPhase};
+ghost use Rattle.jc_engine.specs.Rows.{LentPhase};
 ghost use Rattle.jc_engine.specs.Doors.{IsReady, MakesPhase};
-ghost use Rattle.jc_engine.specs.Calls.{Enters, MayCallAt, counts_entered};
-ghost use Rattle.jc_engine.specs.Entering.{entered_with};
+ghost use Rattle.jc_engine.specs.Calls.{Enters, MayCallAt};
+ghost use Rattle.jc_engine.specs.Entering.{counts_entered};
 ghost use Rattle.jc_engine.specs.Turns.{picking};
 
 use crate::door::lend;
 use crate::first::{First, How};
 use crate::joining::PickUp;
+use crate::laws::one_lending;
 use jc_gate::Gate;
 use jc_model::{Op, Reply};
 use jc_session::Agent;
-use jc_stripe::phase_laws::{is_uniform, own_steps};
 use jc_stripe::{Join, Picked, Started, Ticket};
 use jc_types::{Key, Refusal};
 use std::sync::Wait;
@@ -41,11 +41,10 @@ pub(crate) fn enter<G: Gate, R: Wait>(
 ) -> Result<Option<Ticket>, Refusal>
     requires ready { IsReady G.is_free G.speaks_for gate.old token.old agent.old }
     requires may { MayCallAt G.finds key.now gate.old token.old agent.old }
-    ensures { MakesPhase G.is_free G.speaks_for agent.old (counts_entered agent.old.counts (entered_with result reply.new)) gate.new token.new agent.new
-        (Enters G.takes G.gives G.finds agent.old.caller key.now op.now gate.old token.old (entered_with result reply.new) gate.new token.new) }
+    ensures { MakesPhase G.is_free G.speaks_for agent.old (counts_entered agent.old.counts result) gate.new token.new agent.new
+        (Enters G.takes G.gives G.finds agent.old.caller key.now op.now gate.old token.old result reply.new gate.new token.new) }
 {
-    is_uniform();
-    own_steps();
+    one_lending();
     let caller = agent.caller();
     for _ in rt.forever() {
         let first = First {

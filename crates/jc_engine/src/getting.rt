@@ -1,23 +1,24 @@
 //! A whole `get` on one key: a hit needs one look at the stripe.
-ghost use Rattle.std.specs.Prelude.{◌≡◌, [], Ok, Result};
+ghost use Rattle.std.specs.Prelude.{◌≡◌, Ok, Result};
 ghost use Rattle.std.specs.Bool.{OnFalse};
 ghost use Rattle.jc_model.specs.declared.event.Op.TheVariants.{Get};
 ghost use Rattle.jc_model.specs.declared.event.Reply.{Reply};
 ghost use Rattle.jc_types.specs.declared.refusal.Refusal.{Refusal};
 ghost use Rattle.jc_session.specs.Counting.{counts_after, IsCounted};
-ghost use Rattle.jc_engine.specs.Chain.{LentPhase};
+ghost use Rattle.jc_stripe.specs.State.{State};
 ghost use Rattle.jc_engine.specs.Needs.{BeginsIfClear, Hits, counted_hit};
-ghost use Rattle.jc_engine.specs.Turns.{hitting};
+ghost use Rattle.jc_engine.specs.Rows.{IsLending};
 ghost use Rattle.jc_engine.specs.Values.{value_into};
 ghost use Rattle.jc_engine.specs.Calls.{IsCall, MayCallAt};
 ghost use Rattle.jc_engine.specs.Doors.{IsReady, MakesCall, MakesPhase};
 
 use crate::calling::call;
+use crate::laws::one_lending;
 use jc_gate::Gate;
 use jc_model::{Op, Reply};
 use jc_session::{Agent, Counted};
 use jc_stripe::Stripe;
-use jc_stripe::phase_laws::{caller_numbers, is_uniform};
+use jc_stripe::phase_laws::caller_numbers;
 use jc_types::{Caller, Key, Refusal, Value};
 use std::sync::Wait;
 
@@ -40,7 +41,7 @@ pub fn get_into<G: Gate, R: Wait>(
         agent.old key.now Get gate.old token.old ended agent.new gate.new token.new
         × ((result, value.new) ≡ value_into value.old ended)) }
 {
-    is_uniform();
+    one_lending();
     if hit(rt, gate, token, agent, key, value) {
         return Ok(true);
     }
@@ -98,8 +99,8 @@ fn hit<G: Gate, R: Wait>(
     requires ready { IsReady G.is_free G.speaks_for gate.old token.old agent.old }
     requires may { MayCallAt G.finds key.now gate.old token.old agent.old }
     ensures made { MakesPhase G.is_free G.speaks_for agent.old (counts_after agent.old.counts (counted_hit result)) gate.new token.new agent.new
-        ((lent : LentPhase G.takes G.gives G.finds agent.old.caller.session gate.old token.old
-        (hitting agent.old.caller key.now result value.new) gate.new token.new) × (lent.rests.idle ≡ [])) }
+        ((found : State) × (left : State) × Hits agent.old.caller key.now result value.new found left
+        × IsLending G.takes G.gives G.finds agent.old.caller.session gate.old token.old found left gate.new token.new) }
     ensures stays { OnFalse result (value.new ≡ value.old) }
 {
     let mut stripe = agent.take(rt, gate, token);

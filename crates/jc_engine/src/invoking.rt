@@ -16,6 +16,7 @@ use crate::calling::end;
 use crate::door::lend;
 use crate::ending::Processed;
 use crate::first::{First, How};
+use crate::laws::one_lending;
 use jc_gate::Gate;
 use jc_model::{Op, Reply};
 use jc_mutentry::EntryProcessor;
@@ -50,6 +51,7 @@ pub fn invoke<G: Gate, R: Wait>(
         agent.old key.now args.now processor.old gate.old token.old
         (ended_with result reply.new) agent.new processor.new gate.new token.new) }
 {
+    one_lending();
     let first = First {
         caller: agent.caller(),
         key,

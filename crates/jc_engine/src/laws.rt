@@ -1,5 +1,17 @@
-//! The laws of what entry processors leave, over every stripe. Each function does nothing: what it says is its contract.
+//! Laws over every stripe: of one lending, and of what entry processors leave. Each function does nothing: what it says is its contract.
+ghost use Rattle.jc_engine.specs.Rows.{PhaseLaws};
 ghost use Rattle.jc_engine.specs.Increments.{EventsByTable, LeavesNext, LeavesSum};
+
+use jc_stripe::phase_laws::{is_uniform, own_steps, renewal};
+
+/// What at most one phase of a session, or a renewal, leaves of a stripe and of the session's own steps.
+pub fn one_lending()
+    ensures { PhaseLaws }
+{
+    is_uniform();
+    own_steps();
+    renewal();
+}
 
 /// Of a key at which each event of a stripe's whole history is a processor's step that sets the next value of the entry on which it
 /// was made, the entry is that of the first opening, followed by as many next values as there are events. So no update is lost.

@@ -1,10 +1,11 @@
-use Rattle.std.proofs.Common.{rules, ◌∙◌, ap, inl, inr, refl, subst, sym}
+use Rattle.std.proofs.Common.{rules, [], ◌∷◌, ◌++◌, ◌∙◌, ap, inl, inr, refl, subst, sym}
 use Rattle.std.proofs.lemmas.Bool.{true≢false}
 use Rattle.jc_session.proofs.CallerLemmas.{phase_of}
+use Rattle.jc_stripe.specs.OnePhase.{IsPhaseOf}
 use Rattle.jc_stripe.specs.State.{State}
 use Rattle.jc_engine.specs.Doors.{HasWaited, IsLeft}
-use Rattle.jc_engine.proofs.Coming.{since_start}
-use Rattle.jc_engine.proofs.Chains.{tries-start, tries-left, tries-since}
+use Rattle.jc_engine.proofs.Rows.{once, row_append}
+use Rattle.jc_engine.proofs.Tries.{tries_start, tries_left}
 use Rattle.jc_engine.proofs.door.lend.Goals as goal
 
 pub take-stripe-requires : goal.take-stripe-requires
@@ -51,42 +52,38 @@ returns-in-Ok g c = record {
         (c.give.ensures.speaks _ (c.take-stripe.ensures.speaks _ (c.loop.invariant.2.speaks _ c.requires.ready.speaks)));
   };
   agent = search rules;
-  phase = (
-    record {
-      gate = c.loop.gate;
-      token = c.loop.token;
-      rests = c.loop.invariant.2.rests;
-      waited = c.loop.invariant.2.waited;
-      before = c.take-stripe.result.value;
-      after = c.make.new.stripe;
-      since = c.loop.invariant.3 _ c.take-stripe.ensures.found.0;
-      lent = record { gate = c.take-stripe.new.gate; token = c.take-stripe.new.token; took = c.take-stripe.ensures.takes; reached = c.take-stripe.ensures.found.1; gave = c.give.ensures.gives };
-      made = rw (← c.deref_mut.ensures.value, ← c.loop.invariant.1) c.in-Ok.ensures.made.0;
-      one = rw (← c.requires.fits.who_is, ← c.loop.invariant.1, ← c.deref_mut.ensures.value) (phase_of _ _ _ _ c.in-Ok.ensures.made.1);
-      next = λ a f. c.give.ensures.next _ a (c.take-stripe.ensures.speaks _ (c.loop.invariant.2.speaks _ c.requires.ready.speaks)) f;
-    },
-    rw (← c.requires.fits.who_is, ← c.loop.invariant.1, ← c.deref_mut.ensures.value) c.in-Ok.ensures.made.1,
-  );
+  phase =
+      let a : State = c.take-stripe.result.value in
+      let b : State = c.make.new.stripe in
+      let so = c.loop.invariant.2 in
+      let one : IsPhaseOf c.args.agent.now.caller.session a b = rw (← c.requires.fits.who_is, ← c.loop.invariant.1, ← c.deref_mut.ensures.value) (phase_of _ _ _ _ c.in-Ok.ensures.made.1) in (
+        record {
+          row = so.row ++ (a, b) ∷ [];
+          lent = row_append g.G.Gate.takes g.G.Gate.gives g.G.Gate.finds _ _ _ so.row c.loop.gate c.loop.token ((a, b) ∷ []) c.give.new.gate c.give.new.token so.lent
+              (once g.G.Gate.takes g.G.Gate.gives g.G.Gate.finds _ _ _ a b c.give.new.gate c.give.new.token record {
+                lends = record { gate = c.take-stripe.new.gate; token = c.take-stripe.new.token; took = c.take-stripe.ensures.takes; reached = c.take-stripe.ensures.found.1; gave = c.give.ensures.gives };
+                finds_it = c.take-stripe.ensures.found.0;
+                by = inl one;
+                next = λ x f. c.give.ensures.next _ x (c.take-stripe.ensures.speaks _ (so.speaks _ c.requires.ready.speaks)) f;
+              });
+          did = record { waits = so.row; found = a; left = b; row_is = refl; waited = so.waited; made = rw (← c.deref_mut.ensures.value, ← c.loop.invariant.1) c.in-Ok.ensures.made.0 };
+          one = one;
+        },
+        rw (← c.requires.fits.who_is, ← c.loop.invariant.1, ← c.deref_mut.ensures.value) c.in-Ok.ensures.made.1,
+      );
 }
 
 pub loop-init : goal.loop-init
-loop-init g c = (
-  refl,
-  refl,
-  tries-start g.G.Gate.takes g.G.Gate.gives g.G.Gate.finds g.G.Gate.is_free g.G.Gate.speaks_for _ _ _ _ c.requires.ready.free c.requires.fits.needs_it,
-  since_start g.G.Gate.finds _ c.args.gate.now c.args.token.now,
-)
+loop-init g c = (refl, refl, tries_start g.G.Gate.takes g.G.Gate.gives g.G.Gate.finds g.G.Gate.is_free g.G.Gate.speaks_for _ _ _ _ _ c.requires.ready.free c.requires.fits.needs_it)
 
 pub loop-preserved-then-not-is_due : goal.loop-preserved-then-not-is_due
 loop-preserved-then-not-is_due g c = (
   search rules,
   c.loop.invariant.1,
-  tries-left g.G.Gate.takes g.G.Gate.gives g.G.Gate.finds g.G.Gate.is_free g.G.Gate.speaks_for (HasWaited (g.P.Phase.due c.args.phase) (g.P.Phase.puts_off c.args.phase)) (g.P.Phase.needs c.args.phase) _ _ _ _ c.take-stripe.result.value _ _ _ _ c.args.agent.now.caller.session
+  tries_left g.G.Gate.takes g.G.Gate.gives g.G.Gate.finds g.G.Gate.is_free g.G.Gate.speaks_for (HasWaited (g.P.Phase.due c.args.phase) (g.P.Phase.puts_off c.args.phase)) (g.P.Phase.needs c.args.phase) c.args.agent.now.caller.session _ _ _ _ c.take-stripe.result.value _ _ _ _
       (λ x y after. g.met.P.Phase.stays c.args.phase x y (rw c.requires.fits.who_is after))
       c.loop.invariant.2 c.take-stripe.ensures.takes c.take-stripe.ensures.found.0 c.take-stripe.ensures.found.1 c.take-stripe.ensures.speaks c.requires.ready.speaks c.leave.ensures.left
       record { why = inl (λ due. true≢false (sym (c.is_due.ensures.1 (rw (c.loop.invariant.1, c.deref.ensures) due)) ∙ c.if-not-is_due.true)); renewed = c.leave.ensures.left.renewed },
-  tries-since g.G.Gate.takes g.G.Gate.gives g.G.Gate.finds g.G.Gate.is_free g.G.Gate.speaks_for (HasWaited (g.P.Phase.due c.args.phase) (g.P.Phase.puts_off c.args.phase)) (g.P.Phase.needs c.args.phase) _ _ _ _ c.take-stripe.result.value _ _ _ _ c.args.agent.now.caller.session
-      c.loop.invariant.2 c.take-stripe.ensures.speaks c.requires.ready.speaks (c.loop.invariant.3 _ c.take-stripe.ensures.found.0) c.leave.ensures.left,
 )
 
 pub loop-preserved : goal.loop-preserved
@@ -97,10 +94,8 @@ loop-preserved g c =
     (c.in-Err.ensures.back.1 ∙ c.deref_mut.ensures.value) c.leave-in-Err.ensures.left in (
       search rules,
       c.in-Err.ensures.back.0 ∙ c.loop.invariant.1,
-      tries-left g.G.Gate.takes g.G.Gate.gives g.G.Gate.finds g.G.Gate.is_free g.G.Gate.speaks_for (HasWaited (g.P.Phase.due c.args.phase) (g.P.Phase.puts_off c.args.phase)) (g.P.Phase.needs c.args.phase) _ _ _ _ found c.take-stripe.new.gate c.take-stripe.new.token c.leave-in-Err.new.gate c.leave-in-Err.new.token c.args.agent.now.caller.session
+      tries_left g.G.Gate.takes g.G.Gate.gives g.G.Gate.finds g.G.Gate.is_free g.G.Gate.speaks_for (HasWaited (g.P.Phase.due c.args.phase) (g.P.Phase.puts_off c.args.phase)) (g.P.Phase.needs c.args.phase) c.args.agent.now.caller.session _ _ _ _ found c.take-stripe.new.gate c.take-stripe.new.token c.leave-in-Err.new.gate c.leave-in-Err.new.token
           (λ x y after. g.met.P.Phase.stays c.args.phase x y (rw c.requires.fits.who_is after))
           c.loop.invariant.2 c.take-stripe.ensures.takes c.take-stripe.ensures.found.0 c.take-stripe.ensures.found.1 c.take-stripe.ensures.speaks c.requires.ready.speaks left
           record { why = inr (rw (← c.loop.invariant.1, ← c.deref_mut.ensures.value) c.in-Err.ensures.back.2); renewed = left.renewed },
-      tries-since g.G.Gate.takes g.G.Gate.gives g.G.Gate.finds g.G.Gate.is_free g.G.Gate.speaks_for (HasWaited (g.P.Phase.due c.args.phase) (g.P.Phase.puts_off c.args.phase)) (g.P.Phase.needs c.args.phase) _ _ _ _ found c.take-stripe.new.gate c.take-stripe.new.token c.leave-in-Err.new.gate c.leave-in-Err.new.token c.args.agent.now.caller.session
-          c.loop.invariant.2 c.take-stripe.ensures.speaks c.requires.ready.speaks (c.loop.invariant.3 _ c.take-stripe.ensures.found.0) left,
     )

@@ -6,9 +6,8 @@ use Rattle.jc_stripe.specs.Phases.{with_reply}
 use Rattle.jc_stripe.specs.Tickets.{JoinClaim}
 use Rattle.jc_session.specs.declared.counts.Counted.TheVariants.{Nothing, Step, Reserved}
 use Rattle.jc_engine.specs.Needs.{BeginsIfClear}
-use Rattle.jc_engine.specs.Entering as entered
 use Rattle.jc_engine.proofs.AgentAfter.{session_is, session_joined, after_begun, after_answer, after_retry}
-use Rattle.jc_engine.proofs.Rounds.{rounds_start, rounds_on, needs_on, starts_by, shares, enters}
+use Rattle.jc_engine.proofs.Rounds.{begun_by, done_row, needs_on, rounds_on, rounds_start, shared_row, starts_by}
 use Rattle.jc_engine.proofs.entering.enter.Goals as goal
 
 pub loop-init : goal.loop-init
@@ -25,7 +24,7 @@ pub lend-requires-clause-fits : goal.lend-requires-clause-fits
 lend-requires-clause-fits g c = record {
   who_is = ap (λ (who : Caller). who.session) c.caller-caller.ensures ∙ sym (session_is c.args.agent.now c.loop.agent c.loop.invariant.agent);
   needs_it = λ a found. subst (λ (who : Caller). BeginsIfClear who c.args.key.now a) (sym c.caller-caller.ensures)
-      (needs_on g.G.Gate.takes g.G.Gate.gives g.G.Gate.finds c.args.agent.now.caller c.args.key.now c.args.op.now c.args.gate.now c.args.token.now c.loop.gate c.loop.token c.loop.invariant.so c.requires.may.begins a found);
+      (needs_on g.G.Gate.takes g.G.Gate.gives g.G.Gate.finds c.args.agent.now.caller c.args.key.now c.args.op.now c.one_lending.ensures c.args.gate.now c.args.token.now c.loop.gate c.loop.token c.loop.invariant.so c.requires.may.begins a found);
 }
 
 pub returns-in-Done : goal.returns-in-Done
@@ -35,8 +34,8 @@ returns-in-Done g c = record {
   phase =
       let x = starts_by g.G.Gate.takes g.G.Gate.gives g.G.Gate.finds c.args.agent.now.caller c.args.key.now c.args.op.now c.loop.agent.caller.session c.caller-caller.result (begun.Done (with_reply c.in-Done._step c.lend.new.reply)) c.loop.gate c.loop.token c.lend.new.gate c.lend.new.token
       (session_is c.args.agent.now c.loop.agent c.loop.invariant.agent) c.caller-caller.ensures c.in-Done.ensures.phase.0 in
-      enters g.G.Gate.takes g.G.Gate.gives g.G.Gate.finds c.args.agent.now.caller c.args.key.now c.args.op.now c.args.gate.now c.args.token.now c.loop.gate c.loop.token (begun.Done (with_reply c.in-Done._step c.lend.new.reply)) c.lend.new.gate c.lend.new.token (entered.Done c.lend.new.reply) c.lend.new.gate c.lend.new.token c.loop.invariant.so x
-      (refl, refl, refl);
+      let start = begun_by g.G.Gate.takes g.G.Gate.gives g.G.Gate.finds c.args.agent.now.caller c.args.key.now c.args.op.now (begun.Done (with_reply c.in-Done._step c.lend.new.reply)) c.args.gate.now c.args.token.now c.loop.gate c.loop.token c.lend.new.gate c.lend.new.token c.loop.invariant.so x in
+      record { row = start.0; lent = start.1; did = done_row c.args.agent.now.caller c.args.key.now c.args.op.now (begun.Done (with_reply c.in-Done._step c.lend.new.reply)) _ start.0 start.2 (refl, refl, refl) };
 }
 
 pub returns-in-Refused : goal.returns-in-Refused
@@ -46,8 +45,8 @@ returns-in-Refused g c = record {
   phase =
       let x = starts_by g.G.Gate.takes g.G.Gate.gives g.G.Gate.finds c.args.agent.now.caller c.args.key.now c.args.op.now c.loop.agent.caller.session c.caller-caller.result (begun.Refused c.in-Refused.refusal) c.loop.gate c.loop.token c.lend.new.gate c.lend.new.token
       (session_is c.args.agent.now c.loop.agent c.loop.invariant.agent) c.caller-caller.ensures c.in-Refused.ensures.phase.0 in
-      enters g.G.Gate.takes g.G.Gate.gives g.G.Gate.finds c.args.agent.now.caller c.args.key.now c.args.op.now c.args.gate.now c.args.token.now c.loop.gate c.loop.token (begun.Refused c.in-Refused.refusal) c.lend.new.gate c.lend.new.token (entered.Refused c.in-Refused.refusal) c.lend.new.gate c.lend.new.token c.loop.invariant.so x
-      (refl, refl, refl);
+      let start = begun_by g.G.Gate.takes g.G.Gate.gives g.G.Gate.finds c.args.agent.now.caller c.args.key.now c.args.op.now (begun.Refused c.in-Refused.refusal) c.args.gate.now c.args.token.now c.loop.gate c.loop.token c.lend.new.gate c.lend.new.token c.loop.invariant.so x in
+      record { row = start.0; lent = start.1; did = done_row c.args.agent.now.caller c.args.key.now c.args.op.now (begun.Refused c.in-Refused.refusal) _ start.0 start.2 (refl, refl, refl) };
 }
 
 pub returns-in-Asks : goal.returns-in-Asks
@@ -57,13 +56,13 @@ returns-in-Asks g c = record {
   phase =
       let x = starts_by g.G.Gate.takes g.G.Gate.gives g.G.Gate.finds c.args.agent.now.caller c.args.key.now c.args.op.now c.loop.agent.caller.session c.caller-caller.result (begun.Asks c.in-Asks.ticket) c.loop.gate c.loop.token c.lend.new.gate c.lend.new.token
       (session_is c.args.agent.now c.loop.agent c.loop.invariant.agent) c.caller-caller.ensures c.in-Asks.ensures.phase.0 in
-      enters g.G.Gate.takes g.G.Gate.gives g.G.Gate.finds c.args.agent.now.caller c.args.key.now c.args.op.now c.args.gate.now c.args.token.now c.loop.gate c.loop.token (begun.Asks c.in-Asks.ticket) c.lend.new.gate c.lend.new.token (entered.Asks c.in-Asks.ticket) c.lend.new.gate c.lend.new.token c.loop.invariant.so x
-      (refl, refl, refl);
+      let start = begun_by g.G.Gate.takes g.G.Gate.gives g.G.Gate.finds c.args.agent.now.caller c.args.key.now c.args.op.now (begun.Asks c.in-Asks.ticket) c.args.gate.now c.args.token.now c.loop.gate c.loop.token c.lend.new.gate c.lend.new.token c.loop.invariant.so x in
+      record { row = start.0; lent = start.1; did = start.2 };
 }
 
 pub pick_up-requires-clause-who : goal.pick_up-requires-clause-who
 pick_up-requires-clause-who g c =
-    ap (λ (j : JoinClaim). j.caller.session) c.in-Joined.ensures.phase.0.made.first.begins.2
+    ap (λ (j : JoinClaim). j.caller.session) c.in-Joined.ensures.phase.0.did.made.first.begins.2
     ∙ ap (λ (who : Caller). who.session) c.caller-caller.ensures
     ∙ sym (session_joined c.args.agent.now c.loop.agent c.lend.new.agent c.loop.invariant.agent c.in-Joined.ensures.agent)
 
@@ -75,9 +74,9 @@ returns-then-pick_up g c = record {
       let x = starts_by g.G.Gate.takes g.G.Gate.gives g.G.Gate.finds c.args.agent.now.caller c.args.key.now c.args.op.now c.loop.agent.caller.session c.caller-caller.result (begun.Joined c.in-Joined.join) c.loop.gate c.loop.token c.lend.new.gate c.lend.new.token
       (session_is c.args.agent.now c.loop.agent c.loop.invariant.agent) c.caller-caller.ensures c.in-Joined.ensures.phase.0 in
       let answer = (OnTrue_at c.if-pick_up.true c.pick_up.ensures.answered).phase in
-      enters g.G.Gate.takes g.G.Gate.gives g.G.Gate.finds c.args.agent.now.caller c.args.key.now c.args.op.now c.args.gate.now c.args.token.now c.loop.gate c.loop.token (begun.Joined c.in-Joined.join) c.lend.new.gate c.lend.new.token (entered.Done c.pick_up.new.reply) c.pick_up.new.gate c.pick_up.new.token c.loop.invariant.so x
-      (shares g.G.Gate.takes g.G.Gate.gives g.G.Gate.finds c.args.agent.now.caller c.args.key.now c.args.op.now c.in-Joined.join c.loop.gate c.loop.token c.lend.new.gate c.lend.new.token c.lend.new.agent.caller.session c.pick_up.new.reply answer.0 answer.1 c.pick_up.new.gate c.pick_up.new.token x
-      (session_joined c.args.agent.now c.loop.agent c.lend.new.agent c.loop.invariant.agent c.in-Joined.ensures.agent) answer.2);
+      let whole = shared_row g.G.Gate.takes g.G.Gate.gives g.G.Gate.finds c.args.agent.now.caller c.args.key.now c.args.op.now c.args.gate.now c.args.token.now c.loop.gate c.loop.token c.in-Joined.join c.lend.new.gate c.lend.new.token c.lend.new.agent.caller.session c.pick_up.new.reply answer.0 answer.1 c.pick_up.new.gate c.pick_up.new.token c.loop.invariant.so x
+      (session_joined c.args.agent.now c.loop.agent c.lend.new.agent c.loop.invariant.agent c.in-Joined.ensures.agent) answer.2 in
+      record { row = whole.0; lent = whole.1; did = whole.2 };
 }
 
 pub loop-preserved : goal.loop-preserved
@@ -87,7 +86,7 @@ loop-preserved g c =
     record {
       agent = after_retry c.args.agent.now c.loop.agent c.lend.new.agent c.pick_up.new.agent c.requires.may.joins c.loop.invariant.agent c.in-Joined.ensures.agent (OnFalse_at c.if-pick_up.false c.pick_up.ensures.again).agent;
       ready = (OnFalse_at c.if-pick_up.false c.pick_up.ensures.again).ready;
-      so = rounds_on g.G.Gate.takes g.G.Gate.gives g.G.Gate.finds c.args.agent.now.caller c.args.key.now c.args.op.now c.is_uniform.ensures c.own_steps.ensures
+      so = rounds_on g.G.Gate.takes g.G.Gate.gives g.G.Gate.finds c.args.agent.now.caller c.args.key.now c.args.op.now
           c.args.gate.now c.args.token.now c.loop.gate c.loop.token c.in-Joined.join c.lend.new.gate c.lend.new.token c.pick_up.new.gate c.pick_up.new.token c.loop.invariant.so x c.lend.new.agent.caller.session
           (session_joined c.args.agent.now c.loop.agent c.lend.new.agent c.loop.invariant.agent c.in-Joined.ensures.agent) (OnFalse_at c.if-pick_up.false c.pick_up.ensures.again).phase;
     }

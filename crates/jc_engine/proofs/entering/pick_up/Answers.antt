@@ -1,4 +1,4 @@
-use Rattle.jc_engine.proofs.Chains.{lent-map}
+use Rattle.jc_engine.proofs.Rows.{lent_map}
 use Rattle.jc_engine.proofs.entering.pick_up.Goals as goal
 
 pub returns-in-Answer-clause-answered : goal.returns-in-Answer-clause-answered
@@ -8,7 +8,7 @@ returns-in-Answer-clause-answered g c = record {
   phase = (
     c.in-Answer.place,
     c.in-Answer.shared_with,
-    lent-map g.G.Gate.takes g.G.Gate.gives g.G.Gate.finds _ _ _ _ _ _ _ (λ a b waits. waits) (λ a b picked. picked.picks) c.in-Answer.ensures.phase.0,
+    lent_map g.G.Gate.takes g.G.Gate.gives g.G.Gate.finds _ _ _ _ _ _ _ (λ a b waits. waits) (λ a b picked. picked.picks) c.in-Answer.ensures.phase.0,
   );
 }
 
@@ -16,5 +16,5 @@ pub returns-in-Again-clause-again : goal.returns-in-Again-clause-again
 returns-in-Again-clause-again g c = record {
   ready = c.in-Again.ensures.ready;
   agent = c.in-Again.ensures.agent;
-  phase = lent-map g.G.Gate.takes g.G.Gate.gives g.G.Gate.finds _ _ _ _ _ _ _ (λ a b waits. waits) (λ a b picked. picked.picks) c.in-Again.ensures.phase.0;
+  phase = lent_map g.G.Gate.takes g.G.Gate.gives g.G.Gate.finds _ _ _ _ _ _ _ (λ a b waits. waits) (λ a b picked. picked.picks) c.in-Again.ensures.phase.0;
 }

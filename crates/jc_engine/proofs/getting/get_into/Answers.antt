@@ -1,15 +1,23 @@
-use Rattle.std.proofs.Common.{◌≡◌, ◌∙◌, Bool, true, false, IsSome, sym, ap, subst}
+use Rattle.std.proofs.Common.{◌≡◌, ◌∙◌, Bool, IsSome, Ok, Some, [], ◌∷◌, length, sym, ap, refl, subst}
 use Rattle.std.specs.Bool.{OnFalse}
 use Rattle.jc_types.specs.declared.caller.Caller.{Caller}
 use Rattle.jc_model.specs.Cache.{Bytes}
 use Rattle.jc_model.specs.declared.event.Op.TheVariants.{Get}
+use Rattle.jc_model.specs.declared.event.Reply.TheVariants.{Value}
+use Rattle.jc_stripe.specs.State.{State}
+use Rattle.jc_stripe.specs.Phases.{hit_done}
+use Rattle.jc_stripe.specs.declared.begun.Begun.TheVariants.{Done}
+use Rattle.jc_gate.specs.Lending.{ComesAfter}
 use Rattle.jc_session.specs.Counting.{counts_after}
-use Rattle.jc_engine.specs.Chain.{LentPhase}
-use Rattle.jc_engine.specs.Needs.{BeginsIfClear, counted_hit}
-use Rattle.jc_engine.specs.Turns.{hitting}
+use Rattle.jc_engine.specs.Needs.{BeginsIfClear, HasMissed, Hits, Starts, counted_hit}
+use Rattle.jc_engine.specs.Rows.{IsTurn}
+use Rattle.jc_engine.specs.Turns.{starting}
 use Rattle.jc_engine.specs.Stays.{begins-stays}
 use Rattle.jc_engine.specs.Values.{value_into}
-use Rattle.jc_engine.proofs.Later.{rested, since_rest, later_call, hit_into_room}
+use Rattle.jc_engine.proofs.FromPhases.{unasked_call}
+use Rattle.jc_engine.proofs.Later.{later_call}
+use Rattle.jc_engine.proofs.Rounds.{at_once, done_row}
+use Rattle.jc_engine.proofs.Rows.{once}
 use Rattle.jc_engine.proofs.getting.get_into.Goals as goal
 
 pub returns-then-hit : goal.returns-then-hit
@@ -17,24 +25,32 @@ returns-then-hit g c = record {
   ready = c.hit.ensures.made.ready;
   call =
       let old = c.args.agent.now in
-      let x : LentPhase g.G.Gate.takes g.G.Gate.gives g.G.Gate.finds old.caller.session c.args.gate.now c.args.token.now (hitting old.caller c.args.key.now true c.hit.new.value) c.hit.new.gate c.hit.new.token = subst (λ (is_hit : Bool). LentPhase g.G.Gate.takes g.G.Gate.gives g.G.Gate.finds old.caller.session c.args.gate.now c.args.token.now (hitting old.caller c.args.key.now is_hit c.hit.new.value) c.hit.new.gate c.hit.new.token) c.if-hit.true c.hit.ensures.made.phase.0 in
-      hit_into_room _ _ _ _ g.G.Gate.takes g.G.Gate.gives g.G.Gate.finds old c.hit.new.agent c.args.key.now c.hit.new.value c.args.value.now c.args.gate.now c.args.token.now c.hit.new.gate c.hit.new.token
-      x (c.hit.ensures.made.agent ∙ ap (λ (b : Bool). record old { counts = counts_after old.counts (counted_hit b) }) c.if-hit.true) c.requires.ready.held;
+      let x = c.hit.ensures.made.phase in
+      let value = c.hit.new.value in
+      let made : Starts old.caller c.args.key.now Get (Done (hit_done (length x.0.history) value)) x.0 x.1 = subst (λ (b : Bool). Hits old.caller c.args.key.now b value x.0 x.1) c.if-hit.true x.2 in
+      let turn : IsTurn (starting old.caller c.args.key.now Get (Done (hit_done (length x.0.history) value))) ((x.0, x.1) ∷ []) = record { waits = []; found = x.0; left = x.1; row_is = refl; waited = tt; made = made } in (
+        Ok (Value (Some value)),
+        unasked_call _ _ _ _ g.G.Gate.takes g.G.Gate.gives g.G.Gate.finds old c.hit.new.agent c.args.key.now Get c.args.gate.now c.args.token.now ((x.0, x.1) ∷ []) (Ok (Value (Some value))) c.hit.new.gate c.hit.new.token
+            (once g.G.Gate.takes g.G.Gate.gives g.G.Gate.finds old.caller.session c.args.gate.now c.args.token.now x.0 x.1 c.hit.new.gate c.hit.new.token x.3)
+            (done_row old.caller c.args.key.now Get (Done (hit_done (length x.0.history) value)) (Ok (Value (Some value))) ((x.0, x.1) ∷ []) (at_once old.caller c.args.key.now Get (Done (hit_done (length x.0.history) value)) ((x.0, x.1) ∷ []) turn) (refl, refl, refl))
+            (c.hit.ensures.made.agent ∙ ap (λ (b : Bool). record old { counts = counts_after old.counts (counted_hit b) }) c.if-hit.true)
+            c.requires.ready.held,
+        refl,
+      );
 }
 
 pub get_in_phases-requires-clause-may : goal.get_in_phases-requires-clause-may
 get_in_phases-requires-clause-may g c =
     let old = c.args.agent.now in
     let same : c.hit.new.agent ≡ old = c.hit.ensures.made.agent ∙ ap (λ (b : Bool). record old { counts = counts_after old.counts (counted_hit b) }) c.if-hit.false in
-    let x : LentPhase g.G.Gate.takes g.G.Gate.gives g.G.Gate.finds old.caller.session c.args.gate.now c.args.token.now (hitting old.caller c.args.key.now false c.hit.new.value) c.hit.new.gate c.hit.new.token = subst (λ (is_hit : Bool). LentPhase g.G.Gate.takes g.G.Gate.gives g.G.Gate.finds old.caller.session c.args.gate.now c.args.token.now (hitting old.caller c.args.key.now is_hit c.hit.new.value) c.hit.new.gate c.hit.new.token) c.if-hit.false c.hit.ensures.made.phase.0 in
-    let since = since_rest g.G.Gate.takes g.G.Gate.gives g.G.Gate.finds c.is_uniform.ensures old.caller c.args.key.now c.hit.new.value c.args.gate.now c.args.token.now c.hit.new.gate c.hit.new.token x in
+    let x = c.hit.ensures.made.phase in
+    let missed : HasMissed old.caller c.args.key.now x.0 x.1 = subst (λ (b : Bool). Hits old.caller c.args.key.now b c.hit.new.value x.0 x.1) c.if-hit.false x.2 in
+    let since : (a : State) → g.G.Gate.finds c.hit.new.gate c.hit.new.token a → ComesAfter old.caller.session x.0 a = λ a found. subst (λ s. ComesAfter old.caller.session s a) missed.same (x.3.next a found) in
     record {
       reservations = ap (λ z. z.counts.reservations) same ∙ c.requires.may.reservations;
       joins = ap (λ z. z.counts.joins) same ∙ c.requires.may.joins;
-      begins = λ a finds. subst (λ (w : Caller). BeginsIfClear w c.args.key.now a) (sym (ap (λ z. z.caller) same))
-          (begins-stays old.caller c.args.key.now (since a finds).first a (since a finds).after (c.requires.may.begins (since a finds).first (since a finds).finds_first));
-      writes = λ a finds through. subst IsSome (sym (ap (λ z. z.hands.outside.writer) same))
-          (c.requires.may.writes (since a finds).first (since a finds).finds_first (sym (ap (λ k. k.write_through) (since a finds).after.same.config) ∙ through));
+      begins = λ a found. subst (λ (w : Caller). BeginsIfClear w c.args.key.now a) (sym (ap (λ z. z.caller) same)) (begins-stays old.caller c.args.key.now x.0 a (since a found) (c.requires.may.begins x.0 x.3.finds_it));
+      writes = λ a found through. subst IsSome (sym (ap (λ z. z.hands.outside.writer) same)) (c.requires.may.writes x.0 x.3.finds_it (sym (ap (λ k. k.write_through) (since a found).same.config) ∙ through));
     }
 
 pub returns : goal.returns
@@ -42,17 +58,15 @@ returns g c = record {
   ready = c.get_in_phases.ensures.ready;
   call =
       let old = c.args.agent.now in
-      let x : LentPhase g.G.Gate.takes g.G.Gate.gives g.G.Gate.finds old.caller.session c.args.gate.now c.args.token.now (hitting old.caller c.args.key.now false c.hit.new.value) c.hit.new.gate c.hit.new.token = subst (λ (is_hit : Bool). LentPhase g.G.Gate.takes g.G.Gate.gives g.G.Gate.finds old.caller.session c.args.gate.now c.args.token.now (hitting old.caller c.args.key.now is_hit c.hit.new.value) c.hit.new.gate c.hit.new.token) c.if-hit.false c.hit.ensures.made.phase.0 in
+      let x = c.hit.ensures.made.phase in
+      let missed : HasMissed old.caller c.args.key.now x.0 x.1 = subst (λ (b : Bool). Hits old.caller c.args.key.now b c.hit.new.value x.0 x.1) c.if-hit.false x.2 in
       let stays : c.hit.new.value ≡ c.args.value.now = subst (λ (b : Bool). OnFalse b (c.hit.new.value ≡ c.args.value.now)) c.if-hit.false c.hit.ensures.stays in
-      let rest = rested g.G.Gate.takes g.G.Gate.gives g.G.Gate.finds old.caller c.args.key.now c.hit.new.value c.args.gate.now c.args.token.now c.hit.new.gate c.hit.new.token x in
       let r = c.get_in_phases.ensures.call in (
         r.0,
-        later_call _ _ _ _ g.G.Gate.takes g.G.Gate.gives g.G.Gate.finds old c.hit.new.agent c.get_in_phases.new.agent c.args.key.now Get c.args.gate.now c.args.token.now c.hit.new.gate c.hit.new.token
+        later_call _ _ _ _ g.G.Gate.takes g.G.Gate.gives g.G.Gate.finds old c.hit.new.agent c.get_in_phases.new.agent c.args.key.now c.args.gate.now c.args.token.now x.0 x.1 c.hit.new.gate c.hit.new.token
             r.0 c.get_in_phases.new.gate c.get_in_phases.new.token
             (c.hit.ensures.made.agent ∙ ap (λ (b : Bool). record old { counts = counts_after old.counts (counted_hit b) }) c.if-hit.false)
-            rest.0 rest.1
-            (since_rest g.G.Gate.takes g.G.Gate.gives g.G.Gate.finds c.is_uniform.ensures old.caller c.args.key.now c.hit.new.value c.args.gate.now c.args.token.now c.hit.new.gate c.hit.new.token x)
-            r.1,
+            missed x.3 r.1,
         r.2 ∙ ap (λ (room : Bytes). value_into room r.0) stays,
       );
 }

@@ -1,6 +1,5 @@
-use Rattle.std.proofs.Common.{rules, [], ◌≡◌, ◌∙◌, ap, refl}
+use Rattle.std.proofs.Common.{rules, ◌≡◌, ◌∙◌, ap, inl}
 use Rattle.jc_session.proofs.CallerLemmas.{phase_of}
-use Rattle.jc_engine.proofs.Coming.{since_start}
 use Rattle.jc_engine.proofs.getting.hit.Goals as goal
 
 pub give-requires-clause-phase : goal.give-requires-clause-phase
@@ -16,17 +15,15 @@ returns-clause-made g c =
     record {
       ready = search rules;
       agent = search rules;
-      phase = (record {
-        gate = c.args.gate.now;
-        token = c.args.token.now;
-        rests = record { idle = []; quiet = tt; lent = (refl, refl) };
-        waited = tt;
-        before = c.take-stripe.result.value;
-        after = c.hit_on-is_hit.new.stripe;
-        since = since_start g.G.Gate.finds _ c.args.gate.now c.args.token.now _ c.take-stripe.ensures.found.0;
-        lent = record { gate = c.take-stripe.new.gate; token = c.take-stripe.new.token; took = c.take-stripe.ensures.takes; reached = c.take-stripe.ensures.found.1; gave = c.give.ensures.gives };
-        made = rw (← who, ← c.deref_mut.ensures.value) c.hit_on-is_hit.ensures.made;
-        one = rw (← who, ← c.deref_mut.ensures.value) (phase_of _ _ _ _ c.hit_on-is_hit.ensures.counted);
-        next = λ a f. c.give.ensures.next _ a (c.take-stripe.ensures.speaks _ c.requires.ready.speaks) f;
-      }, refl);
+      phase = (
+        c.take-stripe.result.value,
+        c.hit_on-is_hit.new.stripe,
+        rw (← who, ← c.deref_mut.ensures.value) c.hit_on-is_hit.ensures.made,
+        record {
+          lends = record { gate = c.take-stripe.new.gate; token = c.take-stripe.new.token; took = c.take-stripe.ensures.takes; reached = c.take-stripe.ensures.found.1; gave = c.give.ensures.gives };
+          finds_it = c.take-stripe.ensures.found.0;
+          by = inl (rw (← who, ← c.deref_mut.ensures.value) (phase_of _ _ _ _ c.hit_on-is_hit.ensures.counted));
+          next = λ a f. c.give.ensures.next _ a (c.take-stripe.ensures.speaks _ c.requires.ready.speaks) f;
+        },
+      );
     }

@@ -8,7 +8,7 @@ use Rattle.jc_stripe.specs.declared.begun.Begun.TheVariants as begun
 use Rattle.jc_engine.specs.Doors.{HasTried}
 use Rattle.jc_engine.specs.Needs.{BeginsIfClear, StartsBy}
 use Rattle.jc_engine.specs.Turns.{StartWaits, trying}
-use Rattle.jc_engine.proofs.Chains.{lent-map}
+use Rattle.jc_engine.proofs.Rows.{lent_map}
 use Rattle.jc_engine.proofs.Unasked.{no_ticket, no_share}
 use Rattle.jc_engine.proofs.trying.try_call.Goals as goal
 
@@ -21,14 +21,14 @@ try_lend-requires-clause-fits g c = record {
 pub unreachable-requires : goal.unreachable-requires
 unreachable-requires g c =
     let made = c.in-Ok.ensures.made.1 in
-    no_ticket made.before made.after c.caller.result c.args.key.now c.args.op.now c.in-Asks._ticket (made.made.alone refl)
-    (subst (λ (s : Started). Begins made.before c.caller.result c.args.key.now c.args.op.now (begun_with s c.try_lend.new.reply) made.after) c.in-Asks.is made.made.first.begins)
+    no_ticket made.did.found made.did.left c.caller.result c.args.key.now c.args.op.now c.in-Asks._ticket (made.did.made.alone refl)
+    (subst (λ (s : Started). Begins made.did.found c.caller.result c.args.key.now c.args.op.now (begun_with s c.try_lend.new.reply) made.did.left) c.in-Asks.is made.did.made.first.begins)
 
 pub unreachable-requires-in-Joined : goal.unreachable-requires-in-Joined
 unreachable-requires-in-Joined g c =
     let made = c.in-Ok.ensures.made.1 in
-    no_share made.before made.after c.caller.result c.args.key.now c.args.op.now c.in-Joined._join (made.made.alone refl)
-    (subst (λ (s : Started). Begins made.before c.caller.result c.args.key.now c.args.op.now (begun_with s c.try_lend.new.reply) made.after) c.in-Joined.is made.made.first.begins)
+    no_share made.did.found made.did.left c.caller.result c.args.key.now c.args.op.now c.in-Joined._join (made.did.made.alone refl)
+    (subst (λ (s : Started). Begins made.did.found c.caller.result c.args.key.now c.args.op.now (begun_with s c.try_lend.new.reply) made.did.left) c.in-Joined.is made.did.made.first.begins)
 
 pub returns-in-Done : goal.returns-in-Done
 returns-in-Done g c = record {
@@ -40,7 +40,7 @@ returns-in-Done g c = record {
     with_reply c.in-Done._step c.try_lend.new.reply,
     refl,
     record {
-      lent = lent-map g.G.Gate.takes g.G.Gate.gives g.G.Gate.finds _ _ _ _ (trying c.args.agent.now.caller c.args.key.now c.args.op.now (begun.Done (with_reply c.in-Done._step c.try_lend.new.reply))) _ _
+      lent = lent_map g.G.Gate.takes g.G.Gate.gives g.G.Gate.finds _ _ _ _ (trying c.args.agent.now.caller c.args.key.now c.args.op.now (begun.Done (with_reply c.in-Done._step c.try_lend.new.reply))) _ _
           (λ a b waited. subst (λ (who : Caller). StartWaits Alone who c.args.key.now c.args.op.now a b) c.caller.ensures waited)
           (λ a b tried. subst (λ (s : Started). StartsBy Alone c.args.agent.now.caller c.args.key.now c.args.op.now (begun_with s c.try_lend.new.reply) a b) c.in-Done.is (rw (← c.caller.ensures) tried)) c.in-Ok.ensures.made.1;
       again = c.in-Ok.ensures.made.2;
@@ -55,11 +55,11 @@ returns-in-Refused g c = record {
       c.in-Ok.ensures.made.0
       ∙ ap (λ (s : Started). record c.args.agent.now { counts = counts_after c.args.agent.now.counts (counted_started s) }) c.in-Refused.is;
   phase = inl (record {
-      lent = lent-map g.G.Gate.takes g.G.Gate.gives g.G.Gate.finds _ _ _ _ (trying c.args.agent.now.caller c.args.key.now c.args.op.now (begun.Refused c.in-Refused.refusal)) _ _
-          (λ a b waited. subst (λ (who : Caller). StartWaits Alone who c.args.key.now c.args.op.now a b) c.caller.ensures waited)
-          (λ a b tried. subst (λ (s : Started). StartsBy Alone c.args.agent.now.caller c.args.key.now c.args.op.now (begun_with s c.try_lend.new.reply) a b) c.in-Refused.is (rw (← c.caller.ensures) tried)) c.in-Ok.ensures.made.1;
-      again = c.in-Ok.ensures.made.2;
-    });
+    lent = lent_map g.G.Gate.takes g.G.Gate.gives g.G.Gate.finds _ _ _ _ (trying c.args.agent.now.caller c.args.key.now c.args.op.now (begun.Refused c.in-Refused.refusal)) _ _
+        (λ a b waited. subst (λ (who : Caller). StartWaits Alone who c.args.key.now c.args.op.now a b) c.caller.ensures waited)
+        (λ a b tried. subst (λ (s : Started). StartsBy Alone c.args.agent.now.caller c.args.key.now c.args.op.now (begun_with s c.try_lend.new.reply) a b) c.in-Refused.is (rw (← c.caller.ensures) tried)) c.in-Ok.ensures.made.1;
+    again = c.in-Ok.ensures.made.2;
+  });
 }
 
 pub returns-in-Err : goal.returns-in-Err
@@ -68,6 +68,6 @@ returns-in-Err g c = record {
   agent = c.in-Err.ensures.back.1;
   phase = inr (
     refl,
-    subst (λ (who : Caller). HasTried g.G.Gate.takes g.G.Gate.gives g.G.Gate.misses (StartWaits Alone who c.args.key.now c.args.op.now) c.args.gate.now c.args.token.now c.try_lend.new.gate c.try_lend.new.token) c.caller.ensures c.in-Err.ensures.back.2.tried,
+    subst (λ (who : Caller). HasTried g.G.Gate.takes g.G.Gate.gives g.G.Gate.finds g.G.Gate.misses c.args.agent.now.caller.session (StartWaits Alone who c.args.key.now c.args.op.now) c.args.gate.now c.args.token.now c.try_lend.new.gate c.try_lend.new.token) c.caller.ensures c.in-Err.ensures.back.2,
   );
 }
