@@ -21,11 +21,11 @@ use Rattle.jc_engine.specs.Turns.{AreRejoins, IsBegunRow, IsCallRow, starting, s
 use Rattle.jc_engine.specs.Calls.{IsCall}
 
 module _ (caller : Caller) (key : Bytes) (a b : State) (missed : HasMissed caller key a b) where
-  abbrev later_turn : (begun : Begun) (row : List (State × State)) → IsTurn (starting caller key Get begun) row → IsTurn (starting caller key Get begun) ((a, b) ∷ row)
+  abbrev pub later_turn : (begun : Begun) (row : List (State × State)) → IsTurn (starting caller key Get begun) row → IsTurn (starting caller key Get begun) ((a, b) ∷ row)
   later_turn begun row x =
       record { waits = (a, b) ∷ x.waits; found = x.found; left = x.left; row_is = ap (λ (ps : List (State × State)). (a, b) ∷ ps) x.row_is; waited = (inr (refl, missed), x.waited); made = x.made }
 
-  later_rejoins : (n : ℕ) (row : List (State × State)) → AreRejoins caller key Get (suc n) row → AreRejoins caller key Get (suc n) ((a, b) ∷ row)
+  pub later_rejoins : (n : ℕ) (row : List (State × State)) → AreRejoins caller key Get (suc n) row → AreRejoins caller key Get (suc n) ((a, b) ∷ row)
   later_rejoins zero row x =
       let last = x.4 in (
         [],
@@ -36,7 +36,7 @@ module _ (caller : Caller) (key : Bytes) (a b : State) (missed : HasMissed calle
       )
   later_rejoins (suc n) row x = ((a, b) ∷ x.0, x.1, ap (λ (ps : List (State × State)). (a, b) ∷ ps) x.2, later_rejoins n x.0 x.3, x.4)
 
-  later_begun : (begun : Begun) (row : List (State × State)) (n : ℕ) (rejoins first : List (State × State)) → row ≡ rejoins ++ first → AreRejoins caller key Get n rejoins → (x : IsTurn (starting caller key Get begun) first)
+  pub later_begun : (begun : Begun) (row : List (State × State)) (n : ℕ) (rejoins first : List (State × State)) → row ≡ rejoins ++ first → AreRejoins caller key Get n rejoins → (x : IsTurn (starting caller key Get begun) first)
       → (y : IsBegunRow caller key Get begun ((a, b) ∷ row)) × (y.starts.found ≡ x.found)
   later_begun begun row zero rejoins first is rejoined x = (
     record {
@@ -54,7 +54,7 @@ module _ (caller : Caller) (key : Bytes) (a b : State) (missed : HasMissed calle
     refl,
   )
 
-  later_row : (asked : Out) (ended : Result Reply Refusal) (row : List (State × State)) → (x : IsCallRow caller key Get asked ended row) → (y : IsCallRow caller key Get asked ended ((a, b) ∷ row)) × (state_found y ≡ state_found x)
+  pub later_row : (asked : Out) (ended : Result Reply Refusal) (row : List (State × State)) → (x : IsCallRow caller key Get asked ended row) → (y : IsCallRow caller key Get asked ended ((a, b) ∷ row)) × (state_found y ≡ state_found x)
   later_row asked ended row x =
       let begins = x.begins in
       let later = later_begun x.begun x.start begins.rounds begins.rejoins begins.first begins.row_is begins.rejoined begins.starts in
@@ -64,7 +64,7 @@ module _ {I J G T : Type 0} {D : I → Type 0} {E : J → Type 0}
     (loads : LoadRelation ((i : I) × D i)) (load_state : (i : I) × D i → List ℕ)
     (writes : WriteRelation ((j : J) × E j)) (write_state : (j : J) × E j → List ℕ)
     (takes gives : G → T → State → G → T → Type 0) (finds : G → T → State → Type 0) where
-  pub later_call : (old mid new : Agent I J D E) (key : Bytes) (g : G) (t : T) (a b : State) (h : G) (u : T) (ended : Result Reply Refusal) (k : G) (v : T)
+  abbrev pub later_call : (old mid new : Agent I J D E) (key : Bytes) (g : G) (t : T) (a b : State) (h : G) (u : T) (ended : Result Reply Refusal) (k : G) (v : T)
       → mid ≡ old → HasMissed old.caller key a b → IsLending takes gives finds old.caller.session g t a b h u
       → IsCall loads load_state writes write_state takes gives finds mid key Get h u ended new k v
       → IsCall loads load_state writes write_state takes gives finds old key Get g t ended new k v

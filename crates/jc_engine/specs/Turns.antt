@@ -10,11 +10,14 @@
 --     IsBegunRow    the same, and a first phase that is the last one, which began so
 --     EndsBy        how a call ends after its first phase, what was asked outside for it, and its lendings from there on
 --     IsCallRow     the lendings of a whole call: loads that it joined in vain, its first phase, and its end
+--     HasLookedFirst
+--                   the lendings of a get: in the first one it found its entry, and that is all; or it couldn't be a hit there, and left the
+--                   stripe as it was
 --     state_of_step the state in which a call's step was made, by what its first phase began: that in which it was committed, if it had
 --                   somebody to ask, and else that in which the stripe was found first
 --     state_found, state_decided
 --                   the state in which a call's first phase found the stripe, and the one in which its step was made
-use Rattle.std.specs.Prelude.{◌≡◌, ◌⊎◌, ◌++◌, ℕ, zero, suc, List, [], true, IsTrue, Result, Ok, Err}
+use Rattle.std.specs.Prelude.{◌≡◌, ◌⊎◌, ◌++◌, ℕ, zero, suc, List, [], ◌∷◌, true, IsTrue, Result, Ok, Err}
 use Rattle.jc_types.specs.declared.caller.Caller.{Caller}
 use Rattle.jc_types.specs.declared.refusal.Refusal.{Refusal}
 use Rattle.jc_model.specs.Cache.{Bytes}
@@ -36,7 +39,7 @@ use Rattle.jc_engine.specs.declared.first.How.{How}
 use Rattle.jc_engine.specs.declared.first.How.TheVariants.{Waits, Alone}
 use Rattle.jc_engine.specs.Rows.{IsTurn, Turn, turn_of}
 use Rattle.jc_engine.specs.Doors.{HasWaited}
-use Rattle.jc_engine.specs.Needs.{HasMissed, IsPutOff, IsTooEarly, Starts, StartsBy, can_start}
+use Rattle.jc_engine.specs.Needs.{HasMissed, Hits, IsPutOff, IsTooEarly, Starts, StartsBy, can_start}
 
 -- 1. One turn.
 
@@ -92,6 +95,13 @@ pub record IsCallRow (caller : Caller) (key : Bytes) (op : Op) (asked : Out) (en
   pub row_is : row ≡ start ++ last
   pub begins : IsBegunRow caller key op begun start
   pub ends : EndsBy begun asked ended last
+
+pub record HasLookedFirst (caller : Caller) (key : Bytes) (row : List (State × State)) : Type 0 where
+  pub found : State
+  pub left : State
+  pub others : List (State × State)
+  pub row_is : row ≡ (found, left) ∷ others
+  pub look : HasMissed caller key found left ⊎ ((others ≡ []) × ((value : Bytes) × Hits caller key true value found left))
 
 -- 3. The states that decide a call.
 

@@ -8,6 +8,7 @@ ghost use Rattle.jc_session.specs.Counting.{counts_after, IsCounted};
 ghost use Rattle.jc_stripe.specs.State.{State};
 ghost use Rattle.jc_engine.specs.Needs.{BeginsIfClear, Hits, counted_hit};
 ghost use Rattle.jc_engine.specs.Rows.{IsLending};
+ghost use Rattle.jc_engine.specs.Turns.{HasLookedFirst};
 ghost use Rattle.jc_engine.specs.Values.{value_into};
 ghost use Rattle.jc_engine.specs.Calls.{IsCall, MayCallAt};
 ghost use Rattle.jc_engine.specs.Doors.{IsReady, MakesCall, MakesPhase};
@@ -37,9 +38,9 @@ pub fn get_into<G: Gate, R: Wait>(
     requires ready { IsReady G.is_free G.speaks_for gate.old token.old agent.old }
     requires may { MayCallAt G.finds key.now gate.old token.old agent.old }
     ensures { MakesCall G.is_free G.speaks_for gate.new token.new agent.new
-        ((ended : Result Reply Refusal) × IsCall loads load_state writes write_state G.takes G.gives G.finds
-        agent.old key.now Get gate.old token.old ended agent.new gate.new token.new
-        × ((result, value.new) ≡ value_into value.old ended)) }
+        ((ended : Result Reply Refusal) × (called : IsCall loads load_state writes write_state G.takes G.gives G.finds
+        agent.old key.now Get gate.old token.old ended agent.new gate.new token.new)
+        × ((result, value.new) ≡ value_into value.old ended) × HasLookedFirst agent.old.caller key.now called.row) }
 {
     one_lending();
     if hit(rt, gate, token, agent, key, value) {

@@ -1,4 +1,4 @@
-use Rattle.std.proofs.Common.{◌≡◌, ◌∙◌, Bool, IsSome, Ok, Some, [], ◌∷◌, length, sym, ap, refl, subst}
+use Rattle.std.proofs.Common.{◌≡◌, ◌∙◌, Bool, inl, inr, IsSome, Ok, Some, [], ◌∷◌, length, sym, ap, refl, subst}
 use Rattle.std.specs.Bool.{OnFalse}
 use Rattle.jc_types.specs.declared.caller.Caller.{Caller}
 use Rattle.jc_model.specs.Cache.{Bytes}
@@ -36,6 +36,7 @@ returns-then-hit g c = record {
             (c.hit.ensures.made.agent ∙ ap (λ (b : Bool). record old { counts = counts_after old.counts (counted_hit b) }) c.if-hit.true)
             c.requires.ready.held,
         refl,
+        record { found = x.0; left = x.1; others = []; row_is = refl; look = inr (refl, (value, subst (λ (b : Bool). Hits old.caller c.args.key.now b value x.0 x.1) c.if-hit.true x.2)) },
       );
 }
 
@@ -68,5 +69,6 @@ returns g c = record {
             (c.hit.ensures.made.agent ∙ ap (λ (b : Bool). record old { counts = counts_after old.counts (counted_hit b) }) c.if-hit.false)
             missed x.3 r.1,
         r.2 ∙ ap (λ (room : Bytes). value_into room r.0) stays,
+        record { found = x.0; left = x.1; others = _; row_is = refl; look = inl missed },
       );
 }
