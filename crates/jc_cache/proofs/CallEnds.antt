@@ -2,15 +2,15 @@
 --     refused_full     of the refusals that are not waited out a first phase gives the full history alone
 --     joins_get        what joins a load is a `Get`
 --     IsBelow          a call that has made its step is not the last one
---     CallLeft         a whole call's seat: it is of the same lock, what it has seen, and that
---     retries_seen     rounds in which a call joined a load and was told to retry: the seat has seen them
+--     CallLeft         a whole call's seat: it is of the same lock, and what it has seen; if the call runs a processor, in which state its
+--                      step was made, and that the entry there is the one that was found first
+--     ends_left        a call, by what its first phase began
 --     call_left        a whole call
---     tried_seen, tries_to
---                      a call that waits for nobody: the seat has seen its tries; its first phase
---     tried_left       a call that waits for nobody
---     committed_left   a call that had somebody to ask: it is between, and its step was made, in the state in which it was committed
---     invoked_left     a whole call that runs a processor: its step was made in a state with the entry that was found first
-use Rattle.std.proofs.Common.{◌≡◌, ◌⊎◌, ◌∷◌, ◌&&◌, ◌≤◌, ◌++◌, le_refl, ⊎_elim, inl, inr, ℕ, zero, suc, Bool, true, false, if◌then◌else◌, nat_lt, Option, None, Some, is_none, Result, Ok, Err, List, [], length, slice_get, refl, sym, ap, subst, ◌∙◌, arith}
+--     tries_to         a call that waits for nobody: its first phase
+--     was_busy         the same, if it wasn't made
+--     tried_left       the same, either way
+use Rattle.std.proofs.Common.{◌≡◌, ◌&&◌, ◌≤◌, ◌+◌, ◌++◌, ⊎_elim, inl, inr, ℕ, zero, suc, Bool, true, false, if◌then◌else◌, nat_lt, Option, None, Some, is_none, Result, Ok, Err, List, [], length, slice_get, refl, sym, ap, subst, ◌∙◌, arith}
+use Rattle.std.proofs.lemmas.Bool.{true≢false}
 use mathlib.Core.List.{IsPrefix}
 use Rattle.jc_types.specs.declared.caller.Caller.{Caller}
 use Rattle.jc_types.specs.declared.refusal.Refusal.{Refusal}
@@ -27,10 +27,11 @@ use Rattle.jc_model.specs.declared.event.Reply.{Reply}
 use Rattle.jc_stripe.specs.State.{State, reservation_of}
 use Rattle.jc_stripe.specs.Generations.{whole_history, whole_place}
 use Rattle.jc_stripe.specs.Tickets.{TicketClaim, JoinClaim}
-use Rattle.jc_stripe.specs.Refusals.{first_refusal, last_number, load_at, load_joined, may_join}
-use Rattle.jc_stripe.specs.OnePhase.{OnePhase}
-use Rattle.jc_stripe.specs.OwnSteps.{OwnSteps, StepsBehind, may_come_all}
-use Rattle.jc_stripe.specs.Phases.{Begins, after_commit}
+use Rattle.jc_stripe.specs.Refusals.{first_asked, first_refusal, last_number, load_at, load_joined, may_join}
+use Rattle.jc_stripe.specs.OnePhase.{GainsOwn, IsPhaseOf}
+use Rattle.jc_stripe.specs.OwnSteps.{AddsOwn, StepsBehind, may_come_all}
+use Rattle.jc_stripe.specs.Phases.{after_commit}
+use Rattle.jc_stripe.specs.Tests.{asks_outside}
 use Rattle.jc_stripe.specs.declared.begun.Begun.{Begun}
 use Rattle.jc_stripe.specs.declared.begun.Begun.TheVariants as begun
 use Rattle.jc_stripe.specs.declared.begun.Picked.TheVariants as picked
@@ -38,22 +39,17 @@ use Rattle.jc_stripe.specs.declared.begun.StepDone.{StepDone}
 use Rattle.jc_stripe.specs.declared.ticket.Reservation.{Reservation}
 use Rattle.jc_stripe.proofs.CallerLemmas.{call_below, may_in_all, put_off_or_full}
 use Rattle.jc_lock.specs.declared.view.View.{View}
-use Rattle.jc_lock.specs.Views.{after_miss}
-use Rattle.jc_lock.proofs.CallerLemmas.{prefix-refl, prefix-trans, same_itself, same_on}
-use Rattle.jc_engine.specs.Entering.{Entered}
-use Rattle.jc_engine.specs.Entering as entered
-use Rattle.jc_stripe.specs.Tests.{asks_outside}
-use Rattle.jc_engine.specs.Chain.{LentPhase}
-use Rattle.jc_engine.specs.Doors.{HasTried, HasTriedOnce}
-use Rattle.jc_engine.specs.Turns.{StartWaits, committing, picking, starting, trying}
-use Rattle.jc_engine.specs.declared.first.How.TheVariants.{Alone}
+use Rattle.jc_lock.proofs.CallerLemmas.{prefix-refl, prefix-trans}
+use Rattle.jc_engine.specs.Rows.{PhaseLaws}
+use Rattle.jc_engine.specs.Doors.{HasTried, Misses}
+use Rattle.jc_engine.specs.Turns.{EndsBy, IsCallRow, StartWaits, committing, picking, state_decided, state_found, state_of_step, trying}
+use Rattle.jc_engine.specs.declared.first.How.TheVariants.{Alone, Waits}
 use Rattle.jc_engine.specs.Needs.{Starts}
 use Rattle.jc_engine.specs.MadeIn.{IsNext}
-use Rattle.jc_engine.proofs.CallerLemmas.{asks_first, next_place, not_done, shown_same}
-use Rattle.jc_engine.specs.Calls.{Rejoins, Retries, EntersAs, Enters, EndsAs, IsTried, TriesTo as Tries}
-use Rattle.jc_cache.specs.Fronts.{HasAllSeen, HasSeen, HasMade, MakesStep, SeatAfter, SeatTried, TriesTo, IsBetween, IsMadeIn}
-use Rattle.jc_cache.proofs.Lendings.{lock_takes, lock_gives, lock_finds, Lending, HasGrown, seen_itself, seen_on, made_on, grown_on, grown_behind, kept, added, gained, front_grows, longer_on, rests_seen, phase_lent, all_seen}
-use Rattle.jc_cache.proofs.Turns.{Misses, phase_row, turn_of_phase, was_busy}
+use Rattle.jc_engine.specs.Calls.{IsTried, TriesTo as Tries}
+use Rattle.jc_engine.proofs.CallerLemmas.{Keeps, all_map, begun_row, commits_phase, next_place, picks_phase, row_split, shown_same, starts_phase, waited_keeps}
+use Rattle.jc_cache.specs.Fronts.{HasSeen, HasMade, IsBusyAt, SeatAfter, SeatTried, TriesTo, WasBusy, IsMadeIn}
+use Rattle.jc_cache.proofs.Lendings.{lock_takes, lock_gives, lock_finds, lock_misses, Lending, LockRow, HasGrown, added, all_seen, earlier, front_grows, front_on, gained, grown_behind, kept, last_lent, longer_on, row_left, row_seen, seat_itself, seen_on, turn_lent}
 
 -- 1. First phases.
 
@@ -79,307 +75,181 @@ abbrev pub IsBelow : Caller → Result Reply Refusal → Type 0
 IsBelow caller (Ok reply) = nat_lt caller.call last_number ≡ true
 IsBelow caller (Err refusal) = Unit {0}
 
-pub record CallLeft {L : Type 0} (t : L × View) (caller : Caller) (key : Bytes) (op : Op) (asked : Out) (ended : Result Reply Refusal) (decided : State) (u : L × View) : Type 0 where
+pub record CallLeft {L : Type 0} (t : L × View) (caller : Caller) (key : Bytes) (op : Op) (asked : Out) (ended : Result Reply Refusal) (first decided : State) (u : L × View) : Type 0 where
   pub lock : u.0 ≡ t.0
-  pub between : IsBetween t.1 decided u.1
   pub seat : SeatAfter t.1 caller key op asked ended u.1
   pub below : IsBelow caller ended
-
--- the same up to where it is done, refused, or has somebody to ask
-abbrev EnteredAt : View → Caller → Bytes → Op → Entered → View → Type 0
-EnteredAt v caller key op (entered.Done reply) w = MakesStep v caller key op nothing_said reply w × (nat_lt caller.call last_number ≡ true)
-EnteredAt v caller key op (entered.Refused r) w = HasSeen v w × (r ≡ refusal.HistoryFull) × (first_refusal w.noted caller key op ≡ Some r) × HasAllSeen w
-EnteredAt v caller key op (entered.Asks ticket) w =
-    HasSeen v w × (nat_lt caller.call last_number ≡ true) × (ticket.reservation.caller ≡ caller) × (ticket.reservation.key ≡ key) × (ticket.reservation.op ≡ op)
-
-between_on : (u v : View) (state : State) (w : View) → HasSeen u v → IsBetween v state w → IsBetween u state w
-between_on u v state w p x = record {
-  reached = x.reached;
-  same = same_on u.noted v.noted state p.seat.same x.same;
-  front = prefix-trans u.front v.front (whole_history state) p.front x.front;
-  later = x.later;
-}
-
-between_grows : (u : View) (state : State) (v w : View) → IsBetween u state v → IsPrefix v.front w.front → IsBetween u state w
-between_grows u state v w x p = record { reached = x.reached; same = x.same; front = x.front; later = prefix-trans (whole_history state) v.front w.front x.later p }
-
--- the state that a lending found
-found_between : (session : ℕ) (v : View) (a b : State) (w : View) → Lending session v a b w → IsBetween v a w
-found_between session v a b w x = record { reached = x.reached; same = x.same; front = x.front; later = front_grows session v a b w x }
-
-entered_on : (u v : View) (caller : Caller) (key : Bytes) (op : Op) (met : Entered) (w : View) → HasSeen u v → EnteredAt v caller key op met w → EnteredAt u caller key op met w
-entered_on u v caller key op (entered.Done reply) w p x =
-    (record { out = x.0.out; shared_with = x.0.shared_with; place = x.0.place; asked_for = x.0.asked_for; made = made_on u v w (Step caller op key x.0.out x.0.shared_with reply) x.0.place p x.0.made }, x.1)
-entered_on u v caller key op (entered.Refused refusal) w p x = (seen_on u v w p x.0, x.1, x.2, x.3)
-entered_on u v caller key op (entered.Asks ticket) w p x = (seen_on u v w p x.0, x.1, x.2, x.3, x.4)
-
-entered_front : (v : View) (caller : Caller) (key : Bytes) (op : Op) (met : Entered) (w : View) → EnteredAt v caller key op met w → IsPrefix v.front w.front
-entered_front v caller key op (entered.Done reply) w x = x.0.made.front
-entered_front v caller key op (entered.Refused refusal) w x = x.0.front
-entered_front v caller key op (entered.Asks ticket) w x = x.0.front
+  pub made : op ≡ Invoke → IsMadeIn t.1 caller key op asked ended u.1 seat decided
+  pub entry : op ≡ Invoke → entry_at decided.cache key ≡ entry_at first.cache key
 
 front_le : (xs ys : List Event) (place : ℕ) → IsPrefix xs ys → length ys ≤ place → length xs ≤ place
 front_le xs ys place p le = let one = longer_on xs ys p in omega arith
 
--- 3. Up to where the call is done, refused, or has somebody to ask.
+get_invokes : Get ≡ Invoke → ⊥
+get_invokes is = cc
 
--- the join of a call is of the call
-join_claim : (old new : State) (caller : Caller) (key : Bytes) (op : Op) (join : JoinClaim) → Begins old caller key op (begun.Joined join) new → (join.caller ≡ caller) × (join.key ≡ key)
-join_claim old new caller key op join x = (ap (λ (j : JoinClaim). j.caller) x.2, ap (λ (j : JoinClaim). j.key) x.2)
+-- a phase of the caller under another name
+phase_as : (who caller : Caller) (a b : State) → who ≡ caller → IsPhaseOf who.session a b → IsPhaseOf caller.session a b
+phase_as who caller a b is one = subst (λ (w : Caller). IsPhaseOf w.session a b) is one
 
--- a later view of the same lock's seat
-abbrev Reaches : {L : Type 0} → L × View → L × View → Type 0
-Reaches t u = (u.0 ≡ t.0) × HasSeen t.1 u.1
-
-module _ {G L : Type 0} where
-  rejoins_seen : OnePhase → OwnSteps → (caller : Caller) (key : Bytes) (op : Op) (g : G) (t : L × View) (h : G) (u : L × View) → t.1.session ≡ Some caller.session → t.1.holds ≡ false
-      → Rejoins lock_takes lock_gives lock_finds caller key op g t h u → Reaches t u
-  rejoins_seen law own caller key op g t h u mine free x =
-      let begins = x.joined.made.first.begins in
-      let j = phase_lent law caller.session g t (starting caller key op (begun.Joined x.join)) x.gate x.token mine free x.joined in
-      let seen = kept caller.session t.1 x.joined.before x.joined.after x.token.1 j.1 (own.joins x.joined.before x.joined.after caller key op x.join begins) in
-      let who = join_claim x.joined.before x.joined.after caller key op x.join begins in
-      let mine' : x.token.1.session ≡ Some x.join.caller.session = seen.seat.session ∙ mine ∙ ap (λ (c : Caller). Some c.session) (sym who.0) in
-      let r = phase_lent law x.join.caller.session x.gate x.token (picking x.join picked.Again) h u mine' seen.seat.free x.retried in
-      let again = kept x.join.caller.session x.token.1 x.retried.before x.retried.after u.1 r.1 (own.again x.retried.before x.retried.after x.join x.retried.lent.reached x.retried.made) in
-      (r.0 ∙ j.0, seen_on t.1 x.token.1 u.1 seen again)
-
-  pub retries_seen : OnePhase → OwnSteps → (caller : Caller) (key : Bytes) (op : Op) (n : ℕ) (g : G) (t : L × View) (h : G) (u : L × View) → t.1.session ≡ Some caller.session → t.1.holds ≡ false
-      → Retries lock_takes lock_gives lock_finds caller key op n g t h u → Reaches t u
-  retries_seen law own caller key op zero g t h u mine free x = (ap (λ (z : L × View). z.0) x.1, subst (λ (z : L × View). HasSeen t.1 z.1) (sym x.1) (seen_itself t.1 free))
-  retries_seen law own caller key op (suc n) g t h u mine free x =
-      let before = retries_seen law own caller key op n g t x.0 x.1 mine free x.2 in
-      let last = rejoins_seen law own caller key op x.0 x.1 h u (before.1.seat.session ∙ mine) before.1.seat.free x.3 in
-      (last.0 ∙ before.0, seen_on t.1 x.1.1 u.1 before.1 last.1)
-
-  abbrev First : Caller → Bytes → Op → Begun → G → L × View → G → L × View → Type 0
-  First caller key op b g t k v = LentPhase lock_takes lock_gives lock_finds caller.session g t (starting caller key op b) k v
-
-  -- a call that has joined a load, and picks its answer up
-  shares : OnePhase → OwnSteps → StepsBehind → (caller : Caller) (key : Bytes) (op : Op) (join : JoinClaim) (reply : Reply) (place shared_with : ℕ) (g : G) (t : L × View) (k : G) (v : L × View) (h : G) (u : L × View)
-      → t.1.session ≡ Some caller.session → t.1.holds ≡ false → may_come_all t.1.own caller key ≡ true → (x : First caller key op (begun.Joined join) g t k v)
-      → LentPhase lock_takes lock_gives lock_finds join.caller.session k v (picking join (picked.Answer reply place shared_with)) h u
-      → (u.0 ≡ t.0) × IsBetween t.1 x.before u.1 × EnteredAt t.1 caller key op (entered.Done reply) u.1
-  shares law own behind caller key op join reply place shared_with g t k v h u mine free may x y =
-      let whole_at : ℕ = whole_place y.after place in
-      let begins = x.made.first.begins in
-      let j = phase_lent law caller.session g t (starting caller key op (begun.Joined join)) k v mine free x in
-      let seen = kept caller.session t.1 x.before x.after v.1 j.1 (own.joins x.before x.after caller key op join begins) in
-      let who = join_claim x.before x.after caller key op join begins in
-      let to_get : Get ≡ op = sym (joins_get x.before key op join.load begins.1) in
-      let mine' : v.1.session ≡ Some join.caller.session = seen.seat.session ∙ mine ∙ ap (λ (c : Caller). Some c.session) (sym who.0) in
-      let p = phase_lent law join.caller.session k v (picking join (picked.Answer reply place shared_with)) h u mine' seen.seat.free y in
-      let gains = own.picks_up y.before y.after join reply place shared_with y.lent.reached y.made in
-      let out : Out = gains.0 in
-      let is : Step join.caller Get join.key out (Some shared_with) reply ≡ Step caller op key out (Some shared_with) reply = λ i. Step (who.0 i) (to_get i) (who.1 i) out (Some shared_with) reply in
-      let grown = subst (λ (e : Event). HasGrown v.1 u.1 e whole_at) is (gained join.caller.session v.1 y.before y.after u.1 (Step join.caller Get join.key out (Some shared_with) reply) place p.1 gains.1) in
-      let whole = grown_on t.1 v.1 u.1 (Step caller op key out (Some shared_with) reply) whole_at seen grown in
-      let between = between_grows t.1 x.before v.1 u.1 (found_between caller.session t.1 x.before x.after v.1 j.1) grown.front in
-      let later = between.later in
-      let come : may_come_all (whole_history x.before) caller key ≡ true = may_in_all x.before caller key x.made.first.may (ap (λ (es : List Event). may_come_all es caller key) j.1.own ∙ may) in
-      let le = behind (whole_history x.before) later.0 caller op key out (Some shared_with) reply whole_at come (ap (λ (es : List Event). slice_get es whole_at) later.1 ∙ grown.there) in
-      (p.0 ∙ j.0, between, (record { out = out; shared_with = Some shared_with; place = whole_at; asked_for = refl; made = grown_behind t.1 u.1 (Step caller op key out (Some shared_with) reply) whole_at (front_le t.1.front (whole_history x.before) whole_at between.front le) whole }, call_below x.before caller key op begins.0))
-
-  enters_left : OnePhase → OwnSteps → StepsBehind → (caller : Caller) (key : Bytes) (op : Op) (b : Begun) (met : Entered) (g : G) (t : L × View) (k : G) (v : L × View) (h : G) (u : L × View)
-      → t.1.session ≡ Some caller.session → t.1.holds ≡ false → may_come_all t.1.own caller key ≡ true → (x : First caller key op b g t k v) → EntersAs lock_takes lock_gives lock_finds caller key op b met k v h u
-      → (u.0 ≡ t.0) × IsBetween t.1 x.before u.1 × EnteredAt t.1 caller key op met u.1
-  enters_left law own behind caller key op (begun.Done done) met g t k v h u mine free may x ends =
-      let begins = x.made.first.begins in
-      let l = phase_lent law caller.session g t (starting caller key op (begun.Done done)) k v mine free x in
-      let made = added caller.session t.1 x.before x.after v.1 (Step caller op key nothing_said None done.reply) done.place l.1 (own.done x.before x.after caller key op done x.made.first.may begins) in
-      subst (λ (z : L × View). (z.0 ≡ t.0) × IsBetween t.1 x.before z.1 × EnteredAt t.1 caller key op met z.1) (sym ends.2) (
-        l.0,
-        found_between caller.session t.1 x.before x.after v.1 l.1,
-        subst (λ (m : Entered). EnteredAt t.1 caller key op m v.1) (sym ends.0)
-            (record { out = nothing_said; shared_with = None; place = whole_place x.after done.place; asked_for = refl; made = made }, call_below x.before caller key op begins.0),
-      )
-  enters_left law own behind caller key op (begun.Refused refusal) met g t k v h u mine free may x ends =
-      let begins = x.made.first.begins in
-      let l = phase_lent law caller.session g t (starting caller key op (begun.Refused refusal)) k v mine free x in
-      let seen = kept caller.session t.1 x.before x.after v.1 l.1 (own.refused x.before x.after caller key op refusal begins) in
-      subst (λ (z : L × View). (z.0 ≡ t.0) × IsBetween t.1 x.before z.1 × EnteredAt t.1 caller key op met z.1) (sym ends.2) (
-        l.0,
-        found_between caller.session t.1 x.before x.after v.1 l.1,
-        subst (λ (m : Entered). EnteredAt t.1 caller key op m v.1) (sym ends.0)
-            (seen, refused_full x.before caller key op refusal begins.0 x.made.last, ap (λ (s : State). first_refusal s caller key op) (l.1.noted ∙ begins.1) ∙ begins.0, all_seen caller.session t.1 x.before x.after v.1 l.1),
-      )
-  enters_left law own behind caller key op (begun.Asks ticket) met g t k v h u mine free may x ends =
-      let begins = x.made.first.begins in
-      let l = phase_lent law caller.session g t (starting caller key op (begun.Asks ticket)) k v mine free x in
-      let seen = kept caller.session t.1 x.before x.after v.1 l.1 (own.reserves x.before x.after caller key op ticket begins) in
-      subst (λ (z : L × View). (z.0 ≡ t.0) × IsBetween t.1 x.before z.1 × EnteredAt t.1 caller key op met z.1) (sym ends.2) (
-        l.0,
-        found_between caller.session t.1 x.before x.after v.1 l.1,
-        subst (λ (m : Entered). EnteredAt t.1 caller key op m v.1) (sym ends.0)
-            (seen, call_below x.before caller key op begins.0, ap (λ (k : TicketClaim). k.reservation.caller) begins.4, ap (λ (k : TicketClaim). k.reservation.key) begins.4, ap (λ (k : TicketClaim). k.reservation.op) begins.4),
-      )
-  enters_left law own behind caller key op (begun.Joined join) met g t k v h u mine free may x ends =
-      let s = shares law own behind caller key op join ends.0 ends.1 ends.2 g t k v h u mine free may x ends.4 in
-      (s.0, s.1, subst (λ (m : Entered). EnteredAt t.1 caller key op m u.1) (sym ends.3) s.2)
-
-  -- 4. The whole.
-
-  ends_left : OnePhase → OwnSteps → (caller : Caller) (key : Bytes) (op : Op) (met : Entered) (asked : Out) (ended : Result Reply Refusal) (decided : State) (t : L × View) (k : G) (v : L × View) (h : G) (u : L × View)
-      → t.1.session ≡ Some caller.session → v.0 ≡ t.0 → IsBetween t.1 decided v.1 → EnteredAt t.1 caller key op met v.1
-      → EndsAs lock_takes lock_gives lock_finds caller key op met asked ended k v h u → CallLeft t caller key op asked ended decided u
-  ends_left law own caller key op (entered.Done reply) asked ended decided t k v h u mine lock between at ends =
-      let Q : Result Reply Refusal → Out → L × View → Type 0 = λ e o z. CallLeft t caller key op o e decided z in
-      subst (λ (z : L × View). Q ended asked z) (sym ends.3) (subst (λ (e : Result Reply Refusal). Q e asked v) (sym ends.0) (subst (λ (o : Out). Q (Ok reply) o v) (sym ends.1)
-      (record { lock = lock; between = between; seat = at.0; below = at.1 })))
-  ends_left law own caller key op (entered.Refused refusal) asked ended decided t k v h u mine lock between at ends =
-      let Q : Result Reply Refusal → Out → L × View → Type 0 = λ e o z. CallLeft t caller key op o e decided z in
-      subst (λ (z : L × View). Q ended asked z) (sym ends.3) (subst (λ (e : Result Reply Refusal). Q e asked v) (sym ends.0) (subst (λ (o : Out). Q (Err refusal) o v) (sym ends.1)
-      (record { lock = lock; between = between; seat = (at.0, refl, at.1, at.2, at.3); below = tt })))
-  ends_left law own caller key op (entered.Asks ticket) asked ended decided t k v h u mine lock between at ends =
+module _ {G L : Type 0} (law : PhaseLaws) (behind : StepsBehind) (caller : Caller) (key : Bytes) (op : Op) where
+  -- `t` is the seat before the call, `v` after its first phase
+  ends_left : (b : Begun) (asked : Out) (ended : Result Reply Refusal) (first next : State) (t : L × View) (g : G) (v : L × View) (last : List (State × State)) (h : G) (u : L × View)
+      → t.1.session ≡ Some caller.session → may_come_all t.1.own caller key ≡ true → v.0 ≡ t.0 → Lending caller.session t.1 first next v.1 → Starts caller key op b first next
+      → LockRow caller.session g v last h u → (ends : EndsBy b asked ended last) → CallLeft t caller key op asked ended first (state_of_step b asked ended last first ends) u
+  ends_left (begun.Done done) asked ended first next t g v last h u mine may lock l made lent ends =
+      let begins = made.first.begins in
+      let place : ℕ = whole_place next done.place in
+      let same = subst (λ (ps : List (State × State)). LockRow caller.session g v ps h u) ends.2 lent in
+      let step = added caller.session t.1 first next v.1 (Step caller op key nothing_said None done.reply) done.place l (law.own_steps.done first next caller key op done made.first.may begins) in
+      let next_is : IsNext first key place v.1.front = subst (λ (es : List Event). IsNext first key place es) (sym l.front_is) (next_place first next caller key op nothing_said [] done begins.2) in
+      subst (λ (z : Out × Result Reply Refusal × L × View). CallLeft t caller key op z.0 z.1 first first (z.2, z.3)) (λ i. (sym ends.1 i, sym ends.0 i, (sym same.1 i).0, (sym same.1 i).1))
+      (record {
+        lock = lock;
+        seat = record { out = nothing_said; shared_with = None; place = place; asked_for = refl; made = step };
+        below = call_below first caller key op begins.0;
+        made = λ invokes. next_is;
+        entry = λ invokes. refl;
+      })
+  ends_left (begun.Refused r) asked ended first next t g v last h u mine may lock l made lent ends =
+      let begins = made.first.begins in
+      let same = subst (λ (ps : List (State × State)). LockRow caller.session g v ps h u) ends.2 lent in
+      let seen = kept caller.session t.1 first next v.1 l (law.own_steps.refused first next caller key op r begins) in
+      subst (λ (z : Out × Result Reply Refusal × L × View). CallLeft t caller key op z.0 z.1 first first (z.2, z.3)) (λ i. (sym ends.1 i, sym ends.0 i, (sym same.1 i).0, (sym same.1 i).1))
+      (record {
+        lock = lock;
+        seat = (seen, refl, refused_full first caller key op r begins.0 made.last, ap (λ (s : State). first_refusal s caller key op) (l.noted ∙ begins.1) ∙ begins.0, all_seen caller.session t.1 first next v.1 l);
+        below = tt;
+        made = λ invokes. tt;
+        entry = λ invokes. refl;
+      })
+  ends_left (begun.Asks ticket) asked ended first next t g v last h u mine may lock l made lent ends =
+      let begins = made.first.begins in
       let r : Reservation = ticket.reservation in
+      let who : r.caller ≡ caller = ap (λ (k : TicketClaim). k.reservation.caller) begins.4 in
+      let key_is : r.key ≡ key = ap (λ (k : TicketClaim). k.reservation.key) begins.4 in
+      let op_is : r.op ≡ op = ap (λ (k : TicketClaim). k.reservation.op) begins.4 in
       let done : StepDone = ends.0 in
       let y = ends.2 in
-      let seen = at.0 in
-      let mine' : v.1.session ≡ Some r.caller.session = seen.seat.session ∙ mine ∙ ap (λ (c : Caller). Some c.session) (sym at.2) in
-      let l = phase_lent law r.caller.session k v (committing r asked done) h u mine' seen.seat.free y in
-      let made = added r.caller.session v.1 y.before y.after u.1 (Step r.caller r.op r.key asked None done.reply) done.place l.1 (own.commits y.before y.after r asked done y.lent.reached y.made) in
-      let is : Step r.caller r.op r.key asked None done.reply ≡ Step caller op key asked None done.reply = λ i. Step (at.2 i) (at.4 i) (at.3 i) asked None done.reply in
-      let here = made_on t.1 v.1 u.1 (Step caller op key asked None done.reply) (whole_place y.after done.place) seen (subst (λ (e : Event). HasMade v.1 u.1 e (whole_place y.after done.place)) is made) in
-      subst (λ (e : Result Reply Refusal). CallLeft t caller key op asked e decided u) (sym ends.1) (record {
-        lock = l.0 ∙ lock;
-        between = between_grows t.1 decided v.1 u.1 between made.front;
-        seat = record { out = asked; shared_with = None; place = whole_place y.after done.place; asked_for = refl; made = here };
-        below = at.1;
+      let place : ℕ = whole_place y.left done.place in
+      let seen = kept caller.session t.1 first next v.1 l (law.own_steps.reserves first next caller key op ticket begins) in
+      let turn = turn_lent law caller.session (committing r asked done) g v last h u (seen.seat.session ∙ mine) seen.seat.free (waited_keeps law caller.session _ _) lent y (phase_as r.caller caller y.found y.left who (commits_phase r asked done y.found y.left y.made)) in
+      let p = earlier caller.session t.1 v.1 y.found y.left u.1 seen turn.1 in
+      let adds : AddsOwn caller.session y.found y.left (Step caller op key asked None done.reply) done.place =
+      subst (λ (z : Caller × Op × Bytes). AddsOwn z.0.session y.found y.left (Step z.0 z.1 z.2 asked None done.reply) done.place) (λ i. (who i, op_is i, key_is i)) (law.own_steps.commits y.found y.left r asked done p.reached y.made) in
+      let next_is : IsNext y.found key place u.1.front =
+      subst (λ (z : Bytes × List Event). IsNext y.found z.0 place z.1) (λ i. (key_is i, sym p.front_is i)) (next_place (after_commit y.found r done.place) y.left r.caller r.key r.op asked _ done y.made.1) in
+      subst (λ (e : Result Reply Refusal). CallLeft t caller key op asked e first y.found u) (sym ends.1) (record {
+        lock = turn.0 ∙ lock;
+        seat = record { out = asked; shared_with = None; place = place; asked_for = refl; made = added caller.session t.1 y.found y.left u.1 (Step caller op key asked None done.reply) done.place p adds };
+        below = call_below first caller key op begins.0;
+        made = λ invokes. next_is;
+        entry = λ invokes. shown_same y.found caller key ticket first asked done y.left p.reached y.made key_is (op_is ∙ invokes) (ap (λ (o : Op). first_asked first.config o (entry_at first.cache key)) (sym invokes) ∙ begins.2);
+      })
+  ends_left (begun.Joined join) asked ended first next t g v last h u mine may lock l made lent ends =
+      let begins = made.first.begins in
+      let reply : Reply = ends.0 in
+      let shared_with : ℕ = ends.2 in
+      let y = ends.5 in
+      let who : join.caller ≡ caller = ap (λ (j : JoinClaim). j.caller) begins.2 in
+      let key_is : join.key ≡ key = ap (λ (j : JoinClaim). j.key) begins.2 in
+      let to_get : op ≡ Get = joins_get first key op join.load begins.1 in
+      let place : ℕ = whole_place y.left ends.1 in
+      let seen = kept caller.session t.1 first next v.1 l (law.own_steps.joins first next caller key op join begins) in
+      let turn = turn_lent law caller.session (picking join (picked.Answer reply ends.1 shared_with)) g v last h u (seen.seat.session ∙ mine) seen.seat.free (waited_keeps law caller.session _ _) lent y (phase_as join.caller caller y.found y.left who (picks_phase join (picked.Answer reply ends.1 shared_with) y.found y.left y.made)) in
+      let p = earlier caller.session t.1 v.1 y.found y.left u.1 seen turn.1 in
+      let gains = law.own_steps.picks_up y.found y.left join reply ends.1 shared_with p.reached y.made in
+      let out : Out = gains.0 in
+      let own : GainsOwn caller.session y.found y.left (Step caller op key out (Some shared_with) reply) ends.1 =
+      subst (λ (z : Caller × Op × Bytes). GainsOwn z.0.session y.found y.left (Step z.0 z.1 z.2 out (Some shared_with) reply) ends.1) (λ i. (who i, sym to_get i, key_is i)) gains.1 in
+      let grown : HasGrown t.1 u.1 (Step caller op key out (Some shared_with) reply) place = gained caller.session t.1 y.found y.left u.1 (Step caller op key out (Some shared_with) reply) ends.1 p own in
+      let later : IsPrefix (whole_history first) u.1.front = prefix-trans (whole_history first) v.1.front u.1.front (front_grows caller.session t.1 first next v.1 l) (front_on caller.session v.1 y.found y.left u.1 turn.1) in
+      let come : may_come_all (whole_history first) caller key ≡ true = may_in_all first caller key made.first.may (ap (λ (es : List Event). may_come_all es caller key) l.own ∙ may) in
+      let le = behind (whole_history first) later.0 caller op key out (Some shared_with) reply place come (ap (λ (es : List Event). slice_get es place) later.1 ∙ grown.there) in
+      subst (λ (z : Out × Result Reply Refusal). CallLeft t caller key op z.0 z.1 first first u) (λ i. (sym ends.4 i, sym ends.3 i)) (record {
+        lock = turn.0 ∙ lock;
+        seat = record { out = out; shared_with = Some shared_with; place = place; asked_for = refl; made = grown_behind t.1 u.1 (Step caller op key out (Some shared_with) reply) place (front_le t.1.front (whole_history first) place l.front le) grown };
+        below = call_below first caller key op begins.0;
+        made = λ invokes. absurd (get_invokes (sym to_get ∙ invokes));
+        entry = λ invokes. refl;
       })
 
-  pub call_left : OnePhase → OwnSteps → StepsBehind → (caller : Caller) (key : Bytes) (op : Op) (met : Entered) (asked : Out) (ended : Result Reply Refusal) (g : G) (t : L × View) (k : G) (v : L × View) (h : G) (u : L × View)
-      → t.1.session ≡ Some caller.session → t.1.holds ≡ false → may_come_all t.1.own caller key ≡ true → (x : Enters lock_takes lock_gives lock_finds caller key op g t met k v)
-      → EndsAs lock_takes lock_gives lock_finds caller key op met asked ended k v h u → CallLeft t caller key op asked ended x.first.before u
-  call_left law own behind caller key op met asked ended g t k v h u mine free may x ends =
-      let retried = retries_seen law own caller key op x.rounds g t x.gate x.token mine free x.retried in
-      let mine' : x.token.1.session ≡ Some caller.session = retried.1.seat.session ∙ mine in
-      let may' : may_come_all x.token.1.own caller key ≡ true = ap (λ (es : List Event). may_come_all es caller key) retried.1.own ∙ may in
-      let first = enters_left law own behind caller key op x.begun met x.gate x.token x.gate' x.token' k v mine' retried.1.seat.free may' x.first x.ends in
-      ends_left law own caller key op met asked ended x.first.before t k v h u mine (first.0 ∙ retried.0) (between_on t.1 x.token.1 x.first.before v.1 retried.1 first.1)
-      (entered_on t.1 x.token.1 caller key op met v.1 retried.1 first.2) ends
+  pub call_left : (asked : Out) (ended : Result Reply Refusal) (g : G) (t : L × View) (row : List (State × State)) (h : G) (u : L × View) → t.1.session ≡ Some caller.session → t.1.holds ≡ false → may_come_all t.1.own caller key ≡ true
+      → LockRow caller.session g t row h u → (x : IsCallRow caller key op asked ended row) → CallLeft t caller key op asked ended (state_found x) (state_decided x) u
+  call_left asked ended g t row h u mine free may lent x =
+      let parts = row_split lock_takes lock_gives lock_finds caller.session g t x.start x.last h u (subst (λ (ps : List (State × State)). LockRow caller.session g t ps h u) x.row_is lent) in
+      let first = x.begins.starts in
+      let before = begun_row law caller key op x.begun x.start x.begins in
+      let l = last_lent law caller.session g t (x.begins.rejoins ++ first.waits) first.found first.left parts.0 parts.1 mine free (subst (λ (ps : List (State × State)). LockRow caller.session g t ps parts.0 parts.1) before.0 parts.2) before.1
+      (starts_phase Waits caller key op x.begun first.found first.left first.made) in
+      ends_left x.begun asked ended first.found first.left t parts.0 parts.1 x.last h u mine may l.0 l.1 first.made parts.3 x.ends
 
--- 5. A call that waits for nobody.
+-- 3. A call that waits for nobody.
 
-seen_missed : (v : View) → v.holds ≡ false → HasSeen v (after_miss v)
-seen_missed v free = record {
-  seat = record { session = refl; next_session = refl; spent = refl; free = free; same = same_itself v.noted; next = le_refl v.noted.next };
-  front = prefix-refl v.front;
-  own = refl;
-}
+not_so : (b : Bool) → (b ≡ true → ⊥) → b ≡ false
+not_so true never = absurd (never refl)
+not_so false never = refl
 
-module _ {G L : Type 0} where
-  once_seen : (session : ℕ) (waits : State → State → Type 0) (again : Bool) (g : G) (t : L × View) (h : G) (u : L × View) → t.1.session ≡ Some session → t.1.holds ≡ false
-      → HasTriedOnce lock_takes lock_gives Misses waits again g t h u → Reaches t u
-  once_seen session waits again g t h u mine free x = ⊎_elim
-      (λ missed. (ap (λ (z : L × View). z.0) missed.0, subst (HasSeen t.1) (sym (ap (λ (z : L × View). z.1) missed.0)) (seen_missed t.1 free)))
-      (λ lent. rests_seen session g t h u mine free record { idle = lent.0 ∷ []; quiet = (lent.2, tt); lent = (h, u, lent.1, (refl, refl)) })
-      x.met
+busy_at : (caller : Caller) (key : Bytes) (op : Op) (a b : State) → StartWaits Alone caller key op a b → IsBusyAt caller key op a b
+busy_at caller key op a b x = (⊎_elim (λ never. not_so _ never) (λ put_off. absurd (true≢false (sym put_off.put_off))) x.why, x.renewed)
 
-  tried_seen : (session : ℕ) (waits : State → State → Type 0) (g : G) (t : L × View) (h : G) (u : L × View) → t.1.session ≡ Some session → t.1.holds ≡ false → HasTried lock_takes lock_gives Misses waits g t h u → Reaches t u
-  tried_seen session waits g t h u mine free = ⊎_elim
-      (λ one. once_seen session waits false g t h u mine free one)
-      (λ two.
-      let x = once_seen session waits true g t two.0 two.1 mine free two.3 in
-      let y = once_seen session waits two.2 two.0 two.1 h u (x.1.seat.session ∙ mine) x.1.seat.free two.4 in
-      (y.0 ∙ x.0, seen_on t.1 two.1.1 u.1 x.1 y.1))
+no_more : (n : ℕ) → n ≡ n + 0
+no_more n = omega arith
 
-  tries_to : (caller : Caller) (key : Bytes) (op : Op) (b : Begun) (g : G) (t : L × View) (h : G) (u : L × View) → Tries lock_takes lock_gives lock_finds Misses caller key op g t b h u → TriesTo t.1 caller key op b u.1
-  tries_to caller key op b g t h u x = record {
-    row = x.lent.rests.idle ++ (x.lent.before, x.lent.after) ∷ [];
-    lent = phase_row caller.session g t (trying caller key op b) h u x.lent;
-    turn = turn_of_phase caller.session g t (trying caller key op b) h u x.lent;
-    again = x.again;
-  }
+module _ {G L : Type 0} (law : PhaseLaws) (caller : Caller) (key : Bytes) (op : Op) where
+  missed_left : (n : ℕ) (g : G) (t : L × View) (h : G) (u : L × View) → t.1.holds ≡ false → Misses lock_takes lock_gives lock_finds lock_misses caller.session n g t h u → (u.0 ≡ t.0) × HasSeen t.1 u.1 × (u.1.lendings ≡ t.1.lendings) × (u.1.misses ≡ t.1.misses + n)
+  missed_left zero g t h u free x = subst (λ (z : L × View). (z.0 ≡ t.0) × HasSeen t.1 z.1 × (z.1.lendings ≡ t.1.lendings) × (z.1.misses ≡ t.1.misses + 0)) (sym x.1) (refl, record { seat = seat_itself t.1 free; front = prefix-refl t.1.front; own = refl }, refl, no_more t.1.misses)
+  missed_left (suc n) g t h u free x =
+      let one : (m : ℕ) → m + 1 ≡ m + suc n = λ m. let none = x.0 in omega arith in
+      let s = seat_itself t.1 free in
+      subst (λ (z : L × View). (z.0 ≡ t.0) × HasSeen t.1 z.1 × (z.1.lendings ≡ t.1.lendings) × (z.1.misses ≡ t.1.misses + suc n)) (sym x.1)
+      (refl, record { seat = record { session = refl; next_session = refl; spent = refl; free = free; same = s.same; next = s.next; ended = s.ended }; front = prefix-refl t.1.front; own = refl }, refl, one t.1.misses)
 
-  pub tried_left : OnePhase → OwnSteps → (caller : Caller) (key : Bytes) (op : Op) (ended : Result Reply Refusal) (g : G) (t : L × View) (h : G) (u : L × View)
-      → t.1.session ≡ Some caller.session → t.1.holds ≡ false → IsTried lock_takes lock_gives lock_finds Misses caller key op g t ended h u
-      → (u.0 ≡ t.0) × SeatTried t.1 caller key op ended u.1 × IsBelow caller ended
-  tried_left law own caller key op (Ok reply) g t h u mine free x =
-      let done : StepDone = x.0 in
-      let y = x.2.lent in
-      let begins = y.made.first.begins in
-      let l = phase_lent law caller.session g t (trying caller key op (begun.Done done)) h u mine free y in
-      let made = added caller.session t.1 y.before y.after u.1 (Step caller op key nothing_said None done.reply) done.place l.1 (own.done y.before y.after caller key op done y.made.first.may begins) in (
-        l.0,
-        (record { out = nothing_said; shared_with = None; place = whole_place y.after done.place; asked_for = refl; made = subst (λ (z : Reply). HasMade t.1 u.1 (Step caller op key nothing_said None z) (whole_place y.after done.place)) x.1 made }, (done, x.1, tries_to caller key op (begun.Done done) g t h u x.2)),
-        call_below y.before caller key op begins.0,
+  was_busy : (g : G) (t : L × View) (h : G) (u : L × View) → t.1.session ≡ Some caller.session → t.1.holds ≡ false → HasTried lock_takes lock_gives lock_finds lock_misses caller.session (StartWaits Alone caller key op) g t h u
+      → (u.0 ≡ t.0) × HasSeen t.1 u.1 × WasBusy t.1 caller key op u.1
+  was_busy g t h u mine free x =
+      let row = row_left law caller.session g t x.row x.gate x.token mine free x.lent in
+      let seen = row_seen caller.session t.1 x.row x.token.1 row.1 (all_map (StartWaits Alone caller key op) (Keeps caller.session) x.row (waited_keeps law caller.session _ _) x.waited) in
+      let rest = missed_left x.missed x.gate x.token h u seen.seat.free x.none in (
+        rest.0 ∙ row.0,
+        seen_on t.1 x.token.1 u.1 seen rest.1,
+        record {
+          row = x.row;
+          missed = x.missed;
+          lendings = rest.2 ∙ row.1.lent.lendings;
+          misses = rest.3 ∙ ap (λ (n : ℕ). n + x.missed) row.1.lent.misses;
+          each = all_map (StartWaits Alone caller key op) (IsBusyAt caller key op) x.row (busy_at caller key op) x.waited;
+          tries = x.tries;
+        },
       )
-  tried_left law own caller key op (Err refusal) g t h u mine free x =
+
+  -- the one phase of such a call, and its lendings
+  tries_to : (b : Begun) (g : G) (t : L × View) (h : G) (u : L × View) → t.1.session ≡ Some caller.session → t.1.holds ≡ false → (x : Tries lock_takes lock_gives lock_finds lock_misses caller key op g t b h u)
+      → (u.0 ≡ t.0) × Lending caller.session t.1 x.lent.did.found x.lent.did.left u.1 × TriesTo t.1 caller key op b u.1
+  tries_to b g t h u mine free x =
+      let y = x.lent in
+      let l = turn_lent law caller.session (trying caller key op b) g t y.row h u mine free (waited_keeps law caller.session _ _) y.lent y.did y.one in
+      (l.0, l.1, record { row = y.row; lent = (row_left law caller.session g t y.row h u mine free y.lent).1.lent; turn = y.did; again = x.again })
+
+  pub tried_left : (ended : Result Reply Refusal) (g : G) (t : L × View) (h : G) (u : L × View) → t.1.session ≡ Some caller.session → t.1.holds ≡ false → IsTried lock_takes lock_gives lock_finds lock_misses caller key op g t ended h u
+      → (u.0 ≡ t.0) × SeatTried t.1 caller key op ended u.1 × IsBelow caller ended
+  tried_left (Ok reply) g t h u mine free x =
+      let done : StepDone = x.0 in
+      let y = x.2.lent.did in
+      let l = tries_to (begun.Done done) g t h u mine free x.2 in
+      let place : ℕ = whole_place y.left done.place in
+      let made = added caller.session t.1 y.found y.left u.1 (Step caller op key nothing_said None done.reply) done.place l.1 (law.own_steps.done y.found y.left caller key op done y.made.first.may y.made.first.begins) in (
+        l.0,
+        (record { out = nothing_said; shared_with = None; place = place; asked_for = refl; made = subst (λ (z : Reply). HasMade t.1 u.1 (Step caller op key nothing_said None z) place) x.1 made }, (done, x.1, l.2)),
+        call_below y.found caller key op y.made.first.begins.0,
+      )
+  tried_left (Err r) g t h u mine free x =
       ⊎_elim
       (λ z.
-      let y = z.lent in
+      let y = z.lent.did in
       let begins = y.made.first.begins in
-      let l = phase_lent law caller.session g t (trying caller key op (begun.Refused refusal)) h u mine free y in
-      let seen = kept caller.session t.1 y.before y.after u.1 l.1 (own.refused y.before y.after caller key op refusal begins) in
-      let noted : u.1.noted ≡ y.before = l.1.noted ∙ begins.1 in
-      (l.0, (seen, inr (ap (λ (s : State). first_refusal s caller key op) noted ∙ begins.0, ap (λ (s : State). asks_outside s key op) noted ∙ y.made.alone refl, all_seen caller.session t.1 y.before y.after u.1 l.1, tries_to caller key op (begun.Refused refusal) g t h u z)), tt))
-      (λ y.
-      let r = tried_seen caller.session (StartWaits Alone caller key op) g t h u mine free y.1 in
-      (r.0, (r.1, inl (y.0, (was_busy caller key op g t h u y.1).1)), tt))
+      let l = tries_to (begun.Refused r) g t h u mine free z in
+      let noted : u.1.noted ≡ y.found = l.1.noted ∙ begins.1 in
+      (l.0, (kept caller.session t.1 y.found y.left u.1 l.1 (law.own_steps.refused y.found y.left caller key op r begins), inr (ap (λ (s : State). first_refusal s caller key op) noted ∙ begins.0, ap (λ (s : State). asks_outside s key op) noted ∙ y.made.alone refl, all_seen caller.session t.1 y.found y.left u.1 l.1, l.2)), tt))
+      (λ y. let busy = was_busy g t h u mine free y.1 in (busy.0, (busy.1, inl (y.0, busy.2)), tt))
       x
-
-
--- 6. A call that runs a processor.
-
--- what is known of the state in which a processor's call was decided
-pub record AloneLeft {L : Type 0} (t : L × View) (caller : Caller) (key : Bytes) (asked : Out) (ended : Result Reply Refusal) (first : State) (u : L × View) : Type 0 where
-  pub decided : State
-  pub left : CallLeft t caller key Invoke asked ended decided u
-  pub made : IsMadeIn t.1 caller key Invoke asked ended u.1 left.seat decided
-  pub entry : entry_at decided.cache key ≡ entry_at first.cache key
-
-module _ {G L : Type 0} where
-  pub committed_left : OnePhase → OwnSteps → (caller : Caller) (key : Bytes) (op : Op) (ticket : TicketClaim) (asked : Out) (ended : Result Reply Refusal) (t : L × View) (k : G) (v : L × View) (h : G) (u : L × View)
-      → t.1.session ≡ Some caller.session → v.0 ≡ t.0 → EnteredAt t.1 caller key op (entered.Asks ticket) v.1
-      → (ends : EndsAs lock_takes lock_gives lock_finds caller key op (entered.Asks ticket) asked ended k v h u)
-      → (left : CallLeft t caller key op asked ended ends.2.before u) × IsMadeIn t.1 caller key op asked ended u.1 left.seat ends.2.before
-  committed_left law own caller key op ticket asked ended t k v h u mine lock at ends =
-      let r : Reservation = ticket.reservation in
-      let done : StepDone = ends.0 in
-      let y = ends.2 in
-      let seen = at.0 in
-      let mine' : v.1.session ≡ Some r.caller.session = seen.seat.session ∙ mine ∙ ap (λ (c : Caller). Some c.session) (sym at.2) in
-      let l = phase_lent law r.caller.session k v (committing r asked done) h u mine' seen.seat.free y in
-      let made = added r.caller.session v.1 y.before y.after u.1 (Step r.caller r.op r.key asked None done.reply) done.place l.1 (own.commits y.before y.after r asked done y.lent.reached y.made) in
-      let is : Step r.caller r.op r.key asked None done.reply ≡ Step caller op key asked None done.reply = λ i. Step (at.2 i) (at.4 i) (at.3 i) asked None done.reply in
-      let here = made_on t.1 v.1 u.1 (Step caller op key asked None done.reply) (whole_place y.after done.place) seen (subst (λ (e : Event). HasMade v.1 u.1 e (whole_place y.after done.place)) is made) in
-      let next : IsNext y.before key (whole_place y.after done.place) u.1.front =
-      subst (λ (q : Bytes). IsNext y.before q (whole_place y.after done.place) u.1.front) at.3 (subst (λ (es : List Event). IsNext y.before r.key (whole_place y.after done.place) es) (sym l.1.front_is) (next_place (after_commit y.before r done.place) y.after r.caller r.key r.op asked _ done y.made.1)) in
-      subst (λ (e : Result Reply Refusal). (left : CallLeft t caller key op asked e y.before u) × IsMadeIn t.1 caller key op asked e u.1 left.seat y.before) (sym ends.1) (
-        record {
-          lock = l.0 ∙ lock;
-          between = between_on t.1 v.1 y.before u.1 seen (found_between r.caller.session v.1 y.before y.after u.1 l.1);
-          seat = record { out = asked; shared_with = None; place = whole_place y.after done.place; asked_for = refl; made = here };
-          below = at.1;
-        },
-        next,
-      )
-
-  ends_alone : OnePhase → OwnSteps → (caller : Caller) (key : Bytes) (b : Begun) (met : Entered) (asked : Out) (ended : Result Reply Refusal) (first next : State) (m : G) (w : L × View) (t : L × View) (k : G) (v : L × View) (h : G) (u : L × View)
-      → t.1.session ≡ Some caller.session → v.0 ≡ t.0 → EnteredAt t.1 caller key Invoke met v.1 → Starts caller key Invoke b first next → EntersAs lock_takes lock_gives lock_finds caller key Invoke b met m w k v
-      → EndsAs lock_takes lock_gives lock_finds caller key Invoke met asked ended k v h u → CallLeft t caller key Invoke asked ended first u → AloneLeft t caller key asked ended first u
-  ends_alone law own caller key b (entered.Done reply) asked ended first next m w t k v h u mine lock at starts enters ends left = absurd (not_done lock_takes lock_gives lock_finds caller key b reply first next m w k v starts enters)
-  ends_alone law own caller key b (entered.Refused refusal) asked ended first next m w t k v h u mine lock at starts enters ends left =
-      let both = subst (λ (e : Result Reply Refusal). (l : CallLeft t caller key Invoke asked e first u) × IsMadeIn t.1 caller key Invoke asked e u.1 l.seat first) (sym ends.0)
-      (subst (λ (e : Result Reply Refusal). CallLeft t caller key Invoke asked e first u) ends.0 left, tt) in
-      record { decided = first; left = both.0; made = both.1; entry = refl }
-  ends_alone law own caller key b (entered.Asks ticket) asked ended first next m w t k v h u mine lock at starts enters ends left =
-      let both = committed_left law own caller key Invoke ticket asked ended t k v h u mine lock at ends in
-      let y = ends.2 in
-      record {
-        decided = y.before;
-        left = both.0;
-        made = both.1;
-        entry = shown_same y.before caller key ticket first asked ends.0 y.after y.lent.reached y.made at.3 at.4 (asks_first lock_takes lock_gives lock_finds caller key b ticket first next m w k v starts enters);
-      }
-
-  pub invoked_left : OnePhase → OwnSteps → StepsBehind → (caller : Caller) (key : Bytes) (met : Entered) (asked : Out) (ended : Result Reply Refusal) (g : G) (t : L × View) (k : G) (v : L × View) (h : G) (u : L × View)
-      → t.1.session ≡ Some caller.session → t.1.holds ≡ false → may_come_all t.1.own caller key ≡ true → (x : Enters lock_takes lock_gives lock_finds caller key Invoke g t met k v)
-      → EndsAs lock_takes lock_gives lock_finds caller key Invoke met asked ended k v h u → AloneLeft t caller key asked ended x.first.before u
-  invoked_left law own behind caller key met asked ended g t k v h u mine free may x ends =
-      let retried = retries_seen law own caller key Invoke x.rounds g t x.gate x.token mine free x.retried in
-      let mine' : x.token.1.session ≡ Some caller.session = retried.1.seat.session ∙ mine in
-      let may' : may_come_all x.token.1.own caller key ≡ true = ap (λ (es : List Event). may_come_all es caller key) retried.1.own ∙ may in
-      let first = enters_left law own behind caller key Invoke x.begun met x.gate x.token x.gate' x.token' k v mine' retried.1.seat.free may' x.first x.ends in
-      ends_alone law own caller key x.begun met asked ended x.first.before x.first.after x.gate' x.token' t k v h u mine (first.0 ∙ retried.0)
-      (entered_on t.1 x.token.1 caller key Invoke met v.1 retried.1 first.2) x.first.made x.ends ends (call_left law own behind caller key Invoke met asked ended g t k v h u mine free may x ends)

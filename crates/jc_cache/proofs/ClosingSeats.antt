@@ -26,7 +26,7 @@ use Rattle.jc_stripe.specs.Generations.{whole_history}
 use Rattle.jc_lock.specs.Views.{Finds, IsPhaseBy, IsTurnBy, after_give, after_join, after_take}
 use Rattle.jc_lock.specs.declared.view.View.{View}
 use Rattle.jc_lock.proofs.CallerLemmas.{prefix-refl, prefix-trans, same_itself, same_at, same_on}
-use Rattle.jc_engine.specs.Chain.{AllLend}
+use Rattle.jc_engine.specs.Rows.{AllLend}
 use Rattle.jc_cache.specs.Closing.{lent_at}
 use Rattle.jc_cache.specs.ClosingInside.{KeepsSeat, KeepSeats, Looks, Whatever, IsFreeSeat, HasTaken, HaveTaken, AreAtLocks}
 use Rattle.jc_cache.proofs.Rows.{Seated, locks_of, length_locks, seat_there, lock_there}

@@ -3,7 +3,7 @@
 --     turn_of          a generation was ended, or the stripe is as it was
 --     ended_seen       the seat has seen what it had seen
 --     ended_may        the session may call as before
-use Rattle.std.proofs.Common.{◌≡◌, ℕ, inl, inr, ⊎_elim, List, set, slice_get, Option, Some, None, Result, Ok, Err, IfOk, IfErr, ◌++◌, refl, sym, ap, subst, ◌∙◌, arith}
+use Rattle.std.proofs.Common.{◌≡◌, ℕ, inl, inr, ⊎_elim, List, [], ◌∷◌, set, slice_get, Option, Some, None, Result, Ok, Err, IfOk, IfErr, ◌++◌, refl, sym, ap, subst, ◌∙◌, arith}
 use mathlib.Core.List.{IsPrefix}
 use mathlib.Core.Logic.{dite}
 use native.Mathlib.Decide.{ℕ_discrete}
@@ -13,7 +13,8 @@ use Rattle.jc_stripe.specs.State.{State}
 use Rattle.jc_stripe.specs.Renewal.{Renewal, Renews, StaysOrRenews, EndsGeneration}
 use Rattle.jc_lock.specs.Views.{Finds, after_give, after_take, own_steps_of}
 use Rattle.jc_lock.specs.declared.view.View.{View}
-use Rattle.jc_lock.proofs.CallerLemmas.{same_on}
+use Rattle.jc_stripe.specs.Generations.{present_generation}
+use Rattle.jc_lock.proofs.CallerLemmas.{prefix-trans, same_on}
 use Rattle.jc_cache.specs.Caches.{CacheState}
 use Rattle.jc_cache.specs.Fronts.{HasSeen}
 use Rattle.jc_cache.specs.Generations.{IsEndOf}
@@ -39,7 +40,7 @@ renewed_seen : (v : View) (found left : State) → (session : ℕ) × (v.session
 renewed_seen v found left session law finds renews =
     let r = law found left finds.reached renews in
     record {
-      seat = record { session = refl; next_session = refl; spent = refl; free = refl; same = same_on v.noted found left finds.same r.same; next = (let low = finds.next in let e = r.next in omega arith) };
+      seat = record { session = refl; next_session = refl; spent = refl; free = refl; same = same_on v.noted found left finds.same r.same; next = (let low = finds.next in let e = r.next in omega arith); ended = prefix-trans v.noted.ended found.ended left.ended finds.ended (subst (λ (s : State). IsPrefix found.ended s.ended) (sym renews.after) (present_generation found ∷ [], refl)) };
       front = subst (IsPrefix v.front) (sym r.whole) finds.front;
       own = ap (λ o. own_steps_of o left) session.1 ∙ r.own session.0 ∙ finds.own session.0 session.1;
     }

@@ -34,7 +34,9 @@ use Rattle.jc_engine.specs.Increments.{EventsByTable, IsByTable, SetsNext}
 use Rattle.jc_cache.specs.declared.session.Session.{Session}
 use Rattle.jc_cache.specs.Caches.{CacheState}
 use Rattle.jc_cache.specs.Calls.{Invoked, next_call}
-use Rattle.jc_cache.specs.Fronts.{IsAskedFor}
+use Rattle.jc_engine.specs.Turns.{state_decided}
+use Rattle.jc_engine.proofs.CallerLemmas.{call_in}
+use Rattle.jc_cache.specs.Fronts.{IsAskedFor, IsBetween}
 
 -- 1. A processor's step.
 
@@ -82,8 +84,8 @@ module _ {I J P Z : Type 0} {D : I → Type 0} {E : J → Type 0} {F : P → Typ
   pub sets_next : (law : EventsByTable) (cache : CacheState) (old : Session I J D E) (key : Bytes) (args : List Bytes) (processor : DynBox P Z F) (outcome : Option Bytes) (new : Session I J D E) (processor' : DynBox P Z F)
       → (x : Invoked loads load_state writes write_state processes process_state cache old key args processor (Ok (Value outcome)) new processor')
       → ((calls : List EntryCall) (answers : List EntryAnswer) (returned : Result (Option Bytes) ℕ)
-      → IsRun (x.call.decided.config.read_through && is_none (entry_at x.call.decided.cache key)) (entry_at x.call.decided.cache key) x.call.asked.load x.call.asked.process calls answers returned
-      → processes processor key args calls answers returned (process_state processor') → (value : Bytes) × (left : Option Bytes) × (x.call.asked.process ≡ Ended (Set value) left) × Next (entry_at x.call.decided.cache key) value)
+      → IsRun ((state_decided x.call.did).config.read_through && is_none (entry_at (state_decided x.call.did).cache key)) (entry_at (state_decided x.call.did).cache key) x.call.asked.load x.call.asked.process calls answers returned
+      → processes processor key args calls answers returned (process_state processor') → (value : Bytes) × (left : Option Bytes) × (x.call.asked.process ≡ Ended (Set value) left) × Next (entry_at (state_decided x.call.did).cache key) value)
       → (state : State) → IsOfSameStripe x.call.after.noted state → IsPrefix x.call.after.front (whole_history state)
       → SetsNext Next state key x.call.seat.place (Step (next_call old).agent.caller Invoke key x.call.seat.out x.call.seat.shared_with (Value outcome))
   sets_next law cache old key args processor outcome new processor' x does state same front =
@@ -92,7 +94,8 @@ module _ {I J P Z : Type 0} {D : I → Type 0} {E : J → Type 0} {F : P → Typ
       let made = seat.made in
       let by = law after.noted seat.place (Step (next_call old).agent.caller Invoke key seat.out seat.shared_with (Value outcome)) made.all.reached (ap (λ (es : List Event). slice_get es seat.place) (sym made.all.front) ∙ made.there) in
       let p = plain_step after.noted.config (next_call old).agent.caller key seat.out x.call.asked seat.shared_with outcome by seat.asked_for in
-      let decided : State = x.call.decided in
+      let decided : State = state_decided x.call.did in
+      let between = (call_in (λ s. IsBetween x.call.before s after) (next_call old).agent.caller key Invoke x.call.asked _ x.call.row x.call.between x.call.did).1 in
       let asked : Out = x.call.asked in
       let given : is_process_given asked.process ≡ true = ap (λ (o : Out). is_process_given o.process) p.1 ∙ p.2 in
       let may_load : Bool = decided.config.read_through && is_none (entry_at decided.cache key) in
@@ -104,11 +107,11 @@ module _ {I J P Z : Type 0} {D : I → Type 0} {E : J → Type 0} {F : P → Typ
         out = seat.out;
         reply = Value outcome;
         is = λ i. Step (next_call old).agent.caller Invoke key seat.out (p.0 i) (Value outcome);
-        decided = x.call.decided;
-        reached = x.call.between.reached;
-        same = same_on x.call.decided x.call.before.noted state (flip x.call.before.noted x.call.decided x.call.between.same) (same_on x.call.before.noted after.noted state made.seat.same same);
-        earlier = prefix-trans (whole_history x.call.decided) after.front (whole_history state) x.call.between.later front;
-        made_in = next_later x.call.decided key seat.place after.front (whole_history state) front x.alone;
+        decided = decided;
+        reached = between.reached;
+        same = same_on decided x.call.before.noted state (flip x.call.before.noted decided between.same) (same_on x.call.before.noted after.noted state made.seat.same same);
+        earlier = prefix-trans (whole_history decided) after.front (whole_history state) between.later front;
+        made_in = next_later decided key seat.place after.front (whole_history state) front x.alone;
         value = sets.0;
         outcome = sets.1;
         set = ap (λ (o : Out). o.process) (sym p.1) ∙ sets.2;

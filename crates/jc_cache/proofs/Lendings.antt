@@ -1,32 +1,37 @@
--- What one lending of a lock leaves of a seat's view.
---     lock_takes, lock_gives, lock_finds   the relations of a lock's gate, over any type of the reference
---     lock_speaks_for                      whose its seat is
---     Lending                              a lending of a session's seat: the state that was found fits the view before, and at most one
---                                          phase of the session led to the state that the view has seen and notes since
---     seen_itself, seen_on, made_on        a view has seen itself; what was seen and then seen, and seen and then made
---     phase_lent                           a phase after lendings in which nothing was done is such a lending
---     all_seen                             the front is the whole history of the state that the view notes
---     lend_seat                            the seat after one lending
---     rests_seen                           lendings in which nothing was done: the seat has seen them
---     kept, added                          a phase that leaves the own steps, and one that adds its step
---     HasGrown, gained                     one that gains an own step, whose place in the history is known alone
-use Rattle.std.proofs.Common.{◌≡◌, ◌≤◌, ℕ, false, Option, Some, List, [], ◌∷◌, length, slice_get, refl, sym, ap, subst, ◌∙◌, arith, le_refl}
+-- What lendings of a lock leave of a session's seat.
+--     lock_takes, lock_gives, lock_finds, lock_misses    the relations of a lock's gate, over any type of the reference
+--     lock_speaks_for             whose its seat is
+--     seat_itself, seat_on        a seat is the same as itself; and as one that is the same as the same one
+--     seen_itself, seen_on        a view has seen itself; what was seen and then seen
+--     RowLeft                     what a row of lendings leaves of a seat: it has these lendings more, each of which found the stripe between what
+--                                 the seat had seen and what it has seen; the own steps stay if each left them
+--     row_left, row_seen          so it is; and then the seat has seen them
+--     Lending                     a lending of a session's seat: the state that was found fits the view before, and at most one phase of the
+--                                 session led to the state that the view has seen and notes since
+--     last_lent, turn_lent        the last one of a row, behind lendings that leave the own steps; and of a turn
+--     all_seen                    the front is the whole history of the state that the view notes
+--     front_grows                 the front continues the whole history of the state that was found
+--     kept, added                 a phase that leaves the own steps, and one that adds its step
+--     HasGrown, gained            one that gains an own step, whose place in the history is known alone
+use Rattle.std.proofs.Common.{◌≡◌, ◌≤◌, ◌⊎◌, inl, ℕ, false, Option, Some, List, [], ◌∷◌, ◌++◌, length, slice_get, refl, sym, ap, subst, ◌∙◌, append_assoc, append-nil, arith, le_refl}
 use Rattle.std.proofs.lemmas.List.{length-append}
 use mathlib.Core.List.{IsPrefix}
 use Rattle.jc_model.specs.declared.event.Event.{Event}
 use Rattle.jc_stripe.specs.State.{State}
 use Rattle.jc_stripe.specs.Generations.{past_events, whole_history, whole_place, IsOfSameStripe}
-use Rattle.jc_stripe.specs.Renewal.{all_own_steps}
+use Rattle.jc_stripe.specs.Renewal.{Renews, all_own_steps}
 use Rattle.jc_stripe.specs.Reached.{IsReached}
-use Rattle.jc_stripe.specs.OnePhase.{OnePhase, IsPhaseOf, IsUniform, GainsOwn, own_steps}
+use Rattle.jc_stripe.specs.OnePhase.{IsPhaseOf, IsUniform, GainsOwn, own_steps}
 use Rattle.jc_stripe.specs.OwnSteps.{AddsOwn, HasOneMore}
-use Rattle.jc_stripe.proofs.CallerLemmas.{of_same, whole_goes_on, own_stay, adds_whole, gains_whole}
+use Rattle.jc_stripe.proofs.CallerLemmas.{whole_goes_on, own_stay, adds_whole, gains_whole}
 use Rattle.jc_lock.specs.declared.view.View.{View}
-use Rattle.jc_lock.specs.Views.{Finds, after_take, after_give, own_steps_of}
+use Rattle.jc_lock.specs.Views.{Finds, after_take, after_give, after_miss, own_steps_of}
 use Rattle.jc_lock.proofs.CallerLemmas.{prefix-refl, prefix-trans, same_itself, same_on}
-use Rattle.jc_gate.specs.Lending.{Lends, Lent}
-use Rattle.jc_engine.specs.Chain.{IsQuiet, AllQuiet, Rests, LentPhase, Turn}
-use Rattle.jc_cache.specs.Fronts.{IsSameSeat, HasSeen, HasAllSeen, HasMade}
+use Rattle.jc_gate.specs.Lending.{Lends}
+use Rattle.jc_engine.specs.Rows.{AllLend, IsTurn, PhaseLaws, Row, Turn}
+use Rattle.jc_engine.proofs.CallerLemmas.{Keeps, all_append, all_map, all_split, lent_grows, row_split}
+use Rattle.jc_cache.specs.Fronts.{IsBetween, IsSameSeat, HasSeen, HasAllSeen, HasMade}
+use Rattle.jc_cache.specs.Turns.{HasLent}
 
 -- 1. The gate of a lock.
 
@@ -39,10 +44,89 @@ lock_gives g t b h u = u ≡ (t.0, after_give t.1 b)
 abbrev pub lock_finds : {G L : Type 0} → G → L × View → State → Type 0
 lock_finds g t a = Finds t.1 a
 
+abbrev pub lock_misses : {G L : Type 0} → G → L × View → G → L × View → Type 0
+lock_misses g t h u = u ≡ (t.0, after_miss t.1)
+
 abbrev pub lock_speaks_for : {L : Type 0} → L × View → ℕ → Type 0
 lock_speaks_for t session = t.1.session ≡ Some session
 
--- 2. One lending.
+-- 2. Rows of lendings.
+
+pub seat_itself : (v : View) → v.holds ≡ false → IsSameSeat v v
+seat_itself v free = record { session = refl; next_session = refl; spent = refl; free = free; same = same_itself v.noted; next = le_refl v.noted.next; ended = prefix-refl v.noted.ended }
+
+pub seat_on : (u v w : View) → IsSameSeat u v → IsSameSeat v w → IsSameSeat u w
+seat_on u v w p q = record {
+  session = q.session ∙ p.session;
+  next_session = q.next_session ∙ p.next_session;
+  spent = q.spent ∙ p.spent;
+  free = q.free;
+  same = same_on u.noted v.noted w.noted p.same q.same;
+  next = (let one = p.next in let two = q.next in omega arith);
+  ended = prefix-trans u.noted.ended v.noted.ended w.noted.ended p.ended q.ended;
+}
+
+pub seen_itself : (v : View) → v.holds ≡ false → HasSeen v v
+seen_itself v free = record { seat = seat_itself v free; front = prefix-refl v.front; own = refl }
+
+pub seen_on : (u v w : View) → HasSeen u v → HasSeen v w → HasSeen u w
+seen_on u v w p q = record { seat = seat_on u v w p.seat q.seat; front = prefix-trans u.front v.front w.front p.front q.front; own = q.own ∙ p.own }
+
+own_at : (o : Option ℕ) (session : ℕ) (a : State) → o ≡ Some session → own_steps_of o a ≡ all_own_steps session a
+own_at o session a is = ap (λ (z : Option ℕ). own_steps_of z a) is
+
+pub record RowLeft (session : ℕ) (before : View) (row : List (State × State)) (after : View) : Type 0 where
+  pub lent : HasLent before row after
+  pub seat : IsSameSeat before after
+  pub front : IsPrefix before.front after.front
+  pub between : AllLend (λ found left. IsBetween before found after) row
+  pub own : AllLend (Keeps session) row → after.own ≡ before.own
+
+pub row_seen : (session : ℕ) (v : View) (row : List (State × State)) (w : View) → RowLeft session v row w → AllLend (Keeps session) row → HasSeen v w
+row_seen session v row w x kept = record { seat = x.seat; front = x.front; own = x.own kept }
+
+none_left : (session : ℕ) (v : View) → v.holds ≡ false → RowLeft session v [] v
+none_left session v free = record { lent = record { lendings = sym (append-nil v.lendings); misses = refl }; seat = seat_itself v free; front = prefix-refl v.front; between = tt; own = λ none. refl }
+
+one_left : PhaseLaws → (session : ℕ) (v : View) (a b : State) → v.session ≡ Some session → Finds v a → IsPhaseOf session a b ⊎ Renews a b → RowLeft session v ((a, b) ∷ []) (after_give (after_take v a) b)
+one_left law session v a b mine finds by =
+    let g = lent_grows law session a b finds.reached by in
+    record {
+      lent = record { lendings = refl; misses = refl };
+      seat = record { session = refl; next_session = refl; spent = refl; free = refl; same = same_on v.noted a b finds.same g.same; next = (let one = finds.next in let two = g.next in omega arith); ended = prefix-trans v.noted.ended a.ended b.ended finds.ended g.ended };
+      front = prefix-trans v.front (whole_history a) (whole_history b) finds.front g.front;
+      between = (record { reached = finds.reached; same = finds.same; front = finds.front; later = g.front }, tt);
+      own = λ kept. own_at v.session session b mine ∙ kept.0 finds.reached ∙ finds.own session mine;
+    }
+
+both_left : (session : ℕ) (u v w : View) (ps qs : List (State × State)) → RowLeft session u ps v → RowLeft session v qs w → RowLeft session u (ps ++ qs) w
+both_left session u v w ps qs p q = record {
+  lent = record { lendings = q.lent.lendings ∙ ap (λ (ls : List (State × State)). ls ++ qs) p.lent.lendings ∙ append_assoc u.lendings ps qs; misses = q.lent.misses ∙ p.lent.misses };
+  seat = seat_on u v w p.seat q.seat;
+  front = prefix-trans u.front v.front w.front p.front q.front;
+  between = all_append (λ a b. IsBetween u a w) ps qs
+      (all_map (λ a b. IsBetween u a v) (λ a b. IsBetween u a w) ps (λ a b x. record { reached = x.reached; same = x.same; front = x.front; later = prefix-trans (whole_history a) v.front w.front x.later q.front }) p.between)
+      (all_map (λ a b. IsBetween v a w) (λ a b. IsBetween u a w) qs (λ a b x. record { reached = x.reached; same = same_on u.noted v.noted a p.seat.same x.same; front = prefix-trans u.front v.front (whole_history a) p.front x.front; later = x.later }) q.between);
+  own = λ kept. let parts = all_split (Keeps session) ps qs kept in q.own parts.1 ∙ p.own parts.0;
+}
+
+module _ {G L : Type 0} where
+  abbrev pub LockRow : ℕ → G → L × View → List (State × State) → G → L × View → Type 0
+  LockRow session g t row h u = Row lock_takes lock_gives lock_finds session g t row h u
+
+  lend_seat : (g : G) (t : L × View) (a b : State) (h : G) (u : L × View) → Lends lock_takes lock_gives g t a b h u → u ≡ (t.0, after_give (after_take t.1 a) b)
+  lend_seat g t a b h u one = one.gave ∙ ap (λ (z : L × View). (z.0, after_give z.1 b)) one.took.0
+
+  pub row_left : PhaseLaws → (session : ℕ) (g : G) (t : L × View) (row : List (State × State)) (h : G) (u : L × View) → t.1.session ≡ Some session → t.1.holds ≡ false → LockRow session g t row h u
+      → (u.0 ≡ t.0) × RowLeft session t.1 row u.1
+  row_left law session g t [] h u mine free lent = (ap (λ (z : L × View). z.0) lent.1, subst (λ (z : L × View). RowLeft session t.1 [] z.1) (sym lent.1) (none_left session t.1 free))
+  row_left law session g t (p ∷ ps) h u mine free lent =
+      let is = lend_seat g t p.0 p.1 lent.0 lent.1 lent.2.lends in
+      let first : RowLeft session t.1 (p ∷ []) lent.1.1 = subst (RowLeft session t.1 (p ∷ [])) (sym (ap (λ (z : L × View). z.1) is)) (one_left law session t.1 p.0 p.1 mine lent.2.finds_it lent.2.by) in
+      let rest = row_left law session lent.0 lent.1 ps h u (first.seat.session ∙ mine) first.seat.free lent.3 in
+      (rest.0 ∙ ap (λ (z : L × View). z.0) is, both_left session t.1 lent.1.1 u.1 (p ∷ []) ps first rest.1)
+
+-- 3. The last lending of a row.
 
 pub record Lending (session : ℕ) (before : View) (found left : State) (after : View) : Type 0 where
   pub reached : IsReached found
@@ -56,62 +140,54 @@ pub record Lending (session : ℕ) (before : View) (found left : State) (after :
   pub front_is : after.front ≡ whole_history left
   pub own_is : after.own ≡ all_own_steps session left
 
-own_at : (o : Option ℕ) (session : ℕ) (a : State) → o ≡ Some session → own_steps_of o a ≡ all_own_steps session a
-own_at o session a is = ap (λ (z : Option ℕ). own_steps_of z a) is
-
-lent_by : OnePhase → (session : ℕ) (v : View) (a b : State) → v.session ≡ Some session → Finds v a → IsReached a → IsPhaseOf session a b → Lending session v a b (after_give (after_take v a) b)
-lent_by law session v a b mine finds reached one = let u = law session a b reached one in
-    record {
-      reached = reached;
-      same = finds.same;
-      front = finds.front;
-      own = finds.own session mine;
-      one = one;
-      uniform = u;
-      seat = record { session = refl; next_session = refl; spent = refl; free = refl; same = same_on v.noted a b finds.same (of_same a b u.grows); next = (let one = finds.next in let two = u.next in omega arith) };
-      noted = refl;
-      front_is = refl;
-      own_is = own_at v.session session b mine;
-    }
-
--- 3. What a seat has seen.
-
-pub seen_itself : (v : View) → v.holds ≡ false → HasSeen v v
-seen_itself v free = record {
-  seat = record { session = refl; next_session = refl; spent = refl; free = free; same = same_itself v.noted; next = le_refl v.noted.next };
-  front = prefix-refl v.front;
-  own = refl;
+lent_by : PhaseLaws → (session : ℕ) (v : View) (a b : State) → v.session ≡ Some session → Finds v a → IsPhaseOf session a b → Lending session v a b (after_give (after_take v a) b)
+lent_by law session v a b mine finds one = record {
+  reached = finds.reached;
+  same = finds.same;
+  front = finds.front;
+  own = finds.own session mine;
+  one = one;
+  uniform = law.one_phase session a b finds.reached one;
+  seat = (one_left law session v a b mine finds (inl one)).seat;
+  noted = refl;
+  front_is = refl;
+  own_is = own_at v.session session b mine;
 }
 
-pub seat_on : (u v w : View) → IsSameSeat u v → IsSameSeat v w → IsSameSeat u w
-seat_on u v w p q = record {
-  session = q.session ∙ p.session;
-  next_session = q.next_session ∙ p.next_session;
-  spent = q.spent ∙ p.spent;
-  free = q.free;
-  same = same_on u.noted v.noted w.noted p.same q.same;
-  next = (let one = p.next in let two = q.next in omega arith);
+pub earlier : (session : ℕ) (u v : View) (a b : State) (w : View) → HasSeen u v → Lending session v a b w → Lending session u a b w
+earlier session u v a b w p x = record {
+  reached = x.reached;
+  same = same_on u.noted v.noted a p.seat.same x.same;
+  front = prefix-trans u.front v.front (whole_history a) p.front x.front;
+  own = x.own ∙ p.own;
+  one = x.one;
+  uniform = x.uniform;
+  seat = seat_on u v w p.seat x.seat;
+  noted = x.noted;
+  front_is = x.front_is;
+  own_is = x.own_is;
 }
 
-pub seen_on : (u v w : View) → HasSeen u v → HasSeen v w → HasSeen u w
-seen_on u v w p q = record { seat = seat_on u v w p.seat q.seat; front = prefix-trans u.front v.front w.front p.front q.front; own = q.own ∙ p.own }
+module _ {G L : Type 0} where
+  pub last_lent : PhaseLaws → (session : ℕ) (g : G) (t : L × View) (ps : List (State × State)) (a b : State) (h : G) (u : L × View) → t.1.session ≡ Some session → t.1.holds ≡ false → LockRow session g t (ps ++ (a, b) ∷ []) h u
+      → AllLend (Keeps session) ps → IsPhaseOf session a b → (u.0 ≡ t.0) × Lending session t.1 a b u.1
+  last_lent law session g t ps a b h u mine free lent kept one =
+      let parts = row_split lock_takes lock_gives lock_finds session g t ps ((a, b) ∷ []) h u lent in
+      let before = row_left law session g t ps parts.0 parts.1 mine free parts.2 in
+      let seen = row_seen session t.1 ps parts.1.1 before.1 kept in
+      let last = parts.3 in
+      let is : u ≡ (parts.1.0, after_give (after_take parts.1.1 a) b) = last.3.1 ∙ lend_seat parts.0 parts.1 a b last.0 last.1 last.2.lends in (
+        ap (λ (z : L × View). z.0) is ∙ before.0,
+        subst (λ (z : L × View). Lending session t.1 a b z.1) (sym is) (earlier session t.1 parts.1.1 a b _ seen (lent_by law session parts.1.1 a b (seen.seat.session ∙ mine) last.2.finds_it one)),
+      )
+
+  pub turn_lent : PhaseLaws → (session : ℕ) (turn : Turn) (g : G) (t : L × View) (row : List (State × State)) (h : G) (u : L × View) → t.1.session ≡ Some session → t.1.holds ≡ false → ((a b : State) → turn.waits a b → Keeps session a b)
+      → LockRow session g t row h u → (x : IsTurn turn row) → IsPhaseOf session x.found x.left → (u.0 ≡ t.0) × Lending session t.1 x.found x.left u.1
+  turn_lent law session turn g t row h u mine free waits lent x one =
+      last_lent law session g t x.waits x.found x.left h u mine free (subst (λ (ps : List (State × State)). LockRow session g t ps h u) x.row_is lent) (all_map turn.waits (Keeps session) x.waits waits x.waited) one
 
 pub longer_on : (xs ys : List Event) → IsPrefix xs ys → length xs ≤ length ys
 longer_on xs ys p = let n = length-append xs p.0 in let e = ap length p.1 in omega arith
-
-more_on : (event : Event) (xs ys zs : List Event) → ys ≡ xs → HasOneMore event ys zs → HasOneMore event xs zs
-more_on event xs ys zs is more = record { before = more.before; after = more.after; was = sym is ∙ more.was; is = more.is }
-
-pub made_on : (u v w : View) (event : Event) (place : ℕ) → HasSeen u v → HasMade v w event place → HasMade u w event place
-made_on u v w event place p q = record {
-  seat = seat_on u v w p.seat q.seat;
-  all = q.all;
-  front = prefix-trans u.front v.front w.front p.front q.front;
-  behind = (let one = longer_on u.front v.front p.front in let two = q.behind in omega arith);
-  present = q.present;
-  there = q.there;
-  own = more_on event u.own v.own w.own p.own q.own;
-}
 
 -- 4. A phase, by what it leaves of the own steps.
 
@@ -168,70 +244,5 @@ gained session v a b w event place x gains =
       own = more_by event (all_own_steps session a) (all_own_steps session b) v.own w.own x.own (sym x.own_is) whole.1;
     }
 
-pub grown_on : (u v w : View) (event : Event) (place : ℕ) → HasSeen u v → HasGrown v w event place → HasGrown u w event place
-grown_on u v w event place p q = record {
-  seat = seat_on u v w p.seat q.seat;
-  all = q.all;
-  front = prefix-trans u.front v.front w.front p.front q.front;
-  present = q.present;
-  there = q.there;
-  own = more_on event u.own v.own w.own p.own q.own;
-}
-
 pub grown_behind : (v w : View) (event : Event) (place : ℕ) → length v.front ≤ place → HasGrown v w event place → HasMade v w event place
 grown_behind v w event place le x = record { seat = x.seat; all = x.all; front = x.front; behind = le; present = x.present; there = x.there; own = x.own }
-
-earlier : (session : ℕ) (u v : View) (a b : State) (w : View) → HasSeen u v → Lending session v a b w → Lending session u a b w
-earlier session u v a b w p x = record {
-  reached = x.reached;
-  same = same_on u.noted v.noted a p.seat.same x.same;
-  front = prefix-trans u.front v.front (whole_history a) p.front x.front;
-  own = x.own ∙ p.own;
-  one = x.one;
-  uniform = x.uniform;
-  seat = seat_on u v w p.seat x.seat;
-  noted = x.noted;
-  front_is = x.front_is;
-  own_is = x.own_is;
-}
-
--- a quiet lending
-seen_quiet : (session : ℕ) (v : View) (a b : State) → v.session ≡ Some session → Finds v a → IsQuiet a b → HasSeen v (after_give (after_take v a) b)
-seen_quiet session v a b mine finds quiet =
-    let after = quiet.after session in
-    record {
-      seat = record { session = refl; next_session = refl; spent = refl; free = refl; same = same_on v.noted a b finds.same after.same; next = (let one = finds.next in let two = after.next in omega arith) };
-      front = prefix-trans v.front (whole_history a) (whole_history b) finds.front after.front;
-      own = own_at v.session session b mine ∙ after.own ∙ finds.own session mine;
-    }
-
--- 5. Rows of lendings.
-
-module _ {G L : Type 0} where
-  pub lend_seat : (g : G) (t : L × View) (a b : State) (h : G) (u : L × View) → Lends lock_takes lock_gives g t a b h u → u ≡ (t.0, after_give (after_take t.1 a) b)
-  lend_seat g t a b h u one = one.gave ∙ ap (λ (z : L × View). (z.0, after_give z.1 b)) one.took.0
-
-  one_lent : OnePhase → (session : ℕ) (g : G) (t : L × View) (a b : State) (h : G) (u : L × View) → t.1.session ≡ Some session → IsPhaseOf session a b → Lends lock_takes lock_gives g t a b h u
-      → (u.0 ≡ t.0) × Lending session t.1 a b u.1
-  one_lent law session g t a b h u mine one lends = let is = lend_seat g t a b h u lends in
-      (ap (λ (z : L × View). z.0) is, subst (Lending session t.1 a b) (sym (ap (λ (z : L × View). z.1) is)) (lent_by law session t.1 a b mine lends.took.1 lends.reached one))
-
-  idle_seen : (session : ℕ) (g : G) (t : L × View) (ps : List (State × State)) (h : G) (u : L × View) → t.1.session ≡ Some session → t.1.holds ≡ false → Lent lock_takes lock_gives g t ps h u → AllQuiet ps
-      → (u.0 ≡ t.0) × HasSeen t.1 u.1
-  idle_seen session g t [] h u mine free row all = (ap (λ (z : L × View). z.0) row.1, subst (λ (z : L × View). HasSeen t.1 z.1) (sym row.1) (seen_itself t.1 free))
-  idle_seen session g t (p ∷ ps) h u mine free row all =
-      let is = lend_seat g t p.0 p.1 row.0 row.1 row.2 in
-      let seen : HasSeen t.1 row.1.1 = subst (HasSeen t.1) (sym (ap (λ (z : L × View). z.1) is)) (seen_quiet session t.1 p.0 p.1 mine row.2.took.1 all.0) in
-      let rest = idle_seen session row.0 row.1 ps h u (seen.seat.session ∙ mine) seen.seat.free row.3 all.1 in
-      (rest.0 ∙ ap (λ (z : L × View). z.0) is, seen_on t.1 row.1.1 u.1 seen rest.1)
-
-  pub rests_seen : (session : ℕ) (g : G) (t : L × View) (h : G) (u : L × View) → t.1.session ≡ Some session → t.1.holds ≡ false → Rests lock_takes lock_gives lock_finds g t h u
-      → (u.0 ≡ t.0) × HasSeen t.1 u.1
-  rests_seen session g t h u mine free x = idle_seen session g t x.idle h u mine free x.lent x.quiet
-
-  pub phase_lent : OnePhase → (session : ℕ) (g : G) (t : L × View) (turn : Turn) (h : G) (u : L × View) → t.1.session ≡ Some session → t.1.holds ≡ false
-      → (x : LentPhase lock_takes lock_gives lock_finds session g t turn h u) → (u.0 ≡ t.0) × Lending session t.1 x.before x.after u.1
-  phase_lent law session g t turn h u mine free x =
-      let rest = rests_seen session g t x.gate x.token mine free x.rests in
-      let one = one_lent law session x.gate x.token x.before x.after h u (rest.1.seat.session ∙ mine) x.one x.lent in
-      (one.0 ∙ rest.0, earlier session t.1 x.token.1 x.before x.after u.1 rest.1 one.1)

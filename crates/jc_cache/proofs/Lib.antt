@@ -16,6 +16,5 @@ pub mod Readings
 pub mod EndedGenerations
 pub mod Increments
 pub mod Enlisted
-pub mod Turns
 pub mod Following
 pub mod Served

@@ -21,7 +21,7 @@ use Rattle.jc_stripe.specs.State.{State}
 use Rattle.jc_stripe.specs.Generations.{IsOfSameStripe}
 use Rattle.jc_lock.specs.Views.{Finds, after_give, after_join, after_take, front_note, own_steps_of}
 use Rattle.jc_lock.specs.declared.view.View.{View}
-use Rattle.jc_lock.proofs.CallerLemmas.{same_itself}
+use Rattle.jc_lock.proofs.CallerLemmas.{prefix-refl, same_itself}
 use Rattle.jc_session.specs.Counting.{one_more}
 use Rattle.jc_session.specs.declared.agent.Agent.{Agent}
 use Rattle.jc_cache.specs.Caches.{CacheState}
@@ -88,7 +88,7 @@ own_found v state session finds = ap (λ o. own_steps_of o state) session.1 ∙ 
 
 pub refreshed_seen : (v w : View) (state : State) → (session : ℕ) × (v.session ≡ Some session) → Finds v state → w ≡ after_give (after_take v state) state → HasSeen v w
 refreshed_seen v w state session finds is = subst (HasSeen v) (sym is) record {
-  seat = record { session = refl; next_session = refl; spent = refl; free = refl; same = finds.same; next = finds.next };
+  seat = record { session = refl; next_session = refl; spent = refl; free = refl; same = finds.same; next = finds.next; ended = finds.ended };
   front = finds.front;
   own = own_found v state session finds;
 }
@@ -102,6 +102,7 @@ joined_seen v w other free is front = record {
     free = ap (λ (z : View). z.holds) is ∙ free;
     same = subst (λ (z : View). IsOfSameStripe v.noted z.noted) (sym is) (same_itself v.noted);
     next = subst (λ (z : View). v.noted.next ≤ z.noted.next) (sym is) (le_refl v.noted.next);
+    ended = subst (λ (z : View). IsPrefix v.noted.ended z.noted.ended) (sym is) (prefix-refl v.noted.ended);
   };
   front = front;
   own = ap (λ (z : View). z.own) is;

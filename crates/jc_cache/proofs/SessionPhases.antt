@@ -10,7 +10,7 @@
 --     look_lent                a look is a phase in which nothing was done
 --     number_at, shape_found, agent_same   the seat at a stripe with a number, the shape of the stripe, and the agent after a look
 --     holds_one                the agent that has taken a stripe, and its seat
-use Rattle.std.proofs.Common.{◌≡◌, ⊎_elim, inl, ◌+◌, ◌<◌, ℕ, true, false, Some, IsSome, List, [], ◌++◌, filter, length, get_or, le_refl, zero, suc, ◌∷◌, slice_get, slice_set, refl, sym, ap, subst, ◌∙◌, arith}
+use Rattle.std.proofs.Common.{◌≡◌, ⊎_elim, inl, ◌+◌, ◌<◌, ℕ, true, false, Some, IsSome, List, [], ◌++◌, filter, length, get_or, zero, suc, ◌∷◌, slice_get, slice_set, refl, sym, ap, subst, ◌∙◌, arith}
 use Rattle.std.proofs.lemmas.Bool.{true≢false}
 use Rattle.std.proofs.lemmas.Option.{slice_get_read, same_Some}
 use Rattle.std.proofs.lemmas.List.{length-append}
@@ -23,13 +23,13 @@ use Rattle.jc_stripe.specs.State.{State}
 use Rattle.jc_stripe.specs.Reached.{IsReached}
 use Rattle.jc_stripe.specs.Generations.{past_events, whole_history}
 use Rattle.jc_stripe.specs.Renewal.{all_own_steps}
-use Rattle.jc_stripe.specs.OnePhase.{OnePhase, IsPhaseOf, is_own_step, own_steps}
-use Rattle.jc_stripe.specs.OwnSteps.{OwnSteps, may_come_all}
+use Rattle.jc_stripe.specs.OnePhase.{IsPhaseOf, is_own_step, own_steps}
+use Rattle.jc_stripe.specs.OwnSteps.{may_come_all}
 use Rattle.jc_stripe.specs.Tickets.{TicketClaim, JoinClaim}
 use Rattle.jc_stripe.specs.declared.begun.Picked.{Picked}
 use Rattle.jc_stripe.specs.declared.begun.Picked.TheVariants as picked
 use Rattle.jc_lock.specs.Views.{Finds}
-use Rattle.jc_lock.proofs.CallerLemmas.{prefix-refl, same_itself}
+use Rattle.jc_lock.specs.declared.view.View.{View}
 use Rattle.jc_session.specs.Counting.{IsCounted, one_more, counts_after}
 use Rattle.jc_session.specs.declared.agent.Agent.{Agent}
 use Rattle.jc_session.specs.declared.counts.Counted.{Counted}
@@ -37,17 +37,17 @@ use Rattle.jc_session.specs.declared.counts.Counted.TheVariants.{Nothing, Step a
 use Rattle.jc_session.specs.declared.counts.Counts.{Counts}
 use Rattle.jc_gate.specs.Lending.{ComesAfter}
 use Rattle.jc_engine.specs.Answered.{CallAnswer, IsAnswered}
-use Rattle.jc_engine.specs.Chain.{AllLend, LentPhase, Turn}
+use Rattle.jc_engine.specs.Rows.{LentPhase, PhaseLaws, Turn}
 use Rattle.jc_engine.specs.Needs.{BeginsIfClear, CommitsHere, IsReported, PicksUpBy, PicksUpLate}
+use Rattle.jc_engine.proofs.CallerLemmas.{Keeps, all_map, once}
 use Rattle.jc_engine.proofs.Counted.{steps_in, counted_longer}
 use Rattle.jc_cache.specs.Caches.{CacheState}
 use Rattle.jc_cache.specs.Fronts.{IsSameSeat}
 use Rattle.jc_cache.specs.PhaseCalls.{SeatPhase, PhaseAt, MayStart}
 use Rattle.jc_cache.specs.Sessions.{GoesOn, IsSeatAt, IsOf, HoldsNothing, own_total, capped}
 use Rattle.jc_cache.specs.declared.session.Session.{Session}
-use Rattle.jc_cache.proofs.Lendings.{lock_takes, lock_gives, lock_finds, Lending, phase_lent}
+use Rattle.jc_cache.proofs.Lendings.{lock_takes, lock_gives, lock_finds, Lending, row_left, turn_lent}
 use Rattle.jc_cache.specs.Turns.{HasLent}
-use Rattle.jc_cache.proofs.Turns.{phase_row}
 use Rattle.jc_cache.proofs.Rows.{Seated, locks_of, length_locks}
 use Rattle.jc_cache.proofs.Seats.{set_get, set_locks, set_total, capped_more, seat_stays}
 
@@ -85,45 +85,42 @@ counted_own counts Withdrawn own is = same_count counts own is
 
 -- 2. The phase at a seat.
 
+seat_longer : PhaseLaws → (session : ℕ) (counted : Counted) (found left : State) (v w : View) → Lending session v found left w → IsCounted counted session found left → length w.own ≡ length v.own + steps_in counted
+seat_longer law session counted found left v w l is =
+    ap length l.own_is ∙ all_longer session (steps_in counted) found left l.uniform.grows.same.ended (counted_longer law.own_steps counted session found left l.reached is)
+    ∙ ap (λ (es : List Event). length es + steps_in counted) l.own
+
 module _ {G : Type 0} where
-  seat_phase : OnePhase → (session : ℕ) (turn : Turn) (g : G) (t : Seated) (h : G) (u : Seated) → t.1.session ≡ Some session → t.1.holds ≡ false
-      → LentPhase lock_takes lock_gives lock_finds session g t turn h u → (u.0 ≡ t.0) × SeatPhase session t.1 turn u.1
-  seat_phase law session turn g t h u mine free x =
-      let lent = phase_lent law session g t turn h u mine free x in
-      let l : Lending session t.1 x.before x.after u.1 = lent.1 in (
+  seat_phase : PhaseLaws → (session : ℕ) (turn : Turn) (g : G) (t : Seated) (h : G) (u : Seated) → t.1.session ≡ Some session → t.1.holds ≡ false → ((a b : State) → turn.waits a b → Keeps session a b)
+      → (x : LentPhase lock_takes lock_gives lock_finds session g t turn h u) → (u.0 ≡ t.0) × Lending session t.1 x.did.found x.did.left u.1 × SeatPhase session t.1 turn u.1
+  seat_phase law session turn g t h u mine free waits x =
+      let did = x.did in
+      let lent = turn_lent law session turn g t x.row h u mine free waits x.lent did x.one in
+      let row = (row_left law session g t x.row h u mine free x.lent).1 in
+      let l : Lending session t.1 did.found did.left u.1 = lent.1 in (
         lent.0,
+        l,
         record {
-          found = x.before;
+          found = did.found;
           reached = l.reached;
           same = l.same;
           front = l.front;
           own = l.own;
-          made = subst (turn.makes x.before) (sym l.noted) x.made;
-          waits = x.rests.idle;
-          waited = x.waited;
-          lent = subst (λ (s : State). HasLent t.1 (x.rests.idle ++ (x.before, s) ∷ []) u.1) (sym l.noted) (phase_row session g t turn h u x);
-          one = subst (IsPhaseOf session x.before) (sym l.noted) l.one;
+          made = subst (turn.makes did.found) (sym l.noted) did.made;
+          waits = did.waits;
+          waited = did.waited;
+          lent = subst (λ (ps : List (State × State)). HasLent t.1 ps u.1) (did.row_is ∙ ap (λ (s : State). did.waits ++ (did.found, s) ∷ []) (sym l.noted)) row.lent;
+          one = subst (IsPhaseOf session did.found) (sym l.noted) l.one;
           seat = l.seat;
           front_is = l.front_is ∙ ap whole_history (sym l.noted);
           own_is = l.own_is ∙ ap (all_own_steps session) (sym l.noted);
         },
       )
 
-  seat_longer : OnePhase → OwnSteps → (session : ℕ) (counted : Counted) (turn : Turn) (g : G) (t : Seated) (h : G) (u : Seated) → t.1.session ≡ Some session → t.1.holds ≡ false
-      → (x : LentPhase lock_takes lock_gives lock_finds session g t turn h u) → IsCounted counted session x.before x.after → length u.1.own ≡ length t.1.own + steps_in counted
-  seat_longer law steps session counted turn g t h u mine free x is =
-      let l = (phase_lent law session g t turn h u mine free x).1 in
-      ap length l.own_is ∙ all_longer session (steps_in counted) x.before x.after l.uniform.grows.same.ended (counted_longer steps counted session x.before x.after l.reached is)
-      ∙ ap (λ (es : List Event). length es + steps_in counted) l.own
-
 -- 3. The session.
 
 seat_is : (t u : Seated) → u.0 ≡ t.0 → u ≡ (t.0, u.1)
 seat_is t u same i = (same i, u.1)
-
-waited_map : (is so : State → State → Type 0) (ps : List (State × State)) → ((a b : State) → is a b → so a b) → AllLend is ps → AllLend so ps
-waited_map is so [] leads each = tt
-waited_map is so (p ∷ ps) leads each = (leads p.0 p.1 each.0, waited_map is so ps leads each.1)
 
 module _ {I J : Type 0} {D : I → Type 0} {E : J → Type 0} where
   of_after : (cache : CacheState) (old new : Session I J D E) (at : ℕ) (t u : Seated) (counted : Counted) → IsOf cache old → slice_get old.seats.items at ≡ Some t → new.seats.items ≡ slice_set old.seats.items at u → u.0 ≡ t.0 → IsSameSeat t.1 u.1
@@ -147,14 +144,15 @@ module _ {I J : Type 0} {D : I → Type 0} {E : J → Type 0} where
         own = ap (λ (a : Agent I J D E). a.counts.own) left ∙ counted_own old.agent.counts counted (own_total old.seats.items) of.own ∙ ap capped (sym total);
       }
 
-  pub phase_left : {G : Type 0} → OnePhase → OwnSteps → (cache : CacheState) (old new : Session I J D E) (stripe : ℕ) (counted : Counted) (turn : Turn) (g : G) (t : Seated) (h : G) (u : Seated)
+  pub phase_left : {G : Type 0} → PhaseLaws → (cache : CacheState) (old new : Session I J D E) (stripe : ℕ) (counted : Counted) (turn : Turn) (g : G) (t : Seated) (h : G) (u : Seated)
       → IsOf cache old → slice_get old.seats.items stripe ≡ Some t → new.seats.items ≡ slice_set old.seats.items stripe u → new.agent ≡ record old.agent { counts = counts_after old.agent.counts counted }
-      → (x : LentPhase lock_takes lock_gives lock_finds old.agent.caller.session g t turn h u) → IsCounted counted old.agent.caller.session x.before x.after → GoesOn cache new (PhaseAt stripe old turn counted new)
-  phase_left law steps cache old new stripe counted turn g t h u of was now left x is =
+      → ((a b : State) → turn.waits a b → Keeps old.agent.caller.session a b)
+      → (x : LentPhase lock_takes lock_gives lock_finds old.agent.caller.session g t turn h u) → IsCounted counted old.agent.caller.session x.did.found x.did.left → GoesOn cache new (PhaseAt stripe old turn counted new)
+  phase_left law cache old new stripe counted turn g t h u of was now left waits x is =
       let seat = of.seats stripe t was in
-      let p = seat_phase law old.agent.caller.session turn g t h u seat.of_session seat.free x in record {
-        own = of_after cache old new stripe t u counted of was now p.0 p.1.seat left (seat_longer law steps old.agent.caller.session counted turn g t h u seat.of_session seat.free x is);
-        phase = record { lock = t.0; before = t.1; after = u.1; was = was; now = now ∙ ap (slice_set old.seats.items stripe) (seat_is t u p.0); seat = p.1; left = left };
+      let p = seat_phase law old.agent.caller.session turn g t h u seat.of_session seat.free waits x in record {
+        own = of_after cache old new stripe t u counted of was now p.0 p.2.seat left (seat_longer law old.agent.caller.session counted x.did.found x.did.left t.1 u.1 p.1 is);
+        phase = record { lock = t.0; before = t.1; after = u.1; was = was; now = now ∙ ap (slice_set old.seats.items stripe) (seat_is t u p.0); seat = p.2; left = left };
       }
 
   pub phase_map : (cache : CacheState) (stripe at : ℕ) (old : Session I J D E) (from to : Turn) (counted : Counted) (new : Session I J D E) → at ≡ stripe → ((a b : State) → from.waits a b → to.waits a b) → ((a b : State) → from.makes a b → to.makes a b) → GoesOn cache new (PhaseAt at old from counted new)
@@ -175,7 +173,7 @@ module _ {I J : Type 0} {D : I → Type 0} {E : J → Type 0} where
         own = p.seat.own;
         made = leads p.seat.found p.after.noted p.seat.made;
         waits = p.seat.waits;
-        waited = waited_map from.waits to.waits p.seat.waits waits p.seat.waited;
+        waited = all_map from.waits to.waits p.seat.waits waits p.seat.waited;
         lent = p.seat.lent;
         one = p.seat.one;
         seat = p.seat.seat;
@@ -209,20 +207,18 @@ module _ {I J : Type 0} {D : I → Type 0} {E : J → Type 0} where
 -- 5. A look, at the stripe with a number.
 
 pub look_lent : {G : Type 0} (session : ℕ) (turn : Turn) (g : G) (t : Seated) (a : State) (gate : G) (token : Seated) (h : G) (u : Seated) → t.1.session ≡ Some session → lock_takes g t a gate token → IsReached a → lock_gives gate token a h u
-    → ((n : ℕ) (b : State) → token.1.session ≡ Some n → Finds u.1 b → ComesAfter n a b) → turn.makes a a → (x : LentPhase lock_takes lock_gives lock_finds session g t turn h u) × IsCounted Nothing session x.before x.after
+    → ((n : ℕ) (b : State) → token.1.session ≡ Some n → Finds u.1 b → ComesAfter n a b) → turn.makes a a → (x : LentPhase lock_takes lock_gives lock_finds session g t turn h u) × IsCounted Nothing session x.did.found x.did.left
 look_lent session turn g t a gate token h u mine took reached gave next is = (
   record {
-    gate = g;
-    token = t;
-    rests = record { idle = []; quiet = tt; lent = (refl, refl) };
-    waited = tt;
-    before = a;
-    after = a;
-    since = record { first = a; finds_first = took.1; after = record { same = same_itself a; front = prefix-refl (whole_history a); next = le_refl a.next; ended = prefix-refl a.ended; own = refl } };
-    lent = record { gate = gate; token = token; took = took; reached = reached; gave = gave };
-    made = is;
+    row = (a, a) ∷ [];
+    lent = once lock_takes lock_gives lock_finds session g t a a h u record {
+      lends = record { gate = gate; token = token; took = took; reached = reached; gave = gave };
+      finds_it = took.1;
+      by = inl (inl refl);
+      next = λ b finds. next session b (ap (λ (s : Seated). s.1.session) took.0 ∙ mine) finds;
+    };
+    did = record { waits = []; found = a; left = a; row_is = refl; waited = tt; made = is };
     one = inl refl;
-    next = λ b finds. next session b (ap (λ (s : Seated). s.1.session) took.0 ∙ mine) finds;
   },
   inl (refl, refl),
 )

@@ -13,7 +13,7 @@
 --                        a whole call, one that runs a processor, and one that waits for nobody: what is said of the session, and that
 --                        it may call again
 use Rattle.std.specs.declared.dyn_box.DynBox.{DynBox}
-use Rattle.std.proofs.Common.{◌≡◌, ◌<◌, ◌&&◌, if◌then◌else◌, MatchBool, Option, None, is_none, ℕ, List, length, sum, get_or, Bool, true, false, cond, nat_le, Some, IsSome, Result, Ok, Err, arith, slice_get, slice_set, option_map, refl, sym, ap, subst, ◌∙◌}
+use Rattle.std.proofs.Common.{◌≡◌, ◌<◌, ◌&&◌, MatchBool, Option, is_none, ℕ, List, length, sum, get_or, Bool, true, false, cond, nat_le, Some, IsSome, Result, Ok, Err, arith, slice_get, slice_set, option_map, refl, sym, ap, subst, ◌∙◌}
 use Rattle.std.proofs.Math.Nat.{mod-lt}
 use Rattle.std.proofs.lemmas.Bool.{and_parts, leb-true}
 use Rattle.std.proofs.lemmas.List.{length-map}
@@ -26,8 +26,7 @@ use Rattle.jc_types.specs.declared.limits.TheConstants.{STRIPES_MAX}
 use Rattle.jc_types.specs.declared.caller.Caller.{Caller}
 use Rattle.jc_types.specs.declared.refusal.Refusal.{Refusal}
 use Rattle.jc_model.specs.Cache.{Bytes, entry_at}
-use Rattle.jc_model.specs.Table.{process_ask, is_process_given}
-use Rattle.jc_model.specs.declared.event.Change.{Change}
+use Rattle.jc_model.specs.Table.{is_process_given}
 use Rattle.jc_model.specs.declared.event.Event.{Event}
 use Rattle.jc_model.specs.declared.event.Out.{Out}
 use Rattle.jc_model.specs.declared.event.Op.{Op}
@@ -36,24 +35,25 @@ use Rattle.jc_model.specs.declared.event.Reply.{Reply}
 use Rattle.jc_outside.specs.Calling.{LoadRelation, WriteRelation}
 use Rattle.jc_mutentry.specs.Running.{ProcessRelation, RunsOnce}
 use Rattle.jc_stripe.specs.State.{State}
-use Rattle.jc_stripe.specs.OnePhase.{OnePhase}
-use Rattle.jc_stripe.specs.OwnSteps.{OwnSteps, OwnNumbers, StepsBehind, may_come_all}
+use Rattle.jc_stripe.specs.OwnSteps.{OwnNumbers, StepsBehind, may_come_all}
 use Rattle.jc_lock.specs.declared.view.View.{View}
 use Rattle.jc_lock.specs.Views.{Finds}
 use Rattle.jc_session.specs.declared.agent.Agent.{Agent}
-use Rattle.jc_session.specs.Boxed.{boxed}
-use Rattle.jc_engine.specs.Asking.{AsksWriter, change_wanted, own_after}
+use Rattle.jc_engine.specs.Asking.{own_after}
 use Rattle.jc_engine.specs.Needs.{BeginsIfClear}
 use Rattle.jc_engine.specs.Calls.{IsCall, IsInvocation, IsTried, MayCallAt}
 use Rattle.jc_engine.specs.Doors.{IsReady}
+use Rattle.jc_engine.specs.Rows.{PhaseLaws}
+use Rattle.jc_engine.specs.Turns.{state_decided, state_found}
+use Rattle.jc_engine.proofs.CallerLemmas.{call_in}
+use Rattle.jc_cache.specs.Fronts.{IsBetween}
 use Rattle.jc_cache.specs.Caches.{CacheState}
 use Rattle.jc_cache.specs.CacheInside.{IsShaped}
 use Rattle.jc_cache.specs.Calls.{next_call, CallsAt, Tried, Invoked}
 use Rattle.jc_cache.specs.Sessions.{Completes, IsOf, MayCall}
 use Rattle.jc_cache.specs.declared.session.Session.{Session}
-use Rattle.jc_cache.proofs.Lendings.{lock_takes, lock_gives, lock_finds, lock_speaks_for}
-use Rattle.jc_cache.proofs.CallEnds.{CallLeft, call_left, tried_left, invoked_left}
-use Rattle.jc_cache.proofs.Turns.{Misses, call_lent}
+use Rattle.jc_cache.proofs.Lendings.{lock_takes, lock_gives, lock_finds, lock_misses, lock_speaks_for, RowLeft, row_left}
+use Rattle.jc_cache.proofs.CallEnds.{CallLeft, call_left, tried_left}
 use Rattle.jc_cache.proofs.Rows.{length_locks, lock_there}
 use Rattle.jc_cache.proofs.Seats.{after_call, after_try, may_after}
 
@@ -139,14 +139,14 @@ module _ {I J : Type 0} {D : I → Type 0} {E : J → Type 0} where
 
   -- 3. What it leaves.
 
-  pub tried : {G : Type 0} → OnePhase → OwnSteps → OwnNumbers → (cache : CacheState) (old new : Session I J D E) (a : Agent I J D E) (key : Bytes) (op : Op) (at : ℕ) (ended : Result Reply Refusal) (g : G) (t : TableId × View) (h : G) (u : TableId × View)
+  pub tried : {G : Type 0} → PhaseLaws → OwnNumbers → (cache : CacheState) (old new : Session I J D E) (a : Agent I J D E) (key : Bytes) (op : Op) (at : ℕ) (ended : Result Reply Refusal) (g : G) (t : TableId × View) (h : G) (u : TableId × View)
       → MayCall cache old → a ≡ (next_call old).agent → at ≡ stripe_of key cache.config.stripes → slice_get old.seats.items at ≡ Some t → new.seats.items ≡ slice_set old.seats.items at u
-      → new.agent ≡ record a { counts = record a.counts { own = own_after a.counts.own ended } } → IsTried lock_takes lock_gives lock_finds Misses a.caller key op g t ended h u
+      → new.agent ≡ record a { counts = record a.counts { own = own_after a.counts.own ended } } → IsTried lock_takes lock_gives lock_finds lock_misses a.caller key op g t ended h u
       → Completes cache new (Tried cache old key op ended new)
-  tried law own numbers cache old new a key op at ended g t h u may is at_is there now agent x =
+  tried law numbers cache old new a key op at ended g t h u may is at_is there now agent x =
       let b : Agent I J D E = (next_call old).agent in
       let seat = may.own.seats at t there in
-      let left = tried_left law own b.caller key op ended g t h u seat.of_session seat.free (subst (λ (z : Agent I J D E). IsTried lock_takes lock_gives lock_finds Misses z.caller key op g t ended h u) is x) in
+      let left = tried_left law b.caller key op ended g t h u seat.of_session seat.free (subst (λ (z : Agent I J D E). IsTried lock_takes lock_gives lock_finds lock_misses z.caller key op g t ended h u) is x) in
       let new_is : new.agent ≡ record b { counts = record b.counts { own = own_after b.counts.own ended } } = agent ∙ ap (λ (z : Agent I J D E). record z { counts = record z.counts { own = own_after z.counts.own ended } }) is in
       let hands : new.agent.hands ≡ b.hands = ap (λ (z : Agent I J D E). z.hands) new_is in
       let now' : new.seats.items ≡ slice_set old.seats.items at (t.0, u.1) = now ∙ ap (slice_set old.seats.items at) (seat_is t u left.0) in
@@ -173,18 +173,21 @@ module _ {I J : Type 0} {D : I → Type 0} {E : J → Type 0} where
     abbrev Whole : Agent I J D E → Bytes → Op → G → TableId × View → Result Reply Refusal → Agent I J D E → G → TableId × View → Type 0
     Whole a key op g t ended new h u = IsCall loads load_state writes write_state lock_takes lock_gives lock_finds a key op g t ended new h u
 
-    left_of : OnePhase → OwnSteps → StepsBehind → OwnNumbers → (cache : CacheState) (old new : Session I J D E) (key : Bytes) (op : Op) (at : ℕ) (ended : Result Reply Refusal) (g : G) (t : TableId × View) (h : G) (u : TableId × View)
-        → MayCall cache old → slice_get old.seats.items at ≡ Some t → (x : Whole (next_call old).agent key op g t ended new.agent h u) → CallLeft t (next_call old).agent.caller key op x.asked ended x.enters.first.before u
-    left_of law own behind numbers cache old new key op at ended g t h u may there x =
+    -- what the row of a whole call, and the call, leave of the seat
+    left_of : PhaseLaws → StepsBehind → OwnNumbers → (cache : CacheState) (old new : Session I J D E) (key : Bytes) (op : Op) (at : ℕ) (ended : Result Reply Refusal) (g : G) (t : TableId × View) (h : G) (u : TableId × View)
+        → MayCall cache old → slice_get old.seats.items at ≡ Some t → (x : Whole (next_call old).agent key op g t ended new.agent h u)
+        → RowLeft old.agent.caller.session t.1 x.row u.1 × CallLeft t (next_call old).agent.caller key op x.asked ended (state_found x.did) (state_decided x.did) u
+    left_of law behind numbers cache old new key op at ended g t h u may there x =
         let seat = may.own.seats at t there in
-        let caller : Caller = (next_call old).agent.caller in
-        call_left law own behind caller key op x.met x.asked ended g t x.gate x.token h u seat.of_session seat.free (numbers.may_come t.1.own caller key (may.numbers at t there)) x.enters x.ends
+        let caller : Caller = (next_call old).agent.caller in (
+          (row_left law caller.session g t x.row h u seat.of_session seat.free x.lent).1,
+          call_left law behind caller key op x.asked ended g t x.row h u seat.of_session seat.free (numbers.may_come t.1.own caller key (may.numbers at t there)) x.lent x.did,
+        )
 
     abbrev calls_at : (cache : CacheState) (old new : Session I J D E) (key : Bytes) (op : Op) (at : ℕ) (ended : Result Reply Refusal) (g : G) (t : TableId × View) (h : G) (u : TableId × View) → at ≡ stripe_of key cache.config.stripes
-        → slice_get old.seats.items at ≡ Some t → new.seats.items ≡ slice_set old.seats.items at u → (x : Whole (next_call old).agent key op g t ended new.agent h u) (decided : State) → CallLeft t (next_call old).agent.caller key op x.asked ended decided u
-        → change_wanted x.enters.first.before key op x.asked.process ≡ change_wanted decided key op x.asked.process → CallsAt loads load_state writes write_state cache (next_call old) key op ended new
-    calls_at cache old new key op at ended g t h u at_is there now x decided left wanted =
-        let lent = call_lent (next_call old).agent.caller key op x.met x.asked ended g t x.gate x.token h u x.enters x.ends in record {
+        → slice_get old.seats.items at ≡ Some t → new.seats.items ≡ slice_set old.seats.items at u → (x : Whole (next_call old).agent key op g t ended new.agent h u) → RowLeft old.agent.caller.session t.1 x.row u.1
+        → CallLeft t (next_call old).agent.caller key op x.asked ended (state_found x.did) (state_decided x.did) u → CallsAt loads load_state writes write_state cache (next_call old) key op ended new
+    calls_at cache old new key op at ended g t h u at_is there now x row left = record {
       before = t.1;
       after = u.1;
       at = record {
@@ -193,61 +196,57 @@ module _ {I J : Type 0} {D : I → Type 0} {E : J → Type 0} where
         now = subst (λ (i : ℕ). new.seats.items ≡ slice_set old.seats.items i (t.0, u.1)) at_is (now ∙ ap (slice_set old.seats.items at) (seat_is t u left.lock));
       };
       asked = x.asked;
-      decided = decided;
-      between = left.between;
       seat = left.seat;
-      row = lent.row;
-      lent = lent.lent;
-      did = lent.made;
+      row = x.row;
+      lent = row.lent;
+      between = row.between;
+      did = x.did;
       loader = x.loader;
-      writer = subst (λ (c : Option Change). AsksWriter (boxed writes) (boxed write_state) (next_call old).agent.hands.outside.writer key c x.asked.write new.agent.hands.outside.writer) wanted x.writer;
+      writer = x.writer;
       types = x.types;
       left = x.agent;
     }
 
     may_again : OwnNumbers → (cache : CacheState) (old new : Session I J D E) (key : Bytes) (op : Op) (at : ℕ) (ended : Result Reply Refusal) (g : G) (t : TableId × View) (h : G) (u : TableId × View)
-        → MayCall cache old → slice_get old.seats.items at ≡ Some t → new.seats.items ≡ slice_set old.seats.items at u → (x : Whole (next_call old).agent key op g t ended new.agent h u) (decided : State)
-        → CallLeft t (next_call old).agent.caller key op x.asked ended decided u → MayCall cache new
-    may_again numbers cache old new key op at ended g t h u may there now x decided left =
+        → MayCall cache old → slice_get old.seats.items at ≡ Some t → new.seats.items ≡ slice_set old.seats.items at u → (x : Whole (next_call old).agent key op g t ended new.agent h u) (first decided : State)
+        → CallLeft t (next_call old).agent.caller key op x.asked ended first decided u → MayCall cache new
+    may_again numbers cache old new key op at ended g t h u may there now x first decided left =
         let after = after_call t.1 (next_call old).agent.caller key op x.asked ended u.1 left.seat left.below in
         may_after numbers cache old new at t.0 t.1 u.1 ended may there (now ∙ ap (slice_set old.seats.items at) (seat_is t u left.lock)) after.0 after.1 record { left = x.agent; held = x.held; types = x.types }
 
-    pub called : OnePhase → OwnSteps → StepsBehind → OwnNumbers
+    pub called : PhaseLaws → StepsBehind → OwnNumbers
         → (cache : CacheState) (old new : Session I J D E) (a : Agent I J D E) (key : Bytes) (op : Op) (at : ℕ) (ended : Result Reply Refusal) (g : G) (t : TableId × View) (h : G) (u : TableId × View)
         → MayCall cache old → a ≡ (next_call old).agent → at ≡ stripe_of key cache.config.stripes → slice_get old.seats.items at ≡ Some t → new.seats.items ≡ slice_set old.seats.items at u
         → Whole a key op g t ended new.agent h u → Completes cache new (CallsAt loads load_state writes write_state cache (next_call old) key op ended new)
-    called law own behind numbers cache old new a key op at ended g t h u may is at_is there now y =
+    called law behind numbers cache old new a key op at ended g t h u may is at_is there now y =
         let x = subst (λ (z : Agent I J D E). Whole z key op g t ended new.agent h u) is y in
-        let left = left_of law own behind numbers cache old new key op at ended g t h u may there x in
+        let left = left_of law behind numbers cache old new key op at ended g t h u may there x in
         record {
-          call = calls_at cache old new key op at ended g t h u at_is there now x x.enters.first.before left refl;
-          may = may_again numbers cache old new key op at ended g t h u may there now x x.enters.first.before left;
+          call = calls_at cache old new key op at ended g t h u at_is there now x left.0 left.1;
+          may = may_again numbers cache old new key op at ended g t h u may there now x _ _ left.1;
         }
 
-    pub invoked : {P Z : Type 0} {F : P → Type 0} → OnePhase → OwnSteps → StepsBehind → OwnNumbers
+    pub invoked : {P Z : Type 0} {F : P → Type 0} → PhaseLaws → StepsBehind → OwnNumbers
         → (processes : ProcessRelation (DynBox P Z F)) (process_state : DynBox P Z F → List ℕ)
         → (cache : CacheState) (old new : Session I J D E) (a : Agent I J D E) (key : Bytes) (args : List Bytes) (before after : DynBox P Z F) (at : ℕ) (ended : Result Reply Refusal) (g : G) (t : TableId × View) (h : G) (u : TableId × View)
         → MayCall cache old → a ≡ (next_call old).agent → at ≡ stripe_of key cache.config.stripes → slice_get old.seats.items at ≡ Some t → new.seats.items ≡ slice_set old.seats.items at u
         → IsInvocation loads load_state writes write_state processes process_state lock_takes lock_gives lock_finds a key args before g t ended new.agent after h u
         → Completes cache new (Invoked loads load_state writes write_state processes process_state cache old key args before ended new after)
-    invoked law own behind numbers processes process_state cache old new a key args before after at ended g t h u may is at_is there now y =
+    invoked law behind numbers processes process_state cache old new a key args before after at ended g t h u may is at_is there now y =
         let x = subst (λ (z : Agent I J D E). IsInvocation loads load_state writes write_state processes process_state lock_takes lock_gives lock_finds z key args before g t ended new.agent after h u) is y in
-        let seat = may.own.seats at t there in
-        let first : State = x.call.enters.first.before in
-        let found = left_of law own behind numbers cache old new key Invoke at ended g t h u may there x.call in
-        let caller : Caller = (next_call old).agent.caller in
-        let alone = invoked_left law own behind caller key x.call.met x.call.asked ended g t x.call.gate x.call.token h u seat.of_session seat.free (numbers.may_come t.1.own caller key (may.numbers at t there)) x.call.enters x.call.ends in
-        let decided : State = alone.decided in
-        let config : first.config ≡ decided.config = found.between.same.config ∙ sym alone.left.between.same.config in
-        let entry : entry_at first.cache key ≡ entry_at decided.cache key = sym {a = entry_at decided.cache key} alone.entry in
-        let asked : Out = x.call.asked in
-        let wanted : change_wanted first key Invoke asked.process ≡ change_wanted decided key Invoke asked.process = ap (λ (c : Config). if c.write_through then process_ask asked.process else None) config in record {
+        let left = left_of law behind numbers cache old new key Invoke at ended g t h u may there x.call in
+        let first : State = state_found x.call.did in
+        let decided : State = state_decided x.call.did in
+        let between = call_in (λ s. IsBetween t.1 s u.1) (next_call old).agent.caller key Invoke x.call.asked ended x.call.row left.0.between x.call.did in
+        let config : first.config ≡ decided.config = between.0.same.config ∙ sym between.1.same.config in
+        let entry : entry_at first.cache key ≡ entry_at decided.cache key = sym {a = entry_at decided.cache key} (left.1.entry refl) in
+        let asked : Out = x.call.asked in record {
           call = record {
-            call = calls_at cache old new key Invoke at ended g t h u at_is there now x.call decided alone.left wanted;
+            call = calls_at cache old new key Invoke at ended g t h u at_is there now x.call left.0 left.1;
             run = subst (λ (p : Config × Option Bytes). MatchBool (is_process_given asked.process) (RunsOnce processes process_state before key args (p.0.read_through && is_none p.1) p.1 asked.load asked.process after) (after ≡ before))
                 (λ i. (config i, entry i)) x.run;
-            alone = alone.made;
+            alone = left.1.made refl;
             type = x.type;
           };
-          may = may_again numbers cache old new key Invoke at ended g t h u may there now x.call decided alone.left;
+          may = may_again numbers cache old new key Invoke at ended g t h u may there now x.call first decided left.1;
         }

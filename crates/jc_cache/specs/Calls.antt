@@ -1,8 +1,9 @@
 -- Whole calls on a cache.
 --     next_call   a session that has begun its next call
 --     AtStripe    a session's seat at the stripe of a key goes from one view to another, and its other seats stay
---     CallsAt     a session's current call, whole, at a key, which ended so: what its seat has seen, and its lendings; what was asked outside, was asked of
---                 its loader and its writer, who stay of their types; all else of the session stays, but for the count of its steps
+--     CallsAt     a session's current call, whole, at a key, which ended so: what its seat has seen, and its lendings, turn by turn, each of which
+--                 found the stripe between what the seat had seen and what it has seen; what was asked outside, was asked of its loader and its
+--                 writer, who stay of their types; all else of the session stays, but for the count of its steps
 --     Called      the same of the session's next call
 --     Returns     a session's next call, whole, and what it returns by how it ended
 --     Tried       a session's next call that waits for nobody and asks nobody
@@ -28,11 +29,13 @@ use Rattle.jc_lock.specs.declared.view.View.{View}
 use Rattle.jc_session.specs.Boxed.{boxed}
 use Rattle.jc_session.specs.Counting.{one_more}
 use Rattle.jc_engine.specs.Asking.{AsksLoader, AsksWriter, KeepsTypes, RunsProcessor, change_wanted, own_after}
+use Rattle.jc_engine.specs.Rows.{AllLend}
+use Rattle.jc_engine.specs.Turns.{IsCallRow, state_decided, state_found}
 pub use Rattle.jc_engine.specs.Values.{value_in, value_into}
 use Rattle.jc_cache.specs.declared.session.Session.{Session}
 use Rattle.jc_cache.specs.Caches.{CacheState}
 use Rattle.jc_cache.specs.Fronts.{SeatAfter, SeatTried, IsBetween, IsMadeIn}
-use Rattle.jc_cache.specs.Turns.{HasLent, IsCallRow}
+use Rattle.jc_cache.specs.Turns.{HasLent}
 
 abbrev pub next_call : {I J : Type 0} {D : I → Type 0} {E : J → Type 0} → Session I J D E → Session I J D E
 next_call session = record session { agent = record session.agent { caller = record session.agent.caller { call = one_more session.agent.caller.call } } }
@@ -55,14 +58,13 @@ pub record CallsAt
   pub after : View
   pub at : AtStripe cache key old before after new
   pub asked : Out
-  pub decided : State
-  pub between : IsBetween before decided after
   pub seat : SeatAfter before old.agent.caller key op asked ended after
   pub row : List (State × State)
   pub lent : HasLent before row after
+  pub between : AllLend (λ found left. IsBetween before found after) row
   pub did : IsCallRow old.agent.caller key op asked ended row
   pub loader : AsksLoader (boxed loads) (boxed load_state) old.agent.hands.outside.loader key asked.load new.agent.hands.outside.loader
-  pub writer : AsksWriter (boxed writes) (boxed write_state) old.agent.hands.outside.writer key (change_wanted decided key op asked.process) asked.write new.agent.hands.outside.writer
+  pub writer : AsksWriter (boxed writes) (boxed write_state) old.agent.hands.outside.writer key (change_wanted (state_found did) key op asked.process) asked.write new.agent.hands.outside.writer
   pub types : KeepsTypes old.agent new.agent
   pub left : new.agent ≡ record old.agent { counts = record old.agent.counts { own = own_after old.agent.counts.own ended }; hands = new.agent.hands }
 
@@ -96,8 +98,8 @@ pub record Invoked
     (processes : ProcessRelation (DynBox P Z F)) (process_state : DynBox P Z F → List ℕ)
     (cache : CacheState) (old : Session I J D E) (key : Bytes) (args : List Bytes) (processor : DynBox P Z F) (ended : Result Reply Refusal) (new : Session I J D E) (processor' : DynBox P Z F) : Type 0 where
   pub call : Called loads load_state writes write_state cache old key Invoke ended new
-  pub run : RunsProcessor processes process_state processor call.decided key args call.asked processor'
-  pub alone : IsMadeIn call.before (next_call old).agent.caller key Invoke call.asked ended call.after call.seat call.decided
+  pub run : RunsProcessor processes process_state processor (state_decided call.did) key args call.asked processor'
+  pub alone : IsMadeIn call.before (next_call old).agent.caller key Invoke call.asked ended call.after call.seat (state_decided call.did)
   pub type : processor'.vtable ≡ processor.vtable
 
 -- 5. What a call returns.

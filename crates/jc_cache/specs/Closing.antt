@@ -40,7 +40,7 @@ use Rattle.jc_stripe.specs.Generations.{IsChain, whole_history, IsOfSameStripe}
 use Rattle.jc_stripe.specs.Reached.{IsReached}
 use Rattle.jc_stripe.specs.Renewal.{all_own_steps}
 use Rattle.jc_lock.specs.declared.view.View.{View}
-use Rattle.jc_engine.specs.Chain.{AllLend}
+use Rattle.jc_engine.specs.Rows.{AllLend}
 use Rattle.jc_cache.specs.declared.session.Session.{Session}
 use Rattle.jc_cache.specs.Caches.{OwnerState, logs_of}
 

@@ -22,7 +22,7 @@ use Rattle.jc_stripe.specs.Generations.{whole_history, IsOfSameStripe}
 use Rattle.jc_stripe.specs.Reached.{IsReached}
 use Rattle.jc_stripe.specs.Renewal.{all_own_steps}
 use Rattle.jc_lock.specs.declared.view.View.{View}
-use Rattle.jc_engine.specs.Chain.{AllLend}
+use Rattle.jc_engine.specs.Rows.{AllLend}
 use Rattle.jc_cache.specs.Caches.{logs_of}
 use Rattle.jc_cache.specs.Closing.{HasLastFound, HasMissed, IsInUse}
 

@@ -1,7 +1,8 @@
 -- What a call leaves of its session's view of the key's stripe. The view's front is what the session has seen of the stripe's whole
 -- history, all generations in a row: a prefix of it, for ever. Its own steps are the session's steps there, in all generations, without
 -- those whose answer it has not picked up.
---     IsSameSeat     the same session's seat at the same stripe, which has not taken it; the next reservation's number hasn't fallen
+--     IsSameSeat     the same session's seat at the same stripe, which has not taken it; the next reservation's number hasn't fallen, and
+--                    the generations that had ended are the first of those that have
 --     HasAllSeen     the noted state is reached, and the front is its whole history: so each generation in it is legal from its opening,
 --                    which is what the one before it left, and the last one leads to what is cached
 --     HasSeen        the front may be longer; the own steps are the former ones
@@ -13,14 +14,13 @@
 --                    front; of the refusals that change nothing it is the full history alone
 --     IsBusyAt       a call that waits for nobody can't be made on what was found without waiting or asking; it was given back as it was, or with
 --                    its generation ended, exactly if that was full and might end
---     AreTries       tries of such a call, and how often somebody else had the stripe: one, and one more if a generation stood in the way
---     WasBusy        it couldn't be made at any of its tries
+--     WasBusy        it couldn't be made at any of its tries, and how often somebody else had the stripe
 --     TriesTo        its first phase, at the first try, or at the second if a generation stood in the way of the first
 --     SeatTried      such a call: its step was made, it was refused as busy, or, though it need ask nobody, as the state that the view keeps
 --                    says
---     IsBetween      a state of the stripe in which a call was decided: between the former front and the present one
+--     IsBetween      a state in which a call found the stripe: between the former front and the present one
 --     IsMadeIn       the call's step, if it was made, was made in this state
-use Rattle.std.specs.Prelude.{◌≡◌, ◌≤◌, ◌⊎◌, ◌+◌, ℕ, List, [], ◌∷◌, ◌++◌, true, false, length, Option, None, Some, Result, Ok, Err, slice_get, MatchBool}
+use Rattle.std.specs.Prelude.{◌≡◌, ◌≤◌, ◌⊎◌, ◌+◌, ℕ, List, ◌++◌, false, length, Option, None, Some, Result, Ok, Err, slice_get}
 use mathlib.Core.List.{IsPrefix}
 use Rattle.jc_types.specs.declared.caller.Caller.{Caller}
 use Rattle.jc_types.specs.declared.refusal.Refusal.{Refusal}
@@ -36,20 +36,20 @@ use Rattle.jc_stripe.specs.State.{State}
 use Rattle.jc_stripe.specs.Generations.{past_events, whole_history, IsOfSameStripe}
 use Rattle.jc_stripe.specs.Reached.{IsReached}
 use Rattle.jc_stripe.specs.Refusals.{first_refusal}
-use Rattle.jc_stripe.specs.Renewal.{RenewsIfFull, is_renewable}
+use Rattle.jc_stripe.specs.Renewal.{RenewsIfFull}
 use Rattle.jc_stripe.specs.declared.begun.Begun.{Begun}
 use Rattle.jc_stripe.specs.declared.begun.Begun.TheVariants as begun
 use Rattle.jc_stripe.specs.declared.begun.StepDone.{StepDone}
 use Rattle.jc_stripe.specs.Tests.{asks_outside}
 use Rattle.jc_stripe.specs.OwnSteps.{HasOneMore}
 use Rattle.jc_lock.specs.declared.view.View.{View}
-use Rattle.jc_engine.specs.Chain.{AllLend}
-use Rattle.jc_engine.specs.Doors.{IsAgain}
+use Rattle.jc_engine.specs.Rows.{AllLend, IsTurn}
+use Rattle.jc_engine.specs.Doors.{AreTries, IsAgain}
 use Rattle.jc_engine.specs.Needs.{can_start}
 use Rattle.jc_engine.specs.Turns.{trying}
 use Rattle.jc_engine.specs.declared.first.How.TheVariants.{Alone}
 use Rattle.jc_engine.specs.MadeIn.{IsNext}
-use Rattle.jc_cache.specs.Turns.{HasLent, IsTurn}
+use Rattle.jc_cache.specs.Turns.{HasLent}
 
 -- 1. One seat.
 
@@ -60,6 +60,7 @@ pub record IsSameSeat (before after : View) : Type 0 where
   pub free : after.holds ≡ false
   pub same : IsOfSameStripe before.noted after.noted
   pub next : before.noted.next ≤ after.noted.next
+  pub ended : IsPrefix before.noted.ended after.noted.ended
 
 pub record HasSeen (before after : View) : Type 0 where
   pub seat : IsSameSeat before after
@@ -100,12 +101,6 @@ SeatAfter before caller key op asked (Err refusal) after =
 
 abbrev pub IsBusyAt : Caller → Bytes → Op → State → State → Type 0
 IsBusyAt caller key op found left = (can_start Alone found caller key op ≡ false) × RenewsIfFull found left
-
-abbrev pub AreTries : List (State × State) → ℕ → Type 0
-AreTries [] missed = missed ≡ 1
-AreTries (p ∷ []) missed = MatchBool (is_renewable p.0) (missed ≡ 1) (missed ≡ 0)
-AreTries (p ∷ (q ∷ [])) missed = (is_renewable p.0 ≡ true) × (missed ≡ 0)
-AreTries (p ∷ (q ∷ (r ∷ ps))) missed = ⊥
 
 pub record WasBusy (before : View) (caller : Caller) (key : Bytes) (op : Op) (after : View) : Type 0 where
   pub row : List (State × State)

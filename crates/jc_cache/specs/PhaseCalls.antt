@@ -21,7 +21,7 @@ use Rattle.jc_session.specs.declared.counts.Counted.{Counted}
 use Rattle.jc_session.specs.Counting.{counts_after}
 use Rattle.jc_cache.specs.declared.session.Session.{Session}
 use Rattle.jc_cache.specs.Caches.{CacheState}
-use Rattle.jc_engine.specs.Chain.{AllLend, Turn}
+use Rattle.jc_engine.specs.Rows.{AllLend, Turn}
 use Rattle.jc_cache.specs.Fronts.{IsSameSeat}
 use Rattle.jc_cache.specs.Turns.{HasLent}
 

@@ -4,20 +4,21 @@ ghost use Rattle.jc_types.specs.declared.refusal.Refusal.{Refusal};
 ghost use Rattle.jc_model.specs.Table.{is_invoke};
 ghost use Rattle.jc_model.specs.declared.event.Reply.{Reply};
 ghost use Rattle.jc_model.specs.declared.event.Op.TheVariants.{Get};
-ghost use Rattle.jc_stripe.specs.OnePhase.{OnePhase};
-ghost use Rattle.jc_stripe.specs.OwnSteps.{OwnSteps, OwnNumbers, StepsBehind};
+ghost use Rattle.jc_stripe.specs.OwnSteps.{OwnNumbers, StepsBehind};
 ghost use Rattle.jc_cache.specs.CacheInside.{IsShaped};
 ghost use Rattle.jc_cache.specs.Sessions.{MayCall, Completes};
+ghost use Rattle.jc_engine.specs.Rows.{PhaseLaws};
 ghost use Rattle.jc_engine.specs.Entering.{ended_with};
 ghost use Rattle.jc_cache.specs.Calls.{Called, Returns, Tried, Invoked, value_in, value_into};
 
 use crate::calls::value_of;
 use crate::session::Session;
+use jc_engine::laws::one_lending;
 use jc_engine::{call, get_into, invoke, try_call};
 use jc_lock::HistLock;
 use jc_model::{Op, Reply};
 use jc_mutentry::EntryProcessor;
-use jc_stripe::phase_laws::{is_uniform, own_numbers, own_steps, steps_behind};
+use jc_stripe::phase_laws::{own_numbers, steps_behind};
 use jc_types::{Config, Key, Refusal, Value, stripe_of};
 use std::marker::Model;
 use std::sync::Wait;
@@ -177,13 +178,11 @@ impl Cache {
 
 /// The laws of every stripe that a whole call of a session rests on, in one call.
 fn laws()
-    ensures uniform { OnePhase }
-    ensures steps { OwnSteps }
+    ensures lending { PhaseLaws }
     ensures numbers { OwnNumbers }
     ensures behind { StepsBehind }
 {
-    is_uniform();
-    own_steps();
+    one_lending();
     own_numbers();
     steps_behind();
 }

@@ -25,10 +25,10 @@ ghost use Rattle.jc_cache.specs.Turns.{looking, picking_late, picking_now, start
 
 use crate::cache::Cache;
 use crate::session::Session;
+use jc_engine::laws::one_lending;
 use jc_engine::{Answer, Commit, First, How, Phase, PickUp, Processed, Withdraw, lend};
 use jc_model::{Op, Reply};
 use jc_session::Counted;
-use jc_stripe::phase_laws::{is_uniform, own_steps};
 use jc_stripe::{Appended, Ask, Join, LoadDone, Picked, ProcDone, Started, Ticket, WriteDone};
 use jc_types::{Key, stripe_of};
 use std::sync::Wait;
@@ -205,8 +205,7 @@ impl Cache {
         ensures room { (vec_len out.new ≤ vec_len out.old + self.now.config.capacity)
             × (vec_capacity out.new ≡ vec_capacity out.old) }
     {
-        is_uniform();
-        own_steps();
+        one_lending();
         let mut lock = &self.locks[number];
         let seat = &mut session.seats[number];
         let agent = &mut session.agent;
@@ -258,8 +257,7 @@ impl Cache {
         ensures { GoesOn self.now session.new
             (PhaseAt number session.old (waiting (P.due phase) (P.puts_off phase) (λ a b. P.makes phase a result reply.new b)) (P.counts result) session.new) }
     {
-        is_uniform();
-        own_steps();
+        one_lending();
         let mut lock = &self.locks[number];
         let seat = &mut session.seats[number];
         lend(rt, &mut lock, seat, &mut session.agent, phase, reply)

@@ -31,7 +31,7 @@ use Rattle.jc_session.specs.declared.counts.Counted.TheVariants.{Reserved, Joine
 use Rattle.jc_engine.specs.Needs.{StartsAt}
 use Rattle.jc_cache.specs.Caches.{CacheState}
 use Rattle.jc_cache.specs.Calls.{next_call}
-use Rattle.jc_engine.specs.Chain.{Turn}
+use Rattle.jc_engine.specs.Rows.{Turn}
 use Rattle.jc_cache.specs.Turns.{picking_now, starting_now, withdrawing}
 use Rattle.jc_cache.specs.PhaseCalls.{PhaseAt}
 use Rattle.jc_cache.specs.Sessions.{IsOf, MayCall}

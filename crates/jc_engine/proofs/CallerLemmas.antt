@@ -32,7 +32,7 @@ use Rattle.jc_stripe.proofs.Beside.{ask_found}
 use Rattle.jc_stripe.proofs.SharedSteps.{stands_at}
 use Rattle.jc_engine.specs.MadeIn.{IsNext}
 pub use Rattle.jc_engine.proofs.Increments.{reached_cache}
-pub use Rattle.jc_engine.proofs.Rows.{Keeps, all_append, all_map, asked_keeps, commits_phase, joined_keeps, picks_phase, rejoins_keep, row_split, start_keeps, starts_phase, turn_keeps, turn_map, waited_keeps}
+pub use Rattle.jc_engine.proofs.Rows.{Keeps, all_append, all_map, all_split, begun_row, call_in, commits_phase, lent_grows, once, picks_phase, row_split, start_keeps, starts_phase, turn_map, waited_keeps}
 pub use Rattle.jc_engine.proofs.Unasked.{no_done, no_join}
 
 -- 1. The place of a step.

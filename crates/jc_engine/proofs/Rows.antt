@@ -1,12 +1,14 @@
 -- Rows of lendings.
 --     all_append, all_map       what is so of each lending, of two rows together; and said less of it
+--     all_split, call_in        of the parts of a row; and of the states that decide a call
 --     turn_map, lent_map        a turn that says less
 --     comes_itself, comes_on    a state comes after itself; one after the other
 --     comes_left                what is left without a phase comes after what was found
+--     GrowsTo, lent_grows       so does what each lending leaves, but for own steps
 --     Keeps                     a lending leaves the session's own steps
---     waited_keeps, start_keeps, turn_keeps, rejoins_keep, begun_keeps, asked_keeps
+--     waited_keeps, start_keeps, turn_keeps, rejoins_keep, begun_row, asked_keeps
 --                               so does one in which the session waited, each lending of a turn whose phase leaves them, and each one of a
---                               call that was told to retry, or has somebody to ask
+--                               call that was told to retry, before its first phase, or up to where it has somebody to ask
 --     row_append, row_split     two rows
 --     once, left_once           a row of one lending; a lending in which no phase was made
 --     since_found, row_since    what is found after lendings that leave the own steps comes after what a take could have found at first
@@ -14,16 +16,18 @@
 --     begun_since               what a call's first phase found
 --     starts_phase, commits_phase, picks_phase
 --                               what each phase of a call is: one phase of its session
-use Rattle.std.proofs.Common.{◌≡◌, ◌⊎◌, ⊎_elim, inl, inr, ℕ, zero, suc, List, [], ◌∷◌, ◌++◌, refl, sym, ap, subst, ◌∙◌, append_assoc, append-nil, le_refl, arith}
+use Rattle.std.proofs.Common.{◌≡◌, ◌⊎◌, ⊎_elim, inl, inr, ℕ, zero, suc, List, [], ◌∷◌, ◌++◌, refl, sym, ap, subst, ◌∙◌, append_assoc, append-nil, le_refl, arith, ◌≤◌, Result}
 use mathlib.Core.List.{IsPrefix}
 use Rattle.jc_types.specs.declared.caller.Caller.{Caller}
+use Rattle.jc_types.specs.declared.refusal.Refusal.{Refusal}
 use Rattle.jc_model.specs.Cache.{Bytes}
 use Rattle.jc_model.specs.declared.event.Op.{Op}
 use Rattle.jc_model.specs.declared.event.Op.TheVariants.{Get}
 use Rattle.jc_model.specs.declared.event.Out.{Out}
+use Rattle.jc_model.specs.declared.event.Reply.{Reply}
 use Rattle.jc_stripe.specs.State.{State}
 use Rattle.jc_stripe.specs.Reached.{IsReached}
-use Rattle.jc_stripe.specs.Generations.{whole_history, present_generation}
+use Rattle.jc_stripe.specs.Generations.{whole_history, present_generation, IsOfSameStripe}
 use Rattle.jc_stripe.specs.OnePhase.{IsPhaseOf}
 use Rattle.jc_stripe.specs.Phases.{Begins, Commits, PicksUp}
 use Rattle.jc_stripe.specs.Renewal.{Renewal, Renews, StaysOrRenews, all_own_steps}
@@ -39,7 +43,7 @@ use Rattle.jc_gate.specs.Lending.{ComesAfter}
 use Rattle.jc_engine.specs.Rows.{AllLend, IsLending, IsTurn, LentPhase, PhaseLaws, Row, Turn}
 use Rattle.jc_engine.specs.Doors.{HasWaited, IsLeft}
 use Rattle.jc_engine.specs.Needs.{HasMissed, StartsBy}
-use Rattle.jc_engine.specs.Turns.{AreRejoins, IsBegunRow, IsRejoin, StartWaits, picking, starting}
+use Rattle.jc_engine.specs.Turns.{AreRejoins, EndsBy, IsBegunRow, IsCallRow, IsRejoin, StartWaits, committing, picking, starting, state_decided, state_found, state_of_step}
 use Rattle.jc_engine.specs.declared.first.How.{How}
 use Rattle.jc_engine.specs.declared.first.How.TheVariants.{Waits}
 
@@ -56,6 +60,25 @@ all_map is so (p ∷ ps) leads each = (leads p.0 p.1 each.0, all_map is so ps le
 abbrev pub turn_map : (from to : Turn) (row : List (State × State)) → ((a b : State) → from.waits a b → to.waits a b) → ((a b : State) → from.makes a b → to.makes a b) → IsTurn from row → IsTurn to row
 turn_map from to row waits leads x =
     record { waits = x.waits; found = x.found; left = x.left; row_is = x.row_is; waited = all_map from.waits to.waits x.waits waits x.waited; made = leads x.found x.left x.made }
+
+pub all_split : (is : State → State → Type 0) (ps qs : List (State × State)) → AllLend is (ps ++ qs) → AllLend is ps × AllLend is qs
+all_split is [] qs each = (tt, each)
+all_split is (p ∷ ps) qs each = let rest = all_split is ps qs each.1 in ((each.0, rest.0), rest.1)
+
+turn_in : (is : State → State → Type 0) (turn : Turn) (row : List (State × State)) → AllLend is row → (x : IsTurn turn row) → is x.found x.left
+turn_in is turn row each x = (all_split is x.waits ((x.found, x.left) ∷ []) (subst (AllLend is) x.row_is each)).1.0
+
+step_in : (is : State → Type 0) (b : Begun) (asked : Out) (ended : Result Reply Refusal) (row : List (State × State)) (first : State) → is first → AllLend (λ found left. is found) row → (ends : EndsBy b asked ended row) → is (state_of_step b asked ended row first ends)
+step_in is (begun.Done done) asked ended row first at each ends = at
+step_in is (begun.Refused refusal) asked ended row first at each ends = at
+step_in is (begun.Asks ticket) asked ended row first at each ends = turn_in (λ found left. is found) (committing ticket.reservation asked ends.0) row each ends.2
+step_in is (begun.Joined join) asked ended row first at each ends = at
+
+pub call_in : (is : State → Type 0) (caller : Caller) (key : Bytes) (op : Op) (asked : Out) (ended : Result Reply Refusal) (row : List (State × State)) → AllLend (λ found left. is found) row → (x : IsCallRow caller key op asked ended row) → is (state_found x) × is (state_decided x)
+call_in is caller key op asked ended row each x =
+    let parts = all_split (λ found left. is found) x.start x.last (subst (AllLend (λ found left. is found)) x.row_is each) in
+    let first = turn_in (λ found left. is found) (starting caller key op x.begun) x.begins.first (all_split (λ found left. is found) x.begins.rejoins x.begins.first (subst (AllLend (λ found left. is found)) x.begins.row_is parts.0)).1 x.begins.starts in
+    (first, step_in is x.begun asked ended x.last (state_found x) first parts.1 x.ends)
 
 -- 2. States that come after one another.
 
@@ -87,13 +110,25 @@ comes_left law session a b reached = ⊎_elim
     let u = law a b reached renews in
     record { same = u.same; front = subst (IsPrefix (whole_history a)) (sym u.whole) ([], append-nil (whole_history a)); next = (let e = u.next in omega arith); ended = subst (λ (z : State). IsPrefix a.ended z.ended) (sym renews.after) (present_generation a ∷ [], refl); own = u.own session })
 
-comes_lent : PhaseLaws → (session : ℕ) (a b : State) → IsReached a → IsPhaseOf session a b ⊎ Renews a b → all_own_steps session b ≡ all_own_steps session a → ComesAfter session a b
-comes_lent law session a b reached by own = ⊎_elim
+-- the same but for own steps
+pub record GrowsTo (a b : State) : Type 0 where
+  pub same : IsOfSameStripe a b
+  pub front : IsPrefix (whole_history a) (whole_history b)
+  pub next : a.next ≤ b.next
+  pub ended : IsPrefix a.ended b.ended
+
+pub lent_grows : PhaseLaws → (session : ℕ) (a b : State) → IsReached a → IsPhaseOf session a b ⊎ Renews a b → GrowsTo a b
+lent_grows law session a b reached by = ⊎_elim
     (λ one.
     let u = law.one_phase session a b reached one in
-    record { same = of_same a b u.grows; front = whole_goes_on a b u.grows; next = u.next; ended = subst (IsPrefix a.ended) (sym u.grows.same.ended) ([], append-nil a.ended); own = own })
-    (λ renews. comes_left law.renewal session a b reached (inr renews))
+    record { same = of_same a b u.grows; front = whole_goes_on a b u.grows; next = u.next; ended = subst (IsPrefix a.ended) (sym u.grows.same.ended) ([], append-nil a.ended) })
+    (λ renews.
+    let c = comes_left law.renewal session a b reached (inr renews) in
+    record { same = c.same; front = c.front; next = c.next; ended = c.ended })
     by
+
+comes_lent : PhaseLaws → (session : ℕ) (a b : State) → IsReached a → IsPhaseOf session a b ⊎ Renews a b → all_own_steps session b ≡ all_own_steps session a → ComesAfter session a b
+comes_lent law session a b reached by own = let g = lent_grows law session a b reached by in record { same = g.same; front = g.front; next = g.next; ended = g.ended; own = own }
 
 -- 3. Lendings that leave the session's own steps.
 
@@ -130,15 +165,22 @@ module _ (law : PhaseLaws) (caller : Caller) (key : Bytes) (op : Op) where
   rejoins_keep zero row x = subst (AllLend (Keeps caller.session)) (sym x) tt
   rejoins_keep (suc n) row x = subst (AllLend (Keeps caller.session)) (sym x.2) (all_append (Keeps caller.session) x.0 x.1 (rejoins_keep n x.0 x.3) (rejoin_keeps x.1 x.4))
 
-  pub begun_keeps : (b : Begun) (row : List (State × State)) → (x : IsBegunRow caller key op b row) → Keeps caller.session x.starts.found x.starts.left → AllLend (Keeps caller.session) row
-  begun_keeps b row x kept =
-      subst (AllLend (Keeps caller.session)) (sym x.row_is) (all_append (Keeps caller.session) x.rejoins x.first
-      (rejoins_keep x.rounds x.rejoins x.rejoined) (turn_keeps caller.session (starting caller key op b) x.first (start_keeps law caller.session caller key op) x.starts kept))
+  -- the lendings before the first phase that is the last one
+  pub begun_row : (b : Begun) (row : List (State × State)) → (x : IsBegunRow caller key op b row) → (row ≡ (x.rejoins ++ x.starts.waits) ++ (x.starts.found, x.starts.left) ∷ []) × AllLend (Keeps caller.session) (x.rejoins ++ x.starts.waits)
+  begun_row b row x =
+      let s = x.starts in (
+        x.row_is ∙ ap (λ (ps : List (State × State)). x.rejoins ++ ps) s.row_is ∙ sym (append_assoc x.rejoins s.waits ((s.found, s.left) ∷ [])),
+        all_append (Keeps caller.session) x.rejoins s.waits (rejoins_keep x.rounds x.rejoins x.rejoined) (all_map (starting caller key op b).waits (Keeps caller.session) s.waits (start_keeps law caller.session caller key op) s.waited),
+      )
 
   pub asked_keeps : (ticket : TicketClaim) (row : List (State × State)) → IsBegunRow caller key op (begun.Asks ticket) row → AllLend (Keeps caller.session) row
-  asked_keeps ticket row x = let begins = x.starts.made.first.begins in
-      begun_keeps (begun.Asks ticket) row x
-      (λ reached. own_stay caller.session x.starts.found x.starts.left (ap (λ (s : State). s.ended) begins.5) (law.own_steps.reserves x.starts.found x.starts.left caller key op ticket begins))
+  asked_keeps ticket row x =
+      let first = x.starts in
+      let begins = first.made.first.begins in
+      let before = begun_row (begun.Asks ticket) row x in
+      subst (AllLend (Keeps caller.session)) (sym before.0)
+      (all_append (Keeps caller.session) (x.rejoins ++ first.waits) ((first.found, first.left) ∷ []) before.1
+      (λ reached. own_stay caller.session first.found first.left (ap (λ (s : State). s.ended) begins.5) (law.own_steps.reserves first.found first.left caller key op ticket begins), tt))
 
 -- 4. Rows.
 
@@ -194,11 +236,8 @@ module _ {G T : Type 0} (takes gives : G → T → State → G → T → Type 0)
 module _ {G T : Type 0} (takes gives : G → T → State → G → T → Type 0) (finds : G → T → State → Type 0) (law : PhaseLaws) (caller : Caller) (key : Bytes) (op : Op) where
   pub begun_since : (b : Begun) (g : G) (t : T) (row : List (State × State)) (h : G) (u : T) → Row takes gives finds caller.session g t row h u → (x : IsBegunRow caller key op b row) → Since takes gives finds caller.session g t x.starts.found
   begun_since b g t row h u lent x =
-      let s = x.starts in
-      let is : row ≡ (x.rejoins ++ s.waits) ++ (s.found, s.left) ∷ [] = x.row_is ∙ ap (λ (ps : List (State × State)). x.rejoins ++ ps) s.row_is ∙ sym (append_assoc x.rejoins s.waits ((s.found, s.left) ∷ [])) in
-      found_since takes gives finds caller.session law g t (x.rejoins ++ s.waits) s.found s.left [] h u (subst (λ (ps : List (State × State)). Row takes gives finds caller.session g t ps h u) is lent)
-      (all_append (Keeps caller.session) x.rejoins s.waits (rejoins_keep law caller key op x.rounds x.rejoins x.rejoined)
-      (all_map (starting caller key op b).waits (Keeps caller.session) s.waits (start_keeps law caller.session caller key op) s.waited))
+      let before = begun_row law caller key op b row x in
+      found_since takes gives finds caller.session law g t (x.rejoins ++ x.starts.waits) x.starts.found x.starts.left [] h u (subst (λ (ps : List (State × State)). Row takes gives finds caller.session g t ps h u) before.0 lent) before.1
 
 -- 5. What each phase is.
 

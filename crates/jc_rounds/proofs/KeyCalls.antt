@@ -22,7 +22,7 @@ use Rattle.jc_stripe.specs.declared.begun.StepDone.{StepDone}
 use Rattle.jc_stripe.specs.declared.ticket.Reservation.{Reservation}
 use Rattle.jc_lock.specs.declared.view.View.{View}
 use Rattle.jc_session.specs.declared.counts.Counted.{Counted}
-use Rattle.jc_engine.specs.Chain.{Turn}
+use Rattle.jc_engine.specs.Rows.{Turn}
 use Rattle.jc_engine.specs.Needs.{PicksUpLate}
 use Rattle.jc_engine.specs.Turns.{committing}
 use Rattle.jc_cache.specs.Turns.{picking_late, starting_now}

@@ -27,7 +27,7 @@ use Rattle.jc_stripe.specs.OnePhase.{OnePhase, IsUniform, own_steps}
 use Rattle.jc_stripe.proofs.CallerLemmas.{whole_goes_on, own_stay}
 use Rattle.jc_lock.specs.declared.view.View.{View}
 use Rattle.jc_lock.proofs.CallerLemmas.{prefix-refl, prefix-trans, same_itself, same_on}
-use Rattle.jc_engine.specs.Chain.{Turn}
+use Rattle.jc_engine.specs.Rows.{Turn}
 use Rattle.jc_cache.specs.Fronts.{HasAllSeen}
 use Rattle.jc_cache.specs.PhaseCalls.{SeatPhase}
 use Rattle.jc_rounds.specs.Keys.{IsEarly}

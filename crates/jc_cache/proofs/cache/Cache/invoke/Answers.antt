@@ -40,7 +40,7 @@ returns g c =
     let same : c.self.inside.config ≡ c.args.self.now.config = ap (λ (z : CacheState). z.config) c.self.view_is in
     let there : slice_get c.args.session.now.seats.items c.stripe_of-at.result ≡ Some c.index_mut-seat.result.now =
     seat_at c.args.self.now c.args.session.now _ c.args.key.now _ _ c.requires.may.own c.self.invariant.fits same c.stripe_of-at.ensures c.index_mut-seat.ensures.value in
-    let made = invoked _ _ _ _ c.laws.ensures.uniform c.laws.ensures.steps c.laws.ensures.behind c.laws.ensures.numbers _ _ c.args.self.now c.args.session.now _ c.next_call.new.self c.args.key.now c.args.args.now
+    let made = invoked _ _ _ _ c.laws.ensures.lending c.laws.ensures.behind c.laws.ensures.numbers _ _ c.args.self.now c.args.session.now _ c.next_call.new.self c.args.key.now c.args.args.now
     c.args.processor.now c.invoke-ended.new.processor c.stripe_of-at.result (ended_with c.invoke-ended.result c.invoke-ended.new.reply) _ c.index_mut-seat.result.now c.invoke-ended.new.gate c.invoke-ended.new.token c.requires.may c.next_call.ensures.call
     (at_key c.args.self.now _ c.args.key.now _ same c.stripe_of-at.ensures) there refl c.invoke-ended.ensures.call in
     record { may = made.may; call = ((ended_with c.invoke-ended.result c.invoke-ended.new.reply), made.call, c.value_of.ensures) }

@@ -3,7 +3,7 @@ use Rattle.jc_types.specs.declared.config.Config.{Config}
 use Rattle.jc_stripe.specs.Keys.{Looks}
 use Rattle.jc_stripe.specs.State.{State}
 use Rattle.jc_session.specs.declared.counts.Counted.TheVariants.{Nothing}
-use Rattle.jc_engine.specs.Chain.{Turn}
+use Rattle.jc_engine.specs.Rows.{Turn}
 use Rattle.jc_cache.specs.Turns.{looking}
 use Rattle.jc_cache.specs.Caches.{CacheState}
 use Rattle.jc_cache.proofs.WholeCalls.{free_at}
@@ -49,5 +49,5 @@ returns-clause-phase g c = let old = c.args.session.now in
     let looks : Looks a c.args.out.now.items c.keys.new.out.items = subst (λ (s : State). Looks s c.args.out.now.items c.keys.new.out.items) c.deref.ensures c.keys.ensures.keys in
     let lent = look_lent old.agent.caller.session turn c.take-stripe.new.gate t a c.take-stripe.new.gate c.take-stripe.new.token c.give.new.gate c.give.new.token (c.requires.own.seats c.args.number t there).of_session
     c.take-stripe.ensures.takes c.take-stripe.ensures.found.1 c.give.ensures.gives c.give.ensures.next (refl, looks) in
-    phase_left c.is_uniform.ensures c.own_steps.ensures c.args.self.now old _ c.args.number Nothing turn c.take-stripe.new.gate t c.give.new.gate c.give.new.token c.requires.own there refl
-    (agent_same old.agent c.take-stripe.new.self c.give.new.self c.requires.own.held c.take-stripe.ensures.agent c.give.ensures.agent) lent.0 lent.1
+    phase_left c.one_lending.ensures c.args.self.now old _ c.args.number Nothing turn c.take-stripe.new.gate t c.give.new.gate c.give.new.token c.requires.own there refl
+    (agent_same old.agent c.take-stripe.new.self c.give.new.self c.requires.own.held c.take-stripe.ensures.agent c.give.ensures.agent) (λ a b none. absurd none) lent.0 lent.1

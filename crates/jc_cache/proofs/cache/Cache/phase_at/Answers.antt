@@ -1,6 +1,7 @@
 use Rattle.std.proofs.Common.{ap, refl}
-use Rattle.jc_engine.specs.Chain.{Turn}
+use Rattle.jc_engine.specs.Rows.{Turn}
 use Rattle.jc_engine.specs.Doors.{waiting}
+use Rattle.jc_engine.proofs.CallerLemmas.{waited_keeps}
 use Rattle.jc_cache.specs.Caches.{CacheState}
 use Rattle.jc_cache.proofs.WholeCalls.{free_at, ready}
 use Rattle.jc_cache.proofs.SessionPhases.{number_at, phase_left}
@@ -24,5 +25,5 @@ returns g c =
     let t = c.index_mut-seat.result.now in
     let there = number_at c.args.self.now c.args.session.now c.args.number t c.requires.own c.requires.stripe c.index_mut-seat.ensures.value in
     let turn : Turn = waiting (g.P.Phase.due c.args.phase) (g.P.Phase.puts_off c.args.phase) (λ a b. g.P.Phase.makes c.args.phase a c.lend.result c.lend.new.reply b) in
-    phase_left c.is_uniform.ensures c.own_steps.ensures c.args.self.now c.args.session.now _ c.args.number (g.P.Phase.counts c.lend.result) turn _ t c.lend.new.gate c.lend.new.token
-    c.requires.own there refl c.lend.ensures.agent c.lend.ensures.phase.0 c.lend.ensures.phase.1
+    phase_left c.one_lending.ensures c.args.self.now c.args.session.now _ c.args.number (g.P.Phase.counts c.lend.result) turn _ t c.lend.new.gate c.lend.new.token
+    c.requires.own there refl c.lend.ensures.agent (waited_keeps c.one_lending.ensures _ _ _) c.lend.ensures.phase.0 c.lend.ensures.phase.1

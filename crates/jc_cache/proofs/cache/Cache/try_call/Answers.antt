@@ -33,6 +33,6 @@ returns g c =
     let same : c.self.inside.config ≡ c.args.self.now.config = ap (λ (z : CacheState). z.config) c.self.view_is in
     let there : slice_get c.args.session.now.seats.items c.stripe_of-at.result ≡ Some c.index_mut-seat.result.now =
     seat_at c.args.self.now c.args.session.now _ c.args.key.now _ _ c.requires.may.own c.self.invariant.fits same c.stripe_of-at.ensures c.index_mut-seat.ensures.value in
-    tried c.laws.ensures.uniform c.laws.ensures.steps c.laws.ensures.numbers c.args.self.now c.args.session.now _ c.next_call.new.self c.args.key.now c.args.op.now c.stripe_of-at.result
+    tried c.laws.ensures.lending c.laws.ensures.numbers c.args.self.now c.args.session.now _ c.next_call.new.self c.args.key.now c.args.op.now c.stripe_of-at.result
     (ended_with c.try_call.result c.try_call.new.reply) _ c.index_mut-seat.result.now c.try_call.new.gate c.try_call.new.token c.requires.may c.next_call.ensures.call (at_key c.args.self.now _ c.args.key.now _ same c.stripe_of-at.ensures) there refl
     c.try_call.ensures.agent c.try_call.ensures.phase
