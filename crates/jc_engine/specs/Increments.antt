@@ -13,12 +13,12 @@
 --                      what shares a load is a `Get`
 --     EventsByTable    the law: each event of a stripe's whole history is so
 -- A call of a cache's `invoke` that returned a value gives `SetsNext` in every later state of its stripe, that is, one whose whole history
--- begins with what the call's session has seen (proved as `sets_next` in `jc_cache/proofs/Increments.antt`): `reached`, `same` and `earlier`
--- are the call's `between`; `made_in` is its `alone`, which stays so as the history grows; the event is at the place that its `seat` gives.
--- By `EventsByTable` that event shares no load, so its answers are those that were asked for, its processor was run, and since it
--- replies with a value there was no fault. So `set` and `next` are for the call's `run` to say: what the processor did with the entry of
--- `decided`. If that was missing and a value was loaded, the processor was shown the loaded one, and `next` has to hold of the missing entry
--- all the same.
+-- begins with what the call's session has seen (proved as `sets_next` in `jc_cache/proofs/Increments.antt`): `decided` is the
+-- `state_decided` of its row, and `reached`, `same` and `earlier` are what its `between` says of that; `made_in` is its `alone`, which
+-- stays so as the history grows; the event is at the place that its `seat` gives. By `EventsByTable` that event shares no load, so its
+-- answers are those that were asked for, its processor was run, and since it replies with a value there was no fault. So `set` and
+-- `next` are for the call's `run` to say: what the processor did with the entry of `decided`. If that was missing and a value was loaded,
+-- the processor was shown the loaded one, and `next` has to hold of the missing entry all the same.
 use Rattle.std.specs.Prelude.{◌≡◌, ◌==◌, ◌+◌, ℕ, zero, suc, List, count_by, true, Option, None, Some, slice_get}
 use Rattle.std.specs.Cmp.Lexicographic.{pointwise}
 use Rattle.std.specs.FinMap.{from_entries}
