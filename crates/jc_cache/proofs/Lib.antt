@@ -18,3 +18,4 @@ pub mod Increments
 pub mod Enlisted
 pub mod Following
 pub mod Served
+pub mod Rooms

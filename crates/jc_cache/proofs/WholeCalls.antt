@@ -30,7 +30,7 @@ use Rattle.jc_model.specs.Table.{is_process_given}
 use Rattle.jc_model.specs.declared.event.Event.{Event}
 use Rattle.jc_model.specs.declared.event.Out.{Out}
 use Rattle.jc_model.specs.declared.event.Op.{Op}
-use Rattle.jc_model.specs.declared.event.Op.TheVariants.{Invoke}
+use Rattle.jc_model.specs.declared.event.Op.TheVariants.{Get, Invoke}
 use Rattle.jc_model.specs.declared.event.Reply.{Reply}
 use Rattle.jc_outside.specs.Calling.{LoadRelation, WriteRelation}
 use Rattle.jc_mutentry.specs.Running.{ProcessRelation, RunsOnce}
@@ -44,7 +44,7 @@ use Rattle.jc_engine.specs.Needs.{BeginsIfClear}
 use Rattle.jc_engine.specs.Calls.{IsCall, IsInvocation, IsTried, MayCallAt}
 use Rattle.jc_engine.specs.Doors.{IsReady}
 use Rattle.jc_engine.specs.Rows.{PhaseLaws}
-use Rattle.jc_engine.specs.Turns.{state_decided, state_found}
+use Rattle.jc_engine.specs.Turns.{HasLookedFirst, state_decided, state_found}
 use Rattle.jc_engine.proofs.CallerLemmas.{call_in}
 use Rattle.jc_cache.specs.Fronts.{IsBetween}
 use Rattle.jc_cache.specs.Caches.{CacheState}
@@ -224,6 +224,20 @@ module _ {I J : Type 0} {D : I → Type 0} {E : J → Type 0} where
         record {
           call = calls_at cache old new key op at ended g t h u at_is there now x left.0 left.1;
           may = may_again numbers cache old new key op at ended g t h u may there now x _ _ left.1;
+        }
+
+    -- a get, by what its first lending was
+    pub got : PhaseLaws → StepsBehind → OwnNumbers
+        → (cache : CacheState) (old new : Session I J D E) (a : Agent I J D E) (key : Bytes) (at : ℕ) (ended : Result Reply Refusal) (g : G) (t : TableId × View) (h : G) (u : TableId × View)
+        → MayCall cache old → a ≡ (next_call old).agent → at ≡ stripe_of key cache.config.stripes → slice_get old.seats.items at ≡ Some t → new.seats.items ≡ slice_set old.seats.items at u
+        → (y : Whole a key Get g t ended new.agent h u) → HasLookedFirst a.caller key y.row
+        → Completes cache new ((did : CallsAt loads load_state writes write_state cache (next_call old) key Get ended new) × HasLookedFirst (next_call old).agent.caller key did.row)
+    got law behind numbers cache old new a key at ended g t h u may is at_is there now y looked =
+        let x = subst (λ (z : Agent I J D E). (w : Whole z key Get g t ended new.agent h u) × HasLookedFirst z.caller key w.row) is (y, looked) in
+        let left = left_of law behind numbers cache old new key Get at ended g t h u may there x.0 in
+        record {
+          call = (calls_at cache old new key Get at ended g t h u at_is there now x.0 left.0 left.1, x.1);
+          may = may_again numbers cache old new key Get at ended g t h u may there now x.0 _ _ left.1;
         }
 
     pub invoked : {P Z : Type 0} {F : P → Type 0} → PhaseLaws → StepsBehind → OwnNumbers

@@ -6,6 +6,7 @@
 --                 writer, who stay of their types; all else of the session stays, but for the count of its steps
 --     Called      the same of the session's next call
 --     Returns     a session's next call, whole, and what it returns by how it ended
+--     Gets        the same of a get: it has looked for its entry in its first lending, and if it found it there, it has no other one
 --     Tried       a session's next call that waits for nobody and asks nobody
 --     Tries       the same, and what it returns by how it ended
 --     Invoked     a session's next call, whole, which runs a processor; the entry that the processor was shown is the one in the state in
@@ -18,7 +19,7 @@ use Rattle.jc_types.specs.Stripes.{stripe_of}
 use Rattle.jc_types.specs.declared.refusal.Refusal.{Refusal}
 use Rattle.jc_model.specs.Cache.{Bytes}
 use Rattle.jc_model.specs.declared.event.Op.{Op}
-use Rattle.jc_model.specs.declared.event.Op.TheVariants.{Invoke}
+use Rattle.jc_model.specs.declared.event.Op.TheVariants.{Get, Invoke}
 use Rattle.jc_model.specs.declared.event.Out.{Out}
 use Rattle.jc_model.specs.declared.event.Reply.{Reply}
 use Rattle.jc_model.specs.declared.event.Reply.TheVariants as reply
@@ -30,7 +31,7 @@ use Rattle.jc_session.specs.Boxed.{boxed}
 use Rattle.jc_session.specs.Counting.{one_more}
 use Rattle.jc_engine.specs.Asking.{AsksLoader, AsksWriter, KeepsTypes, RunsProcessor, change_wanted, own_after}
 use Rattle.jc_engine.specs.Rows.{AllLend}
-use Rattle.jc_engine.specs.Turns.{IsCallRow, state_decided, state_found}
+use Rattle.jc_engine.specs.Turns.{HasLookedFirst, IsCallRow, state_decided, state_found}
 pub use Rattle.jc_engine.specs.Values.{value_in, value_into}
 use Rattle.jc_cache.specs.declared.session.Session.{Session}
 use Rattle.jc_cache.specs.Caches.{CacheState}
@@ -76,6 +77,12 @@ abbrev pub Returns : {I J T : Type 0} {D : I → Type 0} {E : J → Type 0} → 
     → CacheState → Session I J D E → Bytes → Op → (Result Reply Refusal → T) → T → Session I J D E → Type 0
 Returns loads load_state writes write_state cache old key op answer_in result new =
     (ended : Result Reply Refusal) × Called loads load_state writes write_state cache old key op ended new × (result ≡ answer_in ended)
+
+abbrev pub Gets : {I J T : Type 0} {D : I → Type 0} {E : J → Type 0} → LoadRelation ((i : I) × D i) → ((i : I) × D i → List ℕ) → WriteRelation ((j : J) × E j) → ((j : J) × E j → List ℕ)
+    → CacheState → Session I J D E → Bytes → (Result Reply Refusal → T) → T → Session I J D E → Type 0
+Gets loads load_state writes write_state cache old key answer_in result new =
+    (ended : Result Reply Refusal) × (called : Called loads load_state writes write_state cache old key Get ended new) × (result ≡ answer_in ended)
+    × HasLookedFirst (next_call old).agent.caller key called.row
 
 -- 3. Calls that wait for nobody.
 

@@ -3,13 +3,12 @@ ghost use Rattle.std.specs.Prelude.{◌≡◌, false, Result, Ok, length};
 ghost use Rattle.jc_types.specs.declared.refusal.Refusal.{Refusal};
 ghost use Rattle.jc_model.specs.Table.{is_invoke};
 ghost use Rattle.jc_model.specs.declared.event.Reply.{Reply};
-ghost use Rattle.jc_model.specs.declared.event.Op.TheVariants.{Get};
 ghost use Rattle.jc_stripe.specs.OwnSteps.{OwnNumbers, StepsBehind};
 ghost use Rattle.jc_cache.specs.CacheInside.{IsShaped};
 ghost use Rattle.jc_cache.specs.Sessions.{MayCall, Completes};
 ghost use Rattle.jc_engine.specs.Rows.{PhaseLaws};
 ghost use Rattle.jc_engine.specs.Entering.{ended_with};
-ghost use Rattle.jc_cache.specs.Calls.{Called, Returns, Tried, Invoked, value_in, value_into};
+ghost use Rattle.jc_cache.specs.Calls.{Called, Gets, Tried, Invoked, value_in, value_into};
 
 use crate::calls::value_of;
 use crate::session::Session;
@@ -102,8 +101,8 @@ impl Cache {
     ) -> Result<bool, Refusal>
         requires may { MayCall self.now session.old }
         ensures { Completes self.now session.new
-            (Returns loads load_state writes write_state
-            self.now session.old key.now Get (value_into value.old) (result, value.new) session.new) }
+            (Gets loads load_state writes write_state
+            self.now session.old key.now (value_into value.old) (result, value.new) session.new) }
     {
         laws();
         let at = stripe_of(key, self.config.stripes);

@@ -20,7 +20,7 @@ ghost use Rattle.std.specs.Prelude.{◌≡◌};
 ghost use Rattle.jc_model.specs.declared.event.Op.TheVariants as op;
 ghost use Rattle.jc_cache.specs.Sessions.{MayCall, Completes};
 ghost use Rattle.jc_engine.specs.Entering.{ended_with};
-ghost use Rattle.jc_cache.specs.Calls.{Returns, value_in, flag_in, unit_in};
+ghost use Rattle.jc_cache.specs.Calls.{Gets, Returns, value_in, flag_in, unit_in};
 
 use crate::cache::Cache;
 use crate::session::Session;
@@ -41,8 +41,8 @@ impl Cache {
     ) -> Result<Option<Value>, Refusal>
         requires may { MayCall self.now session.old }
         ensures { Completes self.now session.new
-            (Returns loads load_state writes write_state
-            self.now session.old key.now op.Get value_in result session.new) }
+            (Gets loads load_state writes write_state
+            self.now session.old key.now value_in result session.new) }
     {
         let mut value = Value::default();
         match self.get_into(rt, session, key, &mut value) {

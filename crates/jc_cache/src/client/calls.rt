@@ -7,7 +7,7 @@ ghost use Rattle.std.specs.Prelude.{◌≡◌, Result};
 ghost use Rattle.jc_types.specs.declared.refusal.Refusal.{Refusal};
 ghost use Rattle.jc_model.specs.declared.event.Op.TheVariants as op;
 ghost use Rattle.jc_model.specs.declared.event.Reply.{Reply};
-ghost use Rattle.jc_cache.specs.Calls.{Invoked, Returns, value_in, value_into, flag_in, unit_in};
+ghost use Rattle.jc_cache.specs.Calls.{Gets, Invoked, Returns, value_in, value_into, flag_in, unit_in};
 ghost use Rattle.jc_cache.specs.Clients.{OnSameCache};
 
 use crate::client::Client;
@@ -21,8 +21,8 @@ impl<'a> Client<'a> {
     /// An `Err` is `LoaderFailed` or `HistoryFull`. It may wait, also as long as the loader does.
     pub fn get<R: Wait>(&mut self, rt: &R, key: &Key) -> Result<Option<Value>, Refusal>
         ensures { OnSameCache self.old.cache self.new.cache
-            (Returns loads load_state writes write_state
-            self.old.cache.now self.old.session key.now op.Get value_in result self.new.session) }
+            (Gets loads load_state writes write_state
+            self.old.cache.now self.old.session key.now value_in result self.new.session) }
     {
         self.cache.get(rt, &mut self.session, key)
     }
@@ -37,8 +37,8 @@ impl<'a> Client<'a> {
         value: &mut Value,
     ) -> Result<bool, Refusal>
         ensures { OnSameCache self.old.cache self.new.cache
-            (Returns loads load_state writes write_state
-            self.old.cache.now self.old.session key.now op.Get (value_into value.old) (result, value.new) self.new.session) }
+            (Gets loads load_state writes write_state
+            self.old.cache.now self.old.session key.now (value_into value.old) (result, value.new) self.new.session) }
     {
         self.cache.get_into(rt, &mut self.session, key, value)
     }

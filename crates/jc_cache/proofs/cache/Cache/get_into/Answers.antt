@@ -1,7 +1,6 @@
 use Rattle.std.proofs.Common.{◌≡◌, subst, sym, ℕ, ◌<◌, ap, refl, Some, slice_get}
-use Rattle.jc_model.specs.declared.event.Op.TheVariants.{Get}
 use Rattle.jc_cache.specs.Caches.{CacheState}
-use Rattle.jc_cache.proofs.WholeCalls.{some_stripe, lock_near, seat_near, at_key, seat_at, free_at, ready_next, may_call, called}
+use Rattle.jc_cache.proofs.WholeCalls.{some_stripe, lock_near, seat_near, at_key, seat_at, free_at, ready_next, may_call, got}
 use Rattle.jc_cache.proofs.cache.Cache.get_into.Goals as goal
 
 pub stripe_of-at-requires : goal.stripe_of-at-requires
@@ -33,6 +32,6 @@ returns g c =
     let same : c.self.inside.config ≡ c.args.self.now.config = ap (λ (z : CacheState). z.config) c.self.view_is in
     let there : slice_get c.args.session.now.seats.items c.stripe_of-at.result ≡ Some c.index_mut-seat.result.now =
     seat_at c.args.self.now c.args.session.now _ c.args.key.now _ _ c.requires.may.own c.self.invariant.fits same c.stripe_of-at.ensures c.index_mut-seat.ensures.value in
-    let made = called _ _ _ _ c.laws.ensures.lending c.laws.ensures.behind c.laws.ensures.numbers c.args.self.now c.args.session.now _ c.next_call.new.self c.args.key.now Get c.stripe_of-at.result
-    c.get_into.ensures.call.0 _ c.index_mut-seat.result.now c.get_into.new.gate c.get_into.new.token c.requires.may c.next_call.ensures.call (at_key c.args.self.now _ c.args.key.now _ same c.stripe_of-at.ensures) there refl c.get_into.ensures.call.1 in
-    record { may = made.may; call = (c.get_into.ensures.call.0, made.call, c.get_into.ensures.call.2) }
+    let made = got _ _ _ _ c.laws.ensures.lending c.laws.ensures.behind c.laws.ensures.numbers c.args.self.now c.args.session.now _ c.next_call.new.self c.args.key.now c.stripe_of-at.result
+    c.get_into.ensures.call.0 _ c.index_mut-seat.result.now c.get_into.new.gate c.get_into.new.token c.requires.may c.next_call.ensures.call (at_key c.args.self.now _ c.args.key.now _ same c.stripe_of-at.ensures) there refl c.get_into.ensures.call.1 c.get_into.ensures.call.3 in
+    record { may = made.may; call = (c.get_into.ensures.call.0, made.call.0, c.get_into.ensures.call.2, made.call.1) }
