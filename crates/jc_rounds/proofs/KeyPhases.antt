@@ -95,7 +95,7 @@ module _ (law : OnePhase) (steps : OwnSteps) where
       → MovesSeat caller key v w × HasBegun caller config v w key op b
   key_begun caller config key op (begun.Done done) v w x shape may none =
       let early = early_none x.found caller key op x.made.begins.0 in
-      let a = added caller.session _ caller key (λ a b has. inl (op, _, has)) op nothing_said done.reply done.place v w x refl (steps.done x.found w.noted caller key op done x.made.may x.made.begins) early none in (
+      let a = added caller.session _ caller key (λ a b has. inl (op, begun.Done done, has)) op nothing_said done.reply done.place v w x refl (steps.done x.found w.noted caller key op done x.made.may x.made.begins) early none in (
         a.0,
         record {
           out = nothing_said;
@@ -124,7 +124,7 @@ module _ (law : OnePhase) (steps : OwnSteps) where
       let own = seen_own law caller.session _ v w x same in
       let why : first_refusal w.noted caller key op ≡ Some refusal = ap (λ (s : State). first_refusal s caller key op) x.made.begins.1 ∙ x.made.begins.0 in
       (
-        seen_phase law caller.session _ v w x caller key (λ a b has. inl (op, _, has)) same,
+        seen_phase law caller.session _ v w x caller key (λ a b has. inl (op, begun.Refused refusal, has)) same,
         (
           ap (steps_of caller key) own ∙ none,
           put_off_or_full w.noted caller key op refusal why,
@@ -147,7 +147,7 @@ module _ (law : OnePhase) (steps : OwnSteps) where
       let same = steps.reserves x.found w.noted caller key op ticket b in
       let own = seen_own law caller.session _ v w x same in
       let found_shape : x.found.config ≡ config = x.same.config ∙ shape in (
-        seen_phase law caller.session _ v w x caller key (λ a b has. inl (op, _, has)) same,
+        seen_phase law caller.session _ v w x caller key (λ a b has. inl (op, begun.Asks ticket, has)) same,
         (
           ap (steps_of caller key) own ∙ none,
           ap (λ (t : TicketClaim). t.asked) b.4,
@@ -167,7 +167,7 @@ module _ (law : OnePhase) (steps : OwnSteps) where
       let b = x.made.begins in
       let same = steps.joins x.found w.noted caller key op join b in
       let own = seen_own law caller.session _ v w x same in (
-        seen_phase law caller.session _ v w x caller key (λ a b has. inl (op, _, has)) same,
+        seen_phase law caller.session _ v w x caller key (λ a b has. inl (op, begun.Joined join, has)) same,
         (
           ap (steps_of caller key) own ∙ none,
           record {
@@ -225,7 +225,7 @@ module _ (law : OnePhase) (steps : OwnSteps) where
       let is : w.own ≡ g.before ++ Step join.caller Get join.key gains.0 (Some shared_with) reply ∷ g.after = x.own_is ∙ ap (λ (n : ℕ). all_own_steps n w.noted) mine ∙ g.is in
       let there : slice_get w.front at ≡ Some (Step join.caller Get join.key gains.0 (Some shared_with) reply) = ap (λ (es : List Event). slice_get es at) x.front_is ∙ whole.0 in
       let grown = grown_phase law session _ v w x in (
-        gained_phase law session _ v w x join.caller join.key (λ a b has. inr (inr (join, _, refl, refl, has))) Get gains.0 (Some shared_with) reply g.before g.after was is early,
+        gained_phase law session _ v w x join.caller join.key (λ a b has. inr (inr (join, picked.Answer reply place shared_with, refl, refl, has))) Get gains.0 (Some shared_with) reply g.before g.after was is early,
         λ first older for. (
             let front = prefix-trans first.front v.front w.front older.front grown.front in
             record {
@@ -244,5 +244,5 @@ module _ (law : OnePhase) (steps : OwnSteps) where
   key_picked config places session join picked.Again v w x mine early none =
       let same : own_steps session w.noted ≡ own_steps session x.found =
       ap (λ (n : ℕ). own_steps n w.noted) mine ∙ steps.again x.found w.noted join x.reached x.made ∙ ap (λ (n : ℕ). own_steps n x.found) (sym mine) in
-      (seen_phase law session _ v w x join.caller join.key (λ a b has. inr (inr (join, _, refl, refl, has))) same, λ first older for. ap (steps_of join.caller join.key) (seen_own law session _ v w x same) ∙ none)
+      (seen_phase law session _ v w x join.caller join.key (λ a b has. inr (inr (join, picked.Again, refl, refl, has))) same, λ first older for. ap (steps_of join.caller join.key) (seen_own law session _ v w x same) ∙ none)
   key_picked config places session join (picked.NotYet back) v w x mine early none = absurd x.made

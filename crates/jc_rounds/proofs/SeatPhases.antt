@@ -56,9 +56,9 @@ all_lent_on : (P : State → State → Type 0) (xs ys : List (State × State)) �
 all_lent_on P [] ys one two = two
 all_lent_on P (x ∷ xs) ys one two = (one.0, all_lent_on P xs ys one.1 two)
 
-all_lent_as : (P Q : State → State → Type 0) (xs : List (State × State)) → ((a b : State) → P a b → Q a b) → AllLend P xs → AllLend Q xs
-all_lent_as P Q [] as all = tt
-all_lent_as P Q (x ∷ xs) as all = (as x.0 x.1 all.0, all_lent_as P Q xs as all.1)
+all_lent_by : (P Q : State → State → Type 0) (xs : List (State × State)) → ((a b : State) → P a b → Q a b) → AllLend P xs → AllLend Q xs
+all_lent_by P Q [] by all = tt
+all_lent_by P Q (x ∷ xs) by all = (by x.0 x.1 all.0, all_lent_by P Q xs by all.1)
 
 pub works_on : (caller : Caller) (at : Bytes → Type 0) (u v w : View) → Works caller at u v → Works caller at v w → Works caller at u w
 works_on caller at u v w p q = record {
@@ -71,7 +71,7 @@ pub works_among : (caller : Caller) (at at' : Bytes → Type 0) (v w : View) →
 works_among caller at at' v w among p = record {
   row = p.row;
   lent = p.lent;
-  each = all_lent_as (λ a b. (key : Bytes) × at key × IsLendingAt caller key a b) (λ a b. (key : Bytes) × at' key × IsLendingAt caller key a b) p.row (λ a b h. (h.0, among h.0 h.1, h.2)) p.each;
+  each = all_lent_by (λ a b. (key : Bytes) × at key × IsLendingAt caller key a b) (λ a b. (key : Bytes) × at' key × IsLendingAt caller key a b) p.row (λ a b h. (h.0, among h.0 h.1, h.2)) p.each;
 }
 
 pub grown_itself : (v : View) → HasGrown v v
@@ -126,7 +126,7 @@ module _ (law : OnePhase) (session : ℕ) (turn : Turn) (v w : View) (x : SeatPh
     row = x.waits ++ (x.found, w.noted) ∷ [];
     lent = x.lent;
     each = all_lent_on (λ a b. (other : Bytes) × (other ≡ key) × IsLendingAt caller other a b) x.waits ((x.found, w.noted) ∷ [])
-        (all_lent_as turn.waits (λ a b. (other : Bytes) × (other ≡ key) × IsLendingAt caller other a b) x.waits (λ a b waits. (key, refl, has a b (inl waits))) x.waited)
+        (all_lent_by turn.waits (λ a b. (other : Bytes) × (other ≡ key) × IsLendingAt caller other a b) x.waits (λ a b waits. (key, refl, has a b (inl waits))) x.waited)
         ((key, refl, has x.found w.noted (inr x.made)), tt);
   }
 
