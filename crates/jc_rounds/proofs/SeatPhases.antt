@@ -9,8 +9,11 @@
 --     view_there         the view of a seat that is there
 --     moves_all          what a phase leaves of all seats
 use Rattle.std.proofs.Common.{◌≡◌, ◌==◌, ◌&&◌, ◌⊎◌, ⊎_elim, inl, inr, ℕ, zero, suc, List, [], ◌∷◌, ◌++◌, Bool, true, false, Option, Some, slice_get, slice_set, refl, sym, ap, subst, ◌∙◌, arith, le_refl, append_assoc, append-nil}
+use Rattle.std.proofs.lemmas.Bool.{and_from}
 use Rattle.std.proofs.lemmas.Bool.Decides.{nat_tests}
+use Rattle.std.proofs.lemmas.Cmp.{nat_list_eq_equiv}
 use Rattle.std.proofs.lemmas.Option.{same_Some}
+use Rattle.std.specs.List.{AllByRecursion}
 use Rattle.std.specs.Cmp.Lexicographic.{pointwise}
 use mathlib.Core.List.{IsPrefix}
 use Rattle.atomic_table.specs.Seated.{TableId}
@@ -25,6 +28,7 @@ use Rattle.jc_model.specs.declared.event.Reply.{Reply}
 use Rattle.jc_stripe.specs.State.{State}
 use Rattle.jc_stripe.specs.Generations.{whole_history}
 use Rattle.jc_stripe.specs.OnePhase.{OnePhase, IsUniform, own_steps}
+use Rattle.jc_stripe.specs.Renewal.{RenewsIfFull}
 use Rattle.jc_stripe.proofs.CallerLemmas.{whole_goes_on, own_stay}
 use Rattle.jc_lock.specs.declared.view.View.{View}
 use Rattle.jc_lock.proofs.CallerLemmas.{prefix-refl, prefix-trans, same_itself, same_on}
@@ -32,9 +36,9 @@ use Rattle.jc_engine.specs.Chain.{AllLend, Turn}
 use Rattle.jc_cache.specs.Fronts.{HasAllSeen}
 use Rattle.jc_cache.specs.PhaseCalls.{SeatPhase}
 use Rattle.jc_rounds.specs.Keys.{IsEarly}
-use Rattle.jc_rounds.specs.Lendings.{IsLendingAt, TurnHas, Works}
+use Rattle.jc_rounds.specs.Lendings.{IsPartAt, Works}
 use Rattle.jc_rounds.specs.Recorded.{steps_of, former_steps, are_before}
-use Rattle.jc_rounds.specs.Seats.{HasFound, HasGrown, Moves, view_at}
+use Rattle.jc_rounds.specs.Seats.{HasFound, HasGrown, Moves, is_at, view_at}
 use Rattle.jc_rounds.proofs.CallSteps.{before-gained, former-gained, others-gained}
 
 abbrev pub Seated : Type 0
@@ -52,26 +56,31 @@ pub record MovesSeat (caller : Caller) (key : Bytes) (v w : View) : Type 0 where
 pub works_none : (caller : Caller) (at : Bytes → Type 0) (v : View) → Works caller at v v
 works_none caller at v = record { row = []; lent = record { lendings = sym (append-nil v.lendings); misses = refl }; each = tt }
 
-all_lent_on : (P : State → State → Type 0) (xs ys : List (State × State)) → AllLend P xs → AllLend P ys → AllLend P (xs ++ ys)
-all_lent_on P [] ys one two = two
-all_lent_on P (x ∷ xs) ys one two = (one.0, all_lent_on P xs ys one.1 two)
+all_on : (P : State × State → Type 0) (xs ys : List (State × State)) → AllByRecursion P xs → AllByRecursion P ys → AllByRecursion P (xs ++ ys)
+all_on P [] ys one two = two
+all_on P (x ∷ xs) ys one two = (one.0, all_on P xs ys one.1 two)
 
-all_lent_by : (P Q : State → State → Type 0) (xs : List (State × State)) → ((a b : State) → P a b → Q a b) → AllLend P xs → AllLend Q xs
-all_lent_by P Q [] by all = tt
-all_lent_by P Q (x ∷ xs) by all = (by x.0 x.1 all.0, all_lent_by P Q xs by all.1)
+all_by : (P Q : State × State → Type 0) (xs : List (State × State)) → ((p : State × State) → P p → Q p) → AllByRecursion P xs → AllByRecursion Q xs
+all_by P Q [] by all = tt
+all_by P Q (x ∷ xs) by all = (by x all.0, all_by P Q xs by all.1)
+
+all_lent : (P : State → State → Type 0) (Q : State × State → Type 0) (xs : List (State × State)) → ((a b : State) → P a b → Q (a, b)) → AllLend P xs → AllByRecursion Q xs
+all_lent P Q [] by all = tt
+all_lent P Q (x ∷ xs) by all = (by x.0 x.1 all.0, all_lent P Q xs by all.1)
 
 pub works_on : (caller : Caller) (at : Bytes → Type 0) (u v w : View) → Works caller at u v → Works caller at v w → Works caller at u w
 works_on caller at u v w p q = record {
   row = p.row ++ q.row;
   lent = record { lendings = q.lent.lendings ∙ ap (λ (ls : List (State × State)). ls ++ q.row) p.lent.lendings ∙ append_assoc u.lendings p.row q.row; misses = q.lent.misses ∙ p.lent.misses };
-  each = all_lent_on (λ a b. (key : Bytes) × at key × IsLendingAt caller key a b) p.row q.row p.each q.each;
+  each = all_on (λ (p : State × State). RenewsIfFull p.0 p.1 ⊎ ((key : Bytes) × at key × IsPartAt caller key p.0 p.1)) p.row q.row p.each q.each;
 }
 
 pub works_among : (caller : Caller) (at at' : Bytes → Type 0) (v w : View) → ((key : Bytes) → at key → at' key) → Works caller at v w → Works caller at' v w
 works_among caller at at' v w among p = record {
   row = p.row;
   lent = p.lent;
-  each = all_lent_by (λ a b. (key : Bytes) × at key × IsLendingAt caller key a b) (λ a b. (key : Bytes) × at' key × IsLendingAt caller key a b) p.row (λ a b h. (h.0, among h.0 h.1, h.2)) p.each;
+  each = all_by (λ (p : State × State). RenewsIfFull p.0 p.1 ⊎ ((key : Bytes) × at key × IsPartAt caller key p.0 p.1)) (λ (p : State × State). RenewsIfFull p.0 p.1 ⊎ ((key : Bytes) × at' key × IsPartAt caller key p.0 p.1)) p.row
+      (λ lent. ⊎_elim (λ quiet. inl quiet) (λ part. inr (part.0, among part.0 part.1, part.2))) p.each;
 }
 
 pub grown_itself : (v : View) → HasGrown v v
@@ -97,6 +106,10 @@ found_since u v w seen left grown was = record {
       ∙ ap (λ (ls : List (State × State)). u.lendings ++ ls) (sym (append_assoc grown.row was.earlier ((seen, left) ∷ was.since)));
 }
 
+-- a turn of the call at this key
+abbrev pub IsPart : Turn → Caller → Bytes → Type 0
+IsPart turn caller key = ((a b : State) → turn.waits a b → RenewsIfFull a b) × ((a b : State) → turn.makes a b → IsPartAt caller key a b)
+
 module _ (law : OnePhase) (session : ℕ) (turn : Turn) (v w : View) (x : SeatPhase session v turn w) where
   pub uniform : IsUniform session x.found w.noted
   uniform = law session x.found w.noted x.reached x.one
@@ -120,36 +133,36 @@ module _ (law : OnePhase) (session : ℕ) (turn : Turn) (v w : View) (x : SeatPh
   pub found_phase : HasFound v x.found w.noted w
   found_phase = record { earlier = x.waits; since = []; lendings = x.lent.lendings }
 
-  -- its lendings are for its turn
-  works_phase : (caller : Caller) (key : Bytes) → ((a b : State) → TurnHas turn a b → IsLendingAt caller key a b) → Works caller (λ other. other ≡ key) v w
-  works_phase caller key has = record {
+  -- it has waited, and has made a phase at this key
+  works_phase : (caller : Caller) (key : Bytes) → IsPart turn caller key → Works caller (λ other. other ≡ key) v w
+  works_phase caller key part = record {
     row = x.waits ++ (x.found, w.noted) ∷ [];
     lent = x.lent;
-    each = all_lent_on (λ a b. (other : Bytes) × (other ≡ key) × IsLendingAt caller other a b) x.waits ((x.found, w.noted) ∷ [])
-        (all_lent_by turn.waits (λ a b. (other : Bytes) × (other ≡ key) × IsLendingAt caller other a b) x.waits (λ a b waits. (key, refl, has a b (inl waits))) x.waited)
-        ((key, refl, has x.found w.noted (inr x.made)), tt);
+    each = all_on (λ (p : State × State). RenewsIfFull p.0 p.1 ⊎ ((other : Bytes) × (other ≡ key) × IsPartAt caller other p.0 p.1)) x.waits ((x.found, w.noted) ∷ [])
+        (all_lent turn.waits (λ (p : State × State). RenewsIfFull p.0 p.1 ⊎ ((other : Bytes) × (other ≡ key) × IsPartAt caller other p.0 p.1)) x.waits (λ a b waits. inl (part.0 a b waits)) x.waited)
+        (inr (key, refl, part.1 x.found w.noted x.made), tt);
   }
 
   pub seen_own : own_steps session w.noted ≡ own_steps session x.found → w.own ≡ v.own
   seen_own same = x.own_is ∙ own_stay session x.found w.noted uniform.grows.same.ended same ∙ x.own
 
-  pub seen_phase : (caller : Caller) (key : Bytes) → ((a b : State) → TurnHas turn a b → IsLendingAt caller key a b) → own_steps session w.noted ≡ own_steps session x.found → MovesSeat caller key v w
-  seen_phase caller key has same = record {
+  pub seen_phase : (caller : Caller) (key : Bytes) → IsPart turn caller key → own_steps session w.noted ≡ own_steps session x.found → MovesSeat caller key v w
+  seen_phase caller key part same = record {
     grown = grown_phase;
     others = λ q apart. ap (steps_of caller q) (seen_own same);
     former = ap (former_steps caller) (seen_own same);
     numbers = λ before. ap (are_before caller) (seen_own same) ∙ before;
-    works = works_phase caller key has;
+    works = works_phase caller key part;
   }
 
-  pub gained_phase : (caller : Caller) (key : Bytes) → ((a b : State) → TurnHas turn a b → IsLendingAt caller key a b) → (op : Op) (out : Out) (shared : Option ℕ) (reply : Reply) (xs ys : List Event) → v.own ≡ xs ++ ys → w.own ≡ xs ++ Step caller op key out shared reply ∷ ys → IsEarly caller
+  pub gained_phase : (caller : Caller) (key : Bytes) → IsPart turn caller key → (op : Op) (out : Out) (shared : Option ℕ) (reply : Reply) (xs ys : List Event) → v.own ≡ xs ++ ys → w.own ≡ xs ++ Step caller op key out shared reply ∷ ys → IsEarly caller
       → MovesSeat caller key v w
-  gained_phase caller key has op out shared reply xs ys was is early = record {
+  gained_phase caller key part op out shared reply xs ys was is early = record {
     grown = grown_phase;
     others = others-gained caller key op out shared reply v.own w.own xs ys was is;
     former = former-gained caller key op out shared reply v.own w.own xs ys was is;
     numbers = before-gained caller key op out shared reply v.own w.own xs ys was is early;
-    works = works_phase caller key has;
+    works = works_phase caller key part;
   }
 
 -- 2. All seats.
@@ -199,7 +212,10 @@ moves_all caller stripes key old new lock v w was now moves = record {
       (λ t. ap (λ (u : View). are_before caller u.own) (here i t.1) ∙ moves.numbers (ap (λ (u : View). are_before caller u.own) (sym (there i t.0)) ∙ before))
       (λ t. ap (λ (u : View). are_before caller u.own) (same i t.1) ∙ before)
       (at i);
-  works = λ i. ⊎_elim (λ t. worked i t.0 t.1) (λ t. stays (Works caller (λ other. other ≡ key) (view_at old i)) i t.1 (works_none caller (λ other. other ≡ key) (view_at old i))) (at i);
+  works = λ i. ⊎_elim
+      (λ t. works_among caller (λ other. other ≡ key) (λ other. is_at stripes key other i ≡ true) (view_at old i) (view_at new i) (λ other is. at_key other i is t.0) (worked i t.0 t.1))
+      (λ t. stays (Works caller (λ other. is_at stripes key other i ≡ true) (view_at old i)) i t.1 (works_none caller (λ other. is_at stripes key other i ≡ true) (view_at old i)))
+      (at i);
 }
   where
     at : (i : ℕ) → ((i ≡ stripe_of key stripes) × (view_at (slice_set old (stripe_of key stripes) (lock, w)) i ≡ w)) ⊎ ((stripe_of key stripes ≡ i → ⊥) × (view_at (slice_set old (stripe_of key stripes) (lock, w)) i ≡ view_at old i))
@@ -216,6 +232,9 @@ moves_all caller stripes key old new lock v w was now moves = record {
 
     stays : (P : View → Type 0) (i : ℕ) → view_at (slice_set old (stripe_of key stripes) (lock, w)) i ≡ view_at old i → P (view_at old i) → P (view_at new i)
     stays P i set_is p = subst P (sym (same i set_is)) p
+
+    at_key : (other : Bytes) (i : ℕ) → other ≡ key → i ≡ stripe_of key stripes → is_at stripes key other i ≡ true
+    at_key other i is same = and_from (pointwise ◌==◌ key other) (stripe_of key stripes == i) (ap (pointwise ◌==◌ key) is ∙ nat_list_eq_equiv.refl key) (same_number (stripe_of key stripes) i same)
 
     worked : (i : ℕ) → i ≡ stripe_of key stripes → view_at (slice_set old (stripe_of key stripes) (lock, w)) i ≡ w → Works caller (λ other. other ≡ key) (view_at old i) (view_at new i)
     worked i is set_is = subst (λ (u : View). Works caller (λ other. other ≡ key) u (view_at new i)) (sym (there i is)) (subst (Works caller (λ other. other ≡ key) v) (sym (here i set_is)) moves.works)

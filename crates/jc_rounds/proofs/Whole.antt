@@ -437,8 +437,8 @@ module _ {I J : Type 0} {D : I → Type 0} {E : J → Type 0} where
         record {
           targets_are = ops_are ops ps u.so_far.many over;
           grown = subst (λ (s : List Seated). (i : ℕ) → HasGrown (view_at s i) (view_at new.seats.items i)) first_is u.so_far.grown;
-          works = subst (λ (s : List Seated). (i : ℕ) → Works (next_call old).agent.caller (λ key. is_among (keys_of ops) key ≡ true) (view_at s i) (view_at new.seats.items i)) first_is
-              (subst (λ (c : Caller). (i : ℕ) → Works c (λ key. is_among (keys_of ops) key ≡ true) (view_at past.first i) (view_at new.seats.items i)) caller_is u.so_far.works);
+          works = subst (λ (s : List Seated). (i : ℕ) → Works (next_call old).agent.caller (λ key. is_due n ops key i ≡ true) (view_at s i) (view_at new.seats.items i)) first_is
+              (subst (λ (c : Caller). (i : ℕ) → Works c (λ key. is_due n ops key i ≡ true) (view_at past.first i) (view_at new.seats.items i)) caller_is u.so_far.works);
           each = all_ended (λ key op ended. HasEnded cache.config (next_call old).agent.caller past.rounds (view_of n old.seats.items key) (view_of n new.seats.items key) key op ended) ops ps each;
           refused = all_ended (λ key op ended. ended ≡ Err HistoryFull → WasNearFull (next_call old).agent.caller (view_of n old.seats.items key) (view_of n new.seats.items key)) ops ps
               (λ i key op ended at there. refused_near cache.config (next_call old).agent.caller past.rounds (view_of n old.seats.items key) (view_of n new.seats.items key) key op ended (each i key op ended at there));

@@ -9,10 +9,9 @@
 --     IsNearFull     the present generation's history has hardly any place left, or a number has come to its end
 --     WasNearFull    so was the stripe in a state in which the seat has found it between these views, and has left it
 --     IsCarriedOut   a session's next call, carried out for these keys, each of which ended in one way, in rounds that asked this outside; at
---                    each stripe its lendings are all for phases at these keys
+--                    each stripe it has changed nothing but by phases at its keys there
 use Rattle.std.specs.Prelude.{◌≡◌, ◌≤◌, ◌<◌, ◌+◌, ◌*◌, ◌⊎◌, ◌++◌, ℕ, List, [], ◌∷◌, length, All, true, false, Some, Err, slice_get}
 use mathlib.Core.List.{IsPrefix}
-use Rattle.std.specs.Map.{keys_of}
 use Rattle.atomic_table.specs.Seated.{TableId}
 use Rattle.jc_types.specs.declared.caller.Caller.{Caller}
 use Rattle.jc_types.specs.declared.limits.TheConstants.{JOINERS_MAX, RESERVATIONS_MAX, STEP_PLACES}
@@ -90,7 +89,7 @@ pub record WasNearFull (caller : Caller) (before after : View) : Type 0 where
 pub record IsCarriedOut {I J : Type 0} {D : I → Type 0} {E : J → Type 0} (cache : CacheState) (old : Session I J D E) (targets : List (Bytes × Op)) (ends : List KeyEnd) (rounds : List Round) (new : Session I J D E) : Type 0 where
   pub targets_are : key_ops ends ≡ targets
   pub grown : (i : ℕ) → HasGrown (view_at old.seats.items i) (view_at new.seats.items i)
-  pub works : (i : ℕ) → Works (next_call old).agent.caller (λ key. is_among (keys_of targets) key ≡ true) (view_at old.seats.items i) (view_at new.seats.items i)
+  pub works : (i : ℕ) → Works (next_call old).agent.caller (λ key. is_due cache.config.stripes targets key i ≡ true) (view_at old.seats.items i) (view_at new.seats.items i)
   pub each : All (λ (e : KeyEnd). HasEnded cache.config (next_call old).agent.caller rounds (view_of cache.config.stripes old.seats.items e.key) (view_of cache.config.stripes new.seats.items e.key) e.key e.op e.ended) ends
   pub refused : All (λ (e : KeyEnd). e.ended ≡ Err HistoryFull → WasNearFull (next_call old).agent.caller (view_of cache.config.stripes old.seats.items e.key) (view_of cache.config.stripes new.seats.items e.key)) ends
   pub others : (key : Bytes) (i : ℕ) → is_due cache.config.stripes targets key i ≡ false → steps_of (next_call old).agent.caller key (view_at new.seats.items i).own ≡ []

@@ -6,7 +6,7 @@
 --     HasFound     the seat has found the stripe in the first state and left it in the second one, in one lending between these views
 --     is_at        this is the key, and it is of the stripe with this number
 --     Moves        one phase of the call at this key: every front may have grown; what is said of any other key stays, and so do the steps
---                  of former calls; the session's lendings are the call's, at this key
+--                  of former calls; it has changed nothing but by phases at this key
 --     AreBefore    the steps that the session has made are all of this call or of former ones
 use Rattle.std.specs.Prelude.{◌≡◌, ◌≤◌, ◌==◌, ◌&&◌, ℕ, zero, suc, List, [], ◌∷◌, ◌++◌, Bool, true, false}
 use Rattle.std.specs.Cmp.Lexicographic.{pointwise}
@@ -53,7 +53,7 @@ pub record Moves (caller : Caller) (stripes : ℕ) (key : Bytes) (old new : List
   pub others : (other : Bytes) (i : ℕ) → is_at stripes key other i ≡ false → steps_of caller other (view_at new i).own ≡ steps_of caller other (view_at old i).own
   pub former : (i : ℕ) → former_steps caller (view_at new i).own ≡ former_steps caller (view_at old i).own
   pub numbers : (i : ℕ) → are_before caller (view_at old i).own ≡ true → are_before caller (view_at new i).own ≡ true
-  pub works : (i : ℕ) → Works caller (λ other. other ≡ key) (view_at old i) (view_at new i)
+  pub works : (i : ℕ) → Works caller (λ other. is_at stripes key other i ≡ true) (view_at old i) (view_at new i)
 
 abbrev pub AreBefore : Caller → List (TableId × View) → Type 0
 AreBefore caller seats = (i : ℕ) → are_before caller (view_at seats i).own ≡ true

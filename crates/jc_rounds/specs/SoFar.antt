@@ -1,7 +1,8 @@
 -- A call with many keys, while it is under way.
 --     is_due        the key is one of the call's, and of the stripe with this number
 --     IsSoFar       what the session has seen since before the call: each key is so far, at its stripe; no other key has a step of the
---                   call, on any stripe; the steps of former calls are as they were, and the session's lendings are the call's, at its keys
+--                   call, on any stripe; the steps of former calls are as they were; and at each stripe the
+--                   call has changed nothing but by phases at its keys there
 --     AreIn         one of these for each key whose progress is such, in the order of the keys, and each fits its key
 --     IsUnderway    the session's current call, which has these reservations and joins out
 --     IsKept        what a first phase gave is kept: how far the key is, and what is out
@@ -46,7 +47,7 @@ is_due stripes targets key i = is_among (keys_of targets) key && (stripe_of key 
 -- `old` are the session's seats before the call, `stripes` is how many stripes there are
 pub record IsSoFar (config : Config) (caller : Caller) (stripes : ℕ) (targets : List (Bytes × Op)) (rounds : List Round) (old new : List (TableId × View)) (progress : List Progress) : Type 0 where
   pub grown : (i : ℕ) → HasGrown (view_at old i) (view_at new i)
-  pub works : (i : ℕ) → Works caller (λ key. is_among (keys_of targets) key ≡ true) (view_at old i) (view_at new i)
+  pub works : (i : ℕ) → Works caller (λ key. is_due stripes targets key i ≡ true) (view_at old i) (view_at new i)
   pub numbers : AreBefore caller new
   pub former : (i : ℕ) → former_steps caller (view_at new i).own ≡ former_steps caller (view_at old i).own
   pub many : length progress ≡ length targets
