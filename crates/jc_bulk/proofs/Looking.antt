@@ -22,8 +22,7 @@ use Rattle.jc_model.specs.Cache.{Bytes}
 use Rattle.jc_model.specs.declared.event.Op.{Op}
 use Rattle.jc_outside.specs.CallingAll.{LoadAllRelation, WriteAllRelation, DeleteAllRelation}
 use Rattle.jc_stripe.proofs.CallerLemmas.{keys_once, keys_own}
-use Rattle.jc_stripe.specs.Keys.{Looks}
-use Rattle.jc_stripe.specs.Generations.{whole_history, IsOfSameStripe}
+use Rattle.jc_stripe.specs.Generations.{IsOfSameStripe}
 use Rattle.jc_stripe.specs.OnePhase.{OnePhase, own_steps}
 use Rattle.jc_stripe.specs.OwnSteps.{is_before_call}
 use Rattle.jc_stripe.specs.State.{State}

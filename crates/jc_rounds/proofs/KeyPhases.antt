@@ -4,7 +4,7 @@
 --     key_committed      a commit
 --     key_picked         a pick-up that isn't too early
 --     start_may          the session's own steps let the call begin at a key at which it has none
-use Rattle.std.proofs.Common.{◌≡◌, ◌&&◌, inl, inr, ◌≤◌, ℕ, List, [], ◌∷◌, ◌++◌, length, Bool, true, false, cond, Option, None, Some, slice_get, refl, sym, ap, subst, ◌∙◌, arith, le_refl}
+use Rattle.std.proofs.Common.{◌≡◌, ◌&&◌, inl, inr, ◌≤◌, ℕ, List, [], ◌∷◌, ◌++◌, length, Bool, true, false, cond, Option, None, Some, slice_get, refl, sym, ap, subst, ◌∙◌, arith}
 use Rattle.std.proofs.lemmas.Bool.{and_parts}
 use Rattle.std.proofs.lemmas.List.{length-append}
 use Rattle.std.proofs.lemmas.List.Folds.{list_all-append}
@@ -36,7 +36,7 @@ use Rattle.jc_stripe.specs.declared.begun.Picked.TheVariants as picked
 use Rattle.jc_stripe.specs.declared.begun.StepDone.{StepDone}
 use Rattle.jc_stripe.specs.declared.ticket.Reservation.{Reservation}
 use Rattle.jc_lock.specs.declared.view.View.{View}
-use Rattle.jc_lock.proofs.CallerLemmas.{prefix-refl, prefix-trans}
+use Rattle.jc_lock.proofs.CallerLemmas.{prefix-trans}
 use Rattle.jc_engine.specs.MadeIn.{IsNext}
 use Rattle.jc_engine.specs.Chain.{Turn}
 use Rattle.jc_engine.specs.Turns.{committing}
@@ -130,8 +130,7 @@ module _ (law : OnePhase) (steps : OwnSteps) where
   key_begun caller config key op (begun.Refused refusal) v w x shape may none =
       let same = steps.refused x.found w.noted caller key op refusal x.made.begins in
       let own = seen_own law caller.session _ v w x same in
-      let why : first_refusal w.noted caller key op ≡ Some refusal = ap (λ (s : State). first_refusal s caller key op) x.made.begins.1 ∙ x.made.begins.0 in
-      (
+      let why : first_refusal w.noted caller key op ≡ Some refusal = ap (λ (s : State). first_refusal s caller key op) x.made.begins.1 ∙ x.made.begins.0 in (
         seen_phase law caller.session _ v w x caller key (begins caller key op (begun.Refused refusal)) same,
         (
           ap (steps_of caller key) own ∙ none,

@@ -4,7 +4,7 @@
 --     run_more               one round more
 --     some_one, some_more    rounds after which one has asked have asked
 --     spent_more, spent_none  nothing is left to ask outside with: one of the rounds so far has asked
-use Rattle.std.proofs.Common.{◌≡◌, ◌⊎◌, ⊎_elim, inl, inr, ◌≤◌, ◌++◌, ℕ, List, [], ◌∷◌, append-nil, length, slice_get, false, true, true≢false, Bool, ◌||◌, Result, Ok, Err, IfNone, Option, None, Some, refl, sym, ap, ◌∙◌, subst, arith}
+use Rattle.std.proofs.Common.{◌≡◌, ◌⊎◌, inl, inr, ◌≤◌, ◌++◌, ℕ, List, [], ◌∷◌, append-nil, length, slice_get, false, true, true≢false, Bool, ◌||◌, Ok, Err, IfNone, Option, None, Some, refl, sym, ap, ◌∙◌, subst}
 use Rattle.std.proofs.lemmas.List.Concat.{flat_map-append}
 use Rattle.std.proofs.lemmas.List.Folds.{list_any-append}
 use Rattle.std.specs.List.{IsAmong}
@@ -19,7 +19,7 @@ use Rattle.jc_rounds.specs.declared.progress.Progress.TheVariants.{Waiting, Rese
 use Rattle.jc_rounds.specs.Keys.{IsAt, IsHeldBack}
 use Rattle.jc_rounds.specs.Recorded.{steps_of}
 use Rattle.jc_rounds.specs.Seats.{view_of}
-use Rattle.jc_rounds.proofs.SeatPhases.{Seated, grown_on}
+use Rattle.jc_rounds.proofs.SeatPhases.{Seated}
 use Rattle.jc_cache.specs.Caches.{CacheState}
 use Rattle.jc_cache.specs.declared.session.Session.{Session}
 use Rattle.jc_rounds.specs.declared.bulk_call.BulkCall.{BulkCall}
@@ -29,13 +29,11 @@ use Rattle.jc_rounds.specs.KeyProgress.{KeepsCause, is_held_back, is_reserved}
 use Rattle.jc_rounds.proofs.Causes.{first_more}
 use Rattle.jc_rounds.specs.Running.{HasRun, HeldInEach, IsRound, with_rounds}
 use Rattle.jc_rounds.specs.SoFar.{AreHeldBack, GoesOn, HaveNoStep}
-use Rattle.jc_rounds.specs.Starting.{EachStartsAll, HasStartedAll, IsFull, RoundEnd, calls_of, seats_after}
+use Rattle.jc_rounds.specs.Starting.{EachStartsAll, IsFull, RoundEnd, calls_of, seats_after}
 use Rattle.jc_rounds.specs.Targets.{ops_of}
 use Rattle.jc_rounds.specs.Underway.{IsBetween, Past}
-use Rattle.jc_types.specs.Stripes.{stripe_of}
 use Rattle.jc_rounds.specs.Seats.{HasGrown, view_at}
 use Rattle.jc_rounds.proofs.Asked.{or_other, place_among}
-use Rattle.jc_rounds.proofs.Held.{held_since}
 use Rattle.jc_rounds.proofs.Out.{none_in}
 
 either_asked : (xs ys : List Round) (key : Bytes) → is_among (asked_in (xs ++ ys)) key ≡ true → (is_among (asked_in xs) key ≡ true) ⊎ (is_among (asked_in ys) key ≡ true)
