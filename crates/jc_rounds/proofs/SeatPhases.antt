@@ -1,6 +1,6 @@
 -- One phase at one seat, and what it leaves of all of a session's seats.
 --     MovesSeat          what a phase of the call at this key leaves of the key's seat
---     works_none, works_on, works_among      no lending, lendings after lendings, and lendings at keys of which more is so
+--     phases_none, phases_on, phases_among      no lending, lendings after lendings, and lendings at keys of which more is so
 --     grown_phase, grown_itself, grown_on    a phase, no phase, and two phases: the front has grown
 --     found_later, found_since               a lending, up to a later view, and from an earlier one on
 --     found_phase                            the lending of a phase
@@ -36,7 +36,7 @@ use Rattle.jc_engine.specs.Chain.{AllLend, Turn}
 use Rattle.jc_cache.specs.Fronts.{HasAllSeen}
 use Rattle.jc_cache.specs.PhaseCalls.{SeatPhase}
 use Rattle.jc_rounds.specs.Keys.{IsEarly}
-use Rattle.jc_rounds.specs.Lendings.{IsPartAt, Works}
+use Rattle.jc_rounds.specs.Lendings.{IsPhaseAt, OnlyPhases}
 use Rattle.jc_rounds.specs.Recorded.{steps_of, former_steps, are_before}
 use Rattle.jc_rounds.specs.Seats.{HasFound, HasGrown, Moves, is_at, view_at}
 use Rattle.jc_rounds.proofs.CallSteps.{before-gained, former-gained, others-gained}
@@ -51,10 +51,10 @@ pub record MovesSeat (caller : Caller) (key : Bytes) (v w : View) : Type 0 where
   pub others : (q : Bytes) → pointwise ◌==◌ key q ≡ false → steps_of caller q w.own ≡ steps_of caller q v.own
   pub former : former_steps caller w.own ≡ former_steps caller v.own
   pub numbers : are_before caller v.own ≡ true → are_before caller w.own ≡ true
-  pub works : Works caller (λ other. other ≡ key) v w
+  pub phases : OnlyPhases caller (λ other. other ≡ key) v w
 
-pub works_none : (caller : Caller) (at : Bytes → Type 0) (v : View) → Works caller at v v
-works_none caller at v = record { row = []; lent = record { lendings = sym (append-nil v.lendings); misses = refl }; each = tt }
+pub phases_none : (caller : Caller) (at : Bytes → Type 0) (v : View) → OnlyPhases caller at v v
+phases_none caller at v = record { row = []; lent = record { lendings = sym (append-nil v.lendings); misses = refl }; each = tt }
 
 all_on : (P : State × State → Type 0) (xs ys : List (State × State)) → AllByRecursion P xs → AllByRecursion P ys → AllByRecursion P (xs ++ ys)
 all_on P [] ys one two = two
@@ -68,18 +68,18 @@ all_lent : (P : State → State → Type 0) (Q : State × State → Type 0) (xs 
 all_lent P Q [] by all = tt
 all_lent P Q (x ∷ xs) by all = (by x.0 x.1 all.0, all_lent P Q xs by all.1)
 
-pub works_on : (caller : Caller) (at : Bytes → Type 0) (u v w : View) → Works caller at u v → Works caller at v w → Works caller at u w
-works_on caller at u v w p q = record {
+pub phases_on : (caller : Caller) (at : Bytes → Type 0) (u v w : View) → OnlyPhases caller at u v → OnlyPhases caller at v w → OnlyPhases caller at u w
+phases_on caller at u v w p q = record {
   row = p.row ++ q.row;
   lent = record { lendings = q.lent.lendings ∙ ap (λ (ls : List (State × State)). ls ++ q.row) p.lent.lendings ∙ append_assoc u.lendings p.row q.row; misses = q.lent.misses ∙ p.lent.misses };
-  each = all_on (λ (p : State × State). RenewsIfFull p.0 p.1 ⊎ ((key : Bytes) × at key × IsPartAt caller key p.0 p.1)) p.row q.row p.each q.each;
+  each = all_on (λ (p : State × State). RenewsIfFull p.0 p.1 ⊎ ((key : Bytes) × at key × IsPhaseAt caller key p.0 p.1)) p.row q.row p.each q.each;
 }
 
-pub works_among : (caller : Caller) (at at' : Bytes → Type 0) (v w : View) → ((key : Bytes) → at key → at' key) → Works caller at v w → Works caller at' v w
-works_among caller at at' v w among p = record {
+pub phases_among : (caller : Caller) (at at' : Bytes → Type 0) (v w : View) → ((key : Bytes) → at key → at' key) → OnlyPhases caller at v w → OnlyPhases caller at' v w
+phases_among caller at at' v w among p = record {
   row = p.row;
   lent = p.lent;
-  each = all_by (λ (p : State × State). RenewsIfFull p.0 p.1 ⊎ ((key : Bytes) × at key × IsPartAt caller key p.0 p.1)) (λ (p : State × State). RenewsIfFull p.0 p.1 ⊎ ((key : Bytes) × at' key × IsPartAt caller key p.0 p.1)) p.row
+  each = all_by (λ (p : State × State). RenewsIfFull p.0 p.1 ⊎ ((key : Bytes) × at key × IsPhaseAt caller key p.0 p.1)) (λ (p : State × State). RenewsIfFull p.0 p.1 ⊎ ((key : Bytes) × at' key × IsPhaseAt caller key p.0 p.1)) p.row
       (λ lent. ⊎_elim (λ quiet. inl quiet) (λ part. inr (part.0, among part.0 part.1, part.2))) p.each;
 }
 
@@ -107,8 +107,8 @@ found_since u v w seen left grown was = record {
 }
 
 -- a turn of the call at this key
-abbrev pub IsPart : Turn → Caller → Bytes → Type 0
-IsPart turn caller key = ((a b : State) → turn.waits a b → RenewsIfFull a b) × ((a b : State) → turn.makes a b → IsPartAt caller key a b)
+abbrev pub IsTurnOfCall : Turn → Caller → Bytes → Type 0
+IsTurnOfCall turn caller key = ((a b : State) → turn.waits a b → RenewsIfFull a b) × ((a b : State) → turn.makes a b → IsPhaseAt caller key a b)
 
 module _ (law : OnePhase) (session : ℕ) (turn : Turn) (v w : View) (x : SeatPhase session v turn w) where
   pub uniform : IsUniform session x.found w.noted
@@ -134,35 +134,35 @@ module _ (law : OnePhase) (session : ℕ) (turn : Turn) (v w : View) (x : SeatPh
   found_phase = record { earlier = x.waits; since = []; lendings = x.lent.lendings }
 
   -- it has waited, and has made a phase at this key
-  works_phase : (caller : Caller) (key : Bytes) → IsPart turn caller key → Works caller (λ other. other ≡ key) v w
-  works_phase caller key part = record {
+  phases_made : (caller : Caller) (key : Bytes) → IsTurnOfCall turn caller key → OnlyPhases caller (λ other. other ≡ key) v w
+  phases_made caller key part = record {
     row = x.waits ++ (x.found, w.noted) ∷ [];
     lent = x.lent;
-    each = all_on (λ (p : State × State). RenewsIfFull p.0 p.1 ⊎ ((other : Bytes) × (other ≡ key) × IsPartAt caller other p.0 p.1)) x.waits ((x.found, w.noted) ∷ [])
-        (all_lent turn.waits (λ (p : State × State). RenewsIfFull p.0 p.1 ⊎ ((other : Bytes) × (other ≡ key) × IsPartAt caller other p.0 p.1)) x.waits (λ a b waits. inl (part.0 a b waits)) x.waited)
+    each = all_on (λ (p : State × State). RenewsIfFull p.0 p.1 ⊎ ((other : Bytes) × (other ≡ key) × IsPhaseAt caller other p.0 p.1)) x.waits ((x.found, w.noted) ∷ [])
+        (all_lent turn.waits (λ (p : State × State). RenewsIfFull p.0 p.1 ⊎ ((other : Bytes) × (other ≡ key) × IsPhaseAt caller other p.0 p.1)) x.waits (λ a b waits. inl (part.0 a b waits)) x.waited)
         (inr (key, refl, part.1 x.found w.noted x.made), tt);
   }
 
   pub seen_own : own_steps session w.noted ≡ own_steps session x.found → w.own ≡ v.own
   seen_own same = x.own_is ∙ own_stay session x.found w.noted uniform.grows.same.ended same ∙ x.own
 
-  pub seen_phase : (caller : Caller) (key : Bytes) → IsPart turn caller key → own_steps session w.noted ≡ own_steps session x.found → MovesSeat caller key v w
+  pub seen_phase : (caller : Caller) (key : Bytes) → IsTurnOfCall turn caller key → own_steps session w.noted ≡ own_steps session x.found → MovesSeat caller key v w
   seen_phase caller key part same = record {
     grown = grown_phase;
     others = λ q apart. ap (steps_of caller q) (seen_own same);
     former = ap (former_steps caller) (seen_own same);
     numbers = λ before. ap (are_before caller) (seen_own same) ∙ before;
-    works = works_phase caller key part;
+    phases = phases_made caller key part;
   }
 
-  pub gained_phase : (caller : Caller) (key : Bytes) → IsPart turn caller key → (op : Op) (out : Out) (shared : Option ℕ) (reply : Reply) (xs ys : List Event) → v.own ≡ xs ++ ys → w.own ≡ xs ++ Step caller op key out shared reply ∷ ys → IsEarly caller
+  pub gained_phase : (caller : Caller) (key : Bytes) → IsTurnOfCall turn caller key → (op : Op) (out : Out) (shared : Option ℕ) (reply : Reply) (xs ys : List Event) → v.own ≡ xs ++ ys → w.own ≡ xs ++ Step caller op key out shared reply ∷ ys → IsEarly caller
       → MovesSeat caller key v w
   gained_phase caller key part op out shared reply xs ys was is early = record {
     grown = grown_phase;
     others = others-gained caller key op out shared reply v.own w.own xs ys was is;
     former = former-gained caller key op out shared reply v.own w.own xs ys was is;
     numbers = before-gained caller key op out shared reply v.own w.own xs ys was is early;
-    works = works_phase caller key part;
+    phases = phases_made caller key part;
   }
 
 -- 2. All seats.
@@ -212,9 +212,9 @@ moves_all caller stripes key old new lock v w was now moves = record {
       (λ t. ap (λ (u : View). are_before caller u.own) (here i t.1) ∙ moves.numbers (ap (λ (u : View). are_before caller u.own) (sym (there i t.0)) ∙ before))
       (λ t. ap (λ (u : View). are_before caller u.own) (same i t.1) ∙ before)
       (at i);
-  works = λ i. ⊎_elim
-      (λ t. works_among caller (λ other. other ≡ key) (λ other. is_at stripes key other i ≡ true) (view_at old i) (view_at new i) (λ other is. at_key other i is t.0) (worked i t.0 t.1))
-      (λ t. stays (Works caller (λ other. is_at stripes key other i ≡ true) (view_at old i)) i t.1 (works_none caller (λ other. is_at stripes key other i ≡ true) (view_at old i)))
+  phases = λ i. ⊎_elim
+      (λ t. phases_among caller (λ other. other ≡ key) (λ other. is_at stripes key other i ≡ true) (view_at old i) (view_at new i) (λ other is. at_key other i is t.0) (worked i t.0 t.1))
+      (λ t. stays (OnlyPhases caller (λ other. is_at stripes key other i ≡ true) (view_at old i)) i t.1 (phases_none caller (λ other. is_at stripes key other i ≡ true) (view_at old i)))
       (at i);
 }
   where
@@ -236,8 +236,8 @@ moves_all caller stripes key old new lock v w was now moves = record {
     at_key : (other : Bytes) (i : ℕ) → other ≡ key → i ≡ stripe_of key stripes → is_at stripes key other i ≡ true
     at_key other i is same = and_from (pointwise ◌==◌ key other) (stripe_of key stripes == i) (ap (pointwise ◌==◌ key) is ∙ nat_list_eq_equiv.refl key) (same_number (stripe_of key stripes) i same)
 
-    worked : (i : ℕ) → i ≡ stripe_of key stripes → view_at (slice_set old (stripe_of key stripes) (lock, w)) i ≡ w → Works caller (λ other. other ≡ key) (view_at old i) (view_at new i)
-    worked i is set_is = subst (λ (u : View). Works caller (λ other. other ≡ key) u (view_at new i)) (sym (there i is)) (subst (Works caller (λ other. other ≡ key) v) (sym (here i set_is)) moves.works)
+    worked : (i : ℕ) → i ≡ stripe_of key stripes → view_at (slice_set old (stripe_of key stripes) (lock, w)) i ≡ w → OnlyPhases caller (λ other. other ≡ key) (view_at old i) (view_at new i)
+    worked i is set_is = subst (λ (u : View). OnlyPhases caller (λ other. other ≡ key) u (view_at new i)) (sym (there i is)) (subst (OnlyPhases caller (λ other. other ≡ key) v) (sym (here i set_is)) moves.phases)
 
     grows : (i : ℕ) → i ≡ stripe_of key stripes → view_at (slice_set old (stripe_of key stripes) (lock, w)) i ≡ w → HasGrown (view_at old i) (view_at new i)
     grows i is set_is = subst (λ (u : View). HasGrown u (view_at new i)) (sym (there i is)) (subst (HasGrown v) (sym (here i set_is)) moves.grown)

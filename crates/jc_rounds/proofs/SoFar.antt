@@ -46,7 +46,7 @@ use Rattle.jc_rounds.specs.Rounds.{Round, asked_in, keys_asked}
 use Rattle.jc_rounds.specs.Seats.{HasGrown, Moves, is_at, view_at, view_of}
 use Rattle.jc_rounds.specs.SoFar.{IsSoFar, is_due}
 use Rattle.jc_rounds.proofs.CallSteps.{no-steps, still-before}
-use Rattle.jc_rounds.proofs.SeatPhases.{Seated, found_later, found_since, grown_itself, grown_on, works_among, works_none, works_on}
+use Rattle.jc_rounds.proofs.SeatPhases.{Seated, found_later, found_since, grown_itself, grown_on, phases_among, phases_none, phases_on}
 
 -- 1. Rounds.
 
@@ -261,8 +261,8 @@ pub goes_on : (config : Config) (caller : Caller) (stripes : ℕ) (targets : Lis
     → IsAt config caller rounds (view_of stripes old key) (view_of stripes new key) key op p → IsSoFar config caller stripes targets rounds old new (set ps place p)
 goes_on config caller stripes targets rounds old mid new ps place key op p d at was moves now = record {
   grown = λ i. grown_on (view_at old i) (view_at mid i) (view_at new i) (was.grown i) (moves.grown i);
-  works = λ i. works_on caller (λ q. is_due stripes targets q i ≡ true) (view_at old i) (view_at mid i) (view_at new i) (was.works i)
-      (works_among caller (λ q. is_at stripes key q i ≡ true) (λ q. is_due stripes targets q i ≡ true) (view_at mid i) (view_at new i) (λ q is. due_at targets stripes place key q op i at is) (moves.works i));
+  phases = λ i. phases_on caller (λ q. is_due stripes targets q i ≡ true) (view_at old i) (view_at mid i) (view_at new i) (was.phases i)
+      (phases_among caller (λ q. is_at stripes key q i ≡ true) (λ q. is_due stripes targets q i ≡ true) (view_at mid i) (view_at new i) (λ q is. due_at targets stripes place key q op i at is) (moves.phases i));
   numbers = λ i. moves.numbers i (was.numbers i);
   former = λ i. moves.former i ∙ was.former i;
   many = length-set ps place p ∙ was.many;
@@ -283,7 +283,7 @@ pub more_rounds : (config : Config) (caller : Caller) (stripes : ℕ) (targets :
     → IsSoFar config caller stripes targets rounds old new ps → IsSoFar config caller stripes targets (rounds ++ more) old new ps
 more_rounds config caller stripes targets rounds more old new ps none so = record {
   grown = so.grown;
-  works = so.works;
+  phases = so.phases;
   numbers = so.numbers;
   former = so.former;
   many = so.many;
@@ -307,7 +307,7 @@ pub opens : (config : Config) (caller : Caller) (stripes : ℕ) (targets : List 
     → IsSoFar config caller stripes targets [] seats seats ps
 opens config caller stripes targets seats ps before is = record {
   grown = λ i. grown_itself (view_at seats i);
-  works = λ i. works_none caller (λ q. is_due stripes targets q i ≡ true) (view_at seats i);
+  phases = λ i. phases_none caller (λ q. is_due stripes targets q i ≡ true) (view_at seats i);
   numbers = λ i. still-before caller (view_at seats i).own (before i);
   former = λ i. refl;
   many = ap length is ∙ waiting_many (length targets);

@@ -78,22 +78,22 @@ module _ (caller : Caller) (stripes : ℕ) (targets : List (Bytes × Op)) where
       → ((place : ℕ) (key : Bytes) (op : Op) → slice_get targets place ≡ Some (key, op) → is_among (asked_in e.calls) key ≡ true → slice_get ps place ≡ Some Waiting)
       → AreOver e → HeldInEach caller stripes targets old es ps → EachStartsAll caller stripes targets old es → EachStartsAll caller stripes targets old (es ++ e ∷ [])
   starts_more old [] e ps few grown waited over held each = (
-    record { few = few; grown = grown; over = over; none = λ key op among asked. absurd (true≢false (sym asked)); put_off = λ key op among asked. absurd (true≢false (sym asked)) },
+    record { few = few; grown = grown; ended = over; no_step = λ key op among asked. absurd (true≢false (sym asked)); put_off = λ key op among asked. absurd (true≢false (sym asked)) },
     tt,
   )
   starts_more old (f ∷ es) e ps few grown waited over held each = (
     record {
       few = each.0.few;
       grown = each.0.grown;
-      over = each.0.over;
-      none = λ key op among asked. step key op among (either_asked (calls_of es) e.calls key (ap (λ cs. is_among (asked_in cs) key) (sym (calls_more es e)) ∙ asked));
+      ended = each.0.ended;
+      no_step = λ key op among asked. step key op among (either_asked (calls_of es) e.calls key (ap (λ cs. is_among (asked_in cs) key) (sym (calls_more es e)) ∙ asked));
       put_off = λ key op among asked. by key op among (either_asked (calls_of es) e.calls key (ap (λ cs. is_among (asked_in cs) key) (sym (calls_more es e)) ∙ asked));
     },
     starts_more f.seats es e ps few grown waited over held.2 each.1,
   )
     where
       step : (key : Bytes) (op : Op) → IsAmong targets (key, op) → (is_among (asked_in (calls_of es)) key ≡ true) ⊎ (is_among (asked_in e.calls) key ≡ true) → steps_of caller key (view_of stripes f.seats key).own ≡ []
-      step key op among (inl before) = each.0.none key op among before
+      step key op among (inl before) = each.0.no_step key op among before
       step key op among (inr now) = let at = place_among targets (key, op) among in held.1 at.0 key op Waiting at.2 (waited at.0 key op at.2 now) refl
 
       by : (key : Bytes) (op : Op) → IsAmong targets (key, op) → (is_among (asked_in (calls_of es)) key ≡ true) ⊎ (is_among (asked_in e.calls) key ≡ true)

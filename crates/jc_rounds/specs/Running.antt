@@ -34,7 +34,7 @@ use Rattle.jc_rounds.specs.Asking.{AsksEachOnce}
 use Rattle.jc_rounds.specs.Causes.{IsFirst}
 use Rattle.jc_rounds.specs.Ends.{KeyEnd, key_ops}
 use Rattle.jc_rounds.specs.Keys.{HasEnded}
-use Rattle.jc_rounds.specs.Lendings.{Works}
+use Rattle.jc_rounds.specs.Lendings.{OnlyPhases}
 use Rattle.jc_rounds.specs.Recorded.{former_steps, steps_of}
 use Rattle.jc_rounds.specs.Rounds.{Round, asked_in}
 use Rattle.jc_rounds.specs.Seats.{HasFound, HasGrown, view_at, view_of}
@@ -89,7 +89,7 @@ pub record WasNearFull (caller : Caller) (before after : View) : Type 0 where
 pub record IsCarriedOut {I J : Type 0} {D : I → Type 0} {E : J → Type 0} (cache : CacheState) (old : Session I J D E) (targets : List (Bytes × Op)) (ends : List KeyEnd) (rounds : List Round) (new : Session I J D E) : Type 0 where
   pub targets_are : key_ops ends ≡ targets
   pub grown : (i : ℕ) → HasGrown (view_at old.seats.items i) (view_at new.seats.items i)
-  pub works : (i : ℕ) → Works (next_call old).agent.caller (λ key. is_due cache.config.stripes targets key i ≡ true) (view_at old.seats.items i) (view_at new.seats.items i)
+  pub phases : (i : ℕ) → OnlyPhases (next_call old).agent.caller (λ key. is_due cache.config.stripes targets key i ≡ true) (view_at old.seats.items i) (view_at new.seats.items i)
   pub each : All (λ (e : KeyEnd). HasEnded cache.config (next_call old).agent.caller rounds (view_of cache.config.stripes old.seats.items e.key) (view_of cache.config.stripes new.seats.items e.key) e.key e.op e.ended) ends
   pub refused : All (λ (e : KeyEnd). e.ended ≡ Err HistoryFull → WasNearFull (next_call old).agent.caller (view_of cache.config.stripes old.seats.items e.key) (view_of cache.config.stripes new.seats.items e.key)) ends
   pub others : (key : Bytes) (i : ℕ) → is_due cache.config.stripes targets key i ≡ false → steps_of (next_call old).agent.caller key (view_at new.seats.items i).own ≡ []

@@ -20,7 +20,7 @@ use Rattle.jc_stripe.specs.Generations.{IsOfSameStripe}
 use Rattle.jc_lock.specs.declared.view.View.{View}
 use Rattle.jc_lock.specs.Views.{spent_view}
 use Rattle.jc_cache.specs.Fronts.{HasAllSeen}
-use Rattle.jc_rounds.specs.Lendings.{Works}
+use Rattle.jc_rounds.specs.Lendings.{OnlyPhases}
 use Rattle.jc_rounds.specs.Recorded.{steps_of, former_steps, are_before}
 
 abbrev pub view_at : List (TableId × View) → ℕ → View
@@ -53,7 +53,7 @@ pub record Moves (caller : Caller) (stripes : ℕ) (key : Bytes) (old new : List
   pub others : (other : Bytes) (i : ℕ) → is_at stripes key other i ≡ false → steps_of caller other (view_at new i).own ≡ steps_of caller other (view_at old i).own
   pub former : (i : ℕ) → former_steps caller (view_at new i).own ≡ former_steps caller (view_at old i).own
   pub numbers : (i : ℕ) → are_before caller (view_at old i).own ≡ true → are_before caller (view_at new i).own ≡ true
-  pub works : (i : ℕ) → Works caller (λ other. is_at stripes key other i ≡ true) (view_at old i) (view_at new i)
+  pub phases : (i : ℕ) → OnlyPhases caller (λ other. is_at stripes key other i ≡ true) (view_at old i) (view_at new i)
 
 abbrev pub AreBefore : Caller → List (TableId × View) → Type 0
 AreBefore caller seats = (i : ℕ) → are_before caller (view_at seats i).own ≡ true

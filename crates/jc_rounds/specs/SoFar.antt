@@ -36,7 +36,7 @@ use Rattle.jc_rounds.specs.declared.progress.Progress.{Progress}
 use Rattle.jc_rounds.specs.declared.progress.Progress.TheVariants.{Waiting, Reserved, Joined, Ended}
 use Rattle.jc_rounds.specs.KeyProgress.{StayEnded, is_held_back, is_joined, is_reserved, is_settled}
 use Rattle.jc_rounds.specs.Keys.{IsAt, IsHeldBack, IsJoinFor, IsTicketFor}
-use Rattle.jc_rounds.specs.Lendings.{Works}
+use Rattle.jc_rounds.specs.Lendings.{OnlyPhases}
 use Rattle.jc_rounds.specs.Recorded.{former_steps, steps_of}
 use Rattle.jc_rounds.specs.Rounds.{Round}
 use Rattle.jc_rounds.specs.Seats.{AreBefore, HasGrown, view_at, view_of}
@@ -47,7 +47,7 @@ is_due stripes targets key i = is_among (keys_of targets) key && (stripe_of key 
 -- `old` are the session's seats before the call, `stripes` is how many stripes there are
 pub record IsSoFar (config : Config) (caller : Caller) (stripes : ℕ) (targets : List (Bytes × Op)) (rounds : List Round) (old new : List (TableId × View)) (progress : List Progress) : Type 0 where
   pub grown : (i : ℕ) → HasGrown (view_at old i) (view_at new i)
-  pub works : (i : ℕ) → Works caller (λ key. is_due stripes targets key i ≡ true) (view_at old i) (view_at new i)
+  pub phases : (i : ℕ) → OnlyPhases caller (λ key. is_due stripes targets key i ≡ true) (view_at old i) (view_at new i)
   pub numbers : AreBefore caller new
   pub former : (i : ℕ) → former_steps caller (view_at new i).own ≡ former_steps caller (view_at old i).own
   pub many : length progress ≡ length targets

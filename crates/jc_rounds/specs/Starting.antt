@@ -68,8 +68,8 @@ module _ (caller : Caller) (stripes : ℕ) (targets : List (Bytes × Op)) where
   pub record StartsAll (old : List (TableId × View)) (e : RoundEnd) (later : List Round) : Type 0 where
     pub few : length e.calls ≤ 1
     pub grown : (i : ℕ) → HasGrown (view_at old i) (view_at e.seats i)
-    pub over : (key : Bytes) (op : Op) → IsAmong targets (key, op) → is_among (asked_in e.calls) key ≡ true → steps_of caller key (view_of stripes e.seats key).own ≡ [] → ⊥
-    pub none : (key : Bytes) (op : Op) → IsAmong targets (key, op) → is_among (asked_in later) key ≡ true → steps_of caller key (view_of stripes e.seats key).own ≡ []
+    pub ended : (key : Bytes) (op : Op) → IsAmong targets (key, op) → is_among (asked_in e.calls) key ≡ true → steps_of caller key (view_of stripes e.seats key).own ≡ [] → ⊥
+    pub no_step : (key : Bytes) (op : Op) → IsAmong targets (key, op) → is_among (asked_in later) key ≡ true → steps_of caller key (view_of stripes e.seats key).own ≡ []
     pub put_off : (key : Bytes) (op : Op) → IsAmong targets (key, op) → is_among (asked_in later) key ≡ true → IsPutOff (length (asked_in e.calls)) old e.seats key op
 
   abbrev pub EachStartsAll : List (TableId × View) → List RoundEnd → Type 0
