@@ -1,11 +1,12 @@
 -- A session that looks at the stripes, one after the other.
---     looks_itself, looks_on    no look, and looks after looks
+--     looks_itself, looks_on    no look, and a look after looks at other stripes
 --     may_still                 the session may still begin its next call
 --     look_told                 a look at one stripe
+--     elsewhere                 what it leaves of the others
 --     looked_none, looked_next  no stripe, and one stripe more
 --     apart_next                the keys still differ, and are of the stripes that were looked at
 --     sweep_ok, sweep_err       a call that is carried out for the keys that were found
-use Rattle.std.proofs.Common.{◌≡◌, ◌==◌, ◌&&◌, ◌⊎◌, ⊎_elim, inl, inr, ◌+◌, ◌++◌, ℕ, zero, suc, List, [], ◌∷◌, length, Bool, true, false, nat_lt, None, Some, slice_get, refl, sym, ap, subst, ◌∙◌, arith}
+use Rattle.std.proofs.Common.{◌≡◌, ◌==◌, ◌&&◌, ◌⊎◌, ⊎_elim, inl, inr, ◌+◌, ◌<◌, ◌++◌, ℕ, zero, suc, List, [], ◌∷◌, length, Bool, true, false, nat_lt, None, Some, slice_get, refl, sym, ap, subst, ◌∙◌, arith}
 use Rattle.std.proofs.lemmas.Bool.{and_parts}
 use Rattle.std.proofs.lemmas.Bool.Decides.{nat_tests}
 use Rattle.std.proofs.lemmas.List.{append-nil, append_assoc, length-append}
@@ -21,21 +22,21 @@ use Rattle.jc_model.specs.Cache.{Bytes}
 use Rattle.jc_model.specs.declared.event.Op.{Op}
 use Rattle.jc_outside.specs.CallingAll.{LoadAllRelation, WriteAllRelation, DeleteAllRelation}
 use Rattle.jc_stripe.proofs.CallerLemmas.{keys_once, keys_own}
-use Rattle.jc_stripe.specs.Keys.{Looks}
-use Rattle.jc_stripe.specs.Generations.{whole_history, IsOfSameStripe}
+use Rattle.jc_stripe.specs.Generations.{IsOfSameStripe}
 use Rattle.jc_stripe.specs.OnePhase.{OnePhase, own_steps}
 use Rattle.jc_stripe.specs.OwnSteps.{is_before_call}
 use Rattle.jc_stripe.specs.State.{State}
-use Rattle.jc_lock.proofs.CallerLemmas.{prefix-trans, same_itself, same_on}
+use Rattle.jc_lock.proofs.CallerLemmas.{same_itself}
 use Rattle.jc_lock.specs.declared.view.View.{View}
 use Rattle.jc_session.specs.Counting.{one_more}
 use Rattle.jc_session.specs.declared.counts.Counted.TheVariants.{Nothing}
 use Rattle.jc_cache.specs.Caches.{CacheState}
 use Rattle.jc_cache.specs.PhaseCalls.{PhaseAt}
-use Rattle.jc_cache.specs.Turns.{looking}
+use Rattle.jc_cache.specs.Turns.{HasLent, looking}
+use Rattle.jc_engine.specs.Rows.{AllLend}
 use Rattle.jc_cache.specs.Sessions.{IsOf, MayCall}
 use Rattle.jc_cache.specs.declared.session.Session.{Session}
-use Rattle.jc_bulk.specs.Bulk.{FailsInPart, HasLooked, IsLookedAt, IsOutOfMemory, IsSweepRefused, OnlyLooks, Succeeds, LooksFirst}
+use Rattle.jc_bulk.specs.Bulk.{FailsInPart, HasLooked, IsLookedAt, IsOutOfMemory, IsSweepRefused, LooksOnce, OnlyLooks, Succeeds, LooksFirst}
 use Rattle.jc_rounds.specs.Seats.{HasGrown, view_at}
 use Rattle.jc_rounds.proofs.CallerLemmas.{Seated, all_early, front_found, grown_itself, grown_on, grown_phase, seen_own, view_set, view_there}
 
@@ -89,28 +90,13 @@ apart_next n i xs ys zs is below here a b =
 
 -- 2. What was looked at.
 
-pub looked_later : (u v w : View) (keys : List Bytes) → HasGrown v w → IsLookedAt u v keys → IsLookedAt u w keys
-looked_later u v w keys grown at = record {
-  seen = at.seen;
-  reached = at.reached;
-  same = same_on at.seen v.noted w.noted at.same grown.same;
-  since = at.since;
-  later = prefix-trans (whole_history at.seen) v.front w.front at.later grown.front;
-  keys_are = at.keys_are;
-}
-
-looked_since : (u v w : View) (keys : List Bytes) → HasGrown u v → IsLookedAt v w keys → IsLookedAt u w keys
-looked_since u v w keys grown at = record {
-  seen = at.seen;
-  reached = at.reached;
-  same = at.same;
-  since = prefix-trans u.front v.front (whole_history at.seen) grown.front at.since;
-  later = at.later;
-  keys_are = at.keys_are;
-}
-
 pub looked_none : (old new : List Seated) (keys : List Bytes) → keys ≡ [] → HasLooked 0 old new keys
 looked_none old new keys none = record { found = []; count = refl; each = λ i some there. cc; keys_are = none }
+
+there_below : {X : Type 0} (xs : List X) (i : ℕ) (x : X) → slice_get xs i ≡ Some x → i < length xs
+there_below [] i x there = cc
+there_below (y ∷ xs) zero x there = omega arith
+there_below (y ∷ xs) (suc i) x there = let near = there_below xs i x there in omega (arith, near)
 
 -- the keys at a place of a list with one more
 at_or : {X : Type 0} (xs : List X) (x y : X) (i : ℕ) → slice_get (xs ++ x ∷ []) i ≡ Some y → (slice_get xs i ≡ Some y) ⊎ ((i ≡ length xs) × (y ≡ x))
@@ -126,28 +112,46 @@ all_push : (xs : List (List Bytes)) (x : List Bytes) → all_in (xs ++ x ∷ [])
 all_push [] x = append-nil x
 all_push (y ∷ xs) x = ap (λ (zs : List Bytes). y ++ zs) (all_push xs x) ∙ sym (append_assoc y (all_in xs) x)
 
-pub looked_next : (n : ℕ) (old mid new : List Seated) (keys keys' found : List Bytes) → ((i : ℕ) → HasGrown (view_at old i) (view_at mid i)) → ((i : ℕ) → HasGrown (view_at mid i) (view_at new i))
+-- the stripe wasn't looked at before, and no other one is now
+pub looked_next : (n : ℕ) (old mid new : List Seated) (keys keys' found : List Bytes) → view_at mid n ≡ view_at old n → ((i : ℕ) → (i ≡ n → ⊥) → view_at new i ≡ view_at mid i)
     → HasLooked n old mid keys → IsLookedAt (view_at mid n) (view_at new n) found → keys' ≡ keys ++ found → HasLooked (n + 1) old new keys'
-looked_next n old mid new keys keys' found before after looked at is = record {
+looked_next n old mid new keys keys' found fresh others looked at is = record {
   found = looked.found ++ found ∷ [];
   count = length-append looked.found (found ∷ []) ∙ ap (λ m. m + 1) looked.count;
   each = λ i some there. ⊎_elim
-      (λ here. looked_later (view_at old i) (view_at mid i) (view_at new i) some (after i) (looked.each i some here))
+      (λ here. subst (λ (w : View). IsLookedAt (view_at old i) w some) (sym (others i (below i some here))) (looked.each i some here))
       (λ last. subst (IsLookedAt (view_at old i) (view_at new i)) (sym last.1)
-      (looked_since (view_at old i) (view_at mid i) (view_at new i) found (before i) (subst (λ m. IsLookedAt (view_at mid m) (view_at new m) found) (sym (last.0 ∙ looked.count)) at)))
+      (subst (λ m. IsLookedAt (view_at old m) (view_at new m) found) (sym (last.0 ∙ looked.count)) (subst (λ (u : View). IsLookedAt u (view_at new n) found) fresh at)))
       (at_or looked.found found some i there);
   keys_are = is ∙ ap (λ ks. ks ++ found) looked.keys_are ∙ sym (all_push looked.found found);
 }
+  where
+    below : (i : ℕ) (some : List Bytes) → slice_get looked.found i ≡ Some some → i ≡ n → ⊥
+    below i some there same = let near = there_below looked.found i some there in omega (arith, near, same, looked.count)
 
 -- 3. The session.
 
+none_lent : (v : View) → HasLent v [] v
+none_lent v = record { lendings = sym (append-nil v.lendings); misses = refl }
+
+same_or_not : (i n : ℕ) → (i ≡ n) ⊎ (i ≡ n → ⊥)
+same_or_not zero zero = inl refl
+same_or_not zero (suc n) = inr (λ is. absurd (omega (arith, is)))
+same_or_not (suc i) zero = inr (λ is. absurd (omega (arith, is)))
+same_or_not (suc i) (suc n) = ⊎_elim (λ same. inl (ap suc same)) (λ apart. inr (λ is. apart (omega (arith, is)))) (same_or_not i n)
+
 module _ {I J : Type 0} {D : I → Type 0} {E : J → Type 0} where
   pub looks_itself : (session : Session I J D E) → OnlyLooks session session
-  looks_itself session = record { grown = λ i. grown_itself (view_at session.seats.items i); own = λ i. refl; agent = refl }
+  looks_itself session = record { grown = λ i. grown_itself (view_at session.seats.items i); looks = λ i. inl (none_lent (view_at session.seats.items i)); own = λ i. refl; agent = refl }
 
-  pub looks_on : (a b c : Session I J D E) → OnlyLooks a b → OnlyLooks b c → OnlyLooks a c
-  looks_on a b c p q = record {
+  -- a look at the stripe with this number, at which none of the looks before was
+  pub looks_on : (n : ℕ) (a b c : Session I J D E) → view_at b.seats.items n ≡ view_at a.seats.items n → ((i : ℕ) → (i ≡ n → ⊥) → view_at c.seats.items i ≡ view_at b.seats.items i) → OnlyLooks a b → OnlyLooks b c → OnlyLooks a c
+  looks_on n a b c fresh others p q = record {
     grown = λ i. grown_on (view_at a.seats.items i) (view_at b.seats.items i) (view_at c.seats.items i) (p.grown i) (q.grown i);
+    looks = λ i. ⊎_elim
+        (λ same. subst (λ (u : View). LooksOnce u (view_at c.seats.items i)) (ap (view_at b.seats.items) same ∙ fresh ∙ ap (view_at a.seats.items) (sym same)) (q.looks i))
+        (λ apart. subst (LooksOnce (view_at a.seats.items i)) (sym (others i apart)) (p.looks i))
+        (same_or_not i n);
     own = λ i. q.own i ∙ p.own i;
     agent = q.agent ∙ p.agent;
   }
@@ -170,9 +174,21 @@ module _ {I J : Type 0} {D : I → Type 0} {E : J → Type 0} where
         (λ t. subst (P (view_at old.seats.items i)) (sym (ap (λ (xs : List Seated). view_at xs i) x.now ∙ t.1)) (stays (view_at old.seats.items i)))
         (view_set old.seats.items number i (x.lock, x.before) (x.lock, x.after) x.was)
 
+    -- the lendings are one look
+    lent_here : HasLent x.before ((x.seat.found, x.seat.found) ∷ []) x.after
+    lent_here = subst (λ (row : List (State × State)). HasLent x.before row x.after) (alone x.seat.waits x.seat.waited) x.seat.lent
+      where
+        alone : (waits : List (State × State)) → AllLend (λ a b. ⊥) waits → waits ++ (x.seat.found, x.after.noted) ∷ [] ≡ (x.seat.found, x.seat.found) ∷ []
+        alone [] none = ap (λ (a : State). (x.seat.found, a) ∷ []) x.seat.made.0
+        alone (p ∷ ps) none = absurd none.0
+
+    pub elsewhere : (i : ℕ) → (i ≡ number → ⊥) → view_at new.seats.items i ≡ view_at old.seats.items i
+    elsewhere i apart = ap (λ (xs : List Seated). view_at xs i) x.now ∙ ⊎_elim (λ t. absurd (apart t.0)) (λ t. t.1) (view_set old.seats.items number i (x.lock, x.before) (x.lock, x.after) x.was)
+
     pub looks_at : OnlyLooks old new
     looks_at = record {
       grown = seats_on HasGrown grown_itself (grown_phase law old.agent.caller.session _ x.before x.after x.seat);
+      looks = seats_on LooksOnce (λ u. inl (none_lent u)) (inr (x.seat.found, lent_here));
       own = seats_on (λ u v. v.own ≡ u.own) (λ u. refl) (seen_own law old.agent.caller.session _ x.before x.after x.seat (ap (own_steps old.agent.caller.session) x.seat.made.0));
       agent = x.left;
     }
@@ -196,6 +212,7 @@ module _ {I J : Type 0} {D : I → Type 0} {E : J → Type 0} where
           same = subst (IsOfSameStripe s) (sym x.seat.made.0) (same_itself s);
           since = x.seat.front;
           later = front_found law old.agent.caller.session _ x.before x.after x.seat;
+          looked = lent_here;
           keys_are = x.seat.made.1.2;
         } in
         let was : view_at old.seats.items number ≡ x.before = view_there old.seats.items number (x.lock, x.before) x.was in

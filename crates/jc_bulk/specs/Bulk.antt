@@ -10,13 +10,14 @@
 --     EndsSo         such a call has a cause exactly if it has met a fault or a refusal, and that is one of the first
 --     IsOutOfMemory  a call for which an allocation failed before its first phase: it names no key, and nothing changes
 --     IsRefusedWhole the same, or a call with too many keys
---     IsLookedAt     the keys that a stripe had between two views of a seat
+--     IsLookedAt     the keys that a stripe had as a seat found it between two views, in its one lending there, in which it left it so
 --     HasLooked      the keys of all stripes, in their order, of one look at each
---     OnlyLooks      the session may have seen more of the stripes; its steps, its number and all else that it has are as they were
+--     LooksOnce      a seat has taken the stripe at most once between two views, and has left it as it found it
+--     OnlyLooks      the session has looked at each stripe at most once; its steps, its number and all else that it has are as they were
 --     LooksFirst     a call on all keys: it has looked at each stripe and found these, and then, from what the session had seen, this was
 --                    done
 --     IsSweepRefused a call on all keys for which an allocation failed: it names no key, and has only looked
-use Rattle.std.specs.Prelude.{◌≡◌, ◌≤◌, ◌<◌, ◌⊎◌, ◌++◌, ℕ, List, [], length, map, Option, Some, slice_get}
+use Rattle.std.specs.Prelude.{◌≡◌, ◌≤◌, ◌<◌, ◌⊎◌, ◌++◌, ℕ, List, [], ◌∷◌, length, map, Option, Some, slice_get}
 use Rattle.std.specs.List.{IsAmong, flat_map}
 use mathlib.Core.List.{IsPrefix}
 use Rattle.atomic_table.specs.Seated.{TableId}
@@ -36,6 +37,7 @@ use Rattle.jc_engine.specs.Asking.{KeepsTypes}
 use Rattle.jc_cache.specs.Caches.{CacheState}
 use Rattle.jc_cache.specs.declared.session.Session.{Session}
 use Rattle.jc_cache.specs.Calls.{next_call}
+use Rattle.jc_cache.specs.Turns.{HasLent}
 use Rattle.jc_rounds.specs.Causes.{IsFirst}
 use Rattle.jc_rounds.specs.Ends.{KeyEnd, failed_entries, found_entries}
 use Rattle.jc_rounds.specs.KeyProgress.{IsCauseIn}
@@ -99,6 +101,7 @@ pub record IsLookedAt (before after : View) (keys : List Bytes) : Type 0 where
   pub same : IsOfSameStripe seen after.noted
   pub since : IsPrefix before.front (whole_history seen)
   pub later : IsPrefix (whole_history seen) after.front
+  pub looked : HasLent before ((seen, seen) ∷ []) after
   pub keys_are : AreKeys seen keys
 
 pub record HasLooked (stripes : ℕ) (old new : List (TableId × View)) (keys : List Bytes) : Type 0 where
@@ -107,8 +110,12 @@ pub record HasLooked (stripes : ℕ) (old new : List (TableId × View)) (keys : 
   pub each : (i : ℕ) (some : List Bytes) → slice_get found i ≡ Some some → IsLookedAt (view_at old i) (view_at new i) some
   pub keys_are : keys ≡ flat_map (λ (some : List Bytes). some) found
 
+abbrev pub LooksOnce : View → View → Type 0
+LooksOnce before after = HasLent before [] after ⊎ ((seen : State) × HasLent before ((seen, seen) ∷ []) after)
+
 pub record OnlyLooks {I J : Type 0} {D : I → Type 0} {E : J → Type 0} (old new : Session I J D E) : Type 0 where
   pub grown : (i : ℕ) → HasGrown (view_at old.seats.items i) (view_at new.seats.items i)
+  pub looks : (i : ℕ) → LooksOnce (view_at old.seats.items i) (view_at new.seats.items i)
   pub own : (i : ℕ) → (view_at new.seats.items i).own ≡ (view_at old.seats.items i).own
   pub agent : new.agent ≡ old.agent
 

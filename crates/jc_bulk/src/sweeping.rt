@@ -1,5 +1,5 @@
 //! `removeAll` without keys, and `clear`: every key of a cache.
-ghost use Rattle.std.specs.Prelude.{◌≡◌, ◌==◌, ◌≤◌, ◌<◌, ◌+◌, ◌*◌, ◌++◌, ◌⊎◌, List, [], true, vec_capacity, vec_len, IfOk, IfErr};
+ghost use Rattle.std.specs.Prelude.{ℕ, ◌≡◌, ◌==◌, ◌≤◌, ◌<◌, ◌+◌, ◌*◌, ◌++◌, ◌⊎◌, List, [], true, vec_capacity, vec_len, IfOk, IfErr};
 ghost use Rattle.std.specs.List.{IsDistinct, list_all};
 ghost use Rattle.std.specs.Cmp.Lexicographic.{pointwise};
 ghost use Rattle.jc_types.specs.Stripes.{stripe_of};
@@ -154,6 +154,8 @@ fn look_at<R: Wait>(
     requires room { vec_len keys.old + cache.now.config.capacity ≤ vec_capacity keys.old }
     ensures may { MayCall cache.now session.new }
     ensures looks { OnlyLooks session.old session.new }
+    ensures others { (i : ℕ) → (i ≡ number → ⊥)
+        → view_at session.new.seats.items i ≡ view_at session.old.seats.items i }
     ensures looked { (found : List Bytes) × (keys.new.items ≡ keys.old.items ++ found)
         × IsLookedAt (view_at session.old.seats.items number) (view_at session.new.seats.items number) found
         × IsDistinct (pointwise ◌==◌) found

@@ -129,7 +129,7 @@ module _ {I J : Type 0} {D : I → Type 0} {E : J → Type 0}
   loaded : (result : PieceResult) → result ≡ Loaded → Succeeds loads_all load_state writes_all deletes_all write_state cache old (load_ops replace keys) new → Ends result
   loaded result is h = (
     record { ends = h.0; cause = None },
-    inl (h.1, h.2, h.3),
+    inl (h.1, h.2, h.3, tt),
     subst (λ r. IsNoteOf keys r (record { ends = h.0; cause = None })) (sym is) record { cause = refl; failed = nothing_noted keys ∙ sym (none_failed (failed_entries h.0) (faults_in h.1) h.3) },
   )
 
@@ -141,7 +141,7 @@ module _ {I J : Type 0} {D : I → Type 0} {E : J → Type 0}
       absurd (no_memory_fault h.1 met)
   failed fault result (inr part) h = (
     record { ends = h.0; cause = Some fault.cause },
-    inl (h.1, h.2, h.3),
+    inl (h.1, h.2, h.3, h.5),
     subst (λ r. IsNoteOf keys r (record { ends = h.0; cause = Some fault.cause })) (sym part.1) record {
       cause = refl;
       failed = (λ i. filter_map (pick (h.4 i)) (sym ended i)) ∙ looked_up h.0 (subst (IsDistinct (pointwise ◌==◌)) (sym ended) distinct);

@@ -2,14 +2,15 @@
 --     PieceEnd        how a piece ended: how each of its keys did, in their order, and the fault or refusal that its call met first, if it
 --                     met one
 --     out_of_memory   the keys of a piece whose call was refused whole, since an allocation failed
---     LoadsPiece      a session's next call, which loads the keys of a piece: it is carried out, or refused whole, and nothing changes
+--     LoadsPiece      a session's next call, which loads the keys of a piece: it is carried out, and its cause is one of the first that it
+--                     met; or it is refused whole, and nothing changes
 --     all_ends        how the keys of the first so many pieces ended, in the order of the keys
 --     first_cause     the cause of the first of so many pieces that has one
 --     LoadsInPieces   each of the pieces of these keys was loaded by one session, once, and ended so: there is a share of the pieces for
 --                     each session, which loaded them one after another, and did nothing else
 --     SucceedsInPieces  the same, and no key ended in a fault or a refusal
 --     FailsInPieces   the same, with the cause of the first piece that has one, and each key that ended in a fault or a refusal
-use Rattle.std.specs.Prelude.{◌≡◌, ◌<◌, ◌⊎◌, ◌++◌, ℕ, zero, suc, List, [], length, map, Bool, Option, None, Some, Err, slice_index_or}
+use Rattle.std.specs.Prelude.{◌≡◌, ◌<◌, ◌⊎◌, ◌++◌, ℕ, zero, suc, List, [], length, map, Bool, Option, None, Some, IfSome, Err, slice_index_or}
 use Rattle.std.specs.Option.{option_or}
 use Rattle.std.specs.List.{concat}
 use Rattle.jc_types.specs.declared.refusal.Refusal.{Refusal}
@@ -19,7 +20,7 @@ use Rattle.jc_model.specs.declared.event.Op.{Op}
 use Rattle.jc_outside.specs.CallingAll.{LoadAllRelation, WriteAllRelation, DeleteAllRelation}
 use Rattle.jc_cache.specs.Caches.{CacheState}
 use Rattle.jc_cache.specs.declared.session.Session.{Session}
-use Rattle.jc_bulk.specs.Bulk.{IsBulkCall, causes_of}
+use Rattle.jc_bulk.specs.Bulk.{IsBulkCall, TellsFirst, causes_of}
 use Rattle.jc_rounds.specs.Ends.{KeyEnd, failed_entries}
 use Rattle.jc_rounds.specs.KeyProgress.{IsCauseIn}
 use Rattle.jc_rounds.specs.Rounds.{Round}
@@ -53,8 +54,9 @@ module _ {I J : Type 0} {D : I → Type 0} {E : J → Type 0}
   -- `old` and `new` are the session before and after
   abbrev pub LoadsPiece : List (Bytes × Op) → PieceEnd → Session I J D E → Session I J D E → Type 0
   LoadsPiece targets end old new =
-      ((rounds : List Round) × IsBulkCall loads_all load_state writes_all deletes_all write_state cache old targets end.ends rounds new
-      × IsCauseIn end.cause (causes_of end.ends rounds))
+      ((rounds : List Round) × (call : IsBulkCall loads_all load_state writes_all deletes_all write_state cache old targets end.ends rounds new)
+      × IsCauseIn end.cause (causes_of end.ends rounds)
+      × IfSome end.cause (λ (cause : Refusal). TellsFirst loads_all load_state writes_all deletes_all write_state cache old targets call (Some cause)))
       ⊎ ((end.cause ≡ Some OutOfMemory) × (end.ends ≡ out_of_memory targets) × (new ≡ old))
 
   -- `old` and `new` are the sessions before and after

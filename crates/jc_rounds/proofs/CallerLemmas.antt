@@ -4,6 +4,7 @@ pub use Rattle.jc_rounds.proofs.Failures.{keeps_both, keeps_itself, keeps_noted,
 pub use Rattle.jc_rounds.proofs.Held.{goes_both, goes_itself, held_later, held_since}
 pub use Rattle.jc_rounds.proofs.KeyEnds.{entries_more, entries_new, entries_whole, failures_are, told_failed, told_found}
 pub use Rattle.jc_rounds.proofs.Loops.{no_items}
+pub use Rattle.jc_rounds.proofs.NoneHeld.{none_held}
 pub use Rattle.jc_rounds.proofs.SeatPhases.{Seated, front_found, grown_itself, grown_on, grown_phase, seen_own, view_set, view_there}
 pub use Rattle.jc_rounds.proofs.SoFar.{at_since, key_at}
 pub use Rattle.jc_rounds.proofs.Started.{none_run, run_more, some_more, some_one, spent_more, spent_none}

@@ -18,7 +18,6 @@ use Rattle.jc_rounds.specs.declared.progress.Progress.TheVariants.{Waiting, Rese
 use Rattle.jc_rounds.specs.Causes.{HasFailed, HasMet, IsFirst, IsRefused}
 use Rattle.jc_rounds.specs.KeyProgress.{IsCauseIn, KeepsCause, failures, refusal_in}
 use Rattle.jc_rounds.specs.Keys.{HasEnded, IsAt}
-use Rattle.jc_rounds.specs.Recorded.{steps_of}
 use Rattle.jc_rounds.specs.Rounds.{Round, faults_in}
 use Rattle.jc_rounds.specs.Seats.{view_of}
 use Rattle.jc_rounds.specs.SoFar.{IsSoFar}

@@ -80,7 +80,7 @@ joined_later caller u v w key op grown was = record {
   later = prefix-trans (whole_history was.seen) v.front w.front was.later grown.front;
   same = same_on was.seen v.noted w.noted was.same grown.same;
   load = was.load;
-  found = found_later u v w was.seen grown was.found;
+  found = found_later u v w was.seen _ grown was.found;
   may = was.may;
   why = was.why;
 }
@@ -93,7 +93,7 @@ joined_since caller u v w key op grown was = record {
   later = was.later;
   same = was.same;
   load = was.load;
-  found = found_since u v w was.seen grown was.found;
+  found = found_since u v w was.seen _ grown was.found;
   may = was.may;
   why = was.why;
 }

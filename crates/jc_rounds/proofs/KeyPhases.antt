@@ -4,7 +4,7 @@
 --     key_committed      a commit
 --     key_picked         a pick-up that isn't too early
 --     start_may          the session's own steps let the call begin at a key at which it has none
-use Rattle.std.proofs.Common.{◌≡◌, ◌&&◌, inl, ◌≤◌, ℕ, List, [], ◌∷◌, ◌++◌, length, Bool, true, false, cond, Option, None, Some, slice_get, refl, sym, ap, subst, ◌∙◌, arith, le_refl}
+use Rattle.std.proofs.Common.{◌≡◌, ◌&&◌, inl, inr, ◌≤◌, ℕ, List, [], ◌∷◌, ◌++◌, length, Bool, true, false, cond, Option, None, Some, slice_get, refl, sym, ap, subst, ◌∙◌, arith}
 use Rattle.std.proofs.lemmas.Bool.{and_parts}
 use Rattle.std.proofs.lemmas.List.{length-append}
 use Rattle.std.proofs.lemmas.List.Folds.{list_all-append}
@@ -26,7 +26,7 @@ use Rattle.jc_stripe.specs.Generations.{whole_history, whole_place}
 use Rattle.jc_stripe.specs.Renewal.{all_own_steps}
 use Rattle.jc_stripe.specs.OnePhase.{OnePhase, own_steps}
 use Rattle.jc_stripe.specs.OwnSteps.{AddsOwn, OwnSteps, StepsBehind, may_come_all}
-use Rattle.jc_stripe.specs.Phases.{after_commit}
+use Rattle.jc_stripe.specs.Phases.{after_commit, with_joiner}
 use Rattle.jc_stripe.specs.Refusals.{first_asked, first_refusal, may_join}
 use Rattle.jc_stripe.specs.Tickets.{TicketClaim, JoinClaim}
 use Rattle.jc_stripe.specs.declared.begun.Begun.{Begun}
@@ -36,7 +36,7 @@ use Rattle.jc_stripe.specs.declared.begun.Picked.TheVariants as picked
 use Rattle.jc_stripe.specs.declared.begun.StepDone.{StepDone}
 use Rattle.jc_stripe.specs.declared.ticket.Reservation.{Reservation}
 use Rattle.jc_lock.specs.declared.view.View.{View}
-use Rattle.jc_lock.proofs.CallerLemmas.{prefix-refl, prefix-trans}
+use Rattle.jc_lock.proofs.CallerLemmas.{prefix-trans}
 use Rattle.jc_engine.specs.MadeIn.{IsNext}
 use Rattle.jc_engine.specs.Rows.{Turn}
 use Rattle.jc_engine.specs.Turns.{committing}
@@ -47,9 +47,9 @@ use Rattle.jc_stripe.proofs.CallerLemmas.{adds_whole, call_below, gains_whole, m
 use Rattle.jc_cache.specs.PhaseCalls.{SeatPhase}
 use Rattle.jc_rounds.specs.Keys.{HasBegun, HasPicked, IsCommitted, IsEarly, IsJoinFor}
 use Rattle.jc_rounds.specs.Recorded.{steps_of}
-use Rattle.jc_rounds.specs.Seats.{HasGrown}
+use Rattle.jc_rounds.specs.Seats.{HasFound, HasGrown}
 use Rattle.jc_rounds.proofs.CallSteps.{steps-gained}
-use Rattle.jc_rounds.proofs.SeatPhases.{MovesSeat, all_now, front_found, found_phase, gained_phase, grown_phase, seen_own, seen_phase, uniform}
+use Rattle.jc_rounds.proofs.SeatPhases.{IsTurnOfCall, MovesSeat, all_now, front_found, found_phase, gained_phase, grown_phase, seen_own, seen_phase, uniform}
 
 -- 1. Refusals.
 
@@ -74,17 +74,26 @@ get_joins op is = cc
 
 -- 3. Phases.
 
+start_turn : (caller : Caller) (key : Bytes) (op : Op) (b : Begun) → IsTurnOfCall (starting_now caller key op b) caller key
+start_turn caller key op b = (λ found left waits. waits.renewed, λ found left made. inl (op, b, made))
+
+commit_turn : (r : Reservation) (out : Out) (done : StepDone) → IsTurnOfCall (committing r out done) r.caller r.key
+commit_turn r out done = (λ found left waits. waits.renewed, λ found left made. inr (inl (r, out, done, refl, refl, made)))
+
+pick_turn : (join : JoinClaim) (p : Picked) → IsTurnOfCall (picking_late join p) join.caller join.key
+pick_turn join p = (λ found left waits. waits.renewed, λ found left made. inr (inr (join, p, refl, refl, made)))
+
 module _ (law : OnePhase) (steps : OwnSteps) where
   -- a step that the phase adds behind all that was there
-  added : (session : ℕ) (turn : Turn) (caller : Caller) (key : Bytes) (op : Op) (out : Out) (reply : Reply) (place : ℕ) (v w : View) (x : SeatPhase session v turn w) → session ≡ caller.session
+  added : (session : ℕ) (turn : Turn) (caller : Caller) (key : Bytes) → IsTurnOfCall turn caller key → (op : Op) (out : Out) (reply : Reply) (place : ℕ) (v w : View) (x : SeatPhase session v turn w) → session ≡ caller.session
       → AddsOwn caller.session x.found w.noted (Step caller op key out None reply) place → IsEarly caller → steps_of caller key v.own ≡ []
       → MovesSeat caller key v w × (steps_of caller key w.own ≡ Step caller op key out None reply ∷ []) × (slice_get w.front (whole_place w.noted place) ≡ Some (Step caller op key out None reply)) × (length v.front ≤ whole_place w.noted place)
-  added session turn caller key op out reply place v w x mine adds early none =
+  added session turn caller key part op out reply place v w x mine adds early none =
       let whole = adds_whole caller.session x.found w.noted (Step caller op key out None reply) place (uniform law session turn v w x).grows.same.ended adds in
       let more = whole.2 in
       let was : v.own ≡ more.before ++ more.after = sym x.own ∙ ap (λ (n : ℕ). all_own_steps n x.found) mine ∙ more.was in
       let is : w.own ≡ more.before ++ Step caller op key out None reply ∷ more.after = x.own_is ∙ ap (λ (n : ℕ). all_own_steps n w.noted) mine ∙ more.is in (
-        gained_phase law session turn v w x caller key op out None reply more.before more.after was is early,
+        gained_phase law session turn v w x caller key part op out None reply more.before more.after was is early,
         steps-gained caller key op out None reply v.own w.own more.before more.after was is none,
         ap (λ (es : List Event). slice_get es (whole_place w.noted place)) x.front_is ∙ whole.1,
         (let one = longer v.front (whole_history x.found) x.front in let two = whole.0 in omega arith),
@@ -94,7 +103,7 @@ module _ (law : OnePhase) (steps : OwnSteps) where
       → MovesSeat caller key v w × HasBegun caller config v w key op b
   key_begun caller config key op (begun.Done done) v w x shape may none =
       let early = early_none x.found caller key op x.made.begins.0 in
-      let a = added caller.session _ caller key op nothing_said done.reply done.place v w x refl (steps.done x.found w.noted caller key op done x.made.may x.made.begins) early none in (
+      let a = added caller.session _ caller key (start_turn caller key op (begun.Done done)) op nothing_said done.reply done.place v w x refl (steps.done x.found w.noted caller key op done x.made.may x.made.begins) early none in (
         a.0,
         record {
           out = nothing_said;
@@ -121,9 +130,8 @@ module _ (law : OnePhase) (steps : OwnSteps) where
   key_begun caller config key op (begun.Refused refusal) v w x shape may none =
       let same = steps.refused x.found w.noted caller key op refusal x.made.begins in
       let own = seen_own law caller.session _ v w x same in
-      let why : first_refusal w.noted caller key op ≡ Some refusal = ap (λ (s : State). first_refusal s caller key op) x.made.begins.1 ∙ x.made.begins.0 in
-      (
-        seen_phase law caller.session _ v w x caller key same,
+      let why : first_refusal w.noted caller key op ≡ Some refusal = ap (λ (s : State). first_refusal s caller key op) x.made.begins.1 ∙ x.made.begins.0 in (
+        seen_phase law caller.session _ v w x caller key (start_turn caller key op (begun.Refused refusal)) same,
         (
           ap (steps_of caller key) own ∙ none,
           put_off_or_full w.noted caller key op refusal why,
@@ -135,7 +143,7 @@ module _ (law : OnePhase) (steps : OwnSteps) where
             later = front_found law caller.session _ v w x;
             next = (uniform law caller.session _ v w x).next;
             same = of_same x.found w.noted (uniform law caller.session _ v w x).grows;
-            found = found_phase law caller.session _ v w x;
+            found = subst (λ (a : State). HasFound v x.found a w) x.made.begins.1 (found_phase law caller.session _ v w x);
             may = x.made.may;
             why = x.made.begins.0;
           },
@@ -146,7 +154,7 @@ module _ (law : OnePhase) (steps : OwnSteps) where
       let same = steps.reserves x.found w.noted caller key op ticket b in
       let own = seen_own law caller.session _ v w x same in
       let found_shape : x.found.config ≡ config = x.same.config ∙ shape in (
-        seen_phase law caller.session _ v w x caller key same,
+        seen_phase law caller.session _ v w x caller key (start_turn caller key op (begun.Asks ticket)) same,
         (
           ap (steps_of caller key) own ∙ none,
           ap (λ (t : TicketClaim). t.asked) b.4,
@@ -166,7 +174,7 @@ module _ (law : OnePhase) (steps : OwnSteps) where
       let b = x.made.begins in
       let same = steps.joins x.found w.noted caller key op join b in
       let own = seen_own law caller.session _ v w x same in (
-        seen_phase law caller.session _ v w x caller key same,
+        seen_phase law caller.session _ v w x caller key (start_turn caller key op (begun.Joined join)) same,
         (
           ap (steps_of caller key) own ∙ none,
           record {
@@ -183,7 +191,7 @@ module _ (law : OnePhase) (steps : OwnSteps) where
             since = x.front;
             later = front_found law caller.session _ v w x;
             same = of_same x.found w.noted (uniform law caller.session _ v w x).grows;
-            found = found_phase law caller.session _ v w x;
+            found = subst (λ (a : State). HasFound v x.found a w) (b.3 ∙ ap (with_joiner x.found) b.2) (found_phase law caller.session _ v w x);
             may = x.made.may;
             load = join.load;
             why = b.1;
@@ -194,7 +202,7 @@ module _ (law : OnePhase) (steps : OwnSteps) where
   pub key_committed : (config : Config) (session : ℕ) (r : Reservation) (out : Out) (done : StepDone) (v w : View) (x : SeatPhase session v (committing r out done) w) → v.noted.config ≡ config → session ≡ r.caller.session → IsEarly r.caller → steps_of r.caller r.key v.own ≡ []
       → MovesSeat r.caller r.key v w × IsCommitted config r.caller r out v w done.reply
   key_committed config session r out done v w x shape mine early none =
-      let a = added session _ r.caller r.key r.op out done.reply done.place v w x mine (steps.commits x.found w.noted r out done x.reached x.made) early none in (
+      let a = added session _ r.caller r.key (commit_turn r out done) r.op out done.reply done.place v w x mine (steps.commits x.found w.noted r out done x.reached x.made) early none in (
         a.0,
         record {
           place = whole_place w.noted done.place;
@@ -224,7 +232,7 @@ module _ (law : OnePhase) (steps : OwnSteps) where
       let is : w.own ≡ g.before ++ Step join.caller Get join.key gains.0 (Some shared_with) reply ∷ g.after = x.own_is ∙ ap (λ (n : ℕ). all_own_steps n w.noted) mine ∙ g.is in
       let there : slice_get w.front at ≡ Some (Step join.caller Get join.key gains.0 (Some shared_with) reply) = ap (λ (es : List Event). slice_get es at) x.front_is ∙ whole.0 in
       let grown = grown_phase law session _ v w x in (
-        gained_phase law session _ v w x join.caller join.key Get gains.0 (Some shared_with) reply g.before g.after was is early,
+        gained_phase law session _ v w x join.caller join.key (pick_turn join (picked.Answer reply place shared_with)) Get gains.0 (Some shared_with) reply g.before g.after was is early,
         λ first older for. (
             let front = prefix-trans first.front v.front w.front older.front grown.front in
             record {
@@ -243,5 +251,5 @@ module _ (law : OnePhase) (steps : OwnSteps) where
   key_picked config places session join picked.Again v w x mine early none =
       let same : own_steps session w.noted ≡ own_steps session x.found =
       ap (λ (n : ℕ). own_steps n w.noted) mine ∙ steps.again x.found w.noted join x.reached x.made ∙ ap (λ (n : ℕ). own_steps n x.found) (sym mine) in
-      (seen_phase law session _ v w x join.caller join.key same, λ first older for. ap (steps_of join.caller join.key) (seen_own law session _ v w x same) ∙ none)
+      (seen_phase law session _ v w x join.caller join.key (pick_turn join picked.Again) same, λ first older for. ap (steps_of join.caller join.key) (seen_own law session _ v w x same) ∙ none)
   key_picked config places session join (picked.NotYet back) v w x mine early none = absurd x.made

@@ -17,6 +17,7 @@ pub mod Loops
 pub mod Causes
 pub mod Started
 pub mod Once
+pub mod NoneHeld
 pub mod Whole
 pub mod OutsideCalls
 pub mod CallerLemmas

@@ -41,7 +41,7 @@ use Rattle.jc_rounds.proofs.SeatPhases.{Seated, grown_itself, grown_on}
 pub seats_grow : (caller : Caller) (stripes : ℕ) (targets : List (Bytes × Op)) (old : List Seated) (es : List RoundEnd) → EachStartsAll caller stripes targets old es → (i : ℕ) → HasGrown (view_at old i) (view_at (seats_after old es) i)
 seats_grow caller stripes targets old [] each i = grown_itself (view_at old i)
 seats_grow caller stripes targets old (e ∷ es) each i =
-    grown_on (view_at old i) (view_at e.seats i) (view_at (seats_after e.seats es) i) (each.1 i) (seats_grow caller stripes targets e.seats es each.3 i)
+    grown_on (view_at old i) (view_at e.seats i) (view_at (seats_after e.seats es) i) (each.0.grown i) (seats_grow caller stripes targets e.seats es each.1 i)
 
 -- 2. Keys.
 
@@ -113,7 +113,7 @@ module _ (caller : Caller) (stripes : ℕ) (targets : List (Bytes × Op)) (confi
       held_on key op among back =
           alone key op among
           (held_later caller (view_of stripes old key) (view_of stripes e.seats key) (view_of stripes new key) key op
-          (subst (λ (seats : List Seated). HasGrown (view_of stripes e.seats key) (view_of stripes seats key)) last (seats_grow caller stripes targets e.seats es each.3 (stripe_of key stripes))) back)
+          (subst (λ (seats : List Seated). HasGrown (view_of stripes e.seats key) (view_of stripes seats key)) last (seats_grow caller stripes targets e.seats es each.1 (stripe_of key stripes))) back)
 
       none_joins : (keys : List Bytes) → 0 < length keys → AllByRecursion (λ (key : Bytes). IsAmong targets (key, Get) × HasJoined caller (view_of stripes old key) (view_of stripes e.seats key) key Get) keys → ⊥
       none_joins [] many all = omega (arith, many)
@@ -129,15 +129,15 @@ module _ (caller : Caller) (stripes : ℕ) (targets : List (Bytes × Op)) (confi
       by (r ∷ rounds) is asks some =
           let key = some_key r rounds (All-head (λ (x : Round). keys_asked x ≡ [] → ⊥) r rounds some) in
           let at = are_keys config targets (r ∷ rounds) key.0 asks key.1 in
-          absurd (never key.0 at.0 at.1 (each.2 key.0 at.0 at.1 (ap (λ rs. is_among (asked_in rs) key.0) is ∙ key.1)))
+          absurd (never key.0 at.0 at.1 (each.0.put_off key.0 at.0 at.1 (ap (λ rs. is_among (asked_in rs) key.0) is ∙ key.1)))
 
   once_from : (old new : List Seated) (es : List RoundEnd) → seats_after old es ≡ new → EachStartsAll caller stripes targets old es → All (AsksFor config targets) (calls_of es) → All (λ (r : Round). keys_asked r ≡ [] → ⊥) (calls_of es)
       → length (asked_in (calls_of es)) ≤ RESERVATIONS_MAX * stripes → IsLeftAlone caller stripes targets old new → length (calls_of es) ≤ 1
   once_from old new [] last each asks some few alone = omega arith
   once_from old new (e ∷ es) last each asks some few alone =
       by e.calls refl
-      (once_from e.seats new es last each.3 asks_later some_later (omega (arith, keys, few))
-      (λ key op among back. alone key op among (held_since caller (view_of stripes old key) (view_of stripes e.seats key) (view_of stripes new key) key op (each.1 (stripe_of key stripes)) back)))
+      (once_from e.seats new es last each.1 asks_later some_later (omega (arith, keys, few))
+      (λ key op among back. alone key op among (held_since caller (view_of stripes old key) (view_of stripes e.seats key) (view_of stripes new key) key op (each.0.grown (stripe_of key stripes)) back)))
     where
       keys : length (asked_in (calls_of (e ∷ es))) ≡ length (asked_in e.calls) + length (asked_in (calls_of es))
       keys = ap length (flat_map-append keys_asked e.calls (calls_of es)) ∙ length-append (asked_in e.calls) (asked_in (calls_of es))
@@ -153,7 +153,7 @@ module _ (caller : Caller) (stripes : ℕ) (targets : List (Bytes × Op)) (confi
       by (r ∷ rs) is later =
           let none = none_later old new e es last each asks_later some_later (omega (arith, keys, few)) alone in
           let n = length-append e.calls (calls_of es) in
-          let one = each.0 in
+          let one = each.0.few in
           omega (arith, none, n, one)
 
   pub at_most_once : (old new : List Seated) (rounds : List Round) → AsksEachOnce config targets rounds → HasStartedAll caller stripes targets old new rounds → AsksAtMostOnce caller stripes targets old new rounds

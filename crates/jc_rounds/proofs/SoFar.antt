@@ -9,6 +9,7 @@
 --     opens            before the first round
 --     at_place_of      what the call so far says of the key at a place
 use Rattle.std.proofs.Common.{◌≡◌, ◌==◌, ◌&&◌, ◌||◌, ◌⊎◌, ⊎_elim, inl, inr, ◌≤◌, ℕ, zero, suc, List, [], ◌∷◌, ◌++◌, length, length-set, set, Bool, true, false, None, Some, Ok, Err, Result, Option, slice_get, refl, sym, ap, subst, ◌∙◌, arith}
+use Rattle.std.proofs.lemmas.Bool.{and_from, and_parts}
 use Rattle.std.proofs.lemmas.Cmp.{nat_list_eq_equiv}
 use Rattle.std.proofs.lemmas.List.{length-append}
 use Rattle.std.proofs.lemmas.Map.Keys.{IsDistinct-head, IsDistinct-tail}
@@ -45,7 +46,7 @@ use Rattle.jc_rounds.specs.Rounds.{Round, asked_in, keys_asked}
 use Rattle.jc_rounds.specs.Seats.{HasGrown, Moves, is_at, view_at, view_of}
 use Rattle.jc_rounds.specs.SoFar.{IsSoFar, is_due}
 use Rattle.jc_rounds.proofs.CallSteps.{no-steps, still-before}
-use Rattle.jc_rounds.proofs.SeatPhases.{Seated, found_later, found_since, grown_itself, grown_on}
+use Rattle.jc_rounds.proofs.SeatPhases.{Seated, found_later, found_since, grown_itself, grown_on, phases_among, phases_none, phases_on}
 
 -- 1. Rounds.
 
@@ -79,7 +80,7 @@ refused_later caller u v w key op refusal grown was = record {
   later = prefix-trans (whole_history was.seen) v.front w.front was.later grown.front;
   next = (let one = was.next in let two = grown.next in omega arith);
   same = same_on was.seen v.noted w.noted was.same grown.same;
-  found = found_later u v w was.seen grown was.found;
+  found = found_later u v w was.seen was.seen grown was.found;
   may = was.may;
   why = was.why;
 }
@@ -92,7 +93,7 @@ refused_since caller u v w key op refusal grown was = record {
   later = was.later;
   next = was.next;
   same = was.same;
-  found = found_since u v w was.seen grown was.found;
+  found = found_since u v w was.seen was.seen grown was.found;
   may = was.may;
   why = was.why;
 }
@@ -249,11 +250,19 @@ not_here targets stripes place key q op i true same at none =
     let elsewhere : (stripe_of q stripes == i) ≡ false = rest_false (is_among (keys_of targets) q) _ (subst (λ k. is_among (keys_of targets) k ≡ true) is (among_at targets place key op at)) none in
     and_right _ _ (ap (λ k. stripe_of k stripes == i) is ∙ elsewhere)
 
+due_at : (targets : List (Bytes × Op)) (stripes place : ℕ) (key q : Bytes) (op : Op) (i : ℕ) → slice_get targets place ≡ Some (key, op) → is_at stripes key q i ≡ true → is_due stripes targets q i ≡ true
+due_at targets stripes place key q op i at is =
+    let parts = and_parts (pointwise ◌==◌ key q) (stripe_of key stripes == i) is in
+    let same : key ≡ q = same_text key q (sym parts.0) in
+    and_from (is_among (keys_of targets) q) (stripe_of q stripes == i) (subst (λ k. is_among (keys_of targets) k ≡ true) same (among_at targets place key op at)) (ap (λ k. stripe_of k stripes == i) (sym same) ∙ parts.1)
+
 pub goes_on : (config : Config) (caller : Caller) (stripes : ℕ) (targets : List (Bytes × Op)) (rounds : List Round) (old mid new : List Seated) (ps : List Progress) (place : ℕ) (key : Bytes) (op : Op) (p : Progress)
     → IsDistinct (pointwise ◌==◌) (keys_of targets) → slice_get targets place ≡ Some (key, op) → IsSoFar config caller stripes targets rounds old mid ps → Moves caller stripes key mid new
     → IsAt config caller rounds (view_of stripes old key) (view_of stripes new key) key op p → IsSoFar config caller stripes targets rounds old new (set ps place p)
 goes_on config caller stripes targets rounds old mid new ps place key op p d at was moves now = record {
   grown = λ i. grown_on (view_at old i) (view_at mid i) (view_at new i) (was.grown i) (moves.grown i);
+  phases = λ i. phases_on caller (λ q. is_due stripes targets q i ≡ true) (view_at old i) (view_at mid i) (view_at new i) (was.phases i)
+      (phases_among caller (λ q. is_at stripes key q i ≡ true) (λ q. is_due stripes targets q i ≡ true) (view_at mid i) (view_at new i) (λ q is. due_at targets stripes place key q op i at is) (moves.phases i));
   numbers = λ i. moves.numbers i (was.numbers i);
   former = λ i. moves.former i ∙ was.former i;
   many = length-set ps place p ∙ was.many;
@@ -274,6 +283,7 @@ pub more_rounds : (config : Config) (caller : Caller) (stripes : ℕ) (targets :
     → IsSoFar config caller stripes targets rounds old new ps → IsSoFar config caller stripes targets (rounds ++ more) old new ps
 more_rounds config caller stripes targets rounds more old new ps none so = record {
   grown = so.grown;
+  phases = so.phases;
   numbers = so.numbers;
   former = so.former;
   many = so.many;
@@ -297,6 +307,7 @@ pub opens : (config : Config) (caller : Caller) (stripes : ℕ) (targets : List 
     → IsSoFar config caller stripes targets [] seats seats ps
 opens config caller stripes targets seats ps before is = record {
   grown = λ i. grown_itself (view_at seats i);
+  phases = λ i. phases_none caller (λ q. is_due stripes targets q i ≡ true) (view_at seats i);
   numbers = λ i. still-before caller (view_at seats i).own (before i);
   former = λ i. refl;
   many = ap length is ∙ waiting_many (length targets);

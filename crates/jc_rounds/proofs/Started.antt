@@ -4,7 +4,7 @@
 --     run_more               one round more
 --     some_one, some_more    rounds after which one has asked have asked
 --     spent_more, spent_none  nothing is left to ask outside with: one of the rounds so far has asked
-use Rattle.std.proofs.Common.{◌≡◌, ◌⊎◌, ⊎_elim, inl, inr, ◌≤◌, ◌++◌, ℕ, List, [], ◌∷◌, append-nil, length, slice_get, true, true≢false, IfNone, Option, None, Some, refl, sym, ap, ◌∙◌, subst, arith}
+use Rattle.std.proofs.Common.{◌≡◌, ◌⊎◌, inl, inr, ◌≤◌, ◌++◌, ℕ, List, [], ◌∷◌, append-nil, length, slice_get, false, true, true≢false, Bool, ◌||◌, Ok, Err, IfNone, Option, None, Some, refl, sym, ap, ◌∙◌, subst}
 use Rattle.std.proofs.lemmas.List.Concat.{flat_map-append}
 use Rattle.std.proofs.lemmas.List.Folds.{list_any-append}
 use Rattle.std.specs.List.{IsAmong}
@@ -15,31 +15,40 @@ use Rattle.jc_model.specs.Batches.{is_among}
 use Rattle.jc_model.specs.Cache.{Bytes}
 use Rattle.jc_model.specs.declared.event.Op.{Op}
 use Rattle.jc_rounds.specs.declared.progress.Progress.{Progress}
-use Rattle.jc_rounds.specs.declared.progress.Progress.TheVariants.{Waiting}
-use Rattle.jc_rounds.specs.Keys.{IsHeldBack}
+use Rattle.jc_rounds.specs.declared.progress.Progress.TheVariants.{Waiting, Reserved, Joined, Ended}
+use Rattle.jc_rounds.specs.Keys.{IsAt, IsHeldBack}
+use Rattle.jc_rounds.specs.Recorded.{steps_of}
 use Rattle.jc_rounds.specs.Seats.{view_of}
-use Rattle.jc_rounds.proofs.SeatPhases.{Seated, grown_on}
+use Rattle.jc_rounds.proofs.SeatPhases.{Seated}
 use Rattle.jc_cache.specs.Caches.{CacheState}
 use Rattle.jc_cache.specs.declared.session.Session.{Session}
 use Rattle.jc_rounds.specs.declared.bulk_call.BulkCall.{BulkCall}
 use Rattle.jc_rounds.specs.Rounds.{Round, asked_in, keys_asked}
 use Rattle.jc_rounds.specs.Causes.{IsFirst}
-use Rattle.jc_rounds.specs.KeyProgress.{KeepsCause}
+use Rattle.jc_rounds.specs.KeyProgress.{KeepsCause, is_held_back, is_reserved}
 use Rattle.jc_rounds.proofs.Causes.{first_more}
 use Rattle.jc_rounds.specs.Running.{HasRun, HeldInEach, IsRound, with_rounds}
-use Rattle.jc_rounds.specs.SoFar.{AreHeldBack, GoesOn}
-use Rattle.jc_rounds.specs.Starting.{EachStartsAll, HasStartedAll, IsFull, RoundEnd, calls_of, seats_after}
+use Rattle.jc_rounds.specs.SoFar.{AreHeldBack, GoesOn, HaveNoStep}
+use Rattle.jc_rounds.specs.Starting.{EachStartsAll, IsFull, RoundEnd, calls_of, seats_after}
 use Rattle.jc_rounds.specs.Targets.{ops_of}
 use Rattle.jc_rounds.specs.Underway.{IsBetween, Past}
-use Rattle.jc_types.specs.Stripes.{stripe_of}
 use Rattle.jc_rounds.specs.Seats.{HasGrown, view_at}
 use Rattle.jc_rounds.proofs.Asked.{or_other, place_among}
-use Rattle.jc_rounds.proofs.Held.{held_since}
+use Rattle.jc_rounds.proofs.Out.{none_in}
 
 either_asked : (xs ys : List Round) (key : Bytes) → is_among (asked_in (xs ++ ys)) key ≡ true → (is_among (asked_in xs) key ≡ true) ⊎ (is_among (asked_in ys) key ≡ true)
 either_asked xs ys key is =
     or_other (is_among (asked_in xs) key) (is_among (asked_in ys) key)
     (sym (ap (λ ks. is_among ks key) (flat_map-append keys_asked xs ys) ∙ list_any-append (pointwise ◌==◌ key) (asked_in xs) (asked_in ys)) ∙ is)
+
+or_true : (b : Bool) → (b || true) ≡ true
+or_true true = refl
+or_true false = refl
+
+either_later : (xs ys : List Round) (key : Bytes) → is_among (asked_in ys) key ≡ true → is_among (asked_in (xs ++ ys)) key ≡ true
+either_later xs ys key is =
+    ap (λ ks. is_among ks key) (flat_map-append keys_asked xs ys) ∙ list_any-append (pointwise ◌==◌ key) (asked_in xs) (asked_in ys)
+    ∙ (λ i. is_among (asked_in xs) key || is i) ∙ or_true (is_among (asked_in xs) key)
 
 calls_more : (es : List RoundEnd) (e : RoundEnd) → calls_of (es ++ e ∷ []) ≡ calls_of es ++ e.calls
 calls_more es e = flat_map-append (λ (x : RoundEnd). x.calls) es (e ∷ []) ∙ ap (λ cs. calls_of es ++ cs) (append-nil e.calls)
@@ -53,24 +62,73 @@ module _ (caller : Caller) (stripes : ℕ) (targets : List (Bytes × Op)) where
   held_less old [] a b ps qs goes held = tt
   held_less old (e ∷ es) a b ps qs goes held = (
     λ place less key op p there at is. let q = goes.held place p at is in held.0 place less key op q.0 there q.1 q.2,
-    held_less e.seats es a b ps qs goes held.1,
+    λ place key op p there at is. let q = goes.held place p at is in held.1 place key op q.0 there q.1 q.2,
+    held_less e.seats es a b ps qs goes held.2,
   )
 
   held_more : (old : List Seated) (es : List RoundEnd) (e : RoundEnd) (ps : List Progress) → AreHeldBack (IsFull caller stripes targets (seats_after old es) e.seats (length (asked_in e.calls))) (length targets) caller stripes targets (seats_after old es) e.seats ps
-      → HeldInEach caller stripes targets old es ps → HeldInEach caller stripes targets old (es ++ e ∷ []) ps
-  held_more old [] e ps here held = (here, tt)
-  held_more old (f ∷ es) e ps here held = (held.0, held_more f.seats es e ps here held.1)
+      → HaveNoStep caller stripes targets e.seats ps → HeldInEach caller stripes targets old es ps → HeldInEach caller stripes targets old (es ++ e ∷ []) ps
+  held_more old [] e ps here none held = (here, none, tt)
+  held_more old (f ∷ es) e ps here none held = (held.0, held.1, held_more f.seats es e ps here none held.2)
+
+  abbrev AreOver : RoundEnd → Type 0
+  AreOver e = (key : Bytes) (op : Op) → IsAmong targets (key, op) → is_among (asked_in e.calls) key ≡ true → steps_of caller key (view_of stripes e.seats key).own ≡ [] → ⊥
 
   starts_more : (old : List Seated) (es : List RoundEnd) (e : RoundEnd) (ps : List Progress) → length e.calls ≤ 1 → ((i : ℕ) → HasGrown (view_at (seats_after old es) i) (view_at e.seats i))
       → ((place : ℕ) (key : Bytes) (op : Op) → slice_get targets place ≡ Some (key, op) → is_among (asked_in e.calls) key ≡ true → slice_get ps place ≡ Some Waiting)
-      → HeldInEach caller stripes targets old es ps → EachStartsAll caller stripes targets old es → EachStartsAll caller stripes targets old (es ++ e ∷ [])
-  starts_more old [] e ps few grown waited held each = (few, grown, (λ key op among asked. absurd (true≢false (sym asked))), tt)
-  starts_more old (f ∷ es) e ps few grown waited held each = (each.0, each.1, (λ key op among asked. by key op among (either_asked (calls_of es) e.calls key (ap (λ cs. is_among (asked_in cs) key) (sym (calls_more es e)) ∙ asked))), starts_more f.seats es e ps few grown waited held.1 each.3)
+      → AreOver e → HeldInEach caller stripes targets old es ps → EachStartsAll caller stripes targets old es → EachStartsAll caller stripes targets old (es ++ e ∷ [])
+  starts_more old [] e ps few grown waited over held each = (
+    record { few = few; grown = grown; ended = over; no_step = λ key op among asked. absurd (true≢false (sym asked)); put_off = λ key op among asked. absurd (true≢false (sym asked)) },
+    tt,
+  )
+  starts_more old (f ∷ es) e ps few grown waited over held each = (
+    record {
+      few = each.0.few;
+      grown = each.0.grown;
+      ended = each.0.ended;
+      no_step = λ key op among asked. step key op among (either_asked (calls_of es) e.calls key (ap (λ cs. is_among (asked_in cs) key) (sym (calls_more es e)) ∙ asked));
+      put_off = λ key op among asked. by key op among (either_asked (calls_of es) e.calls key (ap (λ cs. is_among (asked_in cs) key) (sym (calls_more es e)) ∙ asked));
+    },
+    starts_more f.seats es e ps few grown waited over held.2 each.1,
+  )
     where
+      step : (key : Bytes) (op : Op) → IsAmong targets (key, op) → (is_among (asked_in (calls_of es)) key ≡ true) ⊎ (is_among (asked_in e.calls) key ≡ true) → steps_of caller key (view_of stripes f.seats key).own ≡ []
+      step key op among (inl before) = each.0.no_step key op among before
+      step key op among (inr now) = let at = place_among targets (key, op) among in held.1 at.0 key op Waiting at.2 (waited at.0 key op at.2 now) refl
+
       by : (key : Bytes) (op : Op) → IsAmong targets (key, op) → (is_among (asked_in (calls_of es)) key ≡ true) ⊎ (is_among (asked_in e.calls) key ≡ true)
           → IsFull caller stripes targets old f.seats (length (asked_in f.calls)) ⊎ IsHeldBack caller (view_of stripes old key) (view_of stripes f.seats key) key op
-      by key op among (inl before) = each.2 key op among before
+      by key op among (inl before) = each.0.put_off key op among before
       by key op among (inr now) = let at = place_among targets (key, op) among in held.0 at.0 at.1 key op Waiting at.2 (waited at.0 key op at.2 now) refl
+
+-- between two rounds: a key that was asked for has a step, and one that is held back has none
+module _ {I J : Type 0} {D : I → Type 0} {E : J → Type 0} (cache : CacheState) (past : Past) (session : Session I J D E) (call : BulkCall) (between : IsBetween cache past session call) where
+  ended : (key : Bytes) (op : Op) (p : Progress) → is_held_back p ≡ false → is_reserved p ≡ false → is_among (asked_in past.rounds) key ≡ true
+      → IsAt cache.config past.caller past.rounds (view_of cache.config.stripes past.first key) (view_of cache.config.stripes session.seats.items key) key op p
+      → steps_of past.caller key (view_of cache.config.stripes session.seats.items key).own ≡ [] → ⊥
+  ended key op Waiting held free asked at none = let bad : true ≡ false = held in cc
+  ended key op Reserved held free asked at none = let bad : true ≡ false = free in cc
+  ended key op Joined held free asked at none = let bad : true ≡ false = held in cc
+  ended key op (Ended (Ok reply)) held free asked at none = let bad = sym at.one ∙ none in cc
+  ended key op (Ended (Err refusal)) held free asked at none = absurd (true≢false (sym asked ∙ at.1))
+
+  are_over : (key : Bytes) (op : Op) → IsAmong (ops_of call.targets.now) (key, op) → is_among (asked_in past.rounds) key ≡ true → steps_of past.caller key (view_of cache.config.stripes session.seats.items key).own ≡ [] → ⊥
+  are_over key op among asked =
+      let ops = ops_of call.targets.now in
+      let u = between.on.under in
+      let at = place_among ops (key, op) among in
+      let p = between.on.asked.over at.0 key op at.2 asked in
+      ended key op p.0 p.2 (none_in is_reserved _ ops call.progress.items u.so_far.many u.calls_are at.0 p.0 p.1) asked (u.so_far.each at.0 key op p.0 at.2 p.1)
+
+  have_none : HaveNoStep past.caller cache.config.stripes (ops_of call.targets.now) session.seats.items call.progress.items
+  have_none place key op p there at held = by p held (between.on.under.so_far.each place key op p there at)
+    where
+      by : (p : Progress) → is_held_back p ≡ true → IsAt cache.config past.caller past.rounds (view_of cache.config.stripes past.first key) (view_of cache.config.stripes session.seats.items key) key op p
+          → steps_of past.caller key (view_of cache.config.stripes session.seats.items key).own ≡ []
+      by Waiting held none = none
+      by Reserved held none = none
+      by Joined held none = none
+      by (Ended e) held none = let bad : false ≡ true = held in cc
 
 -- the call goes on by a round
 module _ {I J : Type 0} {D : I → Type 0} {E : J → Type 0} where
@@ -98,11 +156,13 @@ module _ {I J : Type 0} {D : I → Type 0} {E : J → Type 0} where
           calls_are = calls_more es e ∙ ap (λ cs. cs ++ calls) run.started.calls_are;
           seats_are = seats_more past.first es e;
           each = subst (λ t. EachStartsAll caller n t past.first (es ++ e ∷ [])) goes (starts_more caller n (ops_of call.targets.now) past.first es e call.progress.items round.few
-              (subst (λ (seats : List Seated). (i : ℕ) → HasGrown (view_at seats i) (view_at new.seats.items i)) (sym run.started.seats_are) round.goes.grown) round.waited run.held run.started.each);
+              (subst (λ (seats : List Seated). (i : ℕ) → HasGrown (view_at seats i) (view_at new.seats.items i)) (sym run.started.seats_are) round.goes.grown) round.waited
+              (λ key op among asked. are_over cache (with_rounds past calls) new later between key op (subst (λ t. IsAmong t (key, op)) goes among) (either_later past.rounds calls key asked)) run.held run.started.each);
         };
         held = subst (λ t. HeldInEach caller n t past.first (es ++ e ∷ []) later.progress.items) goes
             (held_more caller n (ops_of call.targets.now) past.first es e later.progress.items
             (subst (λ (seats : List Seated). AreHeldBack (IsFull caller n (ops_of call.targets.now) seats new.seats.items (length (asked_in calls))) (length (ops_of call.targets.now)) caller n (ops_of call.targets.now) seats new.seats.items later.progress.items) (sym run.started.seats_are) round.held)
+            (subst (λ t. HaveNoStep caller n t new.seats.items later.progress.items) (sym goes) (have_none cache (with_rounds past calls) new later between))
             (held_less caller n (ops_of call.targets.now) past.first es old.seats.items new.seats.items call.progress.items later.progress.items round.goes run.held));
         first = first_more cache.config caller n (ops_of later.targets.now) [] es e (past.rounds ++ calls) past.first later.progress.items call.cause later.cause (ap (λ rs. rs ++ calls) run.started.calls_are) keeps
             between.on.under.so_far between.cause (subst (λ t. IsFirst caller n t [] es call.cause) goes run.first);

@@ -46,6 +46,7 @@ use Rattle.jc_stripe.specs.declared.ticket.Reservation.{Reservation}
 use Rattle.jc_cache.specs.Sessions.{IsOf}
 use Rattle.jc_rounds.specs.declared.targets.Targets.{Targets}
 use Rattle.jc_rounds.specs.KeyProgress.{IsMet}
+use Rattle.jc_rounds.specs.Lendings.{OnlyPhases}
 use Rattle.jc_rounds.specs.Recorded.{former_steps, steps_of}
 use Rattle.jc_rounds.specs.Seats.{HasGrown}
 use Rattle.jc_rounds.specs.SoFar.{AreHeldBack, is_due}
@@ -374,6 +375,7 @@ module _ {I J : Type 0} {D : I → Type 0} {E : J → Type 0} where
             joins_out = u.joins_out;
             so_far = record {
               grown = u.so_far.grown;
+              phases = u.so_far.phases;
               numbers = u.so_far.numbers;
               former = u.so_far.former;
               many = as_many refused_if_waiting ps ∙ u.so_far.many;
@@ -435,6 +437,8 @@ module _ {I J : Type 0} {D : I → Type 0} {E : J → Type 0} where
         record {
           targets_are = ops_are ops ps u.so_far.many over;
           grown = subst (λ (s : List Seated). (i : ℕ) → HasGrown (view_at s i) (view_at new.seats.items i)) first_is u.so_far.grown;
+          phases = subst (λ (s : List Seated). (i : ℕ) → OnlyPhases (next_call old).agent.caller (λ key. is_due n ops key i ≡ true) (view_at s i) (view_at new.seats.items i)) first_is
+              (subst (λ (c : Caller). (i : ℕ) → OnlyPhases c (λ key. is_due n ops key i ≡ true) (view_at past.first i) (view_at new.seats.items i)) caller_is u.so_far.phases);
           each = all_ended (λ key op ended. HasEnded cache.config (next_call old).agent.caller past.rounds (view_of n old.seats.items key) (view_of n new.seats.items key) key op ended) ops ps each;
           refused = all_ended (λ key op ended. ended ≡ Err HistoryFull → WasNearFull (next_call old).agent.caller (view_of n old.seats.items key) (view_of n new.seats.items key)) ops ps
               (λ i key op ended at there. refused_near cache.config (next_call old).agent.caller past.rounds (view_of n old.seats.items key) (view_of n new.seats.items key) key op ended (each i key op ended at there));

@@ -4,16 +4,16 @@
 --                    such an entry makes the call ask, and said this; or it shares another call's load, and no round asked for the key
 --     HasStep        of the call's steps at this key there is exactly one, with this operation and reply and with answers that it was told;
 --                    it is in the front, which is the whole history of the noted state, behind the former front
---     WasRefused     the seat has found the stripe, between these views, in a state in which the call might begin at this key, and this was its
---                    first refusal
+--     WasRefused     the seat has found the stripe, between these views, in a state in which the call might begin at this key and this was its
+--                    first refusal, and has left it so
 --     HasEnded       the key's end: the call has made its one step there; or it was refused, has none, and no round asked for the key; for want
 --                    of memory only after a round that asked outside
 --     IsAt           the key is so far: it has no step of the call yet, or has ended
 --     IsEarly        the call's number isn't the last one
 --     IsTicketFor    a reservation of the call for this key, which asks whom the operation asks first, in a cache of this shape
 --     IsJoinFor      a join of the call, a `Get`, at this key: a step of the call at the key may come after the former front
---     HasJoined      the seat has found the stripe, between these views, in a state in which the call might begin at this key, and joins another
---                    call's load
+--     HasJoined      the seat has found the stripe, between these views, in a state in which the call might begin at this key, and has left it
+--                    with a join of the call more, of another call's load
 --     IsHeldBack     between these views the key was put off, or has joined a load
 --     HasBegun       how far a first phase leaves the key; a refusal is that of the state that the view keeps
 --     IsCommitted    what a commit leaves: the call's one step at the key of its reservation, with these outside answers; the entry that
@@ -41,7 +41,7 @@ use Rattle.jc_stripe.specs.Generations.{whole_history, IsOfSameStripe}
 use Rattle.jc_stripe.specs.Reached.{IsReached}
 use Rattle.jc_stripe.specs.Refusals.{first_asked, first_refusal, last_number, load_joined, reserves}
 use Rattle.jc_stripe.specs.OwnSteps.{may_come_all}
-use Rattle.jc_stripe.specs.Phases.{MayBegin}
+use Rattle.jc_stripe.specs.Phases.{MayBegin, with_joiner}
 use Rattle.jc_stripe.specs.Tickets.{JoinClaim}
 use Rattle.jc_stripe.specs.declared.ticket.First.TheVariants.{Nobody}
 use Rattle.jc_stripe.specs.declared.ticket.Reservation.{Reservation}
@@ -91,7 +91,7 @@ pub record WasRefused (caller : Caller) (before after : View) (key : Bytes) (op 
   pub later : IsPrefix (whole_history seen) after.front
   pub next : seen.next ≤ after.noted.next
   pub same : IsOfSameStripe seen after.noted
-  pub found : HasFound before seen after
+  pub found : HasFound before seen seen after
   pub may : MayBegin seen caller key
   pub why : first_refusal seen caller key op ≡ Some refusal
 
@@ -134,9 +134,9 @@ pub record HasJoined (caller : Caller) (before after : View) (key : Bytes) (op :
   pub since : IsPrefix before.front (whole_history seen)
   pub later : IsPrefix (whole_history seen) after.front
   pub same : IsOfSameStripe seen after.noted
-  pub found : HasFound before seen after
-  pub may : MayBegin seen caller key
   pub load : ℕ
+  pub found : HasFound before seen (with_joiner seen (record { caller = caller; key = key; load = load })) after
+  pub may : MayBegin seen caller key
   pub why : load_joined seen key op ≡ Some load
 
 abbrev pub IsHeldBack : Caller → View → View → Bytes → Op → Type 0

@@ -1,4 +1,5 @@
 pub mod Recorded
+pub mod Lendings
 pub mod Seats
 pub mod Rounds
 pub mod Targets

@@ -1,5 +1,5 @@
 -- The rounds of a call, one after the other, and the call as a whole.
---     HeldInEach     each key that is held back now was put off in each of these rounds
+--     HeldInEach     each key that is held back now was put off in each of these rounds, and had no step of the call after it
 --     IsRound        one round of the session's current call, which has asked this outside, if it has asked: each key that it leaves waiting was
 --                    put off, and it has asked for keys that waited before it
 --     with_rounds    these rounds more
@@ -7,8 +7,9 @@
 --                    it met
 --     near_places    how many places of a history may be held by promises, and how many one step more needs
 --     IsNearFull     the present generation's history has hardly any place left, or a number has come to its end
---     WasNearFull    so was the stripe in a state in which the seat has found it between these views
---     IsCarriedOut   a session's next call, carried out for these keys, each of which ended in one way, in rounds that asked this outside
+--     WasNearFull    so was the stripe in a state in which the seat has found it between these views, and has left it
+--     IsCarriedOut   a session's next call, carried out for these keys, each of which ended in one way, in rounds that asked this outside; at
+--                    each stripe it has changed nothing but by phases at its keys there
 use Rattle.std.specs.Prelude.{◌≡◌, ◌≤◌, ◌<◌, ◌+◌, ◌*◌, ◌⊎◌, ◌++◌, ℕ, List, [], ◌∷◌, length, All, true, false, Some, Err, slice_get}
 use mathlib.Core.List.{IsPrefix}
 use Rattle.atomic_table.specs.Seated.{TableId}
@@ -33,10 +34,11 @@ use Rattle.jc_rounds.specs.Asking.{AsksEachOnce}
 use Rattle.jc_rounds.specs.Causes.{IsFirst}
 use Rattle.jc_rounds.specs.Ends.{KeyEnd, key_ops}
 use Rattle.jc_rounds.specs.Keys.{HasEnded}
+use Rattle.jc_rounds.specs.Lendings.{OnlyPhases}
 use Rattle.jc_rounds.specs.Recorded.{former_steps, steps_of}
 use Rattle.jc_rounds.specs.Rounds.{Round, asked_in}
 use Rattle.jc_rounds.specs.Seats.{HasFound, HasGrown, view_at, view_of}
-use Rattle.jc_rounds.specs.SoFar.{AreHeldBack, GoesOn, is_due}
+use Rattle.jc_rounds.specs.SoFar.{AreHeldBack, GoesOn, HaveNoStep, is_due}
 use Rattle.jc_rounds.specs.Starting.{AsksAtMostOnce, HasStartedAll, IsFull, RoundEnd}
 use Rattle.jc_rounds.specs.Targets.{ops_of}
 use Rattle.jc_rounds.specs.Underway.{IsBetween, Past}
@@ -47,7 +49,8 @@ module _ (caller : Caller) (stripes : ℕ) (targets : List (Bytes × Op)) where
   abbrev pub HeldInEach : List (TableId × View) → List RoundEnd → List Progress → Type 0
   HeldInEach old [] progress = Unit {0}
   HeldInEach old (e ∷ es) progress =
-      AreHeldBack (IsFull caller stripes targets old e.seats (length (asked_in e.calls))) (length targets) caller stripes targets old e.seats progress × HeldInEach e.seats es progress
+      AreHeldBack (IsFull caller stripes targets old e.seats (length (asked_in e.calls))) (length targets) caller stripes targets old e.seats progress
+      × HaveNoStep caller stripes targets e.seats progress × HeldInEach e.seats es progress
 
   -- `calls` is what it has asked outside
   pub record IsRound (old new : List (TableId × View)) (progress later : List Progress) (calls : List Round) : Type 0 where
@@ -79,13 +82,14 @@ pub record WasNearFull (caller : Caller) (before after : View) : Type 0 where
   pub same : IsOfSameStripe seen after.noted
   pub since : IsPrefix before.front (whole_history seen)
   pub later : IsPrefix (whole_history seen) after.front
-  pub found : HasFound before seen after
+  pub found : HasFound before seen seen after
   pub full : IsNearFull caller seen
 
 -- `old` and `new` are the session before and after
 pub record IsCarriedOut {I J : Type 0} {D : I → Type 0} {E : J → Type 0} (cache : CacheState) (old : Session I J D E) (targets : List (Bytes × Op)) (ends : List KeyEnd) (rounds : List Round) (new : Session I J D E) : Type 0 where
   pub targets_are : key_ops ends ≡ targets
   pub grown : (i : ℕ) → HasGrown (view_at old.seats.items i) (view_at new.seats.items i)
+  pub phases : (i : ℕ) → OnlyPhases (next_call old).agent.caller (λ key. is_due cache.config.stripes targets key i ≡ true) (view_at old.seats.items i) (view_at new.seats.items i)
   pub each : All (λ (e : KeyEnd). HasEnded cache.config (next_call old).agent.caller rounds (view_of cache.config.stripes old.seats.items e.key) (view_of cache.config.stripes new.seats.items e.key) e.key e.op e.ended) ends
   pub refused : All (λ (e : KeyEnd). e.ended ≡ Err HistoryFull → WasNearFull (next_call old).agent.caller (view_of cache.config.stripes old.seats.items e.key) (view_of cache.config.stripes new.seats.items e.key)) ends
   pub others : (key : Bytes) (i : ℕ) → is_due cache.config.stripes targets key i ≡ false → steps_of (next_call old).agent.caller key (view_at new.seats.items i).own ≡ []

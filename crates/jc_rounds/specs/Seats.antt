@@ -3,10 +3,10 @@
 --     view_of      that of the key's stripe, of so many stripes
 --     HasGrown     the front begins with the former one, the stripe is the same, its next reservation's number hasn't fallen, and a front
 --                  that is the whole history of the noted state stays so; there are these lendings more
---     HasFound     the seat has taken the stripe in this state, between these views
+--     HasFound     the seat has found the stripe in the first state and left it in the second one, in one lending between these views
 --     is_at        this is the key, and it is of the stripe with this number
 --     Moves        one phase of the call at this key: every front may have grown; what is said of any other key stays, and so do the steps
---                  of former calls
+--                  of former calls; it has changed nothing but by phases at this key
 --     AreBefore    the steps that the session has made are all of this call or of former ones
 use Rattle.std.specs.Prelude.{◌≡◌, ◌≤◌, ◌==◌, ◌&&◌, ℕ, zero, suc, List, [], ◌∷◌, ◌++◌, Bool, true, false}
 use Rattle.std.specs.Cmp.Lexicographic.{pointwise}
@@ -20,6 +20,7 @@ use Rattle.jc_stripe.specs.Generations.{IsOfSameStripe}
 use Rattle.jc_lock.specs.declared.view.View.{View}
 use Rattle.jc_lock.specs.Views.{spent_view}
 use Rattle.jc_cache.specs.Fronts.{HasAllSeen}
+use Rattle.jc_rounds.specs.Lendings.{OnlyPhases}
 use Rattle.jc_rounds.specs.Recorded.{steps_of, former_steps, are_before}
 
 abbrev pub view_at : List (TableId × View) → ℕ → View
@@ -38,9 +39,8 @@ pub record HasGrown (before after : View) : Type 0 where
   pub row : List (State × State)
   pub lendings : after.lendings ≡ before.lendings ++ row
 
-pub record HasFound (before : View) (seen : State) (after : View) : Type 0 where
+pub record HasFound (before : View) (seen left : State) (after : View) : Type 0 where
   pub earlier : List (State × State)
-  pub left : State
   pub since : List (State × State)
   pub lendings : after.lendings ≡ before.lendings ++ (earlier ++ (seen, left) ∷ since)
 
@@ -53,6 +53,7 @@ pub record Moves (caller : Caller) (stripes : ℕ) (key : Bytes) (old new : List
   pub others : (other : Bytes) (i : ℕ) → is_at stripes key other i ≡ false → steps_of caller other (view_at new i).own ≡ steps_of caller other (view_at old i).own
   pub former : (i : ℕ) → former_steps caller (view_at new i).own ≡ former_steps caller (view_at old i).own
   pub numbers : (i : ℕ) → are_before caller (view_at old i).own ≡ true → are_before caller (view_at new i).own ≡ true
+  pub phases : (i : ℕ) → OnlyPhases caller (λ other. is_at stripes key other i ≡ true) (view_at old i) (view_at new i)
 
 abbrev pub AreBefore : Caller → List (TableId × View) → Type 0
 AreBefore caller seats = (i : ℕ) → are_before caller (view_at seats i).own ≡ true

@@ -1,7 +1,8 @@
 -- A call with many keys, while it is under way.
 --     is_due        the key is one of the call's, and of the stripe with this number
 --     IsSoFar       what the session has seen since before the call: each key is so far, at its stripe; no other key has a step of the
---                   call, on any stripe; and the steps of former calls are as they were
+--                   call, on any stripe; the steps of former calls are as they were; and at each stripe the
+--                   call has changed nothing but by phases at its keys there
 --     AreIn         one of these for each key whose progress is such, in the order of the keys, and each fits its key
 --     IsUnderway    the session's current call, which has these reservations and joins out
 --     IsKept        what a first phase gave is kept: how far the key is, and what is out
@@ -9,6 +10,7 @@
 --     GoesOn        phases of the call: what has ended stays so, every front may have grown, and no other key is held back than was before
 --     IsHeldAt, AreHeldBack    a key that is held back, at this place, or at each before it, was put off between these views or has joined a
 --                   load; or it is as this says
+--     HaveNoStep    no key that is held back has a step of the call
 --     AreSettledFrom, AreUnder    no key from a place on is reserved or has joined a load; no key before a place is such
 use Rattle.std.specs.Prelude.{◌≡◌, ◌⊎◌, ◌==◌, ◌&&◌, ◌≤◌, ◌<◌, ◌++◌, ℕ, List, [], ◌∷◌, length, Bool, true, false, Some, Ok, Err, slice_get, MatchBool, if◌then◌else◌}
 use Rattle.std.specs.Map.{keys_of}
@@ -34,6 +36,7 @@ use Rattle.jc_rounds.specs.declared.progress.Progress.{Progress}
 use Rattle.jc_rounds.specs.declared.progress.Progress.TheVariants.{Waiting, Reserved, Joined, Ended}
 use Rattle.jc_rounds.specs.KeyProgress.{StayEnded, is_held_back, is_joined, is_reserved, is_settled}
 use Rattle.jc_rounds.specs.Keys.{IsAt, IsHeldBack, IsJoinFor, IsTicketFor}
+use Rattle.jc_rounds.specs.Lendings.{OnlyPhases}
 use Rattle.jc_rounds.specs.Recorded.{former_steps, steps_of}
 use Rattle.jc_rounds.specs.Rounds.{Round}
 use Rattle.jc_rounds.specs.Seats.{AreBefore, HasGrown, view_at, view_of}
@@ -44,6 +47,7 @@ is_due stripes targets key i = is_among (keys_of targets) key && (stripe_of key 
 -- `old` are the session's seats before the call, `stripes` is how many stripes there are
 pub record IsSoFar (config : Config) (caller : Caller) (stripes : ℕ) (targets : List (Bytes × Op)) (rounds : List Round) (old new : List (TableId × View)) (progress : List Progress) : Type 0 where
   pub grown : (i : ℕ) → HasGrown (view_at old i) (view_at new i)
+  pub phases : (i : ℕ) → OnlyPhases caller (λ key. is_due stripes targets key i ≡ true) (view_at old i) (view_at new i)
   pub numbers : AreBefore caller new
   pub former : (i : ℕ) → former_steps caller (view_at new i).own ≡ former_steps caller (view_at old i).own
   pub many : length progress ≡ length targets
@@ -100,3 +104,7 @@ IsHeldAt full place caller stripes targets old new progress = (key : Bytes) (op 
 
 abbrev pub AreHeldBack : Type 0 → ℕ → Caller → ℕ → List (Bytes × Op) → List (TableId × View) → List (TableId × View) → List Progress → Type 0
 AreHeldBack full end caller stripes targets old new progress = (place : ℕ) → place < end → IsHeldAt full place caller stripes targets old new progress
+
+abbrev pub HaveNoStep : Caller → ℕ → List (Bytes × Op) → List (TableId × View) → List Progress → Type 0
+HaveNoStep caller stripes targets seats progress = (place : ℕ) (key : Bytes) (op : Op) (p : Progress) → slice_get targets place ≡ Some (key, op) → slice_get progress place ≡ Some p → is_held_back p ≡ true
+    → steps_of caller key (view_of stripes seats key).own ≡ []

@@ -7,7 +7,9 @@
 --     RoundEnd        what a round has asked outside, if it has asked, and what the session has seen of each stripe after it
 --     calls_of        what these rounds have asked outside
 --     seats_after     what the session has seen after these rounds
---     EachStartsAll   each of these rounds starts all it can: each key that a later one asks for, it has put off
+--     StartsAll       a round starts all it can: each key that these later ones ask for, it has put off. It ends with a step of the call at
+--                     each key that it has asked for, and with none at those
+--     EachStartsAll   each of these rounds does so
 --     HasStartedAll   what a call has asked outside was asked in such rounds
 --     IsLeftAlone     none of the keys met another call's reservation or load, or a stripe with as many calls at work as may be
 --     AsksAtMostOnce  a call that was left alone, with no more keys than all stripes may have reserved, asks outside once, if at all
@@ -25,6 +27,7 @@ use Rattle.jc_lock.specs.declared.view.View.{View}
 use Rattle.jc_rounds.specs.declared.progress.Progress.{Progress}
 use Rattle.jc_rounds.specs.declared.progress.Progress.TheVariants.{Joined}
 use Rattle.jc_rounds.specs.Keys.{HasJoined, IsHeldBack}
+use Rattle.jc_rounds.specs.Recorded.{steps_of}
 use Rattle.jc_rounds.specs.Rounds.{Round, asked_in}
 use Rattle.jc_rounds.specs.Seats.{HasGrown, view_at, view_of}
 
@@ -61,12 +64,17 @@ module _ (caller : Caller) (stripes : ℕ) (targets : List (Bytes × Op)) where
   abbrev pub IsPutOff : ℕ → List (TableId × View) → List (TableId × View) → Bytes → Op → Type 0
   IsPutOff asked old new key op = IsFull caller stripes targets old new asked ⊎ IsHeldBack caller (view_of stripes old key) (view_of stripes new key) key op
 
+  -- `old` is what the session had seen before the round
+  pub record StartsAll (old : List (TableId × View)) (e : RoundEnd) (later : List Round) : Type 0 where
+    pub few : length e.calls ≤ 1
+    pub grown : (i : ℕ) → HasGrown (view_at old i) (view_at e.seats i)
+    pub ended : (key : Bytes) (op : Op) → IsAmong targets (key, op) → is_among (asked_in e.calls) key ≡ true → steps_of caller key (view_of stripes e.seats key).own ≡ [] → ⊥
+    pub no_step : (key : Bytes) (op : Op) → IsAmong targets (key, op) → is_among (asked_in later) key ≡ true → steps_of caller key (view_of stripes e.seats key).own ≡ []
+    pub put_off : (key : Bytes) (op : Op) → IsAmong targets (key, op) → is_among (asked_in later) key ≡ true → IsPutOff (length (asked_in e.calls)) old e.seats key op
+
   abbrev pub EachStartsAll : List (TableId × View) → List RoundEnd → Type 0
   EachStartsAll old [] = Unit {0}
-  EachStartsAll old (e ∷ es) =
-      (length e.calls ≤ 1) × ((i : ℕ) → HasGrown (view_at old i) (view_at e.seats i))
-      × ((key : Bytes) (op : Op) → IsAmong targets (key, op) → is_among (asked_in (calls_of es)) key ≡ true → IsPutOff (length (asked_in e.calls)) old e.seats key op)
-      × EachStartsAll e.seats es
+  EachStartsAll old (e ∷ es) = StartsAll old e (calls_of es) × EachStartsAll e.seats es
 
   pub record HasStartedAll (old new : List (TableId × View)) (rounds : List Round) : Type 0 where
     pub ends : List RoundEnd

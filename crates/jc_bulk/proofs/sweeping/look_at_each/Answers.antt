@@ -16,6 +16,7 @@ loop-number-init g c = (
   ap (list_all (λ k. nat_lt (stripe_of k c.args.cache.now.config.stripes) 0)) c.requires.empty,
   omega (arith, ap length c.requires.empty, c.args.keys.now.ok.0),
   refl,
+  λ i from. refl,
 )
 
 pub loop-number-preserved : goal.loop-number-preserved
@@ -28,10 +29,11 @@ loop-number-preserved g c =
     let found = look.looked.0 in
     let next = apart_next config.stripes i keys found c.look_at.new.keys.items look.looked.1 old.4 look.looked.4 old.3 look.looked.3 in (
       look.may,
-      looks_on c.args.session.now c.loop-number.session c.look_at.new.session old.1 look.looks,
-      looked_next i c.args.session.now.seats.items c.loop-number.session.seats.items c.look_at.new.session.seats.items keys c.look_at.new.keys.items found old.1.grown look.looks.grown old.2 look.looked.2 look.looked.1,
+      looks_on i c.args.session.now c.loop-number.session c.look_at.new.session (old.7 i (le_refl i)) look.others old.1 look.looks,
+      looked_next i c.args.session.now.seats.items c.loop-number.session.seats.items c.look_at.new.session.seats.items keys c.look_at.new.keys.items found (old.7 i (le_refl i)) look.others old.2 look.looked.2 look.looked.1,
       next.0,
       next.1,
       omega (arith, row_fits i config.capacity (i + 1) config.capacity (omega arith) (le_refl config.capacity), look.few, old.5),
       look.room ∙ old.6,
+      λ j from. look.others j (λ is. absurd (omega (arith, from, is))) ∙ old.7 j (omega (arith, from)),
     )

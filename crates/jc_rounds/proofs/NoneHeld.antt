@@ -1,0 +1,20 @@
+-- A key isn't held back between two views of a seat that has lent nothing between them.
+use Rattle.std.proofs.Common.{◌≡◌, inl, inr, ◌++◌, ◌∷◌, length, length-append, sym, ap, ◌∙◌, arith}
+use Rattle.jc_types.specs.declared.caller.Caller.{Caller}
+use Rattle.jc_model.specs.Cache.{Bytes}
+use Rattle.jc_model.specs.declared.event.Op.{Op}
+use Rattle.jc_stripe.specs.State.{State}
+use Rattle.jc_lock.specs.declared.view.View.{View}
+use Rattle.jc_rounds.specs.Keys.{IsHeldBack}
+use Rattle.jc_rounds.specs.Seats.{HasFound}
+
+none_found : (v w : View) (seen left : State) → w.lendings ≡ v.lendings → HasFound v seen left w → ⊥
+none_found v w seen left same was =
+    let n = ap length (sym same ∙ was.lendings) in
+    let a = length-append v.lendings (was.earlier ++ (seen, left) ∷ was.since) in
+    let b = length-append was.earlier ((seen, left) ∷ was.since) in
+    omega (arith, n, a, b)
+
+pub none_held : (caller : Caller) (v w : View) (key : Bytes) (op : Op) → w.lendings ≡ v.lendings → IsHeldBack caller v w key op → ⊥
+none_held caller v w key op same (inl was) = none_found v w was.2.seen was.2.seen same was.2.found
+none_held caller v w key op same (inr was) = none_found v w was.seen _ same was.found
