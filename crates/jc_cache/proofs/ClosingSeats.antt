@@ -365,9 +365,9 @@ pub handed_next : (n m : ℕ) (old all now : List Seated) (x seat after : Seated
     → HandedFrom m old all now → HandedFrom n old all (set now n after)
 handed_next n m old all now x seat after next here at joined done i = (
   (λ le. dite (ℕ_discrete i n)
-    (λ e. subst (λ (k : ℕ). lent_at (set now n after) k ≡ lent_at old k ++ lent_at all k) (sym e)
-    (lent_here now n seat after here ∙ joined
-    ∙ (λ j. (sym (lent_there now n seat here) ∙ (done n).1 (omega arith)) j ++ sym (lent_there all n x at) j)))
-    (λ ne. lent_other now n i after ne ∙ (done i).0 (omega arith))),
+      (λ e. subst (λ (k : ℕ). lent_at (set now n after) k ≡ lent_at old k ++ lent_at all k) (sym e)
+      (lent_here now n seat after here ∙ joined
+      ∙ (λ j. (sym (lent_there now n seat here) ∙ (done n).1 (omega arith)) j ++ sym (lent_there all n x at) j)))
+      (λ ne. lent_other now n i after ne ∙ (done i).0 (omega arith))),
   λ lt. lent_other now n i after (λ e. omega arith) ∙ (done i).1 (omega arith),
 )

@@ -118,9 +118,9 @@ pub idle_set : (old seats : List Seated) (i : ℕ) (x y : Seated) → KeepSeats 
 idle_set old seats i x y keeps idle at is k w z near first there =
     ⊎_elim
     (λ t.
-        let was = keep_at _ old seats i x keeps at in
-        let same : was.0 ≡ w = same_Some was.0 w (sym was.1 ∙ ap (slice_get old) (sym t.0) ∙ first) in
-        subst₂ (λ (a b : Seated). HasLastFound a.1.lendings b.1.lendings b.1.noted × IsIdle b.1.noted) same (sym t.1) (last_since was.0 x y.1.lendings y.1.noted was.2 is.0, is.1))
+    let was = keep_at _ old seats i x keeps at in
+    let same : was.0 ≡ w = same_Some was.0 w (sym was.1 ∙ ap (slice_get old) (sym t.0) ∙ first) in
+    subst₂ (λ (a b : Seated). HasLastFound a.1.lendings b.1.lendings b.1.noted × IsIdle b.1.noted) same (sym t.1) (last_since was.0 x y.1.lendings y.1.noted was.2 is.0, is.1))
     (λ t. idle k w z (omega (arith, t.0)) first t.1)
     (set_here seats i k x y z at there)
 

@@ -37,6 +37,6 @@ returns-clause-ok c =
     let i = c.loop-i.invariant in
     let long = length_locks _ _ (keep_locks _ _ _ i.keeps ∙ c.requires.locks) in
     idle_logs _ _ (λ k x y first there.
-        let near = slice_get_within _ k y there in
-        let past = c.loop-i-test.false in
-        i.idle k x y (omega arith) first there)
+    let near = slice_get_within _ k y there in
+    let past = c.loop-i-test.false in
+    i.idle k x y (omega arith) first there)

@@ -12,6 +12,6 @@ found_before v a f = record { reached = f.reached; front = f.front; next = f.nex
 pub returns-clause-still : goal.returns-clause-still
 returns-clause-still c = elim c.try_take.result as (λ o. IfNone o (c.try_take.new.seat ≡ (c.args.token.now.0, after_miss c.args.token.now.1))
     → IfNone o ((a : State) → Finds c.try_take.new.seat.1 a → Finds c.args.token.now.1 a)) [
-  None ↦ λ missed a f. found_before c.args.token.now.1 a (subst (λ seat. Finds seat.1 a) missed f)
-  | Some s ↦ λ missed. tt
-] c.try_take.ensures.none
+      | None ↦ λ missed a f. found_before c.args.token.now.1 a (subst (λ seat. Finds seat.1 a) missed f)
+      | Some s ↦ λ missed. tt
+    ] c.try_take.ensures.none
