@@ -9,7 +9,7 @@ use mathlib.Core.List.{IsPrefix}
 use Rattle.jc_types.specs.declared.limits.TheConstants.{LAST_NUMBER}
 use Rattle.jc_model.specs.declared.event.Event.{Event}
 use Rattle.jc_stripe.specs.State.{State, Generation}
-use Rattle.jc_stripe.specs.Generations.{past_events, present_generation, whole_history}
+use Rattle.jc_stripe.specs.Generations.{past_events, present_generation}
 use Rattle.jc_cache.specs.Generations.{GenerationsFollow}
 
 past_snoc : (gs : List Generation) (g : Generation) → past_events (gs ++ g ∷ []) ≡ past_events gs ++ g.history

@@ -11,12 +11,11 @@
 --     first_push, new_each     first seats at their locks
 use Rattle.std.proofs.Common.{◌≡◌, ◌∙◌, ◌⊎◌, ⊎_elim, inl, inr, ◌+◌, ◌<◌, ℕ, zero, suc, Bool, true, false, Some, List, [], ◌∷◌, ◌++◌, length, map, set, replicate, slice_get, option_map, refl, sym, ap, subst, subst₂, append_assoc, length-append, arith}
 use Rattle.std.proofs.lemmas.List.{length-map, map-append}
-use Rattle.std.proofs.lemmas.Option.{same_Some, none-some, slice_get-map, slice_get_within}
+use Rattle.std.proofs.lemmas.Option.{same_Some, none-some, slice_get-map}
 use Rattle.std.specs.List.{AllZip}
 use mathlib.Core.List.{IsPrefix}
 use Rattle.jc_types.specs.declared.config.Config.{Config}
 use Rattle.jc_types.specs.declared.refusal.Refusal.{Refusal}
-use Rattle.jc_types.specs.declared.refusal.Refusal.TheVariants.{Busy, StillReserved}
 use Rattle.jc_model.specs.Cache.{Bytes}
 use Rattle.jc_model.specs.declared.event.Event.{Event}
 use Rattle.jc_outside.specs.declared.done.Origin.{Origin}
@@ -32,8 +31,8 @@ use Rattle.jc_cache.specs.Caches.{noted_by, fronts_of, logs_of, stripes_opening}
 use Rattle.jc_cache.specs.CacheInside.{IsOwnSeat}
 use Rattle.jc_cache.specs.Closing.{AreIdle, HasLastFound, HasMissed, HasOnlyLooked, IsInUse}
 use Rattle.jc_cache.specs.ClosingInside.{KeepsSeat, KeepSeats, Looks, IsTakeRefusal, IsRowRefusal}
-use Rattle.jc_cache.proofs.ClosingSeats.{keep_at, keep_length}
-use Rattle.jc_cache.proofs.Rows.{Seated, map_get, push_get, seat_there}
+use Rattle.jc_cache.proofs.ClosingSeats.{keep_at}
+use Rattle.jc_cache.proofs.Rows.{Seated, map_get, push_get}
 
 -- 1. Places.
 

@@ -2,7 +2,7 @@
 --     got_value      a value was written there
 --     got_nothing    there is none
 --     got_error      the call has failed
-use Rattle.std.proofs.Common.{◌≡◌, true, false, Option, None, Some, Result, Ok, Err, ap, refl}
+use Rattle.std.proofs.Common.{◌≡◌, true, false, None, Some, Result, Ok, Err, ap, refl}
 use Rattle.jc_types.specs.declared.refusal.Refusal.{Refusal}
 use Rattle.jc_model.specs.Cache.{Bytes}
 use Rattle.jc_model.specs.declared.event.Reply.{Reply}

@@ -1,4 +1,4 @@
-use Rattle.std.proofs.Common.{◌∙◌, ap, length, rules, subst, sym}
+use Rattle.std.proofs.Common.{◌∙◌, ap, length, subst, sym}
 use Rattle.std.proofs.lemmas.List.{length-map}
 use Rattle.jc_cache.specs.Caches.{OwnerState}
 use Rattle.jc_cache.specs.Closing.{AreClosed}
