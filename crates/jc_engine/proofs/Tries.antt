@@ -7,7 +7,6 @@
 --     tried_twice    two of them
 --     made_again     a phase that was made at the second try
 --     tried_since    what is found after one try comes after what a take could have found before it
---     tried_as       what is so of each try, said of it otherwise
 use Rattle.std.proofs.Common.{◌≡◌, ⊎_elim, ℕ, List, [], ◌∷◌, ◌++◌, Bool, true, false, MatchBool, refl, sym, subst}
 use Rattle.std.proofs.lemmas.Bool.{true≢false}
 use Rattle.jc_stripe.specs.OnePhase.{IsPhaseOf}
@@ -17,7 +16,7 @@ use Rattle.jc_stripe.specs.Renewal.{is_renewable}
 use Rattle.jc_gate.specs.Lending.{ComesAfter}
 use Rattle.jc_engine.specs.Rows.{AllLend, IsLending, LentPhase, PhaseLaws, Row, turn_of}
 use Rattle.jc_engine.specs.Doors.{AreTries, HasTried, HasTriedOnce, IsAgain, IsLeft}
-use Rattle.jc_engine.proofs.Rows.{Keeps, Since, all_append, all_map, left_once, once, row_append, row_since, since_found}
+use Rattle.jc_engine.proofs.Rows.{Keeps, Since, all_append, left_once, once, row_append, row_since, since_found}
 
 -- 1. Tries until the phase is made.
 
@@ -94,6 +93,3 @@ module _ {G T : Type 0} (takes gives : G → T → State → G → T → Type 0)
       (λ missed. since_found takes gives finds session g t a (missed.0.2 a found))
       (λ x. row_since takes gives finds session law g t (x.0 ∷ []) h u (h, u, x.1, (refl, refl)) (keeps x.0.0 x.0.1 x.2, tt) a (since_found takes gives finds session h u a found))
       once
-
-  pub tried_as : (so : State → State → Type 0) → ((a b : State) → waits a b → so a b) → (g : G) (t : T) (h : G) (u : T) → Tried g t h u → HasTried takes gives finds misses session so g t h u
-  tried_as so leads g t h u x = record { row = x.row; gate = x.gate; token = x.token; lent = x.lent; missed = x.missed; none = x.none; waited = all_map waits so x.row leads x.waited; tries = x.tries }
