@@ -5,7 +5,7 @@
 --     closed         the same, and whose sessions were joined
 --     as_it_was, back, why_ended, why    an owner who is handed back, and why
 use Rattle.std.proofs.Common.{append_assoc, ◌++◌, append-nil, le_refl, ◌≡◌, ◌⊎◌, ⊎_elim, inl, inr, ◌∙◌, ◌<◌, ℕ, suc, List, [], ◌∷◌, length, Some, refl, sym, ap, subst, subst₂, arith}
-use Rattle.std.proofs.lemmas.Option.{same_Some, slice_get_within, get_or_from_slice_get}
+use Rattle.std.proofs.lemmas.Option.{slice_get_within, get_or_from_slice_get}
 use Rattle.std.proofs.lemmas.List.Concat.{flat_map-append}
 use Rattle.std.specs.FinMap.{from_entries}
 use Rattle.std.specs.List.{slice_get, All, AllZip}
@@ -21,12 +21,12 @@ use Rattle.jc_stripe.specs.Laws.{ReachedIsLegal}
 use Rattle.jc_stripe.specs.Generations.{IsChain, IsOfSameStripe}
 use Rattle.jc_lock.proofs.CallerLemmas.{prefix-refl, same_itself}
 use Rattle.jc_cache.specs.declared.session.Session.{Session}
-use Rattle.jc_cache.specs.Caches.{OwnerState, noted_by, fronts_of, logs_of}
+use Rattle.jc_cache.specs.Caches.{Log, OwnerState, log_of, noted_by, fronts_of, logs_of}
 use Rattle.jc_cache.specs.CacheInside.{IsOwnSeat, IsWhole}
-use Rattle.jc_cache.specs.Closing.{AreClosed, AreIdle, HasFront, HasMissed, IsInUse, HasOnlyLooked, HasOnlyTaken, IsTakenAs, all_lent, lent_at, IsClosed, IsClosedAt, IsCloseRefusal, IsEndRefusal, IsHandedBack}
+use Rattle.jc_cache.specs.Closing.{AreClosed, AreIdle, HasFront, HasMissed, IsInUse, HasOnlyLooked, HasTakenOver, IsTakenAs, all_lent, lent_at, IsClosed, IsClosedAt, IsCloseRefusal, IsEndRefusal, IsHandedBack}
 use Rattle.jc_cache.specs.ClosingInside.{KeepsSeat, KeepSeats, Looks, Whatever, IsFreeSeat, IsRowRefusal, HasTaken, HaveTaken}
-use Rattle.jc_cache.proofs.Rows.{Seated, length_locks, map_get, seat_there}
-use Rattle.jc_cache.proofs.Noted.{noted_there, handed_back}
+use Rattle.jc_cache.proofs.Rows.{Seated, length_locks, seat_there}
+use Rattle.jc_cache.proofs.Noted.{log_there, noted_there, handed_back}
 use Rattle.jc_cache.proofs.ClosingSeats.{keep_locks, keep_at, free_at, lent_there, taken_at}
 
 row_free : (seats : List Seated) → ((i : ℕ) (seat : Seated) → slice_get seats i ≡ Some seat → IsFreeSeat seat.1) → HaveTaken seats []
@@ -101,18 +101,16 @@ pub lent_more : {I J : Type 0} {D : I → Type 0} {E : J → Type 0} (sessions :
 lent_more {I} {J} {D} {E} sessions session i =
     flat_map-append (λ (s : Session I J D E). lent_at s.seats.items i) sessions (session ∷ []) ∙ ap (λ (ls : List (State × State)). all_lent sessions i ++ ls) (append-nil (lent_at session.seats.items i))
 
-pub only_taken : {I J : Type 0} {D : I → Type 0} {E : J → Type 0} (sessions : List (Session I J D E)) (logs : List (List (State × State) × ℕ)) (old mid new : List Seated) → logs ≡ logs_of old → KeepSeats Looks old mid → KeepSeats Whatever mid new
-    → ((i : ℕ) → lent_at new i ≡ lent_at mid i ++ all_lent sessions i) → (i : ℕ) (before : List (State × State) × ℕ) (seat : Seated) → slice_get logs i ≡ Some before → slice_get new i ≡ Some seat → HasOnlyTaken before (all_lent sessions i) seat
-only_taken {I} {J} {D} {E} sessions logs old mid new are looked joined handed i before seat there at =
+pub taken_over : {I J : Type 0} {D : I → Type 0} {E : J → Type 0} (sessions : List (Session I J D E)) (logs : List Log) (mid new : List Seated) → AreIdle logs (logs_of mid) → KeepSeats Whatever mid new
+    → ((i : ℕ) → lent_at new i ≡ lent_at mid i ++ all_lent sessions i) → (i : ℕ) (before : Log) (seat : Seated) → slice_get logs i ≡ Some before → slice_get new i ≡ Some seat → HasTakenOver before (all_lent sessions i) seat
+taken_over {I} {J} {D} {E} sessions logs mid new idle joined handed i before seat there at =
     let m = keep_at Whatever mid new i seat joined at in
-    let o = keep_at Looks old mid i m.0 looked m.1 in
-    let log = map_get (λ (s : Seated). (s.1.lendings, s.1.misses)) old i before (ap (λ (ls : List (List (State × State) × ℕ)). slice_get ls i) (sym are) ∙ there) in
-    let first : o.0.1.lendings ≡ before.0 = ap (λ (s : Seated). s.1.lendings) (same_Some o.0 log.0 (sym o.1 ∙ log.1)) ∙ sym (ap (λ (l : List (State × State) × ℕ). l.0) log.2) in
+    let looked = idle i before (log_of m.0.1) there (log_there mid i m.0 m.1) in
     record {
-      row = o.2.row;
-      lendings = sym (lent_there new i seat at) ∙ handed i ∙ ap (λ (ls : List (State × State)). ls ++ all_lent sessions i) (lent_there mid i m.0 m.1 ∙ o.2.lendings ∙ ap (λ (ls : List (State × State)). ls ++ o.2.row) first)
-          ∙ append_assoc before.0 o.2.row (all_lent sessions i);
-      looked = o.2.each;
+      found = looked.0;
+      lendings = sym (lent_there new i seat at) ∙ handed i ∙ ap (λ (ls : List (State × State)). ls ++ all_lent sessions i) (lent_there mid i m.0 m.1 ∙ looked.1.lendings)
+          ∙ append_assoc before.lendings ((looked.0, looked.0) ∷ []) (all_lent sessions i);
+      idle = looked.2;
     }
 
 pub closed : {I J : Type 0} {D : I → Type 0} {E : J → Type 0} (lends : State → State → Type 0) (owner : OwnerState) (own seats : List Seated) (stripes : List State) (sessions : List (Session I J D E)) → ReachedIsLegal
@@ -133,9 +131,9 @@ prefix_all : (fronts : List (List Event)) → AllZip IsPrefix fronts fronts
 prefix_all [] = tt
 prefix_all (front ∷ fronts) = (prefix-refl front, prefix_all fronts)
 
-logs_all : (logs : List (List (State × State) × ℕ)) → AllZip HasOnlyLooked logs logs
+logs_all : (logs : List Log) → AllZip HasOnlyLooked logs logs
 logs_all [] = tt
-logs_all (log ∷ logs) = (record { row = []; lendings = sym (append-nil log.0); looked = tt; misses = le_refl log.1 }, logs_all logs)
+logs_all (log ∷ logs) = (record { row = []; lendings = sym (append-nil log.lendings); looked = tt; misses = le_refl log.misses }, logs_all logs)
 
 pub as_it_was : (owner : OwnerState) → IsHandedBack owner owner
 as_it_was owner = record { cache = refl; given = refl; noted = same_all owner.noted; fronts = prefix_all owner.fronts; logs = logs_all owner.logs }

@@ -64,7 +64,7 @@ pub given_one : (owner : OwnerState) (cache : CacheState) (given : ℕ) (own new
 given_one owner cache given own new view is =
     let noted : noted_by new ≡ noted_by own = ap noted_by is ∙ noted_same after_split (λ v. refl) own in
     let fronts : fronts_of new ≡ fronts_of own = ap fronts_of is ∙ fronts_same after_split (λ v. refl) own in
-    let logs : logs_of new ≡ logs_of own = ap logs_of is ∙ logs_same after_split (λ v. refl) (λ v. refl) own in
+    let logs : logs_of new ≡ logs_of own = ap logs_of is ∙ logs_same after_split (λ v. refl) own in
     (λ j. record { cache = cache; given = given + 1; noted = noted j; fronts = fronts j; logs = logs j }) ∙ ap (λ (o : OwnerState). record o { given = o.given + 1 }) view
 
 -- 2. Who is refused.

@@ -3,13 +3,14 @@
 --     noted_push, fronts_push  a row with one more seat
 --     noted_same, fronts_same, logs_same  views that change in something else
 --     handed_back              the seats of a cache that was not closed
---     set_get, set_else        the seat that was set, and another one
---     idle_set, idle_logs, idle_since    the first seats, and all, have last found nothing out; since when
+--     log_there, log_at, logs_set    a seat's log; whose a log is; a row whose seat at one place is another one, with the same log
+--     set_get, set_else, rest_set    the seat that was set, and others
+--     idle_set, idle_logs      the first seats, and all, have looked once and found nothing out
 --     row_refusal, refusal_since    the stripe of one seat is not taken; since when
 --     opening_histories, opening_len, new_history, new_within    stripes in which nothing has happened: each history is empty; how
 --                              many there are; one of them
 --     first_push, new_each     first seats at their locks
-use Rattle.std.proofs.Common.{◌≡◌, ◌∙◌, ◌⊎◌, ⊎_elim, inl, inr, ◌+◌, ◌<◌, ℕ, zero, suc, Bool, true, false, Some, List, [], ◌∷◌, ◌++◌, length, map, set, replicate, slice_get, option_map, refl, sym, ap, subst, subst₂, append_assoc, length-append, arith}
+use Rattle.std.proofs.Common.{◌≡◌, ◌∙◌, ◌⊎◌, ⊎_elim, inl, inr, ◌+◌, ◌<◌, ◌≤◌, ℕ, zero, suc, Bool, true, false, Some, List, [], ◌∷◌, ◌++◌, length, map, set, replicate, slice_get, option_map, refl, sym, ap, subst, subst₂, append_assoc, length-append, le_refl, arith}
 use Rattle.std.proofs.lemmas.List.{length-map, map-append}
 use Rattle.std.proofs.lemmas.Option.{same_Some, none-some, slice_get-map}
 use Rattle.std.specs.List.{AllZip}
@@ -27,9 +28,9 @@ use Rattle.jc_stripe.specs.Reopening.{kept, opened_stripe, opened_stripes}
 use Rattle.jc_stripe.proofs.CallerLemmas.{opened_len}
 use Rattle.jc_lock.specs.Views.{first_view}
 use Rattle.jc_lock.specs.declared.view.View.{View}
-use Rattle.jc_cache.specs.Caches.{noted_by, fronts_of, logs_of, stripes_opening}
+use Rattle.jc_cache.specs.Caches.{Log, log_of, noted_by, fronts_of, logs_of, stripes_opening}
 use Rattle.jc_cache.specs.CacheInside.{IsOwnSeat}
-use Rattle.jc_cache.specs.Closing.{AreIdle, HasLastFound, HasMissed, HasOnlyLooked, IsInUse}
+use Rattle.jc_cache.specs.Closing.{AreIdle, HasLastFound, HasLookedOnce, HasMissed, HasOnlyLooked, IsInUse}
 use Rattle.jc_cache.specs.ClosingInside.{KeepsSeat, KeepSeats, Looks, IsTakeRefusal, IsRowRefusal}
 use Rattle.jc_cache.proofs.ClosingSeats.{keep_at}
 use Rattle.jc_cache.proofs.Rows.{Seated, map_get, push_get}
@@ -62,9 +63,9 @@ pub fronts_same : (f : View → View) → ((v : View) → (f v).front ≡ v.fron
 fronts_same f same [] = refl
 fronts_same f same (seat ∷ seats) = let head = same seat.1 in let tail = fronts_same f same seats in λ j. head j ∷ tail j
 
-pub logs_same : (f : View → View) → ((v : View) → (f v).lendings ≡ v.lendings) → ((v : View) → (f v).misses ≡ v.misses) → (seats : List Seated) → logs_of (map (λ (seat : Seated). (seat.0, f seat.1)) seats) ≡ logs_of seats
-logs_same f lendings misses [] = refl
-logs_same f lendings misses (seat ∷ seats) = let one = lendings seat.1 in let two = misses seat.1 in let tail = logs_same f lendings misses seats in λ j. (one j, two j) ∷ tail j
+pub logs_same : (f : View → View) → ((v : View) → log_of (f v) ≡ log_of v) → (seats : List Seated) → logs_of (map (λ (seat : Seated). (seat.0, f seat.1)) seats) ≡ logs_of seats
+logs_same f same [] = refl
+logs_same f same (seat ∷ seats) = let head = same seat.1 in let tail = logs_same f same seats in λ j. head j ∷ tail j
 
 pub handed_back : (old new : List Seated) → KeepSeats Looks old new → AllZip IsOfSameStripe (noted_by old) (noted_by new) × AllZip IsPrefix (fronts_of old) (fronts_of new) × AllZip HasOnlyLooked (logs_of old) (logs_of new)
 handed_back [] [] keeps = (tt, tt, tt)
@@ -79,11 +80,16 @@ set_get [] i x y at = absurd (none-some x at)
 set_get (a ∷ seats) zero x y at = refl
 set_get (a ∷ seats) (suc i) x y at = set_get seats i x y at
 
-log_there : (seats : List Seated) (i : ℕ) (seat : Seated) → slice_get seats i ≡ Some seat → slice_get (logs_of seats) i ≡ Some (seat.1.lendings, seat.1.misses)
-log_there seats i seat at = slice_get-map (λ (s : Seated). (s.1.lendings, s.1.misses)) seats i ∙ ap (option_map (λ (s : Seated). (s.1.lendings, s.1.misses))) at
+pub log_there : (seats : List Seated) (i : ℕ) (seat : Seated) → slice_get seats i ≡ Some seat → slice_get (logs_of seats) i ≡ Some (log_of seat.1)
+log_there seats i seat at = slice_get-map (λ (s : Seated). log_of s.1) seats i ∙ ap (option_map (λ (s : Seated). log_of s.1)) at
 
-log_at : (seats : List Seated) (i : ℕ) (log : List (State × State) × ℕ) → slice_get (logs_of seats) i ≡ Some log → (seat : Seated) × (slice_get seats i ≡ Some seat) × (log ≡ (seat.1.lendings, seat.1.misses))
-log_at seats i log at = map_get (λ (s : Seated). (s.1.lendings, s.1.misses)) seats i log at
+pub log_at : (seats : List Seated) (i : ℕ) (log : Log) → slice_get (logs_of seats) i ≡ Some log → (seat : Seated) × (slice_get seats i ≡ Some seat) × (log ≡ log_of seat.1)
+log_at seats i log at = map_get (λ (s : Seated). log_of s.1) seats i log at
+
+pub logs_set : (seats : List Seated) (i : ℕ) (x y : Seated) → slice_get seats i ≡ Some x → log_of y.1 ≡ log_of x.1 → logs_of (set seats i y) ≡ logs_of seats
+logs_set [] i x y at is = absurd (none-some x at)
+logs_set (a ∷ seats) zero x y at is = ap (λ (log : Log). log ∷ logs_of seats) (is ∙ ap (λ (s : Seated). log_of s.1) (sym (same_Some a x at)))
+logs_set (a ∷ seats) (suc i) x y at is = ap (λ (logs : List Log). log_of a.1 ∷ logs) (logs_set seats i x y at is)
 
 -- what a seat has last found since later, it has last found since earlier
 last_since : {lends : State → State → Type 0} (x y : Seated) (after : List (State × State)) (found : State) → KeepsSeat lends x y → HasLastFound y.1.lendings after found → HasLastFound x.1.lendings after found
@@ -95,9 +101,13 @@ last_since x y after found keeps last = record {
       ∙ ap (λ (ls : List (State × State)). x.1.lendings ++ ls) (sym (append_assoc keeps.row last.earlier ((found, found) ∷ [])));
 }
 
--- the first seats have last found nothing out
+-- the first seats have looked once, and have found nothing out
 abbrev pub AreIdleBelow : ℕ → List Seated → List Seated → Type 0
-AreIdleBelow n old new = (k : ℕ) (x y : Seated) → k < n → slice_get old k ≡ Some x → slice_get new k ≡ Some y → HasLastFound x.1.lendings y.1.lendings y.1.noted × IsIdle y.1.noted
+AreIdleBelow n old new = (k : ℕ) (x y : Seated) → k < n → slice_get old k ≡ Some x → slice_get new k ≡ Some y → HasLookedOnce (log_of x.1) (log_of y.1) y.1.noted × IsIdle y.1.noted
+
+-- the others are as they were
+abbrev pub AreAsBefore : ℕ → List Seated → List Seated → Type 0
+AreAsBefore n old new = (k : ℕ) → n ≤ k → slice_get new k ≡ slice_get old k
 
 set_here : (seats : List Seated) (i k : ℕ) (x y z : Seated) → slice_get seats i ≡ Some x → slice_get (set seats i y) k ≡ Some z → ((k ≡ i) × (z ≡ y)) ⊎ ((k ≡ i → ⊥) × (slice_get seats k ≡ Some z))
 set_here [] i k x y z at there = absurd (none-some x at)
@@ -113,46 +123,32 @@ set_else (a ∷ seats) zero (suc k) y ne = refl
 set_else (a ∷ seats) (suc i) zero y ne = refl
 set_else (a ∷ seats) (suc i) (suc k) y ne = set_else seats i k y (λ e. ne (ap suc e))
 
-pub idle_set : (old seats : List Seated) (i : ℕ) (x y : Seated) → KeepSeats Looks old seats → AreIdleBelow i old seats → slice_get seats i ≡ Some x → HasLastFound x.1.lendings y.1.lendings y.1.noted × IsIdle y.1.noted → AreIdleBelow (i + 1) old (set seats i y)
-idle_set old seats i x y keeps idle at is k w z near first there =
+pub rest_set : (old seats : List Seated) (i : ℕ) (y : Seated) → AreAsBefore i old seats → AreAsBefore (i + 1) old (set seats i y)
+rest_set old seats i y rest k le = set_else seats i k y (λ e. omega arith) ∙ rest k (omega arith)
+
+pub idle_set : (old seats : List Seated) (i : ℕ) (x y : Seated) → AreAsBefore i old seats → AreIdleBelow i old seats → slice_get seats i ≡ Some x → HasLookedOnce (log_of x.1) (log_of y.1) y.1.noted × IsIdle y.1.noted → AreIdleBelow (i + 1) old (set seats i y)
+idle_set old seats i x y rest idle at is k w z near first there =
     ⊎_elim
     (λ t.
-    let was = keep_at _ old seats i x keeps at in
-    let same : was.0 ≡ w = same_Some was.0 w (sym was.1 ∙ ap (slice_get old) (sym t.0) ∙ first) in
-    subst₂ (λ (a b : Seated). HasLastFound a.1.lendings b.1.lendings b.1.noted × IsIdle b.1.noted) same (sym t.1) (last_since was.0 x y.1.lendings y.1.noted was.2 is.0, is.1))
+    let same : x ≡ w = same_Some x w (sym at ∙ rest i (le_refl i) ∙ ap (slice_get old) (sym t.0) ∙ first) in
+    subst₂ (λ (a b : Seated). HasLookedOnce (log_of a.1) (log_of b.1) b.1.noted × IsIdle b.1.noted) same (sym t.1) is)
     (λ t. idle k w z (omega (arith, t.0)) first t.1)
     (set_here seats i k x y z at there)
 
-pub idle_logs : (old new : List Seated) → ((k : ℕ) (x y : Seated) → slice_get old k ≡ Some x → slice_get new k ≡ Some y → HasLastFound x.1.lendings y.1.lendings y.1.noted × IsIdle y.1.noted) → AreIdle (logs_of old) (logs_of new)
+pub idle_logs : (old new : List Seated) → ((k : ℕ) (x y : Seated) → slice_get old k ≡ Some x → slice_get new k ≡ Some y → HasLookedOnce (log_of x.1) (log_of y.1) y.1.noted × IsIdle y.1.noted) → AreIdle (logs_of old) (logs_of new)
 idle_logs old new idle i before after there at =
     let x = log_at old i before there in
     let y = log_at new i after at in
-    let found = idle i x.0 y.0 x.1 y.1 in (
-      y.0.1.noted,
-      subst₂ (λ (b a : List (State × State) × ℕ). HasLastFound b.0 a.0 y.0.1.noted) (sym x.2) (sym y.2) found.0,
-      found.1,
-    )
-
-pub idle_since : (old mid new : List Seated) → KeepSeats Looks old mid → KeepSeats Looks mid new → AreIdle (logs_of mid) (logs_of new) → AreIdle (logs_of old) (logs_of new)
-idle_since old mid new first keeps idle i before after there at =
-    let x = log_at old i before there in
-    let y = log_at new i after at in
-    let m = keep_at _ mid new i y.0 keeps y.1 in
-    let o = keep_at _ old mid i m.0 first m.1 in
-    let found = idle i (m.0.1.lendings, m.0.1.misses) after (log_there mid i m.0 m.1) at in
-    let same : o.0 ≡ x.0 = same_Some o.0 x.0 (sym o.1 ∙ x.1) in (
-      found.0,
-      subst (λ (ls : List (State × State)). HasLastFound ls after.0 found.0) (ap (λ (s : Seated). s.1.lendings) same ∙ sym (ap (λ (l : List (State × State) × ℕ). l.0) x.2)) (last_since o.0 m.0 after.0 found.0 o.2 found.1),
-      found.2,
-    )
+    let found = idle i x.0 y.0 x.1 y.1 in
+    (y.0.1.noted, subst₂ (λ (b a : Log). HasLookedOnce b a y.0.1.noted) (sym x.2) (sym y.2) found.0, found.1)
 
 -- the stripe of the seat at one place isn't taken
 pub row_refusal : (old seats new : List Seated) (i : ℕ) (x y : Seated) (refusal : Refusal) → KeepSeats Looks old seats → slice_get seats i ≡ Some x → slice_get new i ≡ Some y → IsTakeRefusal refusal x.1 y.1 → IsRowRefusal refusal old new
 row_refusal old seats new i x y refusal keeps at now why =
     let was = keep_at _ old seats i x keeps at in
     ⊎_elim
-    (λ t. inl (t.0, (i, (was.0.1.lendings, was.0.1.misses), (y.1.lendings, y.1.misses), log_there old i was.0 was.1, log_there new i y now, (y.1.noted, last_since was.0 x y.1.lendings y.1.noted was.2 t.1, t.2))))
-    (λ t. inr (t.0, (i, (was.0.1.lendings, was.0.1.misses), (y.1.lendings, y.1.misses), log_there old i was.0 was.1, log_there new i y now, (let one = was.2.misses in let two = t.1 in omega arith))))
+    (λ t. inl (t.0, (i, log_of was.0.1, log_of y.1, log_there old i was.0 was.1, log_there new i y now, (y.1.noted, last_since was.0 x y.1.lendings y.1.noted was.2 t.1, t.2))))
+    (λ t. inr (t.0, (i, log_of was.0.1, log_of y.1, log_there old i was.0 was.1, log_there new i y now, (let one = was.2.misses in let two = t.1 in omega arith))))
     why
 
 pub refusal_since : (old mid new : List Seated) (refusal : Refusal) → KeepSeats Looks old mid → IsRowRefusal refusal mid new → IsRowRefusal refusal old new
@@ -162,15 +158,15 @@ refusal_since old mid new refusal keeps why = ⊎_elim (λ out. inl (out.0, used
     used_since u =
         let seat = log_at mid u.0 u.1 u.3 in
         let was = keep_at _ old mid u.0 seat.0 keeps seat.1 in
-        let last = subst (λ (ls : List (State × State)). HasLastFound ls u.2.0 u.5.0) (ap (λ (l : List (State × State) × ℕ). l.0) seat.2) u.5.1 in
-        (u.0, (was.0.1.lendings, was.0.1.misses), u.2, log_there old u.0 was.0 was.1, u.4, (u.5.0, last_since was.0 seat.0 u.2.0 u.5.0 was.2 last, u.5.2))
+        let last = subst (λ (log : Log). HasLastFound log.lendings u.2.lendings u.5.0) seat.2 u.5.1 in
+        (u.0, log_of was.0.1, u.2, log_there old u.0 was.0 was.1, u.4, (u.5.0, last_since was.0 seat.0 u.2.lendings u.5.0 was.2 last, u.5.2))
 
     missed_since : HasMissed (logs_of mid) (logs_of new) → HasMissed (logs_of old) (logs_of new)
     missed_since m =
         let seat = log_at mid m.0 m.1 m.3 in
         let was = keep_at _ old mid m.0 seat.0 keeps seat.1 in
-        let counted : m.1.1 ≡ seat.0.1.misses = ap (λ (l : List (State × State) × ℕ). l.1) seat.2 in
-        (m.0, (was.0.1.lendings, was.0.1.misses), m.2, log_there old m.0 was.0 was.1, m.4, (let one = m.5 in let two = was.2.misses in omega arith))
+        let counted : m.1.misses ≡ seat.0.1.misses = ap (λ (log : Log). log.misses) seat.2 in
+        (m.0, log_of was.0.1, m.2, log_there old m.0 was.0 was.1, m.4, (let one = m.5 in let two = was.2.misses in omega arith))
 
 -- 4. Stripes in which nothing has happened.
 

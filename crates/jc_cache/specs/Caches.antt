@@ -2,9 +2,10 @@
 --     CacheState        a cache: its shape, and which locks its stripes are under, by their numbers
 --     noted_by          the states of the stripes that a row of seats has noted
 --     fronts_of         what they have seen of the histories
---     logs_of           their lendings, and how often each of them has missed
+--     Log, log_of       the lendings of a seat, and how often it tried and found its stripe held
+--     logs_of           those of a row of seats
 --     OwnerState        who owns a cache: the cache, how many sessions it has given out, and of each stripe what the owner's own seat
---                       has noted, and what it has seen of the history
+--                       has noted, what it has seen of the history, and its log
 --     stripes_opening   the stripes of a cache that opens with these entries, in this shape, and lives on or doesn't
 --     OpensWith         a cache that has just been opened so: no session was given out, each stripe has what it keeps of the entries,
 --                       and nothing has happened in it
@@ -35,15 +36,22 @@ noted_by seats = map (λ (seat : TableId × View). seat.1.noted) seats
 abbrev pub fronts_of : List (TableId × View) → List (List Event)
 fronts_of seats = map (λ (seat : TableId × View). seat.1.front) seats
 
-abbrev pub logs_of : List (TableId × View) → List (List (State × State) × ℕ)
-logs_of seats = map (λ (seat : TableId × View). (seat.1.lendings, seat.1.misses)) seats
+pub record Log : Type 0 where
+  pub lendings : List (State × State)
+  pub misses : ℕ
+
+abbrev pub log_of : View → Log
+log_of view = record { lendings = view.lendings; misses = view.misses }
+
+abbrev pub logs_of : List (TableId × View) → List Log
+logs_of seats = map (λ (seat : TableId × View). log_of seat.1) seats
 
 pub record OwnerState : Type 0 where
   pub cache : CacheState
   pub given : ℕ
   pub noted : List State  -- stripe by stripe, as its own seat found it last, or as the stripe was opened
   pub fronts : List (List Event)
-  pub logs : List (List (State × State) × ℕ)  -- the lendings of each own seat, and its misses
+  pub logs : List Log
 
 abbrev pub stripes_opening : Bool → Config → List (Bytes × Bytes) → List State
 stripes_opening false config entries = opened_stripes config Live entries 0 config.stripes

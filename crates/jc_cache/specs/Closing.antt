@@ -3,19 +3,21 @@
 --                    then, and its first generation opened with the same entries; each generation left what the next one opened with, the
 --                    last one's history is legal from its opening and leads to the stripe's entries; nothing is out, its outside answers
 --                    were live, and it has no step of a session that was never given out
+--     HasLookedOnce  an own seat has taken its stripe in this state once, and given it back as it was
+--     AreIdle        so has each, and nothing was out there
 --     HasFront       a session has seen no more of each stripe than is in its whole history
 --     AreClosed      the stripes of a closed cache, each from the opening that its owner has noted
 --     IsClosed       a cache is closed: its stripes, and that each session handed in has seen no more of them
 --     HasClosed      the same, and what sessions have brought comes back, in the order of the sessions
 --     IsTakenAs      an own seat has taken its stripe in this state, and not given it back
 --     lent_at, all_lent    the lendings of a session's seat at a stripe, and of all these sessions
---     HasOnlyTaken   an own seat has only looked before it took its stripe; behind that it has what the sessions have lent, all of it
---     HasEnded       a cache was ended without its sessions: its stripes alone; its own seats have only looked before they took them, and gave
---                    no session out
+--     HasTakenOver   an own seat has looked at its stripe once before it took it, and found nothing out; behind that it has what the sessions
+--                    have lent, all of it
+--     HasEnded       a cache was ended without its sessions: its stripes alone; each own seat has looked once before it took its stripe, and
+--                    gave no session out
 --     HasOnlyLooked  an own seat has taken its stripe and given it back as it was, as often as this
 --     HasLastFound   of its lendings since then there is a last one, which found the stripe in this state and left it so
 --     IsInUse        one of these seats has last found its stripe with a reservation or a join out
---     AreIdle        each of these seats has last found its stripe with nothing out
 --     HasMissed      one of these seats has found its stripe held by somebody else
 --     IsHandedBack   an owner who could not close the cache owns it as before; its seats may have noted and seen more of the stripes
 --     IsEndRefusal   why stripes are not taken from a cache: an own seat has last found something out at its stripe; each has found nothing
@@ -42,7 +44,7 @@ use Rattle.jc_stripe.specs.Renewal.{all_own_steps}
 use Rattle.jc_lock.specs.declared.view.View.{View}
 use Rattle.jc_engine.specs.Rows.{AllLend}
 use Rattle.jc_cache.specs.declared.session.Session.{Session}
-use Rattle.jc_cache.specs.Caches.{OwnerState, logs_of}
+use Rattle.jc_cache.specs.Caches.{Log, OwnerState, logs_of}
 
 -- 1. A cache that is closed.
 
@@ -62,11 +64,19 @@ abbrev pub HasFront : List State → List (TableId × View) → Type 0
 HasFront stripes seats = (i : ℕ) (state : State) (seat : TableId × View) → slice_get stripes i ≡ Some state → slice_get seats i ≡ Some seat → IsPrefix seat.1.front (whole_history state)
 
 -- `before` and `after` are the log of an own seat
-pub record HasOnlyLooked (before after : List (State × State) × ℕ) : Type 0 where
+pub record HasOnlyLooked (before after : Log) : Type 0 where
   pub row : List (State × State)
-  pub lendings : after.0 ≡ before.0 ++ row
+  pub lendings : after.lendings ≡ before.lendings ++ row
   pub looked : AllLend (λ found left. left ≡ found) row
-  pub misses : before.1 ≤ after.1
+  pub misses : before.misses ≤ after.misses
+
+pub record HasLookedOnce (before after : Log) (found : State) : Type 0 where
+  pub lendings : after.lendings ≡ before.lendings ++ (found, found) ∷ []
+  pub misses : after.misses ≡ before.misses
+
+-- `old` and `new` are the logs of the own seats
+abbrev pub AreIdle : (old new : List Log) → Type 0
+AreIdle old new = (i : ℕ) (before after : Log) → slice_get old i ≡ Some before → slice_get new i ≡ Some after → (found : State) × HasLookedOnce before after found × IsIdle found
 
 pub record IsTakenAs (seat : TableId × View) (state : State) : Type 0 where
   pub holds : seat.1.holds ≡ true
@@ -91,22 +101,22 @@ abbrev pub all_lent : {I J : Type 0} {D : I → Type 0} {E : J → Type 0} → L
 all_lent {I} {J} {D} {E} sessions i = flat_map (λ (session : Session I J D E). lent_at session.seats.items i) sessions
 
 -- `before` is the log of an own seat, `brought` what sessions have lent
-pub record HasOnlyTaken (before : List (State × State) × ℕ) (brought : List (State × State)) (seat : TableId × View) : Type 0 where
-  pub row : List (State × State)
-  pub lendings : seat.1.lendings ≡ before.0 ++ (row ++ brought)
-  pub looked : AllLend (λ found left. left ≡ found) row
+pub record HasTakenOver (before : Log) (brought : List (State × State)) (seat : TableId × View) : Type 0 where
+  pub found : State
+  pub lendings : seat.1.lendings ≡ before.lendings ++ (found, found) ∷ brought
+  pub idle : IsIdle found
 
 pub record HasClosed {I J : Type 0} {D : I → Type 0} {E : J → Type 0} (owner : OwnerState) (sessions : List (Session I J D E)) (stripes : List State) (brought : List (Outside I J D E)) (seats : List (TableId × View)) (says : Bool) : Type 0 where
   pub closed : IsClosed owner sessions stripes
   pub taken : AllZip IsTakenAs seats stripes
   pub gave_none : (i : ℕ) (seat : TableId × View) → slice_get seats i ≡ Some seat → seat.1.next_session ≡ Some owner.given
-  pub lent : (i : ℕ) (before : List (State × State) × ℕ) (seat : TableId × View) → slice_get owner.logs i ≡ Some before → slice_get seats i ≡ Some seat → HasOnlyTaken before (all_lent sessions i) seat
+  pub lent : (i : ℕ) (before : Log) (seat : TableId × View) → slice_get owner.logs i ≡ Some before → slice_get seats i ≡ Some seat → HasTakenOver before (all_lent sessions i) seat
   pub outside : brought ≡ map (λ (session : Session I J D E). session.agent.hands.outside) sessions
   pub legal : says ≡ true
 
 pub record HasEnded {I J : Type 0} {D : I → Type 0} {E : J → Type 0} (owner : OwnerState) (stripes : List State) (brought : List (Outside I J D E)) (seats : List (TableId × View)) (says : Bool) : Type 0 where
   pub closed : AreClosed owner stripes
-  pub looked : AllZip HasOnlyLooked owner.logs (logs_of seats)
+  pub looked : AreIdle owner.logs (logs_of seats)
   pub taken : AllZip IsTakenAs seats stripes
   pub gave_none : (i : ℕ) (seat : TableId × View) → slice_get seats i ≡ Some seat → seat.1.next_session ≡ Some owner.given
   pub outside : brought ≡ []
@@ -118,17 +128,12 @@ pub record HasLastFound (before after : List (State × State)) (found : State) :
   pub earlier : List (State × State)
   pub lendings : after ≡ before ++ (earlier ++ (found, found) ∷ [])
 
--- `old` and `new` are the logs of the own seats
-abbrev pub IsInUse : (old new : List (List (State × State) × ℕ)) → Type 0
-IsInUse old new = (i : ℕ) × (before : List (State × State) × ℕ) × (after : List (State × State) × ℕ) × (slice_get old i ≡ Some before) × (slice_get new i ≡ Some after)
-    × ((found : State) × HasLastFound before.0 after.0 found × (IsIdle found → ⊥))
+abbrev pub IsInUse : (old new : List Log) → Type 0
+IsInUse old new = (i : ℕ) × (before : Log) × (after : Log) × (slice_get old i ≡ Some before) × (slice_get new i ≡ Some after)
+    × ((found : State) × HasLastFound before.lendings after.lendings found × (IsIdle found → ⊥))
 
-abbrev pub AreIdle : (old new : List (List (State × State) × ℕ)) → Type 0
-AreIdle old new = (i : ℕ) (before after : List (State × State) × ℕ) → slice_get old i ≡ Some before → slice_get new i ≡ Some after
-    → (found : State) × HasLastFound before.0 after.0 found × IsIdle found
-
-abbrev pub HasMissed : List (List (State × State) × ℕ) → List (List (State × State) × ℕ) → Type 0
-HasMissed old new = (i : ℕ) × (before : List (State × State) × ℕ) × (after : List (State × State) × ℕ) × (slice_get old i ≡ Some before) × (slice_get new i ≡ Some after) × (before.1 < after.1)
+abbrev pub HasMissed : (old new : List Log) → Type 0
+HasMissed old new = (i : ℕ) × (before : Log) × (after : Log) × (slice_get old i ≡ Some before) × (slice_get new i ≡ Some after) × (before.misses < after.misses)
 
 pub record IsHandedBack (owner left : OwnerState) : Type 0 where
   pub cache : left.cache ≡ owner.cache

@@ -257,7 +257,8 @@ fn take_stripes(
     requires { OwnsSeats locks.now own.old.items [] }
     ensures keeps { KeepSeats Looks own.old.items own.new.items }
     ensures ok { IfOk result (λ r. HaveTaken own.new.items r.0.items
-        × (length r.0.items ≡ length own.new.items)) }
+        × (length r.0.items ≡ length own.new.items)
+        × AreIdle (logs_of own.old.items) (logs_of own.new.items)) }
     ensures room { IfOk result (λ r. (r.1.items ≡ []) × (sessions ≤ vec_capacity r.1)) }
     ensures err { IfErr result (λ r. HaveTaken own.new.items []
         × (IsRowRefusal r own.old.items own.new.items ⊎ ((r ≡ OutOfMemory)

@@ -5,8 +5,8 @@ ghost use Rattle.std.specs.Prelude.{ℕ, ◌≡◌, ◌≤◌, ◌+◌, ◌++◌
 ghost use Rattle.atomic_table.specs.Seated.{TableId};
 ghost use Rattle.jc_stripe.specs.State.{IsIdle};
 ghost use Rattle.jc_lock.specs.declared.view.View.{View};
-ghost use Rattle.jc_cache.specs.Caches.{logs_of};
-ghost use Rattle.jc_cache.specs.Closing.{AreIdle, HasFront, HasLastFound, all_lent, lent_at};
+ghost use Rattle.jc_cache.specs.Caches.{log_of, logs_of};
+ghost use Rattle.jc_cache.specs.Closing.{AreIdle, HasFront, HasLookedOnce, all_lent, lent_at};
 ghost use Rattle.jc_cache.specs.ClosingInside.{AreAtLocks, HasTaken, HaveTaken, IsFreeSeat, IsRowRefusal, IsTakeRefusal, KeepSeats, KeepsSeat, KeepsOwn, Looks, OwnsSeats, Whatever};
 
 use crate::closing::ClosedStripe;
@@ -20,7 +20,7 @@ fn test_idle(lock: &HistLock, seat: &mut Seat) -> Result<(), Refusal>
     requires { (seat.old.0 ≡ lock.now) × IsFreeSeat seat.old.1 }
     ensures keeps { KeepsSeat Looks seat.old seat.new }
     ensures free { IsFreeSeat seat.new.1 }
-    ensures ok { OnOk result (HasLastFound seat.old.1.lendings seat.new.1.lendings seat.new.1.noted
+    ensures ok { OnOk result (HasLookedOnce (log_of seat.old.1) (log_of seat.new.1) seat.new.1.noted
         × IsIdle seat.new.1.noted) }
     ensures err { IfErr result (λ r. IsTakeRefusal r seat.old.1 seat.new.1) }
 {
@@ -52,7 +52,7 @@ pub(super) fn test_all_idle(locks: &[HistLock], own: &mut Vec<Seat>) -> Result<(
 fn take_idle(lock: &HistLock, seat: &mut Seat) -> Result<ClosedStripe, Refusal>
     requires { (seat.old.0 ≡ lock.now) × IsFreeSeat seat.old.1 }
     ensures keeps { KeepsSeat Looks seat.old seat.new }
-    ensures ok { IfOk result (λ s. HasTaken seat.new.1 s) }
+    ensures ok { IfOk result (λ s. HasTaken seat.new.1 s × (log_of seat.new.1 ≡ log_of seat.old.1)) }
     ensures err { IfErr result (λ r. IsFreeSeat seat.new.1 × IsTakeRefusal r seat.old.1 seat.new.1) }
 {
     let Some(stripe) = lock.try_take(seat) else {
@@ -76,7 +76,8 @@ pub(super) fn take_all(
     requires room { length locks.now ≤ vec_capacity stripes }
     ensures keeps { KeepSeats Looks own.old.items own.new.items }
     ensures ok { IfOk result (λ s. HaveTaken own.new.items s.items
-        × (length s.items ≡ length own.new.items)) }
+        × (length s.items ≡ length own.new.items)
+        × (logs_of own.new.items ≡ logs_of own.old.items)) }
     ensures err { IfErr result (λ r. HaveTaken own.new.items [] × IsRowRefusal r own.old.items own.new.items) }
 {
     let mut stripes = stripes;

@@ -1,10 +1,10 @@
 use Rattle.std.proofs.Common.{◌∙◌, arith, refl, rules}
 use Rattle.jc_cache.proofs.ClosingSeats.{keep_all, keep_on, keep_set, keep_locks, own_there, next_free, next_stays, take_next}
-use Rattle.jc_cache.proofs.Noted.{row_refusal, set_get}
+use Rattle.jc_cache.proofs.Noted.{logs_set, row_refusal, set_get}
 use Rattle.jc_cache.proofs.closing.own_seats.take_all.Goals as goal
 
 pub loop-i-init : goal.loop-i-init
-loop-i-init c = record { keeps = keep_all _ _; taken = rw c.requires.empty c.requires.own.taken; long = rw c.requires.empty refl; room = c.requires.room }
+loop-i-init c = record { keeps = keep_all _ _; taken = rw c.requires.empty c.requires.own.taken; logs = refl; long = rw c.requires.empty refl; room = c.requires.room }
 
 pub take_idle-requires : goal.take_idle-requires
 take_idle-requires c =
@@ -36,7 +36,8 @@ loop-i-preserved c =
     let there = own_there _ _ _ _ c.loop-i.i _ _ c.requires.own.locks i.keeps c.loop-i-test.true c.index_mut.ensures.value c.index-locks-i.is in
     record {
       keeps = keep_set _ _ _ c.loop-i.i _ _ i.keeps there.0 c.take_idle.ensures.keeps;
-      taken = rw c.push_reserved.ensures.items (take_next _ _ c.loop-i.i _ _ _ i.long i.taken there.0 c.in-Ok.ensures.ok);
+      taken = rw c.push_reserved.ensures.items (take_next _ _ c.loop-i.i _ _ _ i.long i.taken there.0 c.in-Ok.ensures.ok.0);
+      logs = logs_set _ c.loop-i.i _ _ there.0 c.in-Ok.ensures.ok.1 ∙ i.logs;
       long = rw c.push_reserved.ensures.items (search rules);
       room = rw c.push_reserved.ensures.capacity i.room;
     }

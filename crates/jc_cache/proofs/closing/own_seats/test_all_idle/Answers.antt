@@ -1,12 +1,12 @@
-use Rattle.std.proofs.Common.{arith, rules, ◌∙◌}
+use Rattle.std.proofs.Common.{arith, refl, rules, ◌∙◌}
 use Rattle.std.proofs.lemmas.Option.{slice_get_within}
 use Rattle.jc_cache.proofs.Rows.{length_locks}
 use Rattle.jc_cache.proofs.ClosingSeats.{keep_all, keep_set, keep_locks, own_there, free_at, free_set}
-use Rattle.jc_cache.proofs.Noted.{idle_logs, idle_set, row_refusal, set_get}
+use Rattle.jc_cache.proofs.Noted.{idle_logs, idle_set, rest_set, row_refusal, set_get}
 use Rattle.jc_cache.proofs.closing.own_seats.test_all_idle.Goals as goal
 
 pub loop-i-init : goal.loop-i-init
-loop-i-init c = record { keeps = keep_all _ _; free = c.requires.taken; idle = λ k x y near first there. absurd (omega arith) }
+loop-i-init c = record { keeps = keep_all _ _; free = c.requires.taken; rest = λ k le. refl; idle = λ k x y near first there. absurd (omega arith) }
 
 pub test_idle-requires : goal.test_idle-requires
 test_idle-requires c =
@@ -29,7 +29,8 @@ loop-i-preserved c =
     record {
       keeps = keep_set _ _ _ c.loop-i.i _ _ c.loop-i.invariant.keeps at.0 c.test_idle.ensures.keeps;
       free = free_set _ c.loop-i.i _ c.loop-i.invariant.free c.test_idle.ensures.free;
-      idle = idle_set _ _ c.loop-i.i _ _ c.loop-i.invariant.keeps c.loop-i.invariant.idle at.0 c.in_ok-test_idle.ensures.ok;
+      rest = rest_set _ _ c.loop-i.i _ c.loop-i.invariant.rest;
+      idle = idle_set _ _ c.loop-i.i _ _ c.loop-i.invariant.rest c.loop-i.invariant.idle at.0 c.in_ok-test_idle.ensures.ok;
     }
 
 pub returns-clause-ok : goal.returns-clause-ok

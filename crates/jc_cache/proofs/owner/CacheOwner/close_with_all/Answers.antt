@@ -1,8 +1,9 @@
-use Rattle.std.proofs.Common.{Some, ◌∙◌, refl, sym, ap, length, rules}
-use Rattle.jc_cache.specs.Caches.{OwnerState}
+use Rattle.std.proofs.Common.{List, Some, ◌∙◌, refl, sym, ap, length, rules, subst}
+use Rattle.jc_cache.specs.Caches.{Log, OwnerState, logs_of}
+use Rattle.jc_cache.specs.Closing.{AreIdle}
 use Rattle.jc_cache.proofs.Rows.{length_locks}
 use Rattle.jc_cache.proofs.ClosingSeats.{keep_on, keep_locks, keep_length, looked_somehow}
-use Rattle.jc_cache.proofs.ClosedCache.{all_free, whole_again, closed, back, gave_none, only_taken, taken_as, why}
+use Rattle.jc_cache.proofs.ClosedCache.{all_free, whole_again, closed, back, gave_none, taken_as, taken_over, why}
 use Rattle.jc_cache.specs.ClosingInside.{Whatever}
 use Rattle.jc_cache.proofs.owner.CacheOwner.close_with_all.Goals as goal
 
@@ -29,7 +30,7 @@ returns-in-Ok-clause-ok g c =
           (rw (← stripes) c.join_all.ensures.own.taken) (c.in-Ok.ensures.ok.1 ∙ sym (keep_length _ _ _ c.join_all.ensures.own.keeps)) all (rw (← stripes) c.join_all.ensures.fronts));
       taken = taken_as _ _ (rw (← stripes) c.join_all.ensures.own.taken) (c.in-Ok.ensures.ok.1 ∙ sym (keep_length _ _ _ c.join_all.ensures.own.keeps));
       gave_none = λ i seat at. gave_none Whatever _ _ _ _ _ c.self.invariant (keep_on _ _ _ _ (looked_somehow _ _ c.take_stripes.ensures.keeps) c.join_all.ensures.own.keeps) i seat at ∙ ap (λ (o : OwnerState). Some o.given) c.self.view_is;
-      lent = only_taken c.args.sessions.items c.args.self.logs _ _ _ (sym (ap (λ (o : OwnerState). o.logs) c.self.view_is)) c.take_stripes.ensures.keeps c.join_all.ensures.own.keeps c.join_all.ensures.handed;
+      lent = taken_over c.args.sessions.items c.args.self.logs _ _ (subst (λ (logs : List Log). AreIdle logs (logs_of c.take_stripes.new.own.items)) (ap (λ (o : OwnerState). o.logs) c.self.view_is) c.in-Ok.ensures.ok.2) c.join_all.ensures.own.keeps c.join_all.ensures.handed;
       outside = search rules;
       legal = refl;
     }

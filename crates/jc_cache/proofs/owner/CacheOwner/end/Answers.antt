@@ -1,9 +1,6 @@
-use Rattle.std.proofs.Common.{ℕ, List, Some, ap, refl, rules, subst, sym, ◌∙◌}
-use Rattle.std.specs.List.{AllZip}
-use Rattle.jc_stripe.specs.State.{State}
-use Rattle.jc_cache.specs.Closing.{HasOnlyLooked}
-use Rattle.jc_cache.proofs.Noted.{handed_back}
-use Rattle.jc_cache.specs.Caches.{OwnerState, fronts_of, logs_of, noted_by}
+use Rattle.std.proofs.Common.{List, Some, ap, refl, rules, subst, sym, ◌∙◌}
+use Rattle.jc_cache.specs.Closing.{AreIdle}
+use Rattle.jc_cache.specs.Caches.{Log, OwnerState, fronts_of, logs_of, noted_by}
 use Rattle.jc_cache.proofs.ClosedCache.{all_free, whole_again, ended, back, gave_none, taken_as, why_ended}
 use Rattle.jc_cache.proofs.owner.CacheOwner.end.Goals as goal
 
@@ -17,7 +14,7 @@ pub returns-in-Ok-clause-ok : goal.returns-in-Ok-clause-ok
 returns-in-Ok-clause-ok g c = record {
   closed = rw (← c.self.view_is) (ended _ _ _ _ _ c.is_legal.ensures c.self.invariant refl c.take_stripes.ensures.keeps c.in-Ok.ensures.ok.0 c.in-Ok.ensures.ok.1);
   outside = search rules;
-  looked = subst (λ (ls : List (List (State × State) × ℕ)). AllZip HasOnlyLooked ls (logs_of c.take_stripes.new.own.items)) (ap (λ (o : OwnerState). o.logs) c.self.view_is) (handed_back _ _ c.take_stripes.ensures.keeps).2;
+  looked = subst (λ (logs : List Log). AreIdle logs (logs_of c.take_stripes.new.own.items)) (ap (λ (o : OwnerState). o.logs) c.self.view_is) c.in-Ok.ensures.ok.2;
   taken = taken_as _ _ c.in-Ok.ensures.ok.0 c.in-Ok.ensures.ok.1;
   gave_none = λ i seat at. gave_none _ _ _ _ _ _ c.self.invariant c.take_stripes.ensures.keeps i seat at ∙ ap (λ (o : OwnerState). Some o.given) c.self.view_is;
   legal = refl;
