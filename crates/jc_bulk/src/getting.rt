@@ -33,9 +33,9 @@ use std::sync::Wait;
 /// at once, and so is a missing one without read-through; a key that another `get` is loading joins that load; a key that is
 /// reserved otherwise, or whose stripe has as many reservations or joins as may be, is put off to a later round. The loader is then
 /// called once (`loadAll`), for all keys that the round has reserved. Each key is one step of its stripe, with the number of this
-/// one call, and no key is asked for twice. Between two rounds the call waits for a change, with no reservation out. A call that meets no
-/// other call's reservation or load, and has at most [`RESERVATIONS_MAX`](jc_types::RESERVATIONS_MAX) keys in each stripe, calls the
-/// loader once, if at all.
+/// one call, and no key is asked for twice. Between two rounds the call waits for a change, with no reservation out. A call of which
+/// no key is put off or joins a load, with at most [`RESERVATIONS_MAX`](jc_types::RESERVATIONS_MAX) keys in each stripe, calls the
+/// loader once, if at all; in a cache that lives on, a full history puts off, too.
 ///
 /// An `Err` names each key that failed, with its fault (`LoaderFailed`) or its refusal, and has the values of all others. A key is
 /// refused with `HistoryFull` if its stripe's history is near full or a number is at its end, and with `OutOfMemory` if, once the

@@ -24,8 +24,9 @@ use std::sync::Wait;
 /// stripe has as many reservations as may be, is put off to a later round. Without write-through a key is over at once. With it,
 /// the writer is then called once (`writeAll`), for all keys that the round has reserved; a key that it leaves in the collection
 /// failed, and every other one is committed. Each key is one step of its stripe, with the number of this one call, and no change
-/// is asked for twice. Between two rounds the call waits for a change, with no reservation out. A call that meets no other call's
-/// reservation, and has at most [`RESERVATIONS_MAX`](jc_types::RESERVATIONS_MAX) keys in each stripe, calls the writer once, if at all.
+/// is asked for twice. Between two rounds the call waits for a change, with no reservation out. A call of which no key is put
+/// off, with at most [`RESERVATIONS_MAX`](jc_types::RESERVATIONS_MAX) keys in each stripe, calls the writer once, if at all; in a cache
+/// that lives on, a full history puts off, too.
 ///
 /// An `Err` names each key that failed, with its fault (`WriterFailed`) or its refusal; every other key is put. A key is refused with
 /// `HistoryFull` if its stripe's history is near full or a number is at its end, and with `OutOfMemory` if, once the writer was

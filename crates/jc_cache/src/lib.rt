@@ -6,8 +6,8 @@
 //! refusals, and the traits of its loader, writer and entry processors.
 //!
 //! Why it is so:
-//! - Phase calls take tickets, joins and done values as the stripe gives them: what is needed of the stripe is tested when it is taken. A
-//!   ticket of another cache is never out here.
+//! - Phase calls take tickets, joins and done values as the stripe gives them: what is needed of the stripe is tested when it is taken. Of
+//!   which cache a ticket is isn't: one of another cache is taken if the same reservation is out here.
 //! - That a session is of a cache is shown by its seats. A session's room is its list of seats.
 //! - `close` tests whether something is out, and only then takes memory. It answers `Busy` if somebody holds a stripe though all sessions
 //!   are there; nobody can, but the lock's rule doesn't say so.

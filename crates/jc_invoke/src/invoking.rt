@@ -61,8 +61,9 @@ pub fn invoke<R: Wait>(
 /// (`deleteAll`) for those with a remove, the second also if the first failed. A key that the writer leaves in a collection failed; a
 /// fault that leaves none is dropped. Then the keys are committed, in order. Each key is one step of its stripe, with the number of
 /// this one call. Between two rounds the call waits for a change, with no reservation out. In all rounds together the processor is run
-/// on keys of the call alone, and on none of them twice. A call that meets no other call's reservation, and has at most
-/// [`RESERVATIONS_MAX`](jc_types::RESERVATIONS_MAX) keys in each stripe, has one round that runs it, if any.
+/// on keys of the call alone, and on none of them twice. A call of which no key is put off, with at most
+/// [`RESERVATIONS_MAX`](jc_types::RESERVATIONS_MAX) keys in each stripe, has one round that runs it, if any; in a cache that lives on, a
+/// full history puts off, too.
 ///
 /// A key is refused with `HistoryFull` if its stripe's history is near full or a number is at its end, and with `OutOfMemory` if, once
 /// the processor was run, the memory of a later round could not be taken. An `Err` says that the call is refused whole, and nothing changes: there are more than
