@@ -57,7 +57,7 @@ arc_send : IsSend (Arc.the_row (Mutex.the_row Shared.the_row) Heap.the_row ghost
 arc_send = std.Arc-send (Mutex.the_row Shared.the_row) (mutex.the_send Shared.the_row shared_send) (mutex.the_sync Shared.the_row shared_send)
 
 pub loader_send : (R : RattleType) → IsSend R → IsSend (Loader.the_row R)
-loader_send R r = declared_send (Loader.the_type R) (as_row_send (row_field R) r, (std.send, (arc_send, tt)))
+loader_send R r = declared_send (Loader.the_type R) (as_row_send (row_field R) r, (arc_send, tt))
 
 pub writer_send : (R : RattleType) → IsSend R → IsSend (Writer.the_row R)
 writer_send R r = declared_send (Writer.the_type R) (as_row_send (row_field R) r, (arc_send, tt))

@@ -12,8 +12,9 @@ use std::sync::{Arc, Mutex, Wait};
 /// be a second one, whose name ends in `-wal`; the two belong together.
 ///
 /// A file has one connection at a time. So all loaders and writers of a database share its connection, behind a lock: calls of
-/// different sessions wait for one another here, whatever the cache lets run side by side. A service that loads much makes few
-/// calls for many keys: a `load_all` is one query, a `write_all` or a `delete_all` one transaction.
+/// different sessions wait for one another here, whatever the cache lets run side by side. A `load_all` is a query for each key, and
+/// holds the lock until the last one. A `write_all` or a `delete_all` is one transaction, and waits for the disk once: a service that
+/// writes much makes few calls for many keys.
 #[derive(Drop)]
 pub struct Database {
     shared: Arc<Mutex<Shared>, Global>,

@@ -8,7 +8,6 @@ use indexmap::{IndexMap, IndexSet};
 use jc_outside::Answers;
 use jc_types::{Key, Value};
 use sqlite::{Connection, Error, ErrorCode, File, FileStore};
-use std::alloc::Global;
 
 /// The one connection to the file, and the last failure. Each call keeps its failure, and returns the failure's code. A call that fails
 /// because the connection is shut keeps what shut it.
@@ -48,17 +47,12 @@ impl Shared {
         }
     }
 
-    pub(crate) fn load_all(
-        &mut self,
-        alloc: Global,
-        keys: &[Key],
-        answers: &mut Answers,
-    ) -> Result<(), u32>
+    pub(crate) fn load_all(&mut self, keys: &[Key], answers: &mut Answers) -> Result<(), u32>
         ensures { IfErr result (λ code. 0 < code) }
     {
-        match table::load_all(alloc, &mut self.connection, keys, answers) {
+        match table::load_all(&mut self.connection, keys, answers) {
             Ok(()) => Ok(()),
-            Err(error) => Err(self.failed(error)),
+            Err(failure) => Err(self.failed(failure.error)),
         }
     }
 
