@@ -1,4 +1,5 @@
 //! The database, which all of its loaders and writers share.
+use crate::failure::Failure;
 use crate::shared::Shared;
 use crate::table;
 use sqlite::{Connection, Error};
@@ -42,8 +43,8 @@ impl Database {
     /// The last failure of a loader or a writer of this database, or none if none has failed. A later success leaves it, and so
     /// does a call that fails because an earlier failure has shut the connection. It waits for the lock.
     ///
-    /// Its text is what it displays, as `database or disk is full`. A call of the cache has its code alone.
-    pub fn last_error(&self, rt: &impl Wait) -> Option<Error> {
+    /// Its text is what it displays, as `at the key "ann": database or disk is full`. A call of the cache has its code alone.
+    pub fn last_error(&self, rt: &impl Wait) -> Option<Failure> {
         self.shared.lock(rt).last_error()
     }
 

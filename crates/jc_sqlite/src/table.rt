@@ -1,7 +1,7 @@
 //! The table's statements, each over a connection that is lent: a database's own, or one of yours.
 //!
 //! What a clause says of the content is under `HasCleanDisk`: so far the disk has returned what was written to it.
-ghost use Rattle.std.specs.Prelude.{◌≡◌, ◌≢◌, ℕ, List, [], map, IfOk, IfErr, OnOk, OnErr};
+ghost use Rattle.std.specs.Prelude.{◌≡◌, ◌≢◌, ℕ, List, [], map, IsSome, IfOk, IfErr, OnOk, OnErr};
 ghost use Rattle.sqlite.specs.declared.types.Value.TheVariants.{Blob};
 ghost use Rattle.sqlite.specs.Order.{column};
 ghost use Rattle.sqlite.specs.Values.{bound};
@@ -99,8 +99,9 @@ pub fn load_all<S: Alter>(
     keys: &[Key],
     answers: &mut Answers,
 ) -> Result<(), Failure>
-    ensures { HasCleanDisk (state S.Store conn.new)
+    ensures loads { HasCleanDisk (state S.Store conn.new)
         → LoadsAll S.Store keys.now conn.old conn.new answers.old answers.new result }
+    ensures named { IfErr result (λ failure. IsSome failure.key) }
 {
     for key in keys {
         load_into(conn, key, answers)?;
@@ -116,6 +117,7 @@ fn load_into<S: Alter>(
 ) -> Result<(), Failure>
     ensures loads { HasCleanDisk (state S.Store conn.new)
         → LoadsInto key.now (state S.Store conn.old) (state S.Store conn.new) answers.old answers.new result }
+    ensures named { IfErr result (λ failure. IsSome failure.key) }
     ensures survives { Survives (state S.Store conn.old) (state S.Store conn.new)
         (CommitsShowing load_sql (key_row key.now) (state S.Store conn.old)) }
 {

@@ -13,14 +13,14 @@ loop-key-preserved g c =
     loads_more g.S.Store c.args.keys.now c.loop-key.key-index c.key-item.result c.args.conn.now c.loop-key.conn c.load_into.new.conn c.args.answers.now c.loop-key.answers c.load_into.new.answers _
     c.loop-key-test.true c.key-item.is c.loop-key.invariant c.load_into.ensures.survives c.in_ok-load_into.ensures.loads
 
-pub returns-in_err-load_into : goal.returns-in_err-load_into
-returns-in_err-load_into g c clean =
+pub returns-in_err-load_into-clause-loads : goal.returns-in_err-load_into-clause-loads
+returns-in_err-load_into-clause-loads g c clean =
     subst (LoadsAll g.S.Store c.args.keys.now c.args.conn.now c.load_into.new.conn c.args.answers.now c.load_into.new.answers) (sym (same_error c.from_residual.result c.in_err-load_into.field-0.0 c.from_residual.ensures.1))
     (loads_none g.S.Store c.args.keys.now c.loop-key.key-index c.key-item.result c.args.conn.now c.loop-key.conn c.load_into.new.conn c.args.answers.now c.loop-key.answers c.load_into.new.answers _
     c.in_err-load_into.field-0.0 c.loop-key-test.true c.key-item.is c.loop-key.invariant c.load_into.ensures.survives c.in_err-load_into.ensures.loads clean)
 
-pub returns : goal.returns
-returns g c clean =
+pub returns-clause-loads : goal.returns-clause-loads
+returns-clause-loads g c clean =
     let conn = c.loop-key.conn in
     let answers = c.loop-key.answers in
     c.loop-key.invariant clean conn answers (Ok tt)
