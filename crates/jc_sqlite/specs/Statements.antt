@@ -1,5 +1,9 @@
 -- `create_sql`, `count_sql`, `load_sql`, `write_sql`, `delete_sql`: the statements that make the table, count its rows, look a key up, write
 -- an entry and delete what is at a key.
+-- `kept_sql`: the statement that makes the table, as another program keeps it, which leaves out IF NOT EXISTS.
+-- `schema_sql`: the statement that shows the texts of what has the table's name, and of triggers on it.
+-- `IsOwnText`, `IsOwn`: the text is that of the statement that makes the table; the one row that the schema shows has it.
+-- `TellsOwn`: whether the rows which the schema shows are this one row; an error is the query's.
 -- `entry_row`, `key_row`: the row of parameters of an entry, and that of a key.
 -- `RunsOnce`: the statement ran with these parameters, or failed.
 -- `IsCount`: the number is that of the row's first column; an error is that of this column.
@@ -12,11 +16,11 @@
 -- `with_found`: the answers, with what was found at a key put in, if anything was.
 -- `LoadsInto`: what was loaded at a key was put into the answers; an error is that of the load, with its key.
 -- `LoadsAll`: each key was loaded so, in their order; an error is that of the first load that failed, after which nothing was loaded.
-use Rattle.std.specs.Prelude.{◌≡◌, ◌≤◌, ◌⊎◌, ℕ, pos, List, [], ◌∷◌, length, Result, Ok, Err, Option, None, Some, codes}
+use Rattle.std.specs.Prelude.{◌≡◌, ◌≤◌, ◌⊎◌, ℕ, pos, Bool, false, IsTrue, List, [], ◌∷◌, length, Result, Ok, Err, Option, None, Some, codes}
 use Rattle.jc_outside.specs.Answers.{AnswersByKey, answers_with}
 use Rattle.jc_types.specs.declared.limits.TheConstants.{VALUE_MAX}
 use Rattle.sqlite.specs.declared.types.Value.{Value}
-use Rattle.sqlite.specs.declared.types.Value.TheVariants.{Int, Blob}
+use Rattle.sqlite.specs.declared.types.Value.TheVariants.{Int, Text, Blob}
 use Rattle.sqlite.specs.declared.error.Error.{Error}
 use Rattle.sqlite.specs.declared.error.Error.TheVariants.{SqliteFailure, InvalidColumnIndex, InvalidColumnType}
 use Rattle.sqlite.specs.declared.error.ErrorCode.TheVariants.{TooBig}
@@ -30,6 +34,12 @@ use Rattle.jc_sqlite.specs.declared.failure.Failure.{Failure}
 
 abbrev pub create_sql : List ℕ
 create_sql = codes "CREATE TABLE IF NOT EXISTS entry (key BLOB PRIMARY KEY NOT NULL, value BLOB NOT NULL) STRICT"
+
+abbrev pub kept_sql : List ℕ
+kept_sql = codes "CREATE TABLE entry (key BLOB PRIMARY KEY NOT NULL, value BLOB NOT NULL) STRICT"
+
+abbrev pub schema_sql : List ℕ
+schema_sql = codes "SELECT sql FROM sqlite_schema WHERE tbl_name = 'entry' AND type <> 'index'"
 
 abbrev pub count_sql : List ℕ
 count_sql = codes "SELECT count(*) FROM entry"
@@ -52,6 +62,16 @@ key_row key = Blob key ∷ []
 abbrev pub RunsOnce : List ℕ → Row → State → State → Result (Unit {0}) Error → Type 0
 RunsOnce sql row old new (Ok done) = (count : ℕ) × Executes sql row old new (Ok count)
 RunsOnce sql row old new (Err e) = Executes sql row old new (Err e)
+
+abbrev pub IsOwnText : List ℕ → Type 0
+IsOwnText text = (text ≡ create_sql) ⊎ (text ≡ kept_sql)
+
+abbrev pub IsOwn : List Row → Type 0
+IsOwn rows = (row : Row) × (text : List ℕ) × (rows ≡ row ∷ []) × (column row 0 ≡ Text text) × IsOwnText text
+
+abbrev pub TellsOwn : State → State → Result Bool Error → Type 0
+TellsOwn old new (Ok own) = (rows : List Row) × Shown schema_sql [] old new rows × (IsTrue own → IsOwn rows) × (own ≡ false → ¬ IsOwn rows)
+TellsOwn old new (Err e) = FailsToQuery schema_sql [] old new e
 
 abbrev pub IsCount : Row → Result ℕ Error → Type 0
 IsCount row (Ok count) = column row 0 ≡ Int (pos count)

@@ -1,6 +1,7 @@
-//! What failed, and at which key.
+//! What failed: a call, and at which key; or the opening of a file.
 use jc_types::Key;
 use sqlite::Error;
+use std::alloc::AllocFailed;
 use std::fmt::{self, Display, Formatter, Write};
 
 /// A failure of a call, and the key of the call.
@@ -20,5 +21,40 @@ impl Display for Failure {
             write!(f, "at the key {key:?}: ")?;
         }
         write!(f, "{}", self.error)
+    }
+}
+
+/// Why [`Database::open`](crate::Database::open) opened no database.
+#[derive(Clone, Copy, Debug, PartialEq, Eq)]
+pub enum OpenError {
+    /// The file has another `entry` than the table that [`create`](crate::table::create) makes: one with other columns, a view, or one
+    /// with a trigger.
+    OtherTable,
+    /// The file, or an allocation, failed.
+    Failed(Error),
+}
+
+impl Display for OpenError {
+    fn fmt<W: Write>(&self, f: &mut Formatter<W>) -> fmt::Result {
+        match self {
+            OpenError::OtherTable => f.write_str(
+                "`entry` in this file is not the table of keys and values that jc_sqlite makes",
+            ),
+            OpenError::Failed(error) => write!(f, "{error}"),
+        }
+    }
+}
+
+impl std::error::Error for OpenError {}
+
+impl From<Error> for OpenError {
+    fn from(error: Error) -> OpenError {
+        OpenError::Failed(error)
+    }
+}
+
+impl<T: Drop> From<AllocFailed<T>> for OpenError {
+    fn from(failed: AllocFailed<T>) -> OpenError {
+        OpenError::Failed(Error::from(failed))
     }
 }

@@ -16,6 +16,6 @@ mod writer;
 
 pub use code::code_of;
 pub use database::Database;
-pub use failure::Failure;
+pub use failure::{Failure, OpenError};
 pub use loader::DatabaseLoader;
 pub use writer::DatabaseWriter;

@@ -1,7 +1,7 @@
 //! The table's statements, each over a connection that is lent: a database's own, or one of yours.
 //!
 //! What a clause says of the content is under `HasCleanDisk`: so far the disk has returned what was written to it.
-ghost use Rattle.std.specs.Prelude.{◌≡◌, ◌≢◌, ℕ, List, [], map, IsSome, IfOk, IfErr, OnOk, OnErr};
+ghost use Rattle.std.specs.Prelude.{◌≡◌, ◌≢◌, ℕ, false, IsTrue, List, [], map, IsSome, IfOk, IfErr, OnOk, OnErr};
 ghost use Rattle.sqlite.specs.declared.types.Value.TheVariants.{Blob};
 ghost use Rattle.sqlite.specs.Order.{column};
 ghost use Rattle.sqlite.specs.Values.{bound};
@@ -10,7 +10,7 @@ ghost use Rattle.sqlite.specs.Batch.{ExecutesAll};
 ghost use Rattle.sqlite.specs.Held.{state};
 ghost use Rattle.jc_sqlite.specs.Batch.{RunsAsOne};
 ghost use Rattle.jc_sqlite.specs.Statements.{create_sql, load_sql, write_sql, delete_sql, entry_row, key_row};
-ghost use Rattle.jc_sqlite.specs.Statements.{RunsOnce, Counts, IsCount, row_error, ReadsValue, IsInFirst, Loads, with_found, LoadsInto, LoadsAll};
+ghost use Rattle.jc_sqlite.specs.Statements.{TellsOwn, IsOwn, IsOwnText, RunsOnce, Counts, IsCount, row_error, ReadsValue, IsInFirst, Loads, with_found, LoadsInto, LoadsAll};
 
 use crate::batch;
 use crate::failure::Failure;
@@ -22,6 +22,11 @@ use sqlite::{Alter, Connection, Error, ErrorCode, Row, params};
 
 const CREATE: &str =
     "CREATE TABLE IF NOT EXISTS entry (key BLOB PRIMARY KEY NOT NULL, value BLOB NOT NULL) STRICT";
+
+/// The text of the table as `sqlite3` keeps it, when it has run [`CREATE`].
+const KEPT: &str = "CREATE TABLE entry (key BLOB PRIMARY KEY NOT NULL, value BLOB NOT NULL) STRICT";
+
+const SCHEMA: &str = "SELECT sql FROM sqlite_schema WHERE tbl_name = 'entry' AND type <> 'index'";
 
 const COUNT: &str = "SELECT count(*) FROM entry";
 
@@ -40,6 +45,46 @@ pub fn create<S: Alter>(conn: &mut Connection<S>) -> Result<(), Error>
     ensures { HasCleanDisk (state S.Store conn.new) → ExecutesAll S.Store create_sql conn.old conn.new result }
 {
     conn.execute_batch(CREATE)
+}
+
+/// Whether `entry` is the table that [`create`] makes, with no trigger on it. Of its text `IF NOT EXISTS` may be left out, as
+/// `sqlite3` does. The table stays as it is.
+pub fn is_own<S: Alter>(conn: &mut Connection<S>) -> Result<bool, Error>
+    ensures { HasCleanDisk (state S.Store conn.new) → TellsOwn (state S.Store conn.old) (state S.Store conn.new) result }
+{
+    match conn.query_all(SCHEMA, &[]) {
+        Ok(rows) => Ok(is_own_row(rows.as_slice())),
+        Err(error) => Err(error),
+    }
+}
+
+/// Whether the table's row is the one row that the schema shows.
+fn is_own_row(rows: &[Row]) -> bool
+    ensures own { IsTrue result → IsOwn rows.now }
+    ensures other { result ≡ false → ¬ IsOwn rows.now }
+{
+    if rows.len() != 1 {
+        return false;
+    }
+    match rows[0].get_ref(0) {
+        Ok(ValueRef::Text(text)) => is_own_text(text),
+        _ => false,
+    }
+}
+
+/// Whether it is the table's text.
+fn is_own_text(text: &[u8]) -> bool
+    ensures own { IsTrue result → IsOwnText text.now }
+    ensures other { result ≡ false → ¬ IsOwnText text.now }
+{
+    is_text(text, CREATE) || is_text(text, KEPT)
+}
+
+fn is_text(text: &[u8], wanted: &str) -> bool
+    ensures same { IsTrue result → text.now ≡ wanted.now }
+    ensures other { result ≡ false → text.now ≢ wanted.now }
+{
+    text == wanted.as_bytes()
 }
 
 /// How many entries the table has: what a count of its rows shows. The table stays as it is.
