@@ -1,5 +1,5 @@
 -- The default `load_all`: how far it has come, and each step of its loop.
-use Rattle.std.proofs.Common.{◌≡◌, ℕ, suc, ◌+◌, add-one, List, [], ◌∷◌, length, drop, drop-cons, get_or, ◌<◌, Option, Result, Ok, Err, inl, inr, refl, ap, sym, subst, ◌∙◌}
+use Rattle.std.proofs.Common.{◌≡◌, ℕ, suc, ◌+◌, add-one, List, ◌∷◌, length, drop, drop-cons, get_or, ◌<◌, Option, Result, Ok, Err, inl, inr, refl, ap, sym, subst, ◌∙◌}
 use Rattle.jc_model.specs.Cache.{Bytes}
 use Rattle.jc_outside.specs.Answers.{AnswersByKey}
 use Rattle.jc_plain.specs.Loads.{with_found, LoadsEach}

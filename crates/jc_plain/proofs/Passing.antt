@@ -1,5 +1,5 @@
 -- A closure that passes each call on to another one: what its calls left is what the other one's calls left. And when none is left.
-use Rattle.std.proofs.Common.{◌≡◌, ◌↔◌, ℕ, Bool, List, [], ◌∷◌, length, refl, ap, arith}
+use Rattle.std.proofs.Common.{◌≡◌, ◌↔◌, Bool, List, [], ◌∷◌, length, refl, ap, arith}
 use Rattle.std.specs.Map.Calls.{RetainsPairs}
 use Rattle.std.specs.List.Retain.{IsFiltered, ReturnsInTurn}
 

@@ -1,6 +1,5 @@
-use Rattle.std.proofs.Common.{Ok, drop, refl, subst, sym}
+use Rattle.std.proofs.Common.{Ok, refl, subst, sym}
 use Rattle.std.proofs.lemmas.List.{drop_all}
-use Rattle.sqlite.specs.Held.{state}
 use Rattle.jc_sqlite.specs.Statements.{LoadsAll}
 use Rattle.jc_sqlite.proofs.Statements.{loads_more, loads_none, same_error}
 use Rattle.jc_sqlite.proofs.table.load_all.Goals as goal
