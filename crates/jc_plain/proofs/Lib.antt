@@ -1,1 +1,2 @@
+mod Loads
 mod Passing

@@ -1,7 +1,14 @@
--- A closure that passes each call on to another one: what its calls left is what the other one's calls left.
-use Rattle.std.proofs.Common.{Bool, List, [], ◌∷◌, ap}
+-- A closure that passes each call on to another one: what its calls left is what the other one's calls left. And when none is left.
+use Rattle.std.proofs.Common.{◌≡◌, ◌↔◌, Bool, List, [], ◌∷◌, length, refl, ap, arith}
 use Rattle.std.specs.Map.Calls.{RetainsPairs}
 use Rattle.std.specs.List.Retain.{IsFiltered, ReturnsInTurn}
+
+if_empty : {X : Type 0} (xs : List X) → length xs ≡ 0 → xs ≡ []
+if_empty [] h = refl
+if_empty (x ∷ xs) h = absurd (omega arith)
+
+pub when_none : {X : Type 0} (P : Type 0) (xs : List X) → P ↔ (length xs ≡ 0) → P ↔ (xs ≡ [])
+when_none P xs h = (λ p. if_empty xs (h.0 p), λ none. h.1 (ap length none))
 
 module _ {Outer Inner : Type 0} (inner : Outer → Inner) where
   pub RetainsPairs-passed : {K X : Type 0} (T : Outer → K → X → Bool → X → Outer → Type 0) (U : Inner → K → X → Bool → X → Inner → Type 0)

@@ -1,1 +1,4 @@
 pub mod Attempts
+pub mod Loads
+pub mod Writes
+pub mod Updates

@@ -11,9 +11,9 @@
 //! ```
 //!
 //! **What is known of them** is that they can't break: no index, sum or cast goes wrong in them, and what doesn't wait returns.
-//! What they answer is theirs: the relations of the wrappers hold of every answer. So the cache's contracts say of a call that the
-//! loader was asked once, for this key, and what it answered; they don't say that this is what the store has. Whoever wants to
-//! state more of a loader, a writer or a processor implements the full trait, with relations of its own.
+//! What they answer is theirs: unless their author states relations, these hold of every answer. So the cache's contracts say of a
+//! call that the loader was asked once, for this key, and what it answered; they don't say that this is what the store has. Whoever
+//! wants to state more of a loader, a writer or a processor gives the trait's relations, or implements the full trait.
 //!
 //! **Codes.** A failure is a `u32` of the author's own, which comes to the caller as `LoaderFailed(code)`, `WriterFailed(code)` or
 //! `ProcessorFailed(code)`. What the database said beside it stays with the loader. It can keep its last error where the program

@@ -1,4 +1,7 @@
 //! Loaders.
+ghost use Rattle.std.specs.Prelude.{◌≡◌};
+ghost use Rattle.jc_plain.specs.Loads.{with_found};
+
 use jc_outside::{Answers, CacheLoader};
 use jc_types::{Key, Value};
 
@@ -6,30 +9,61 @@ use jc_types::{Key, Value};
 ///
 /// A loader is called while the session holds no stripe, and must not call the cache. One that waits, as for a lock or a
 /// connection, holds a runtime of its own.
+///
+/// Its relations are those of [`jc_outside::CacheLoader`]. They hold of every call unless an author gives others, so an author who
+/// states nothing writes none of the `ghost` lines.
 pub trait Load {
+    ghost use Rattle.std.specs.Prelude.{◌⊎◌, ℕ, List, [], Option, Result};
+    ghost use Rattle.jc_model.specs.Cache.{Bytes};
+    ghost use Rattle.jc_outside.specs.Answers.{AnswersByKey};
+    ghost use Rattle.jc_plain.specs.Loads.{LoadsEach};
+
+    /// The loader's state, as plain data.
+    ghost load_state: { Self → List ℕ } = { λ l. [] };
+
+    /// One call of `load`: the key, the answer.
+    ghost loads: { Self → Bytes → Result (Option Bytes) ℕ → List ℕ → Type 0 } = { λ l key answer after. Unit {0} };
+
+    /// One call of a `load_all` of the author's own: the keys, whether it failed, the answers.
+    ghost loads_all: { Self → List Bytes → Result (Unit {0}) ℕ → AnswersByKey → List ℕ → Type 0 } = { λ l keys answer answers after. Unit {0} };
+
     /// The value at a key, or none if the store has none (`load`).
     ///
     /// An `Err` has a code of the author's own: the call that asked fails with `LoaderFailed` of that code, and its entry stays as
     /// it was.
-    fn load(&mut self, key: &Key) -> Result<Option<Value>, u32>;
+    fn load(&mut self, key: &Key) -> Result<Option<Value>, u32>
+        ensures { loads self.old key.now result (load_state self.new) };
 
     /// Puts the value at each of the keys that has one into `answers` (`loadAll`). A key that is left out has none.
     ///
     /// By default it loads one key after the other, in their order, up to the first failure, which it returns. An `Err` stands for
     /// each of the keys, whatever is in `answers` then. A store that finds many keys in one query has a body of its own here.
-    fn load_all(&mut self, keys: &[Key], answers: &mut Answers) -> Result<(), u32> {
+    fn load_all(&mut self, keys: &[Key], answers: &mut Answers) -> Result<(), u32>
+        ensures { LoadsEach loads load_state self.old keys.now answers.old result answers.new (load_state self.new)
+            ⊎ loads_all self.old keys.now result answers.new (load_state self.new) }
+    {
         for key in keys {
-            if let Some(value) = self.load(key)? {
-                answers.put(key, &value);
+            match self.load(key) {
+                Ok(found) => put_found(answers, key, &found),
+                Err(code) => return Err(code),
             }
         }
         Ok(())
     }
 }
 
+/// Puts what was found at a key into the answers, if anything was.
+fn put_found(answers: &mut Answers, key: &Key, found: &Option<Value>)
+    ensures { answers.new ≡ with_found answers.old key.now found.now }
+{
+    if let Some(value) = found {
+        answers.put(key, value);
+    }
+}
+
 /// The loader of a cache that reads by `L`.
 ///
-/// It hands each call on, and states nothing of what is answered. Whoever wants to state more implements
+/// It hands each call on, once, and answers what `L` answers: its relations are those of `L`. Whoever wants to state more implements
 /// [`jc_outside::CacheLoader`].
 #[derive(Drop)]
 pub struct Loading<L: Load + Drop> {
@@ -38,13 +72,16 @@ pub struct Loading<L: Load + Drop> {
 }
 
 impl<L: Load + Drop> CacheLoader for Loading<L> {
-    ghost use Rattle.std.specs.Prelude.{[]};
+    ghost use Rattle.std.specs.Prelude.{◌⊎◌};
+    ghost use Rattle.jc_outside.specs.Answers.{no_answers};
+    ghost use Rattle.jc_plain.specs.Loads.{LoadsEach};
 
-    ghost load_state = { λ l. [] };
+    ghost load_state = { λ l. L.load_state l.loader };
 
-    ghost loads = { λ l key answer after. Unit {0} };
+    ghost loads = { λ l key answer after. L.loads l.loader key answer after };
 
-    ghost loads_all = { λ l keys answer answers after. Unit {0} };
+    ghost loads_all = { λ l keys answer answers after. LoadsEach L.loads L.load_state l.loader keys (no_answers keys) answer answers after
+        ⊎ L.loads_all l.loader keys answer answers after };
 
     fn load(&mut self, key: &Key) -> Result<Option<Value>, u32> {
         self.loader.load(key)

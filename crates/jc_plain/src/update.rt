@@ -7,7 +7,18 @@ use jc_types::{Key, Value};
 ///
 /// It sees the value alone, and neither the entry nor the loader. A processor that must not load, or that writes a value which is
 /// there already, implements [`jc_mutentry::EntryProcessor`].
+///
+/// Its relation holds of every call unless an author gives another, so an author who states nothing writes none of the `ghost` lines.
 pub trait Update {
+    ghost use Rattle.std.specs.Prelude.{ℕ, List, [], Option, Result};
+    ghost use Rattle.jc_model.specs.Cache.{Bytes};
+
+    /// The processor's state, as plain data.
+    ghost update_state: { Self → List ℕ } = { λ u. [] };
+
+    /// One call: the key, the value that was found, the arguments, the answer, the value that is left.
+    ghost updates: { Self → Bytes → Option Bytes → List Bytes → Result (Option Bytes) ℕ → Option Bytes → List ℕ → Type 0 } = { λ u key found args answer left after. Unit {0} };
+
     /// Changes the value at a key in its place, and returns what the call answers: a value, or none. `args` are those of the call.
     ///
     /// `value` is the entry's value, or what was loaded for a missing entry, or none. What it is afterwards decides:
@@ -26,7 +37,8 @@ pub trait Update {
         key: &Key,
         value: &mut Option<Value>,
         args: &[Value],
-    ) -> Result<Option<Value>, u32>;
+    ) -> Result<Option<Value>, u32>
+        ensures { updates self.old key.now value.old args.now result value.new (update_state self.new) };
 }
 
 /// The entry processor of a call that updates by `U`.
@@ -35,7 +47,8 @@ pub trait Update {
 /// the call fails with `LoaderFailed`. Then it lets `U` change the value, and sets or removes it if it has changed; if it hasn't,
 /// what was loaded is cached. It may wait, as long as the loader and `U` do.
 ///
-/// It states nothing of what `U` does. Whoever wants to state more implements [`jc_mutentry::EntryProcessor`].
+/// It asks `U` once, and answers what `U` answers; its relation says so by that of `U`. Whoever wants to state more implements
+/// [`jc_mutentry::EntryProcessor`].
 #[derive(Drop)]
 pub struct Updating<U: Update + Drop> {
     /// Who changes the value.
@@ -43,11 +56,12 @@ pub struct Updating<U: Update + Drop> {
 }
 
 impl<U: Update + Drop> EntryProcessor for Updating<U> {
-    ghost use Rattle.std.specs.Prelude.{[]};
+    ghost use Rattle.jc_plain.specs.Updates.{UpdatesEntry};
 
-    ghost process_state = { λ p. [] };
+    ghost process_state = { λ p. U.update_state p.processor };
 
-    ghost processes = { λ p key args calls answers answer after. Unit {0} };
+    ghost processes = { λ p key args calls answers answer after.
+        UpdatesEntry U.updates U.update_state p.processor key args calls answers answer after };
 
     fn process(
         &mut self,
@@ -55,10 +69,16 @@ impl<U: Update + Drop> EntryProcessor for Updating<U> {
         loader: &mut dyn CacheLoader,
         args: &[Value],
     ) -> Result<Option<Value>, u32> {
-        let old = entry.get_value(loader)?;
+        let old = match entry.get_value(loader) {
+            Ok(old) => old,
+            Err(code) => return Err(code),
+        };
         let key = *entry.key();
         let mut value = old;
-        let answer = self.processor.update(&key, &mut value, args)?;
+        let answer = match self.processor.update(&key, &mut value, args) {
+            Ok(answer) => answer,
+            Err(code) => return Err(code),
+        };
         if value == old {
             return Ok(answer);
         }

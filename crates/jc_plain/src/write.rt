@@ -8,17 +8,40 @@ use jc_types::{Key, Value};
 ///
 /// A writer is called while the session holds no stripe, before the cache changes, and must not call the cache. One that waits,
 /// as for a lock or a connection, holds a runtime of its own.
+///
+/// Its relations are those of [`jc_outside::CacheWriter`]. They hold of every call unless an author gives others, so an author who
+/// states nothing writes none of the `ghost` lines.
 pub trait Write {
+    ghost use Rattle.std.specs.Prelude.{◌⊎◌, ℕ, List, [], Result};
+    ghost use Rattle.jc_model.specs.Cache.{Bytes};
+    ghost use Rattle.jc_model.specs.declared.event.Change.{Change};
+    ghost use Rattle.jc_model.specs.declared.event.Change.TheVariants.{Write, Delete};
+    ghost use Rattle.jc_plain.specs.Writes.{WritesEach, DeletesEach};
+
+    /// The writer's state, as plain data.
+    ghost write_state: { Self → List ℕ } = { λ w. [] };
+
+    /// One call of `write` or `delete`: the key, the change, the answer.
+    ghost writes: { Self → Bytes → Change → Result (Unit {0}) ℕ → List ℕ → Type 0 } = { λ w key change answer after. Unit {0} };
+
+    /// One call of a `write_all` of the author's own: the entries, the answer, the entries that are left.
+    ghost writes_all: { Self → List (Bytes × Bytes) → Result (Unit {0}) ℕ → List (Bytes × Bytes) → List ℕ → Type 0 } = { λ w entries answer left after. Unit {0} };
+
+    /// One call of a `delete_all` of the author's own: the keys, the answer, the keys that are left.
+    ghost deletes_all: { Self → List Bytes → Result (Unit {0}) ℕ → List Bytes → List ℕ → Type 0 } = { λ w keys answer left after. Unit {0} };
+
     /// Writes a value (`write`).
     ///
     /// An `Err` has a code of the author's own: the call that asked fails with `WriterFailed` of that code, and its entry stays as
     /// it was. So an `Err` should mean that the store hasn't changed.
-    fn write(&mut self, key: &Key, value: &Value) -> Result<(), u32>;
+    fn write(&mut self, key: &Key, value: &Value) -> Result<(), u32>
+        ensures { writes self.old key.now (Write value.now) result (write_state self.new) };
 
     /// Deletes what is at a key (`delete`). It is no failure if nothing is there.
     ///
     /// An `Err` is as that of [`write`](Write::write).
-    fn delete(&mut self, key: &Key) -> Result<(), u32>;
+    fn delete(&mut self, key: &Key) -> Result<(), u32>
+        ensures { writes self.old key.now Delete result (write_state self.new) };
 
     /// Writes entries, and takes each that it has written out of the collection (`writeAll`).
     ///
@@ -28,22 +51,40 @@ pub trait Write {
     /// A store that writes many entries in one transaction has a body of its own here. The cache goes by what it leaves, whatever
     /// it returns: each entry that is left failed, with the code, or with 0 after an `Ok`; each other one was written. So a
     /// transaction that fails leaves all, and one that is committed ends with `entries.clear()`.
-    fn write_all(&mut self, entries: &mut IndexMap<Key, Value>) -> Result<(), u32> {
-        attempt_entries(entries, |key: &Key, value: &Value| self.write(key, value))
+    fn write_all(&mut self, entries: &mut IndexMap<Key, Value>) -> Result<(), u32>
+        ensures { WritesEach writes write_state self.old entries.old.entries result entries.new.entries
+            ⊎ writes_all self.old entries.old.entries result entries.new.entries (write_state self.new) }
+    {
+        attempt_entries(
+            entries,
+            |key: &Key, value: &Value| -> Result<(), u32>
+                requires { Unit {0} }
+                ensures { writes self.entry.now key.now (Write value.now) result (write_state self.exit.now) }
+            { self.write(key, value) },
+        )
     }
 
     /// Deletes what is at these keys, and takes each that it has deleted out of the collection (`deleteAll`).
     ///
     /// The default and the rules of a body of its own are those of [`write_all`](Write::write_all).
-    fn delete_all(&mut self, keys: &mut IndexSet<Key>) -> Result<(), u32> {
-        attempt_keys(keys, |key: &Key| self.delete(key))
+    fn delete_all(&mut self, keys: &mut IndexSet<Key>) -> Result<(), u32>
+        ensures { DeletesEach writes write_state self.old keys.old.keys result keys.new.keys
+            ⊎ deletes_all self.old keys.old.keys result keys.new.keys (write_state self.new) }
+    {
+        attempt_keys(
+            keys,
+            |key: &Key| -> Result<(), u32>
+                requires { Unit {0} }
+                ensures { writes self.entry.now key.now Delete result (write_state self.exit.now) }
+            { self.delete(key) },
+        )
     }
 }
 
 /// The writer of a cache that writes by `W`.
 ///
-/// It hands each call on, and states nothing of what is answered or left. Whoever wants to state more implements
-/// [`jc_outside::CacheWriter`].
+/// It hands each call on, once, and answers and leaves what `W` does: its relations are those of `W`. Whoever wants to state more
+/// implements [`jc_outside::CacheWriter`].
 #[derive(Drop)]
 pub struct Writing<W: Write + Drop> {
     /// Who writes.
@@ -51,15 +92,18 @@ pub struct Writing<W: Write + Drop> {
 }
 
 impl<W: Write + Drop> CacheWriter for Writing<W> {
-    ghost use Rattle.std.specs.Prelude.{[]};
+    ghost use Rattle.std.specs.Prelude.{◌⊎◌};
+    ghost use Rattle.jc_plain.specs.Writes.{WritesEach, DeletesEach};
 
-    ghost write_state = { λ w. [] };
+    ghost write_state = { λ w. W.write_state w.writer };
 
-    ghost writes = { λ w key change answer after. Unit {0} };
+    ghost writes = { λ w key change answer after. W.writes w.writer key change answer after };
 
-    ghost writes_all = { λ w entries answer left after. Unit {0} };
+    ghost writes_all = { λ w entries answer left after. WritesEach W.writes W.write_state w.writer entries answer left
+        ⊎ W.writes_all w.writer entries answer left after };
 
-    ghost deletes_all = { λ w keys answer left after. Unit {0} };
+    ghost deletes_all = { λ w keys answer left after. DeletesEach W.writes W.write_state w.writer keys answer left
+        ⊎ W.deletes_all w.writer keys answer left after };
 
     fn write(&mut self, key: &Key, value: &Value) -> Result<(), u32> {
         self.writer.write(key, value)

@@ -28,7 +28,7 @@ use Rattle.sqlite_store.proofs.FileStore.TheSendSync as store
 use Rattle.sqlite.proofs.Connection.TheSendSync as connection
 use Rattle.std.specs.contracts.rt.LibcRuntime as Host
 use Rattle.std.proofs.rt.LibcRuntime.TheSendSync as host
-use Rattle.sqlite.proofs.Error.TheSendSync as error
+use Rattle.jc_sqlite.proofs.failure.Failure.TheSendSync as failure
 use Rattle.std.proofs.option.Option.TheSendSync as option
 use Rattle.jc_sqlite.specs.contracts.shared.Shared as Shared
 use Rattle.jc_sqlite.specs.contracts.loader.DatabaseLoader as Loader
@@ -51,13 +51,13 @@ file_send = modelled.the_send File.the_row Unknown.the_row calls.ghosts start.gh
 
 shared_send : IsSend Shared.the_row
 shared_send = declared_send Shared.the_type
-    (connection.the_send _ (stored.ghosts file_row file_ghosts stored.no_dict) (store.the_send file_row file_ghosts file_send), (option.the_send _ error.the_send, tt))
+    (connection.the_send _ (stored.ghosts file_row file_ghosts stored.no_dict) (store.the_send file_row file_ghosts file_send), (option.the_send _ failure.the_send, tt))
 
 arc_send : IsSend (Arc.the_row (Mutex.the_row Shared.the_row) Heap.the_row ghosts)
 arc_send = std.Arc-send (Mutex.the_row Shared.the_row) (mutex.the_send Shared.the_row shared_send) (mutex.the_sync Shared.the_row shared_send)
 
 pub loader_send : (R : RattleType) → IsSend R → IsSend (Loader.the_row R)
-loader_send R r = declared_send (Loader.the_type R) (as_row_send (row_field R) r, (std.send, (arc_send, tt)))
+loader_send R r = declared_send (Loader.the_type R) (as_row_send (row_field R) r, (arc_send, tt))
 
 pub writer_send : (R : RattleType) → IsSend R → IsSend (Writer.the_row R)
 writer_send R r = declared_send (Writer.the_type R) (as_row_send (row_field R) r, (arc_send, tt))

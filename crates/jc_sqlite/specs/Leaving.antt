@@ -1,15 +1,26 @@
 -- `LeavesAllOrNone`: after a success nothing is left in a collection that was to be written or deleted, and after a failure all of it
 -- is. A failure's code isn't 0.
--- `error_to_keep`: the failure that is kept, which is the new one, unless that says only that an earlier one has shut the connection.
-use Rattle.std.specs.Prelude.{◌≡◌, ◌<◌, ℕ, List, [], Result, Ok, Err, Option, Some}
+-- `says_closed`: the error says that an earlier failure has shut the connection.
+-- `failure_to_keep`: the failure that is kept, which is the new one, unless that says only that an earlier one has shut the connection.
+-- `KeepsFailure`: a call that succeeds leaves what is kept; one that fails keeps its failure, of which this holds.
+use Rattle.std.specs.Prelude.{◌≡◌, ◌<◌, ℕ, Bool, true, false, if◌then◌else◌, List, [], Result, Ok, Err, Option, None, Some}
 use Rattle.sqlite.specs.declared.error.ErrorCode.TheVariants.{Closed}
 use Rattle.sqlite.specs.declared.error.Error.{Error}
 use Rattle.sqlite.specs.declared.error.Error.TheVariants.{SqliteFailure}
+use Rattle.jc_sqlite.specs.declared.failure.Failure.{Failure}
 
 abbrev pub LeavesAllOrNone : {A : Type 0} → List A → Result (Unit {0}) ℕ → List A → Type 0
 LeavesAllOrNone given (Ok done) left = left ≡ []
 LeavesAllOrNone given (Err code) left = (left ≡ given) × (0 < code)
 
-abbrev pub error_to_keep : Option Error → Error → Error
-error_to_keep (Some first) (SqliteFailure Closed) = first
-error_to_keep _ error = error
+abbrev pub says_closed : Error → Bool
+says_closed (SqliteFailure Closed) = true
+says_closed _ = false
+
+abbrev pub failure_to_keep : Option Failure → Failure → Failure
+failure_to_keep None failure = failure
+failure_to_keep (Some first) failure = if says_closed failure.error then first else failure
+
+abbrev pub KeepsFailure : {T : Type 0} → (Failure → Type 0) → Option Failure → Result T ℕ → Option Failure → Type 0
+KeepsFailure Of before (Ok done) after = after ≡ before
+KeepsFailure Of before (Err code) after = (failure : Failure) × Of failure × (after ≡ Some (failure_to_keep before failure))

@@ -8,6 +8,7 @@
 mod batch;
 pub mod code;
 mod database;
+mod failure;
 mod loader;
 mod shared;
 pub mod table;
@@ -15,5 +16,6 @@ mod writer;
 
 pub use code::code_of;
 pub use database::Database;
+pub use failure::{Failure, OpenError};
 pub use loader::DatabaseLoader;
 pub use writer::DatabaseWriter;

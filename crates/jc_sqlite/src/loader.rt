@@ -8,21 +8,20 @@ use std::sync::{Arc, Mutex, Wait};
 
 /// A loader of a database, for one session. A call waits for the database's lock.
 ///
-/// `load` and `load_all` are one query each. An `Err` has the failure's code, and the database keeps the failure. A row with a value
-/// that is longer than a cache's value is a failure, `TOO_BIG`.
+/// `load` is one query, and `load_all` one for each key, in their order, up to the first that fails. An `Err` has the failure's code,
+/// and the database keeps the failure. A row whose value is longer than a cache's value is a failure, `TOO_BIG`, and so is one whose
+/// value isn't bytes, `MISMATCH`.
 #[derive(Drop)]
 pub struct DatabaseLoader<R: Wait + Drop> {
     rt: R,
-    alloc: Global,
     shared: Arc<Mutex<Shared>, Global>,
 }
 
 impl<R: Wait + Drop> DatabaseLoader<R> {
     /// A loader of this database. An `Err` says that an allocation failed.
-    pub fn new(rt: R, alloc: Global, database: &Database) -> Result<Self, AllocError> {
+    pub fn new(rt: R, database: &Database) -> Result<Self, AllocError> {
         Ok(DatabaseLoader {
             rt,
-            alloc,
             shared: database.share()?,
         })
     }
@@ -42,8 +41,6 @@ impl<R: Wait + Drop> CacheLoader for DatabaseLoader<R> {
     }
 
     fn load_all(&mut self, keys: &[Key], answers: &mut Answers) -> Result<(), u32> {
-        self.shared
-            .lock(&self.rt)
-            .load_all(self.alloc, keys, answers)
+        self.shared.lock(&self.rt).load_all(keys, answers)
     }
 }

@@ -1,47 +1,90 @@
 //! The table's statements, each over a connection that is lent: a database's own, or one of yours.
 //!
 //! What a clause says of the content is under `HasCleanDisk`: so far the disk has returned what was written to it.
-ghost use Rattle.std.specs.Prelude.{◌≡◌, ◌≢◌, ◌⊎◌, ℕ, List, [], length, map, string_bytes, IfOk, IfErr, OnOk, OnErr};
+ghost use Rattle.std.specs.Prelude.{◌≡◌, ◌≢◌, ℕ, false, IsTrue, List, [], map, IsSome, IfOk, IfErr, OnOk, OnErr};
 ghost use Rattle.sqlite.specs.declared.types.Value.TheVariants.{Blob};
 ghost use Rattle.sqlite.specs.Order.{column};
 ghost use Rattle.sqlite.specs.Values.{bound};
-ghost use Rattle.sqlite.specs.State.{HasCleanDisk, FailsToQuery, Shown};
+ghost use Rattle.sqlite.specs.State.{HasCleanDisk, Survives, CommitsShowing, FailsToQuery, Shown};
 ghost use Rattle.sqlite.specs.Batch.{ExecutesAll};
 ghost use Rattle.sqlite.specs.Held.{state};
 ghost use Rattle.jc_sqlite.specs.Batch.{RunsAsOne};
-ghost use Rattle.jc_sqlite.specs.Statements.{create_sql, load_sql, load_all_sql, mark, write_sql, delete_sql, entry_row, key_row};
-ghost use Rattle.jc_sqlite.specs.Statements.{RunsOnce, Counts, IsCount, ReadsValue, IsInFirst, Loads, IsKey, HasNoEntry, PutsRows, LoadsAll};
+ghost use Rattle.jc_sqlite.specs.Statements.{create_sql, load_sql, write_sql, delete_sql, entry_row, key_row};
+ghost use Rattle.jc_sqlite.specs.Statements.{TellsOwn, IsOwn, IsOwnText, RunsOnce, Counts, IsCount, row_error, ReadsValue, IsInFirst, Loads, with_found, LoadsInto, LoadsAll};
 
 use crate::batch;
+use crate::failure::Failure;
 use indexmap::{IndexMap, IndexSet};
 use jc_outside::Answers;
 use jc_types::{Key, Value};
 use sqlite::types::{Type, ValueRef};
 use sqlite::{Alter, Connection, Error, ErrorCode, Row, params};
-use std::alloc::Global;
 
 const CREATE: &str =
     "CREATE TABLE IF NOT EXISTS entry (key BLOB PRIMARY KEY NOT NULL, value BLOB NOT NULL) STRICT";
 
+/// The text of the table as `sqlite3` keeps it, when it has run [`CREATE`].
+const KEPT: &str = "CREATE TABLE entry (key BLOB PRIMARY KEY NOT NULL, value BLOB NOT NULL) STRICT";
+
+const SCHEMA: &str = "SELECT sql FROM sqlite_schema WHERE tbl_name = 'entry' AND type <> 'index'";
+
 const COUNT: &str = "SELECT count(*) FROM entry";
 
 const LOAD: &str = "SELECT value FROM entry WHERE key = ?1";
-
-const LOAD_ALL: &str = "SELECT key, value FROM entry WHERE key IN (";
 
 const WRITE: &str =
     "INSERT INTO entry (key, value) VALUES (?1, ?2) ON CONFLICT (key) DO UPDATE SET value = excluded.value";
 
 const DELETE: &str = "DELETE FROM entry WHERE key = ?1";
 
-/// A row that is no entry of a cache.
-const NO_ENTRY: Error = Error::SqliteFailure(ErrorCode::TooBig);
+/// The bytes of a row are too many for a value of a cache.
+const NO_VALUE: Error = Error::SqliteFailure(ErrorCode::TooBig);
 
 /// Makes the table, if it isn't there, by one statement.
 pub fn create<S: Alter>(conn: &mut Connection<S>) -> Result<(), Error>
     ensures { HasCleanDisk (state S.Store conn.new) → ExecutesAll S.Store create_sql conn.old conn.new result }
 {
     conn.execute_batch(CREATE)
+}
+
+/// Whether `entry` is the table that [`create`] makes, with no trigger on it. Of its text `IF NOT EXISTS` may be left out, as
+/// `sqlite3` does. The table stays as it is.
+pub fn is_own<S: Alter>(conn: &mut Connection<S>) -> Result<bool, Error>
+    ensures { HasCleanDisk (state S.Store conn.new) → TellsOwn (state S.Store conn.old) (state S.Store conn.new) result }
+{
+    match conn.query_all(SCHEMA, &[]) {
+        Ok(rows) => Ok(is_own_row(rows.as_slice())),
+        Err(error) => Err(error),
+    }
+}
+
+/// Whether the table's row is the one row that the schema shows.
+fn is_own_row(rows: &[Row]) -> bool
+    ensures own { IsTrue result → IsOwn rows.now }
+    ensures other { result ≡ false → ¬ IsOwn rows.now }
+{
+    if rows.len() != 1 {
+        return false;
+    }
+    match rows[0].get_ref(0) {
+        Ok(ValueRef::Text(text)) => is_own_text(text),
+        _ => false,
+    }
+}
+
+/// Whether it is the table's text.
+fn is_own_text(text: &[u8]) -> bool
+    ensures own { IsTrue result → IsOwnText text.now }
+    ensures other { result ≡ false → ¬ IsOwnText text.now }
+{
+    is_text(text, CREATE) || is_text(text, KEPT)
+}
+
+fn is_text(text: &[u8], wanted: &str) -> bool
+    ensures same { IsTrue result → text.now ≡ wanted.now }
+    ensures other { result ≡ false → text.now ≢ wanted.now }
+{
+    text == wanted.as_bytes()
 }
 
 /// How many entries the table has: what a count of its rows shows. The table stays as it is.
@@ -60,9 +103,12 @@ fn count_in(row: &Row) -> Result<u64, Error>
 
 /// The value at a key, or none (`load`): that of the first row that the query shows.
 ///
-/// The table stays as it is. An `Err` is the query's, or the row has no value of a cache: one that is longer, or no bytes.
+/// The table stays as it is. An `Err` is the query's, or says that the row has no value of a cache: `TooBig` if it has more bytes,
+/// `InvalidColumnType` if it has none.
 pub fn load<S: Alter>(conn: &mut Connection<S>, key: &Key) -> Result<Option<Value>, Error>
-    ensures { HasCleanDisk (state S.Store conn.new) → Loads key.now (state S.Store conn.old) (state S.Store conn.new) result }
+    ensures loads { HasCleanDisk (state S.Store conn.new) → Loads key.now (state S.Store conn.old) (state S.Store conn.new) result }
+    ensures survives { Survives (state S.Store conn.old) (state S.Store conn.new)
+        (CommitsShowing load_sql (key_row key.now) (state S.Store conn.old)) }
 {
     let rows = rows_at(conn, key)?;
     first_value(rows.as_slice())
@@ -74,6 +120,8 @@ fn rows_at<S: Alter>(conn: &mut Connection<S>, key: &Key) -> Result<Vec<Row>, Er
         → IfOk result (λ rows. Shown load_sql (key_row key.now) (state S.Store conn.old) (state S.Store conn.new) rows.items) }
     ensures cause { HasCleanDisk (state S.Store conn.new)
         → IfErr result (FailsToQuery load_sql (key_row key.now) (state S.Store conn.old) (state S.Store conn.new)) }
+    ensures survives { Survives (state S.Store conn.old) (state S.Store conn.new)
+        (CommitsShowing load_sql (key_row key.now) (state S.Store conn.old)) }
 {
     conn.query_all(LOAD, params![key.bytes()])
 }
@@ -83,115 +131,81 @@ fn first_value(rows: &[Row]) -> Result<Option<Value>, Error>
     ensures { IsInFirst rows.now result }
 {
     match rows.first() {
-        Some(row) => Ok(Some(value_in(row, 0)?)),
+        Some(row) => Ok(Some(value_in(row)?)),
         None => Ok(None),
     }
 }
 
-/// Puts the values at these keys into the answers, by one query. The table stays as it is.
+/// Puts the values at these keys into the answers, by one [`load`] after the other, in their order. The table stays as it is.
 ///
-/// An `Err` comes of memory, of the query, or of a row that is no entry of a cache; some of the values may be there then.
+/// An `Err` is that of the first load that failed, and names its key. The answers then have the values of the keys before it.
 pub fn load_all<S: Alter>(
-    alloc: Global,
     conn: &mut Connection<S>,
     keys: &[Key],
     answers: &mut Answers,
-) -> Result<(), Error>
-    ensures { HasCleanDisk (state S.Store conn.new)
-        → LoadsAll keys.now (state S.Store conn.old) (state S.Store conn.new) answers.old answers.new result }
+) -> Result<(), Failure>
+    ensures loads { HasCleanDisk (state S.Store conn.new)
+        → LoadsAll S.Store keys.now conn.old conn.new answers.old answers.new result }
+    ensures named { IfErr result (λ failure. IsSome failure.key) }
 {
-    let rows = rows_at_all(alloc, conn, keys)?;
-    put_rows(rows.as_slice(), answers)
-}
-
-/// The rows at these keys.
-fn rows_at_all<S: Alter>(
-    alloc: Global,
-    conn: &mut Connection<S>,
-    keys: &[Key],
-) -> Result<Vec<Row>, Error>
-    ensures rows { HasCleanDisk (state S.Store conn.new)
-        → IfOk result (λ rows. Shown (load_all_sql (length keys.now)) (map Blob keys.now) (state S.Store conn.old) (state S.Store conn.new) rows.items) }
-    ensures cause { HasCleanDisk (state S.Store conn.new)
-        → IfErr result (λ e. (e ≡ Error.SqliteFailure ErrorCode.OutOfMemory) ⊎ FailsToQuery (load_all_sql (length keys.now)) (map Blob keys.now) (state S.Store conn.old) (state S.Store conn.new) e) }
-{
-    let query = query_of(alloc, keys.len())?;
-    let given = parameters(alloc, keys)?;
-    conn.query_all(query.as_str(), given.as_slice())
-}
-
-/// Puts the rows, each a key and a value, into the answers.
-fn put_rows(rows: &[Row], answers: &mut Answers) -> Result<(), Error>
-    ensures rows { OnOk result (PutsRows rows.now answers.old answers.new) }
-    ensures cause { OnErr result (HasNoEntry rows.now) }
-{
-    for row in rows {
-        answers.put(&key_in(row, 0)?, &value_in(row, 1)?);
+    for key in keys {
+        load_into(conn, key, answers)?;
     }
     Ok(())
 }
 
-/// The text of a query of so many keys.
-fn query_of(alloc: Global, count: usize) -> Result<String, Error>
-    ensures text { IfOk result (λ text. string_bytes text ≡ load_all_sql count) }
-    ensures memory { IfErr result (λ e. e ≡ Error.SqliteFailure ErrorCode.OutOfMemory) }
+/// Puts the value at a key into the answers, if there is one.
+fn load_into<S: Alter>(
+    conn: &mut Connection<S>,
+    key: &Key,
+    answers: &mut Answers,
+) -> Result<(), Failure>
+    ensures loads { HasCleanDisk (state S.Store conn.new)
+        → LoadsInto key.now (state S.Store conn.old) (state S.Store conn.new) answers.old answers.new result }
+    ensures named { IfErr result (λ failure. IsSome failure.key) }
+    ensures survives { Survives (state S.Store conn.old) (state S.Store conn.new)
+        (CommitsShowing load_sql (key_row key.now) (state S.Store conn.old)) }
 {
-    let mut text = String::from_str(alloc, LOAD_ALL)?;
-    for i in 0..count {
-        text.push_str(mark(i))?;
-    }
-    text.push_str(")")?;
-    Ok(text)
-}
-
-/// The parameter at this place of a list of them.
-fn mark(place: usize) -> &'static str
-    ensures { result.now ≡ mark place }
-{
-    if place == 0 { "?" } else { ",?" }
-}
-
-/// The keys, as parameters.
-fn parameters(alloc: Global, keys: &[Key]) -> Result<Vec<ValueRef<'_>>, Error>
-    ensures given { IfOk result (λ given. bound given.items ≡ map Blob keys.now) }
-    ensures memory { IfErr result (λ e. e ≡ Error.SqliteFailure ErrorCode.OutOfMemory) }
-{
-    let mut given = Vec::with_capacity(alloc, keys.len())?;
-    for key in keys {
-        given.push(ValueRef::Blob(key.bytes()))?;
-    }
-    Ok(given)
-}
-
-/// The key in a column of a row.
-fn key_in(row: &Row, at: usize) -> Result<Key, Error>
-    ensures key { IfOk result (λ key. column row.now at ≡ Blob key) }
-    ensures none { OnErr result (¬ IsKey (column row.now at)) }
-{
-    match Key::new(bytes_in(row, at)?) {
-        Ok(key) => Ok(key),
-        Err(_) => Err(NO_ENTRY),
+    match load(conn, key) {
+        Ok(found) => {
+            put_found(answers, key, &found);
+            Ok(())
+        }
+        Err(error) => Err(Failure {
+            key: Some(*key),
+            error,
+        }),
     }
 }
 
-/// The value in a column of a row.
-fn value_in(row: &Row, at: usize) -> Result<Value, Error>
-    ensures { ReadsValue (column row.now at) result }
+/// Puts what was found at a key into the answers, if anything was.
+fn put_found(answers: &mut Answers, key: &Key, found: &Option<Value>)
+    ensures { answers.new ≡ with_found answers.old key.now found.now }
 {
-    match Value::new(bytes_in(row, at)?) {
+    if let Some(value) = found {
+        answers.put(key, value);
+    }
+}
+
+/// The value in the one column of a row.
+fn value_in(row: &Row) -> Result<Value, Error>
+    ensures { ReadsValue row.now result }
+{
+    match Value::new(bytes_in(row)?) {
         Ok(value) => Ok(value),
-        Err(_) => Err(NO_ENTRY),
+        Err(_) => Err(NO_VALUE),
     }
 }
 
-/// The bytes in a column of a row.
-fn bytes_in(row: &Row, at: usize) -> Result<&[u8], Error>
-    ensures bytes { IfOk result (λ bytes. column row.now at ≡ Blob bytes.now) }
-    ensures kind { OnErr result ((bytes : List ℕ) → column row.now at ≢ Blob bytes) }
+/// The bytes in the one column of a row.
+fn bytes_in(row: &Row) -> Result<&[u8], Error>
+    ensures bytes { IfOk result (λ bytes. column row.now 0 ≡ Blob bytes.now) }
+    ensures kind { OnErr result ((bytes : List ℕ) → column row.now 0 ≢ Blob bytes) }
+    ensures cause { IfErr result (λ e. e ≡ row_error row.now) }
 {
-    match row.get_ref(at)? {
+    match row.get_ref(0)? {
         ValueRef::Blob(bytes) => Ok(bytes),
-        other => Err(Error::InvalidColumnType(at, Type::of(other))),
+        other => Err(Error::InvalidColumnType(0, Type::of(other))),
     }
 }
 

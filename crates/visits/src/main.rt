@@ -39,7 +39,7 @@ fn main(rt: HostRuntime) -> anyhow::Result<()> {
     for _ in 0..CLIENTS {
         let loader: Box<dyn CacheLoader + Send + Drop> = Box::new(
             alloc,
-            DatabaseLoader::new(rt, alloc, &database)?,
+            DatabaseLoader::new(rt, &database)?,
         )?;
         let writer: Box<dyn CacheWriter + Send + Drop> = Box::new(
             alloc,

@@ -11,13 +11,13 @@ loads_shown : (key : List ℕ) (old new : State) (rows : List Row) (r : Result (
 loads_shown key old new rows (Ok found) shown first = (rows, shown, first)
 loads_shown key old new rows (Err e) shown first = inr (rows, shown, first)
 
-pub returns : goal.returns
-returns g c =
+pub returns-clause-loads : goal.returns-clause-loads
+returns-clause-loads g c =
     let rows = c.in_ok-rows.rows.items in
     λ clean. loads_shown c.args.key.now (state g.S.Store c.args.conn.now) (state g.S.Store c.rows_at.new.conn) rows c.first_value.result (c.in_ok-rows.ensures.rows clean)
     (subst (λ it. IsInFirst it c.first_value.result) c.as_slice.ensures.value c.first_value.ensures)
 
-pub returns-in_err-rows : goal.returns-in_err-rows
-returns-in_err-rows g c clean =
+pub returns-in_err-rows-clause-loads : goal.returns-in_err-rows-clause-loads
+returns-in_err-rows-clause-loads g c clean =
     subst (Loads c.args.key.now (state g.S.Store c.args.conn.now) (state g.S.Store c.rows_at.new.conn)) (sym (same_error c.from_residual.result c.in_err-rows.field-0.0 c.from_residual.ensures.1))
     (inl (c.in_err-rows.ensures.cause clean))

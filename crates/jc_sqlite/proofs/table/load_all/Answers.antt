@@ -1,22 +1,26 @@
-use Rattle.std.proofs.Common.{OnOk, OnErr, subst, sym}
-use Rattle.sqlite.specs.Held.{state}
-use Rattle.jc_sqlite.specs.Statements.{HasNoEntry, PutsRows, LoadsAll}
-use Rattle.jc_sqlite.proofs.Statements.{loaded, not_loaded, same_error}
+use Rattle.std.proofs.Common.{Ok, refl, subst, sym}
+use Rattle.std.proofs.lemmas.List.{drop_all}
+use Rattle.jc_sqlite.specs.Statements.{LoadsAll}
+use Rattle.jc_sqlite.proofs.Statements.{loads_more, loads_none, same_error}
 use Rattle.jc_sqlite.proofs.table.load_all.Goals as goal
 
-pub returns : goal.returns
-returns g c =
-    let rows = c.in_ok-rows.rows.items in
-    let before = c.args.answers.now in
-    let after = c.put_rows.new.answers in
-    λ clean. loaded c.args.keys.now (state g.S.Store c.args.conn.now) (state g.S.Store c.rows_at_all.new.conn) before after rows c.put_rows.result (c.in_ok-rows.ensures.rows clean)
-    (subst (λ it. OnOk c.put_rows.result (PutsRows it before after)) c.as_slice.ensures.value c.put_rows.ensures.rows)
-    (subst (λ it. OnErr c.put_rows.result (HasNoEntry it)) c.as_slice.ensures.value c.put_rows.ensures.cause)
+pub loop-key-init : goal.loop-key-init
+loop-key-init g c = λ clean new after result it. it
 
-pub returns-in_err-rows : goal.returns-in_err-rows
-returns-in_err-rows g c clean =
-    let old = state g.S.Store c.args.conn.now in
-    let new = state g.S.Store c.rows_at_all.new.conn in
-    let answers = c.args.answers.now in
-    let e = c.in_err-rows.field-0.0 in
-    subst (LoadsAll c.args.keys.now old new answers answers) (sym (same_error c.from_residual.result e c.from_residual.ensures.1)) (not_loaded c.args.keys.now old new answers answers e (c.in_err-rows.ensures.cause clean))
+pub loop-key-preserved : goal.loop-key-preserved
+loop-key-preserved g c =
+    loads_more g.S.Store c.args.keys.now c.loop-key.key-index c.key-item.result c.args.conn.now c.loop-key.conn c.load_into.new.conn c.args.answers.now c.loop-key.answers c.load_into.new.answers _
+    c.loop-key-test.true c.key-item.is c.loop-key.invariant c.load_into.ensures.survives c.in_ok-load_into.ensures.loads
+
+pub returns-in_err-load_into-clause-loads : goal.returns-in_err-load_into-clause-loads
+returns-in_err-load_into-clause-loads g c clean =
+    subst (LoadsAll g.S.Store c.args.keys.now c.args.conn.now c.load_into.new.conn c.args.answers.now c.load_into.new.answers) (sym (same_error c.from_residual.result c.in_err-load_into.field-0.0 c.from_residual.ensures.1))
+    (loads_none g.S.Store c.args.keys.now c.loop-key.key-index c.key-item.result c.args.conn.now c.loop-key.conn c.load_into.new.conn c.args.answers.now c.loop-key.answers c.load_into.new.answers _
+    c.in_err-load_into.field-0.0 c.loop-key-test.true c.key-item.is c.loop-key.invariant c.load_into.ensures.survives c.in_err-load_into.ensures.loads clean)
+
+pub returns-clause-loads : goal.returns-clause-loads
+returns-clause-loads g c clean =
+    let conn = c.loop-key.conn in
+    let answers = c.loop-key.answers in
+    c.loop-key.invariant clean conn answers (Ok tt)
+    (subst (λ it. LoadsAll g.S.Store it conn conn answers answers (Ok tt)) (sym (drop_all c.loop-key.key-index c.args.keys.now c.loop-key-test.false)) (refl, refl, refl))

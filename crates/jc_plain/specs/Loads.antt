@@ -1,0 +1,18 @@
+-- What the default `load_all` of a loader does: it loads one key after the other, up to the first failure.
+--     with_found    the answers, with what was found at a key put in, if anything was
+--     LoadsEach     each key was loaded once, in their order, and what was found was put into the answers; a failure of the whole is
+--                   that of the first load that failed, after which nothing was loaded
+use Rattle.std.specs.Prelude.{◌≡◌, ◌⊎◌, ℕ, List, [], ◌∷◌, Result, Ok, Err, Option, None, Some}
+use Rattle.jc_model.specs.Cache.{Bytes}
+use Rattle.jc_outside.specs.Answers.{AnswersByKey, answers_with}
+
+abbrev pub with_found : AnswersByKey → Bytes → Option Bytes → AnswersByKey
+with_found answers key None = answers
+with_found answers key (Some value) = answers_with answers key value
+
+abbrev pub LoadsEach : {L : Type 0} → (L → Bytes → Result (Option Bytes) ℕ → List ℕ → Type 0) → (L → List ℕ)
+    → L → List Bytes → AnswersByKey → Result (Unit {0}) ℕ → AnswersByKey → List ℕ → Type 0
+LoadsEach loads state l [] answers result after end = (result ≡ Ok tt) × (after ≡ answers) × (end ≡ state l)
+LoadsEach {L = L} loads state l (key ∷ keys) answers result after end =
+    ((code : ℕ) × loads l key (Err code) end × (result ≡ Err code) × (after ≡ answers))
+    ⊎ ((mid : L) × (found : Option Bytes) × loads l key (Ok found) (state mid) × LoadsEach loads state mid keys (with_found answers key found) result after end)

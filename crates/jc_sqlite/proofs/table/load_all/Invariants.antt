@@ -1,0 +1,6 @@
+use Rattle.std.proofs.Common.{drop}
+use Rattle.jc_sqlite.proofs.Statements.{Loading}
+use Rattle.jc_sqlite.proofs.table.load_all.Given as goal
+
+abbrev pub invariant-loop-key : goal.invariant-loop-key
+invariant-loop-key g l = Loading g.S.Store l.keys (drop l.key-index l.keys) l.fn.conn l.conn l.fn.answers l.answers
