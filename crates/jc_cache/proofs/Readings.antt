@@ -1,7 +1,7 @@
 -- What a session reads of what a cache counts.
 --     ReadBelow, read_next, read_all    the first stripes were read, one more, and all
 --     take_set                          the first seats of a row, with the next one replaced
---     events_snoc                       the events of stripes with one more
+--     occurred_snoc                     what occurred in stripes with one more
 --     counted_next, counted_all         what the first stripes count, with one more, and what all count
 --     stripes_next, stripes_all         the same of the states of stripes
 --     read_may                          a session that has read may call as before
@@ -11,13 +11,12 @@ use Rattle.std.proofs.lemmas.List.{map-append}
 use mathlib.Core.Logic.{dite}
 use native.Mathlib.Decide.{ℕ_discrete}
 use Rattle.atomic_table.specs.Seated.{TableId}
-use Rattle.jc_model.specs.declared.event.Event.{Event}
 use Rattle.jc_model.specs.declared.statistics.Statistics.{Statistics}
-use Rattle.jc_model.specs.Statistics.{statistics_of, together, StatisticsLaws}
+use Rattle.jc_model.specs.Statistics.{Occurrence, statistics_of, together, StatisticsLaws}
 use Rattle.jc_stripe.specs.State.{State}
-use Rattle.jc_stripe.specs.Generations.{whole_history}
+use Rattle.jc_stripe.specs.Occurrences.{all_occurrences}
 use Rattle.jc_cache.specs.Caches.{CacheState, noted_by}
-use Rattle.jc_cache.specs.Counting.{HasRead, HasReadEach, all_events}
+use Rattle.jc_cache.specs.Counting.{HasRead, HasReadEach, occurred_in}
 use Rattle.jc_cache.specs.Meeting.{KeepRow}
 use Rattle.jc_cache.specs.Sessions.{MayCall}
 use Rattle.jc_cache.specs.declared.session.Session.{Session}
@@ -54,31 +53,31 @@ take_whole [] (suc n) le = refl
 take_whole (y ∷ ys) zero le = absurd (omega arith)
 take_whole (y ∷ ys) (suc n) le = ap (λ (l : List Seated). y ∷ l) (take_whole ys n (omega arith))
 
-events_snoc : (states : List State) (state : State) → all_events (states ++ state ∷ []) ≡ all_events states ++ whole_history state
-events_snoc [] state = append-nil (whole_history state)
-events_snoc (first ∷ states) state = ap (λ (es : List Event). whole_history first ++ es) (events_snoc states state) ∙ sym (append_assoc (whole_history first) (all_events states) (whole_history state))
+occurred_snoc : (states : List State) (state : State) → occurred_in (states ++ state ∷ []) ≡ occurred_in states ++ all_occurrences state
+occurred_snoc [] state = append-nil (all_occurrences state)
+occurred_snoc (first ∷ states) state = ap (λ (es : List Occurrence). all_occurrences first ++ es) (occurred_snoc states state) ∙ sym (append_assoc (all_occurrences first) (occurred_in states) (all_occurrences state))
 
-abbrev events_at : List Seated → List Event
-events_at seats = all_events (noted_by seats)
+abbrev occurred_at : List Seated → List Occurrence
+occurred_at seats = occurred_in (noted_by seats)
 
-events_next : (ys : List Seated) (n : ℕ) (y z : Seated) → slice_get ys n ≡ Some y → events_at (take (n + 1) (set ys n z)) ≡ events_at (take n ys) ++ whole_history z.1.noted
+events_next : (ys : List Seated) (n : ℕ) (y z : Seated) → slice_get ys n ≡ Some y → occurred_at (take (n + 1) (set ys n z)) ≡ occurred_at (take n ys) ++ all_occurrences z.1.noted
 events_next ys n y z at =
-    ap (λ (m : ℕ). events_at (take m (set ys n z))) (add-one n)
-    ∙ ap events_at (take_set ys n y z at)
-    ∙ ap all_events (map-append (λ (seat : Seated). seat.1.noted) (take n ys) (z ∷ []))
-    ∙ events_snoc (noted_by (take n ys)) z.1.noted
+    ap (λ (m : ℕ). occurred_at (take m (set ys n z))) (add-one n)
+    ∙ ap occurred_at (take_set ys n y z at)
+    ∙ ap occurred_in (map-append (λ (seat : Seated). seat.1.noted) (take n ys) (z ∷ []))
+    ∙ occurred_snoc (noted_by (take n ys)) z.1.noted
 
 pub counted_next : StatisticsLaws → (ys : List Seated) (n : ℕ) (y z : Seated) (total one more : Statistics) → slice_get ys n ≡ Some y
-    → total ≡ statistics_of (all_events (noted_by (take n ys))) → one ≡ statistics_of (whole_history z.1.noted) → more ≡ together total one
-    → more ≡ statistics_of (all_events (noted_by (take (n + 1) (set ys n z))))
+    → total ≡ statistics_of (occurred_in (noted_by (take n ys))) → one ≡ statistics_of (all_occurrences z.1.noted) → more ≡ together total one
+    → more ≡ statistics_of (occurred_in (noted_by (take (n + 1) (set ys n z))))
 counted_next laws ys n y z total one more at was is both =
     both
     ∙ (λ k. together (was k) (is k))
-    ∙ sym (laws.append (events_at (take n ys)) (whole_history z.1.noted))
+    ∙ sym (laws.append (occurred_at (take n ys)) (all_occurrences z.1.noted))
     ∙ ap statistics_of (sym (events_next ys n y z at))
 
-pub counted_all : (ys : List Seated) (n : ℕ) (total : Statistics) → length ys ≤ n → total ≡ statistics_of (all_events (noted_by (take n ys))) → total ≡ statistics_of (all_events (noted_by ys))
-counted_all ys n total le is = is ∙ ap (λ (l : List Seated). statistics_of (all_events (noted_by l))) (take_whole ys n le)
+pub counted_all : (ys : List Seated) (n : ℕ) (total : Statistics) → length ys ≤ n → total ≡ statistics_of (occurred_in (noted_by (take n ys))) → total ≡ statistics_of (occurred_in (noted_by ys))
+counted_all ys n total le is = is ∙ ap (λ (l : List Seated). statistics_of (occurred_in (noted_by l))) (take_whole ys n le)
 
 take_next : (states : List State) (n : ℕ) (state : State) → slice_get states n ≡ Some state → take (suc n) states ≡ take n states ++ state ∷ []
 take_next [] n state at = cc
@@ -92,18 +91,18 @@ take_states (x ∷ states) zero le = absurd (omega arith)
 take_states (x ∷ states) (suc n) le = ap (λ (l : List State). x ∷ l) (take_states states n (omega arith))
 
 pub stripes_next : StatisticsLaws → (states : List State) (n : ℕ) (state : State) (total one more : Statistics) → slice_get states n ≡ Some state
-    → total ≡ statistics_of (all_events (take n states)) → one ≡ statistics_of (whole_history state) → more ≡ together total one
-    → more ≡ statistics_of (all_events (take (n + 1) states))
+    → total ≡ statistics_of (occurred_in (take n states)) → one ≡ statistics_of (all_occurrences state) → more ≡ together total one
+    → more ≡ statistics_of (occurred_in (take (n + 1) states))
 stripes_next laws states n state total one more at was is both =
     both
     ∙ (λ k. together (was k) (is k))
-    ∙ sym (laws.append (all_events (take n states)) (whole_history state))
-    ∙ ap statistics_of (sym (events_snoc (take n states) state))
-    ∙ ap (λ (l : List State). statistics_of (all_events l)) (sym (take_next states n state at))
-    ∙ ap (λ (m : ℕ). statistics_of (all_events (take m states))) (sym (add-one n))
+    ∙ sym (laws.append (occurred_in (take n states)) (all_occurrences state))
+    ∙ ap statistics_of (sym (occurred_snoc (take n states) state))
+    ∙ ap (λ (l : List State). statistics_of (occurred_in l)) (sym (take_next states n state at))
+    ∙ ap (λ (m : ℕ). statistics_of (occurred_in (take m states))) (sym (add-one n))
 
-pub stripes_all : (states : List State) (n : ℕ) (total : Statistics) → length states ≤ n → total ≡ statistics_of (all_events (take n states)) → total ≡ statistics_of (all_events states)
-stripes_all states n total le is = is ∙ ap (λ (l : List State). statistics_of (all_events l)) (take_states states n le)
+pub stripes_all : (states : List State) (n : ℕ) (total : Statistics) → length states ≤ n → total ≡ statistics_of (occurred_in (take n states)) → total ≡ statistics_of (occurred_in states)
+stripes_all states n total le is = is ∙ ap (λ (l : List State). statistics_of (occurred_in l)) (take_states states n le)
 
 -- 3. The session.
 

@@ -6,7 +6,7 @@ ghost use Rattle.jc_session.specs.Counting.{call_before};
 ghost use Rattle.jc_model.specs.Statistics.{statistics_of};
 ghost use Rattle.jc_cache.specs.Caches.{noted_by};
 ghost use Rattle.jc_cache.specs.Clients.{OnSameCache};
-ghost use Rattle.jc_cache.specs.Counting.{Reads, all_events};
+ghost use Rattle.jc_cache.specs.Counting.{Reads, occurred_in};
 ghost use Rattle.jc_cache.specs.Generations.{EndsAt, IsEndOf};
 ghost use Rattle.jc_cache.specs.Meeting.{Meets};
 ghost use Rattle.jc_cache.specs.Sessions.{IsOf, MayCall};
@@ -88,7 +88,7 @@ impl<'a> Client<'a> {
     /// It may wait for a stripe while a phase is made there. It appends nothing to a history and takes no memory.
     pub fn statistics<R: Wait>(&mut self, rt: &R) -> Statistics
         ensures { OnSameCache self.old.cache self.new.cache (Reads self.old.session self.new.session
-            × (result ≡ statistics_of (all_events (noted_by self.new.session.seats.items)))) }
+            × (result ≡ statistics_of (occurred_in (noted_by self.new.session.seats.items)))) }
     {
         self.cache.statistics(rt, &mut self.session)
     }

@@ -8,7 +8,7 @@ ghost use Rattle.jc_types.specs.declared.refusal.Refusal.TheVariants.{OutOfMemor
 ghost use Rattle.jc_model.specs.Legal.{Legal};
 ghost use Rattle.jc_model.specs.Listed.{has_distinct_keys};
 ghost use Rattle.jc_model.specs.Statistics.{statistics_of};
-ghost use Rattle.jc_stripe.specs.Generations.{whole_history};
+ghost use Rattle.jc_stripe.specs.Occurrences.{all_occurrences};
 ghost use Rattle.jc_stripe.specs.OrderOfUse.{by_use};
 ghost use Rattle.jc_stripe.specs.Reached.{IsReached};
 ghost use Rattle.jc_stripe.specs.Reopening.{shares_key};
@@ -81,7 +81,7 @@ impl ClosedStripe {
 
     /// What the events of all its generations count, the last one included (JSR 107, "Statistics"). It reads no event.
     pub fn statistics(&self) -> Statistics
-        ensures { result ≡ statistics_of (whole_history self.now) }
+        ensures { result ≡ statistics_of (all_occurrences self.now) }
     {
         self.stripe.statistics()
     }

@@ -1,9 +1,9 @@
 //! What a cache counts.
 ghost use Rattle.std.specs.Prelude.{◌≡◌};
 ghost use Rattle.jc_model.specs.Statistics.{statistics_of};
-ghost use Rattle.jc_stripe.specs.Generations.{whole_history};
+ghost use Rattle.jc_stripe.specs.Occurrences.{all_occurrences};
 ghost use Rattle.jc_cache.specs.Caches.{noted_by};
-ghost use Rattle.jc_cache.specs.Counting.{HasRead, HasReadEach, Reads, all_events};
+ghost use Rattle.jc_cache.specs.Counting.{HasRead, HasReadEach, Reads, occurred_in};
 ghost use Rattle.jc_cache.specs.Meeting.{IsSessionSeat, AreSessionSeats, KeepRow};
 ghost use Rattle.jc_cache.specs.Sessions.{Completes, MayCall};
 
@@ -17,7 +17,8 @@ use jc_session::Agent;
 use std::sync::Wait;
 
 impl Cache {
-    /// What the steps of all sessions count so far, in all generations (JSR 107, "Statistics"; `CacheStatisticsMXBean`).
+    /// What the steps of all sessions count so far, in all generations, each with whether its key had an entry before it (JSR 107,
+    /// "Statistics"; `CacheStatisticsMXBean`).
     ///
     /// It reads one stripe after another, each as it is then, and reads no event. The session has seen of each stripe what was
     /// counted there.
@@ -29,7 +30,7 @@ impl Cache {
     pub fn statistics<R: Wait>(&self, rt: &R, session: &mut Session) -> Statistics
         requires { MayCall self.now session.old }
         ensures { Completes self.now session.new (Reads session.old session.new
-            × (result ≡ statistics_of (all_events (noted_by session.new.seats.items)))) }
+            × (result ≡ statistics_of (occurred_in (noted_by session.new.seats.items)))) }
     {
         read_each(rt, &self.locks, &mut session.agent, &mut session.seats)
     }
@@ -38,7 +39,7 @@ impl Cache {
 impl Closed {
     /// What the steps of all sessions have counted, in all generations (JSR 107, "Statistics"). It reads no event.
     pub fn statistics(&self) -> Statistics
-        ensures { result ≡ statistics_of (all_events self.now.stripes.items) }
+        ensures { result ≡ statistics_of (occurred_in self.now.stripes.items) }
     {
         count_each(&self.stripes)
     }
@@ -46,7 +47,7 @@ impl Closed {
 
 /// What these stripes count, all together.
 fn count_each(stripes: &[ClosedStripe]) -> Statistics
-    ensures { result ≡ statistics_of (all_events stripes.now) }
+    ensures { result ≡ statistics_of (occurred_in stripes.now) }
 {
     statistics_laws();
     let mut total = Statistics::new();
@@ -67,7 +68,7 @@ fn read_each<R: Wait>(
     ensures agent { agent.new ≡ agent.old }
     ensures keeps { KeepRow seats.old.items seats.new.items }
     ensures reads { HasReadEach seats.old.items seats.new.items }
-    ensures counted { result ≡ statistics_of (all_events (noted_by seats.new.items)) }
+    ensures counted { result ≡ statistics_of (occurred_in (noted_by seats.new.items)) }
 {
     statistics_laws();
     let mut total = Statistics::new();
@@ -83,7 +84,7 @@ fn read_at<R: Wait>(rt: &R, lock: &HistLock, agent: &mut Agent, seat: &mut Seat)
     ensures agent { agent.new ≡ agent.old }
     ensures lock { seat.new.0 ≡ seat.old.0 }
     ensures reads { HasRead seat.old.1 seat.new.1 }
-    ensures counted { result ≡ statistics_of (whole_history seat.new.1.noted) }
+    ensures counted { result ≡ statistics_of (all_occurrences seat.new.1.noted) }
 {
     let mut gate = lock;
     let stripe = agent.take(rt, &mut gate, seat);

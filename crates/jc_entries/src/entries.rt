@@ -213,7 +213,7 @@ impl Entries {
     }
 
     /// How many entries there are, at most [`capacity`](Entries::capacity).
-    fn len(&self) -> usize
+    pub fn len(&self) -> usize
         ensures len { result ≡ length self.now.list }
         ensures valid { IsValidByUse self.now }
     {

@@ -1,13 +1,11 @@
 -- What the fields of a history mean. No contract of a public call cites this.
 --     past_of     the past that the fields mean
---     IsStored    the past is within its limit, each event is complete, there is room for all that the past may hold, and the
---                 events are counted
+--     IsStored    the past is within its limit, each event is complete, and there is room for all that the past may hold
 --     CanAppend   each event is complete, and there is room for one more
 --     AppendsEvent    this event is appended: it is the last one, and each is complete
 use Rattle.std.specs.Prelude.{◌≡◌, ℕ, ◌≤◌, ◌<◌, ◌+◌, ◌*◌, ◌^◌, ◌++◌, ◌∷◌, [], All, length, vec_len, vec_capacity}
 use Rattle.std.specs.Global.{Vec}
 use Rattle.jc_model.specs.declared.event.Event.{Event}
-use Rattle.jc_model.specs.Statistics.{statistics_of}
 use Rattle.jc_history.specs.declared.room.TheConstants.{EVENT_ROOM}
 use Rattle.jc_history.specs.declared.history.History.TheInside.{Inside}
 use Rattle.jc_history.specs.Past.{Past, IsWithinLimit}
@@ -15,16 +13,15 @@ use Rattle.jc_history.specs.Stored.{events_at, IsComplete}
 
 -- the past that the fields mean
 abbrev pub past_of : Inside → Past
-past_of h = record { limit = h.limit; events = events_at h.bytes.items h.starts.items; promised = h.promised }
+past_of h = record { limit = h.limit; events = events_at h.bytes.items h.starts.items; promised = h.promised; statistics = h.statistics }
 
--- the past is within its limit, each event is complete, there is room for all that the past may hold, and the events are counted
+-- the past is within its limit, each event is complete, and there is room for all that the past may hold
 pub record IsStored (h : Inside) : Type 0 where
   pub within : IsWithinLimit (past_of h)
   pub complete : All (IsComplete h.bytes.items) h.starts.items
   pub few : length h.bytes.items ≤ length h.starts.items * EVENT_ROOM
   pub bytes_room : h.limit * EVENT_ROOM ≤ vec_capacity h.bytes
   pub starts_room : h.limit ≤ vec_capacity h.starts
-  pub counted : h.statistics ≡ statistics_of (events_at h.bytes.items h.starts.items)
 
 -- each event is complete, and there is room for one more
 pub record CanAppend (bytes starts : Vec ℕ) : Type 0 where

@@ -3,10 +3,10 @@
 //! A promised place is room that is reserved for an event that is still to be pushed. A call has the
 //! places promised that its events need before it asks the loader or the writer, and pushes its events
 //! when it has the answer: such a push is never refused. The places that it doesn't use it gives back.
-ghost use Rattle.std.specs.Prelude.{◌≡◌, ◌+◌, ◌<◌, ◌≤◌, ◌^◌, ◌↔◌, [], length, vec_len, vec_capacity, ◌∷◌, ◌++◌, Some, IsTrue};
+ghost use Rattle.std.specs.Prelude.{◌≡◌, ◌+◌, ◌<◌, ◌≤◌, ◌^◌, true, ◌↔◌, [], length, vec_len, vec_capacity, ◌∷◌, ◌++◌, Some, IsTrue};
 ghost use Rattle.std.specs.Prelude.{IfOk, OnOk, OnErr, All, if◌then◌else◌, slice_get, slice_range};
 ghost use Rattle.jc_model.specs.Statistics.{statistics_of};
-ghost use Rattle.jc_history.specs.Past.{places_used, IsWithinLimit, promise, unpromise, push, hit_event, reply_in};
+ghost use Rattle.jc_history.specs.Past.{places_used, IsWithinLimit, promise, unpromise, push, no_events, hit_event, reply_in};
 ghost use Rattle.jc_history.specs.Values.{IsStorable};
 ghost use Rattle.jc_history.specs.Stored.{events_at, IsComplete};
 ghost use Rattle.jc_history.specs.HistoryInside.{CanAppend, AppendsEvent};
@@ -15,7 +15,6 @@ use crate::decoding::{decode_event, decode_reply_of_step};
 use crate::encoding::{encode_event, encode_hit, encode_step};
 use crate::lent::LentStep;
 use crate::room::EVENT_ROOM;
-use jc_model::statistics::statistics_laws;
 use jc_model::{Event, Reply, Statistics};
 use jc_types::{Caller, HISTORY_MAX, Key, Value};
 use std::alloc::{AllocError, Global};
@@ -38,7 +37,7 @@ pub struct History {
     starts: Vec<u32>,
     limit: usize,
     promised: usize,
-    // What the events count.
+    // What was counted of the events.
     statistics: Statistics,
 }
 
@@ -63,7 +62,7 @@ impl History {
     /// out a page when it is first written. An `Err` says that an allocation failed.
     pub fn new(alloc: Global, limit: usize) -> Result<Self, AllocError>
         requires { limit ≤ HISTORY_MAX }
-        ensures { IfOk result (λ h. h ≡ record { limit = limit; events = []; promised = 0 }) }
+        ensures { IfOk result (λ h. h ≡ record { limit = limit; events = []; promised = 0; statistics = statistics_of [] }) }
     {
         let bytes = Vec::with_capacity(alloc, limit * EVENT_ROOM)?;
         let starts = Vec::with_capacity(alloc, limit)?;
@@ -107,48 +106,47 @@ impl History {
         self.promised -= n;
     }
 
-    /// Appends an event, in a place that was promised. It is never refused, and takes no memory.
-    pub fn push(&mut self, event: &Event)
+    /// Appends an event, in a place that was promised, and counts it. It is never refused, and takes no memory.
+    ///
+    /// `found` says whether its key had an entry before it.
+    pub fn push(&mut self, event: &Event, found: bool)
         requires promised { 0 < self.old.promised }
         requires storable { IsStorable event.now }
-        ensures after { self.new ≡ push event.now self.old }
+        ensures after { self.new ≡ push found event.now self.old }
         ensures within { IsWithinLimit self.new }
     {
-        statistics_laws();
         append_event(&mut self.bytes, &mut self.starts, event);
         self.promised -= 1;
-        self.statistics = self.statistics.with_event(event);
+        self.statistics = self.statistics.with_event(found, event);
     }
 
     /// Appends a step, in a place that was promised: what [`push`](History::push) appends of the same event, which so needn't be
     /// built. It is never refused, and takes no memory.
-    pub fn push_step(&mut self, step: &LentStep)
+    pub fn push_step(&mut self, step: &LentStep, found: bool)
         requires promised { 0 < self.old.promised }
         requires storable { IsStorable step.now }
-        ensures after { self.new ≡ push step.now self.old }
+        ensures after { self.new ≡ push found step.now self.old }
         ensures within { IsWithinLimit self.new }
     {
-        statistics_laws();
         append_step(&mut self.bytes, &mut self.starts, step);
         self.promised -= 1;
-        self.statistics = step.counted_in(&self.statistics);
+        self.statistics = step.counted_in(found, &self.statistics);
     }
 
     /// Appends the step of a `get` that found its entry and asked nobody, in a place that is free: what a promise of one place and
     /// then a [`push`](History::push) of the same event do. It is never refused, and takes no memory.
     pub fn push_hit(&mut self, caller: &Caller, key: &Key, value: &Value)
         requires { places_used self.old < self.old.limit }
-        ensures after { self.new ≡ push (hit_event caller.now key.now value.now) (promise 1 self.old) }
+        ensures after { self.new ≡ push true (hit_event caller.now key.now value.now) (promise 1 self.old) }
         ensures within { IsWithinLimit self.new }
     {
-        statistics_laws();
         append_hit(&mut self.bytes, &mut self.starts, caller, key, value);
         self.statistics = self.statistics.with_hit();
     }
 
-    /// Forgets all events. The promised places stay promised, and the room stays.
+    /// Forgets all events, and what was counted of them. The promised places stay promised, and the room stays.
     pub fn clear(&mut self)
-        ensures after { self.new ≡ record self.old { events = [] } }
+        ensures after { self.new ≡ no_events self.old }
         ensures within { IsWithinLimit self.new }
     {
         self.bytes.clear();
@@ -156,11 +154,19 @@ impl History {
         self.statistics = Statistics::new();
     }
 
-    /// What the events count. It reads none of them.
+    /// What was counted of the events, each with what its push said that it found. It reads none of them.
     pub fn statistics(&self) -> Statistics
-        ensures { result ≡ statistics_of self.now.events }
+        ensures { result ≡ self.now.statistics }
     {
         self.statistics
+    }
+
+    /// How many places are promised to later pushes.
+    pub fn promised(&self) -> usize
+        ensures promised { result ≡ self.now.promised }
+        ensures within { IsWithinLimit self.now }
+    {
+        self.promised
     }
 
     /// How many events there are, at most [`HISTORY_MAX`]. Promised places don't count.
@@ -169,6 +175,17 @@ impl History {
         ensures within { IsWithinLimit self.now }
     {
         self.starts.len()
+    }
+
+    /// All events, the earliest first.
+    ///
+    /// An `Err` says that an allocation failed.
+    pub fn events(&self, alloc: Global) -> Result<Vec<Event>, AllocError>
+        ensures { IfOk result (λ events. events.items ≡ self.now.events) }
+    {
+        let mut events = Vec::new(alloc);
+        self.append_to(0, self.len(), &mut events)?;
+        Ok(events)
     }
 
     /// The event at a place, as it was pushed. The earliest is at 0.

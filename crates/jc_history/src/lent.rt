@@ -35,10 +35,10 @@ impl<'a> Model for LentStep<'a> {
 }
 
 impl<'a> LentStep<'a> {
-    /// These counts with this step.
-    pub(crate) fn counted_in(&self, statistics: &Statistics) -> Statistics
-        ensures { result ≡ with_event statistics.now self.now }
+    /// These counts with this step. `found` says whether its key had an entry before it.
+    pub(crate) fn counted_in(&self, found: bool, statistics: &Statistics) -> Statistics
+        ensures { result ≡ with_event statistics.now found self.now }
     {
-        statistics.with_step(self.op, self.out, self.reply)
+        statistics.with_step(found, self.op, self.out, self.reply)
     }
 }

@@ -122,6 +122,14 @@ impl Joiners {
         &self.joiners
     }
 
+    /// How many joiners there are, at most [`JOINERS_MAX`]: those that wait for a load, and those that have not taken their answer.
+    pub fn len(&self) -> usize
+        ensures len { result ≡ length self.now }
+        ensures list { IsJoinerList self.now }
+    {
+        self.joiners.len()
+    }
+
     /// Whether nobody has joined.
     pub fn is_empty(&self) -> bool
         ensures { IsTrue result ↔ (length self.now ≡ 0) }

@@ -72,7 +72,7 @@ len-distinct (e ∷ es) h =
     ∙ omega (arith, len-distinct es parts.1)
 
 -- what is apart stays so without a key
-missing-others : (key q : Bytes) (entries : List (Bytes × Bytes)) → is_none (find key_cmp q entries) ≡ true → is_none (find key_cmp q (others key entries)) ≡ true
+pub missing-others : (key q : Bytes) (entries : List (Bytes × Bytes)) → is_none (find key_cmp q entries) ≡ true → is_none (find key_cmp q (others key entries)) ≡ true
 missing-others key q entries h =
     ap is_none (find-others key entries q)
     ∙ ap (λ o. is_none (cond (eq_by_cmp key_cmp q key) None o)) (none_is _ h)

@@ -1,19 +1,21 @@
--- What a cache counts, by the names of JSR 107 (`CacheStatisticsMXBean`), as far as a history knows it.
+-- What a cache counts, by the names of JSR 107 (`CacheStatisticsMXBean`).
+--     Occurrence             an event, and whether its key had an entry before it
 --     has_value, has_none    a reply is a value, and is that there is none
 --     has_flag               a reply is this yes or no
 --     has_no_fault           a reply is no fault
 --     sets, removes          a processor gives its entry a value in the end, and removes it
---     step_hits              a step asked for its entry, and found it cached
+--     step_hits              a step asked for its entry, and found it cached: it counts with the entry that it found
 --     step_misses            a step asked for its entry, and didn't find it cached
 --     step_puts              a step gave its entry a value that the caller brought
 --     step_removes           a step removed its entry, or had a processor remove it
---     is_hit, is_miss, is_put, is_removal, is_eviction    an event counts so
+--     event_hits, event_misses, event_puts, event_removes, event_evicts    an event counts so, with what it found
+--     is_hit, is_miss, is_put, is_removal, is_eviction    the same of what occurred
 --     capped                 a number, or the last one if it is beyond that
---     statistics_of          how many events of a history count as each
+--     statistics_of          how much of what occurred counts as each
 --     more_if                a count with one more, if a condition holds
 --     with_event             the counts with one more event
---     together               the counts of two histories together
---     StatisticsLaws         the laws: how the counts of a history follow from those of its parts
+--     together               two counts together
+--     StatisticsLaws         the laws: how the counts of a row of events follow from those of its parts
 use Rattle.std.specs.Prelude.{◌≡◌, ℕ, ◌+◌, List, [], ◌∷◌, ◌++◌, Bool, true, false, not, ◌&&◌, ◌||◌, None, Some, min, if◌then◌else◌}
 use Rattle.std.specs.List.{count_by}
 use Rattle.std.specs.Bool.{beq}
@@ -30,6 +32,11 @@ use Rattle.jc_model.specs.declared.event.Event.{Event}
 use Rattle.jc_model.specs.declared.event.Event.TheVariants.{Step, Evict}
 use Rattle.jc_model.specs.declared.statistics.Statistics.{Statistics}
 use Rattle.jc_model.specs.Table.{is_load_given}
+
+-- an event, and whether its key had an entry before it: what the events before it have left
+pub record Occurrence : Type 0 where
+  pub found : Bool
+  pub event : Event
 
 -- 1. Replies.
 
@@ -75,39 +82,40 @@ removes (process.Ended (effect.Set value) outcome) = false
 removes process.NotAsked = false
 removes (process.Failed code) = false
 
--- 3. Steps. Whether a conditional `remove` or `replace` of two values that answers false, or a processor, found an entry isn't known.
+-- 3. Steps. A `remove(key, oldValue)` or a `replace(key, oldValue, newValue)` asks for its entry whether or not it changes it, if no
+-- writer fails. A processor's step asks for its entry, whatever the processor does.
 
-abbrev pub step_hits : Op → Out → Reply → Bool
-step_hits Get out answer = not (is_load_given out.load) && has_value answer
-step_hits (GetAndPut value) out answer = has_value answer
-step_hits GetAndRemove out answer = has_value answer
-step_hits (GetAndReplace value) out answer = has_value answer
-step_hits (PutIfAbsent value) out answer = has_flag false answer
-step_hits (RemoveIf old) out answer = has_flag true answer
-step_hits (Replace value) out answer = has_flag true answer
-step_hits (ReplaceIf old new) out answer = has_flag true answer
-step_hits ContainsKey out answer = false
-step_hits (Put value) out answer = false
-step_hits Remove out answer = false
-step_hits Clear out answer = false
-step_hits (LoadAll replace) out answer = false
-step_hits Invoke out answer = false
+abbrev pub step_hits : Bool → Op → Out → Reply → Bool
+step_hits found Get out answer = not (is_load_given out.load) && has_value answer
+step_hits found (GetAndPut value) out answer = has_value answer
+step_hits found GetAndRemove out answer = has_value answer
+step_hits found (GetAndReplace value) out answer = has_value answer
+step_hits found (PutIfAbsent value) out answer = has_flag false answer
+step_hits found (RemoveIf old) out answer = found && has_no_fault answer
+step_hits found (Replace value) out answer = has_flag true answer
+step_hits found (ReplaceIf old new) out answer = found && has_no_fault answer
+step_hits found ContainsKey out answer = false
+step_hits found (Put value) out answer = false
+step_hits found Remove out answer = false
+step_hits found Clear out answer = false
+step_hits found (LoadAll replace) out answer = false
+step_hits found Invoke out answer = found
 
-abbrev pub step_misses : Op → Out → Reply → Bool
-step_misses Get out answer = is_load_given out.load || has_none answer
-step_misses (GetAndPut value) out answer = has_none answer
-step_misses GetAndRemove out answer = has_none answer
-step_misses (GetAndReplace value) out answer = has_none answer
-step_misses (PutIfAbsent value) out answer = has_flag true answer
-step_misses (Replace value) out answer = has_flag false answer
-step_misses (RemoveIf old) out answer = false
-step_misses (ReplaceIf old new) out answer = false
-step_misses ContainsKey out answer = false
-step_misses (Put value) out answer = false
-step_misses Remove out answer = false
-step_misses Clear out answer = false
-step_misses (LoadAll replace) out answer = false
-step_misses Invoke out answer = false
+abbrev pub step_misses : Bool → Op → Out → Reply → Bool
+step_misses found Get out answer = is_load_given out.load || has_none answer
+step_misses found (GetAndPut value) out answer = has_none answer
+step_misses found GetAndRemove out answer = has_none answer
+step_misses found (GetAndReplace value) out answer = has_none answer
+step_misses found (PutIfAbsent value) out answer = has_flag true answer
+step_misses found (Replace value) out answer = has_flag false answer
+step_misses found (RemoveIf old) out answer = not found && has_no_fault answer
+step_misses found (ReplaceIf old new) out answer = not found && has_no_fault answer
+step_misses found ContainsKey out answer = false
+step_misses found (Put value) out answer = false
+step_misses found Remove out answer = false
+step_misses found Clear out answer = false
+step_misses found (LoadAll replace) out answer = false
+step_misses found Invoke out answer = not found
 
 abbrev pub step_puts : Op → Out → Reply → Bool
 step_puts (Put value) out answer = has_no_fault answer
@@ -143,50 +151,65 @@ step_removes (LoadAll replace) out answer = false
 
 -- 4. Events.
 
-abbrev pub is_hit : Event → Bool
-is_hit (Step caller op key out shared_with answer) = step_hits op out answer
-is_hit (Evict key cause) = false
+abbrev pub event_hits : Bool → Event → Bool
+event_hits found (Step caller op key out shared_with answer) = step_hits found op out answer
+event_hits found (Evict key cause) = false
 
-abbrev pub is_miss : Event → Bool
-is_miss (Step caller op key out shared_with answer) = step_misses op out answer
-is_miss (Evict key cause) = false
+abbrev pub event_misses : Bool → Event → Bool
+event_misses found (Step caller op key out shared_with answer) = step_misses found op out answer
+event_misses found (Evict key cause) = false
 
-abbrev pub is_put : Event → Bool
-is_put (Step caller op key out shared_with answer) = step_puts op out answer
-is_put (Evict key cause) = false
+abbrev pub event_puts : Event → Bool
+event_puts (Step caller op key out shared_with answer) = step_puts op out answer
+event_puts (Evict key cause) = false
 
-abbrev pub is_removal : Event → Bool
-is_removal (Step caller op key out shared_with answer) = step_removes op out answer
-is_removal (Evict key cause) = false
+abbrev pub event_removes : Event → Bool
+event_removes (Step caller op key out shared_with answer) = step_removes op out answer
+event_removes (Evict key cause) = false
 
-abbrev pub is_eviction : Event → Bool
-is_eviction (Evict key cause) = true
-is_eviction (Step caller op key out shared_with answer) = false
+abbrev pub event_evicts : Event → Bool
+event_evicts (Evict key cause) = true
+event_evicts (Step caller op key out shared_with answer) = false
 
--- 5. Histories.
+abbrev pub is_hit : Occurrence → Bool
+is_hit o = event_hits o.found o.event
+
+abbrev pub is_miss : Occurrence → Bool
+is_miss o = event_misses o.found o.event
+
+abbrev pub is_put : Occurrence → Bool
+is_put o = event_puts o.event
+
+abbrev pub is_removal : Occurrence → Bool
+is_removal o = event_removes o.event
+
+abbrev pub is_eviction : Occurrence → Bool
+is_eviction o = event_evicts o.event
+
+-- 5. Rows of events.
 
 abbrev pub capped : ℕ → ℕ
 capped number = min number LAST_NUMBER
 
-abbrev pub statistics_of : List Event → Statistics
-statistics_of events = record {
-  hits = capped (count_by is_hit events);
-  misses = capped (count_by is_miss events);
-  puts = capped (count_by is_put events);
-  removals = capped (count_by is_removal events);
-  evictions = capped (count_by is_eviction events);
+abbrev pub statistics_of : List Occurrence → Statistics
+statistics_of occurred = record {
+  hits = capped (count_by is_hit occurred);
+  misses = capped (count_by is_miss occurred);
+  puts = capped (count_by is_put occurred);
+  removals = capped (count_by is_removal occurred);
+  evictions = capped (count_by is_eviction occurred);
 }
 
 abbrev pub more_if : Bool → ℕ → ℕ
 more_if counts number = if counts then capped (number + 1) else number
 
-abbrev pub with_event : Statistics → Event → Statistics
-with_event statistics event = record {
-  hits = more_if (is_hit event) statistics.hits;
-  misses = more_if (is_miss event) statistics.misses;
-  puts = more_if (is_put event) statistics.puts;
-  removals = more_if (is_removal event) statistics.removals;
-  evictions = more_if (is_eviction event) statistics.evictions;
+abbrev pub with_event : Statistics → Bool → Event → Statistics
+with_event statistics found event = record {
+  hits = more_if (event_hits found event) statistics.hits;
+  misses = more_if (event_misses found event) statistics.misses;
+  puts = more_if (event_puts event) statistics.puts;
+  removals = more_if (event_removes event) statistics.removals;
+  evictions = more_if (event_evicts event) statistics.evictions;
 }
 
 abbrev pub together : Statistics → Statistics → Statistics
@@ -199,5 +222,5 @@ together first second = record {
 }
 
 pub record StatisticsLaws : Type 0 where
-  pub one_more : (events : List Event) (event : Event) → statistics_of (events ++ event ∷ []) ≡ with_event (statistics_of events) event
-  pub append : (first second : List Event) → statistics_of (first ++ second) ≡ together (statistics_of first) (statistics_of second)
+  pub one_more : (occurred : List Occurrence) (o : Occurrence) → statistics_of (occurred ++ o ∷ []) ≡ with_event (statistics_of occurred) o.found o.event
+  pub append : (first second : List Occurrence) → statistics_of (first ++ second) ≡ together (statistics_of first) (statistics_of second)

@@ -1,4 +1,4 @@
-//! What a cache counts (JSR 107, "Statistics"; `javax.cache.management.CacheStatisticsMXBean`), as far as a history knows it.
+//! What a cache counts (JSR 107, "Statistics"; `javax.cache.management.CacheStatisticsMXBean`).
 ghost use Rattle.std.specs.Prelude.{◌≡◌, ◌+◌, ℕ, Option, []};
 ghost use Rattle.jc_types.specs.declared.caller.Caller.{Caller};
 ghost use Rattle.jc_model.specs.Cache.{Bytes};
@@ -10,9 +10,9 @@ use crate::event::{Effect, Event, Op, Out, ProcessAnswer, Reply};
 
 /// How often a cache was asked and changed. No count goes beyond `u64::MAX`.
 ///
-/// A history has no times, so there are no averages. It doesn't say what a key's entry was before a step. So a step that neither its
-/// operation nor its reply tells of counts neither as a hit nor as a miss: an `invoke`, and a `remove(key, oldValue)` or
-/// `replace(key, oldValue, newValue)` that answers false.
+/// A step that asks for its entry counts as a hit if the key had an entry before it, else as a miss: also a `remove(key, oldValue)` or
+/// `replace(key, oldValue, newValue)` that answers false, and an `invoke`, whatever its processor does. But a call that its writer
+/// failed counts as neither, except for an `invoke`. A history has no times, so there are no averages.
 #[derive(Clone, Copy, Debug, PartialEq, Eq)]
 pub struct Statistics {
     /// `CacheHits`: steps that asked for an entry, and found it cached. `containsKey` doesn't ask for it.
@@ -73,30 +73,34 @@ fn removes(answer: &ProcessAnswer) -> bool
 }
 
 /// Whether a step asked for its entry, and found it cached.
-fn step_hits(op: &Op, out: &Out, reply: &Reply) -> bool
-    ensures { result ≡ step_hits op.now out.now reply.now }
+fn step_hits(found: bool, op: &Op, out: &Out, reply: &Reply) -> bool
+    ensures { result ≡ step_hits found op.now out.now reply.now }
 {
     match op {
         Op::Get => !out.load.is_given() && has_value(reply),
         Op::GetAndPut(_) | Op::GetAndRemove | Op::GetAndReplace(_) => has_value(reply),
         Op::PutIfAbsent(_) => has_flag(false, reply),
-        Op::RemoveIf(_) | Op::Replace(_) | Op::ReplaceIf { .. } => has_flag(true, reply),
+        Op::Replace(_) => has_flag(true, reply),
+        Op::RemoveIf(_) | Op::ReplaceIf { .. } => found && has_no_fault(reply),
+        Op::Invoke => found,
         Op::ContainsKey | Op::Put(_) | Op::Remove | Op::Clear => false,
-        Op::LoadAll { .. } | Op::Invoke => false,
+        Op::LoadAll { .. } => false,
     }
 }
 
 /// Whether a step asked for its entry, and didn't find it cached.
-fn step_misses(op: &Op, out: &Out, reply: &Reply) -> bool
-    ensures { result ≡ step_misses op.now out.now reply.now }
+fn step_misses(found: bool, op: &Op, out: &Out, reply: &Reply) -> bool
+    ensures { result ≡ step_misses found op.now out.now reply.now }
 {
     match op {
         Op::Get => out.load.is_given() || has_none(reply),
         Op::GetAndPut(_) | Op::GetAndRemove | Op::GetAndReplace(_) => has_none(reply),
         Op::PutIfAbsent(_) => has_flag(true, reply),
         Op::Replace(_) => has_flag(false, reply),
-        Op::RemoveIf(_) | Op::ReplaceIf { .. } | Op::ContainsKey | Op::Put(_) => false,
-        Op::Remove | Op::Clear | Op::LoadAll { .. } | Op::Invoke => false,
+        Op::RemoveIf(_) | Op::ReplaceIf { .. } => !found && has_no_fault(reply),
+        Op::Invoke => !found,
+        Op::ContainsKey | Op::Put(_) | Op::Remove | Op::Clear => false,
+        Op::LoadAll { .. } => false,
     }
 }
 
@@ -159,12 +163,12 @@ impl Statistics {
         self.hits.saturating_add(self.misses)
     }
 
-    /// These counts with one more event.
-    pub fn with_event(&self, event: &Event) -> Statistics
-        ensures { result ≡ with_event self.now event.now }
+    /// These counts with one more event. `found` says whether its key had an entry before it.
+    pub fn with_event(&self, found: bool, event: &Event) -> Statistics
+        ensures { result ≡ with_event self.now found event.now }
     {
         match event {
-            Event::Step { op, out, reply, .. } => self.with_step(op, out, reply),
+            Event::Step { op, out, reply, .. } => self.with_step(found, op, out, reply),
             Event::Evict { .. } => Statistics {
                 evictions: self.evictions.saturating_add(1),
                 ..*self
@@ -172,14 +176,14 @@ impl Statistics {
         }
     }
 
-    /// These counts with one more step, of which these parts tell how it counts.
-    pub fn with_step(&self, op: &Op, out: &Out, reply: &Reply) -> Statistics
+    /// These counts with one more step, of which these parts tell how it counts. `found` says whether its key had an entry before it.
+    pub fn with_step(&self, found: bool, op: &Op, out: &Out, reply: &Reply) -> Statistics
         ensures { (caller : Caller) (key : Bytes) (shared_with : Option ℕ)
-            → result ≡ with_event self.now (Step caller op.now key out.now shared_with reply.now) }
+            → result ≡ with_event self.now found (Step caller op.now key out.now shared_with reply.now) }
     {
         Statistics {
-            hits: more_if(step_hits(op, out, reply), self.hits),
-            misses: more_if(step_misses(op, out, reply), self.misses),
+            hits: more_if(step_hits(found, op, out, reply), self.hits),
+            misses: more_if(step_misses(found, op, out, reply), self.misses),
             puts: more_if(step_puts(op, out, reply), self.puts),
             removals: more_if(step_removes(op, out, reply), self.removals),
             evictions: self.evictions,
@@ -196,7 +200,7 @@ impl Statistics {
         }
     }
 
-    /// These counts and those of another history, together.
+    /// These counts and others, together.
     pub fn together(&self, other: &Statistics) -> Statistics
         ensures { result ≡ together self.now other.now }
     {
@@ -210,7 +214,7 @@ impl Statistics {
     }
 }
 
-/// How the counts of a history follow from those of its parts: a law. It does nothing.
+/// How the counts of a row of events follow from those of its parts: a law. It does nothing.
 pub fn statistics_laws()
     ensures { StatisticsLaws }
 {}

@@ -1,5 +1,5 @@
 //! The reservations of a stripe.
-ghost use Rattle.std.specs.Prelude.{◌≡◌, ◌≤◌, ◌↔◌, ◌==◌, [], IsTrue, MatchBool, length, map, nat_le, option_map, position};
+ghost use Rattle.std.specs.Prelude.{◌≡◌, ◌≤◌, ◌↔◌, ◌==◌, [], IsTrue, IfSome, MatchBool, is_some, length, map, nat_le, option_map, position};
 ghost use Rattle.std.specs.Cmp.Lexicographic.{pointwise};
 ghost use Rattle.jc_types.specs.declared.limits.TheConstants.{RESERVATIONS_MAX, LAST_NUMBER};
 ghost use Rattle.jc_reserve.specs.Reserving.{has_key, is_held, reservation_at, CanReserve, with_reservation, without_reservation};
@@ -61,25 +61,27 @@ impl<R: Reserved> Reservations<R> {
         self.next
     }
 
-    /// Reserves the key of a reservation, and says whether it could.
+    /// Reserves the key of a reservation, and answers the reservation's number.
     ///
-    /// A `false` leaves the table as it was: [`RESERVATIONS_MAX`] keys are reserved, or this key is one of them, or the numbers are
+    /// `None` leaves the table as it was: [`RESERVATIONS_MAX`] keys are reserved, or this key is one of them, or the numbers are
     /// used up.
     ///
     /// Condition: the reservation is by the next number.
-    pub fn reserve(&mut self, reservation: &R) -> bool
+    pub fn reserve(&mut self, reservation: &R) -> Option<u64>
         requires { R.number reservation.now ≡ self.old.next }
-        ensures can { IsTrue result ↔ CanReserve R.key self.old (R.key reservation.now) }
-        ensures table { MatchBool result (self.new ≡ with_reservation self.old reservation.now) (self.new ≡ self.old) }
+        ensures can { IsTrue (is_some result) ↔ CanReserve R.key self.old (R.key reservation.now) }
+        ensures number { IfSome result (λ number. number ≡ self.old.next) }
+        ensures table { MatchBool (is_some result) (self.new ≡ with_reservation self.old reservation.now) (self.new ≡ self.old) }
     {
         let key = *reservation.key();
         if !self.can_reserve(&key) {
-            return false;
+            return None;
         }
+        let number = self.next;
         self.held.push(*reservation);
         self.keys.push(key);
         self.next += 1;
-        true
+        Some(number)
     }
 
     /// The reservation of a key, or `None` if the key is free.

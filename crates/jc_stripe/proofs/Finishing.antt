@@ -18,17 +18,19 @@ use Rattle.jc_inflight.specs.Resolving.{after_resolve}
 use Rattle.jc_stripe.specs.declared.ticket.First.TheVariants.{Nobody}
 use Rattle.jc_stripe.specs.declared.stripe.Stripe.TheInside.{Inside}
 use Rattle.jc_stripe.specs.State.{State, IsOut, without_key, waits}
+use Rattle.jc_model.specs.Statistics.{StatisticsLaws, statistics_of}
 use Rattle.jc_stripe.specs.OrderOfUse.{by_use, pinned}
+use Rattle.jc_stripe.specs.Occurrences.{occurrences}
 use Rattle.jc_stripe.specs.Refusals.{first_refusal, first_asked, needs_free_key, places_needed}
 use Rattle.jc_stripe.specs.Phases.{MayBegin, Steps, new_group, after_commit}
-use Rattle.jc_stripe.specs.Appending.{NewGroup, new_step, AppliesStep, AnswersFirst, group_events, append_group}
+use Rattle.jc_stripe.specs.Appending.{NewGroup, new_step, AppliesStep, AnswersFirst, group_events, append_group, count_all}
 use Rattle.jc_stripe.specs.Inside.{IsStripe, state_of}
 use Rattle.jc_stripe.proofs.Lawfully.{MayShare}
 use Rattle.jc_stripe.proofs.Fitting.{said_fits, said_given, nobody_fits}
 use Rattle.jc_stripe.proofs.Settled.{shares_with, claim_asks}
 use Rattle.jc_inflight.proofs.CallerLemmas.{length-callers_of, waiting-answered_from}
 use Rattle.jc_types.specs.declared.limits.TheConstants.{STEP_PLACES}
-use Rattle.jc_stripe.proofs.Stepping.{AreEntries, IsMade, IsTold, storable_made, group_is, steps_put, by_use_put, few_put}
+use Rattle.jc_stripe.proofs.Stepping.{AreEntries, IsMade, IsTold, storable_made, group_is, steps_put, by_use_put, counted_put, few_put}
 use Rattle.jc_stripe.proofs.Refusing.{alone_passes, answering_keeps}
 use Rattle.jc_stripe.proofs.Stepped.{one_event}
 use Rattle.jc_stripe.proofs.Making.{one_exactly}
@@ -50,7 +52,8 @@ pub record IsDone (i : Inside) (caller : Caller) (key : Bytes) (op : Op) (entrie
   pub keeps : AppliesStep i.entries keys key op nothing_said made.victim made.evicted entries
   pub promises : promised_in ≡ promise kept i.history
   pub told : IsTold (length promised_in.events) made [] done
-  pub put : history ≡ append_group (group_events (length promised_in.events) made []) kept promised_in
+  pub put : history ≡ append_group made.found (group_events (length promised_in.events) made []) kept promised_in
+  pub laws : StatisticsLaws
 
 done_entries : (i : Inside) (keys : List Bytes) → IsStripe i → keys ≡ pinned i.reservations.held → AreEntries (state_of i) i.entries keys
 done_entries i keys sound keys_are = record { list = sound.by_use; capacity = sound.capacity; cache = refl; pinned = keys_are; used = sound.state.used }
@@ -79,6 +82,11 @@ done_sound i caller key op entries promised_in history keys made done kept d non
       limit = ap (λ (p : Past). p.limit) d.put ∙ ap (λ (p : Past). p.limit) d.promises ∙ d.sound.limit;
       by_use = by_use_put m i.entries entries keys caller key op nothing_said [] made (done_entries i keys d.sound d.keys_are) d.is d.keeps ∙ ap (by_use i.life.opening) (sym after);
       promised = let same : history.promised ≡ i.history.promised = omega arith in same ∙ d.sound.promised;
+      counted =
+          ap (λ (p : Past). p.statistics) d.put
+          ∙ (λ k. count_all made.found (group_events (length (events k)) made []) ((d.promises k).statistics))
+          ∙ counted_put d.laws m i.entries entries keys caller key op nothing_said [] made i.history.statistics (done_entries i keys d.sound d.keys_are) d.is d.keeps d.sound.counted
+          ∙ ap (λ es. statistics_of (occurrences i.life.opening es)) (sym after);
       boxes = d.sound.boxes;
       state = begins_done m (state_of (done_at i entries history)) caller key op done d.sound.state may none nobody steps;
     }
@@ -111,7 +119,8 @@ pub record IsCommit (i : Inside) (r : Reservation) (out : Out) (entries : ByUse)
   pub is : IsMade (state_of i) r.caller r.key r.op out made
   pub keeps : AppliesStep i.entries keys r.key r.op out made.victim made.evicted entries
   pub told : IsTold (length i.history.events) made (callers_of r.number i.joiners) done
-  pub put : history ≡ append_group (group_events (length i.history.events) made (callers_of r.number i.joiners)) kept i.history
+  pub put : history ≡ append_group made.found (group_events (length i.history.events) made (callers_of r.number i.joiners)) kept i.history
+  pub laws : StatisticsLaws
   pub joiners : js ≡ after_resolve r.number done.place i.joiners
   pub kept_is : kept ≡ STEP_PLACES + count_by (waits_for r.number) i.joiners
   pub one_more : boxes ≡ i.boxes + 1
@@ -130,7 +139,7 @@ commit_entries i r place table keys sound released keys_are =
 
 -- the step is made of the same entry
 made_after : (i : Inside) (r : Reservation) (place : ℕ) (out : Out) (made : NewGroup) → IsMade (state_of i) r.caller r.key r.op out made → IsMade (after_commit (state_of i) r place) r.caller r.key r.op out made
-made_after i r place out made is = record { caller_is = is.caller_is; key_is = is.key_is; op_is = is.op_is; out_is = is.out_is; reply_is = is.reply_is }
+made_after i r place out made is = record { caller_is = is.caller_is; key_is = is.key_is; op_is = is.op_is; out_is = is.out_is; reply_is = is.reply_is; found_is = is.found_is }
 
 pub commit_steps : (i : Inside) (r : Reservation) (out : Out) (entries : ByUse) (table : Table Reservation) (js : List Joiner) (history : Past) (boxes : ℕ) (keys : List Bytes) (made : NewGroup) (done : StepDone) (kept : ℕ)
     → IsCommit i r out entries table js history boxes keys made done kept
@@ -167,6 +176,10 @@ commit_sound i r out entries table js history boxes keys made done kept c =
       limit = ap (λ (p : Past). p.limit) c.put ∙ c.sound.limit;
       by_use = by_use_put m i.entries entries keys r.caller r.key r.op out callers made (commit_entries i r done.place table keys c.sound c.released c.keys_are) (made_after i r done.place out made c.is) c.keeps ∙ ap (by_use i.life.opening) (sym after);
       promised = omega arith;
+      counted =
+          ap (λ (p : Past). p.statistics) c.put
+          ∙ counted_put c.laws m i.entries entries keys r.caller r.key r.op out callers made i.history.statistics (commit_entries i r done.place table keys c.sound c.released c.keys_are) (made_after i r done.place out made c.is) c.keeps c.sound.counted
+          ∙ ap (λ es. statistics_of (occurrences i.life.opening es)) (sym after);
       boxes = omega arith;
       state = reached_commits (state_of i) (state_of (committed_at i entries table js history boxes)) r out done c.sound.state (c.found, commit_steps i r out entries table js history boxes keys made done kept c);
     }

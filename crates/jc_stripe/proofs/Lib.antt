@@ -1,4 +1,5 @@
 pub mod Beside
+pub mod Counting
 pub mod Finishing
 pub mod Fitting
 pub mod Inner

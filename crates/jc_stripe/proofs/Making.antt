@@ -27,6 +27,8 @@ use Rattle.jc_stripe.specs.OrderOfUse.{by_use}
 use Rattle.jc_stripe.specs.Refusals.{first_refusal, first_asked, needs_reservation, load_joined, needs_free_key, places_needed}
 use Rattle.jc_stripe.specs.Phases.{MayBegin, is_other_join, with_joiner, after_withdrawal}
 use Rattle.jc_stripe.specs.Reached.{IsReached}
+use Rattle.jc_model.specs.Statistics.{statistics_of}
+use Rattle.jc_stripe.specs.Occurrences.{occurrences}
 use Rattle.jc_stripe.specs.Inside.{IsStripe, state_of}
 use Rattle.jc_stripe.proofs.Beside.{belongs_to_no_other}
 use Rattle.jc_stripe.proofs.Inner.{used_of}
@@ -73,6 +75,7 @@ sound-reserved i caller key op first table history boxes sound b t h reached =
       capacity = sound.capacity;
       limit = ap (λ (p : Past). p.limit) h ∙ sound.limit;
       by_use = sound.by_use ∙ ap (λ (p : Past). by_use i.life.opening p.events) (sym h);
+      counted = ap (λ (p : Past). p.statistics) h ∙ sound.counted ∙ ap (λ (p : Past). statistics_of (occurrences i.life.opening p.events)) (sym h);
       promised = kept ∙ ap (λ n. n + STEP_PLACES) sound.promised ∙ sym more ∙ ap promised (sym state);
       boxes = omega arith;
       state = subst IsReached (sym state) reached;
@@ -98,6 +101,7 @@ sound-joined i caller load key js history sound t h reached =
       capacity = sound.capacity;
       limit = ap (λ (p : Past). p.limit) h ∙ sound.limit;
       by_use = sound.by_use ∙ ap (λ (p : Past). by_use i.life.opening p.events) (sym h);
+      counted = ap (λ (p : Past). p.statistics) h ∙ sound.counted ∙ ap (λ (p : Past). statistics_of (occurrences i.life.opening p.events)) (sym h);
       promised = ap (λ (p : Past). p.promised) h ∙ ap (λ n. n + HIT_PLACES) sound.promised ∙ sym more ∙ ap promised (sym state);
       boxes = sound.boxes;
       state = subst IsReached (sym state) reached;
@@ -146,6 +150,7 @@ sound-withdrawn i r table js history boxes waiting sound b found w t j h reached
       capacity = sound.capacity;
       limit = ap (λ (p : Past). p.limit) h ∙ sound.limit;
       by_use = sound.by_use ∙ ap (λ (p : Past). by_use i.life.opening p.events) (sym h);
+      counted = ap (λ (p : Past). p.statistics) h ∙ sound.counted ∙ ap (λ (p : Past). statistics_of (occurrences i.life.opening p.events)) (sym h);
       promised = less ∙ ap promised (sym state);
       boxes = omega arith;
       state = subst IsReached (sym state) reached;

@@ -103,6 +103,7 @@ pick_sound i join js t sound h e = record {
   limit = sound.limit;
   by_use = sound.by_use;
   promised = sound.promised ∙ ap (λ n. STEP_PLACES * length (state_of i).reservations + HIT_PLACES * n) (sym (ap (count_by waits) e ∙ took_count t h));
+  counted = sound.counted;
   boxes = sound.boxes;
   state = subst IsReached (sym (ap (λ xs. state_of (record i { joiners = xs })) e ∙ after_is (state_of i) join t h)) (took_reached t);
 }

@@ -13,7 +13,7 @@ use Rattle.jc_types.specs.declared.config.Config.{Config}
 use Rattle.jc_model.specs.Cache.{Bytes, key_cmp}
 use Rattle.jc_model.specs.declared.event.Event.{Event}
 use Rattle.jc_inflight.specs.declared.joiner.Joiner.{Joiner}
-use Rattle.jc_history.specs.Past.{Past}
+use Rattle.jc_history.specs.Past.{Past, no_events}
 use Rattle.jc_stripe.specs.State.{State, Generation, waits}
 use Rattle.jc_types.specs.declared.caller.Caller.{Caller}
 use Rattle.std.specs.List.{list_all, list_any}
@@ -23,6 +23,8 @@ use Rattle.jc_inflight.specs.declared.joiner.JoinState.{JoinState}
 use Rattle.jc_inflight.specs.declared.joiner.JoinState.TheVariants.{Waiting, Answered, Again}
 use Rattle.jc_inflight.specs.Joining.{belongs_to}
 use Rattle.jc_stripe.specs.Life.{Life}
+use Rattle.jc_model.specs.Statistics.{statistics_of}
+use Rattle.jc_stripe.specs.Occurrences.{occurrences}
 use Rattle.jc_stripe.specs.Inside.{state_of, IsStripe}
 use Rattle.jc_stripe.specs.declared.stripe.Stripe.TheInside.{Inside}
 use Rattle.jc_stripe.specs.OrderOfUse.{by_use}
@@ -155,23 +157,21 @@ renewed old new reached renews =
 abbrev pub next_life : Inside → Life
 next_life i = record { opening = i.entries.list; ended = i.life.ended ++ record { opening = i.life.opening; history = i.history.events } ∷ [] }
 
-abbrev pub cleared : Past → Past
-cleared past = record past { events = [] }
-
 abbrev pub renewed_at : Inside → Life → Past → Inside
 renewed_at i life history = record i { life = life; history = history }
 
-pub state-renewed : (i : Inside) (life : Life) (history : Past) → IsStripe i → life ≡ next_life i → history ≡ cleared i.history → state_of (renewed_at i life history) ≡ after_renewal (state_of i)
+pub state-renewed : (i : Inside) (life : Life) (history : Past) → IsStripe i → life ≡ next_life i → history ≡ no_events i.history → state_of (renewed_at i life history) ≡ after_renewal (state_of i)
 state-renewed i life history sound l h =
     (λ k. state_of (renewed_at i (l k) (h k)))
     ∙ (λ k. record (state_of i) { ended = i.life.ended ++ record { opening = i.life.opening; history = i.history.events } ∷ []; opening = sound.by_use k; history = [] })
 
-pub sound-renewed : (i : Inside) (life : Life) (history : Past) → IsStripe i → can_renew (state_of i) ≡ true → life ≡ next_life i → history ≡ cleared i.history → IsStripe (renewed_at i life history)
+pub sound-renewed : (i : Inside) (life : Life) (history : Past) → IsStripe i → can_renew (state_of i) ≡ true → life ≡ next_life i → history ≡ no_events i.history → IsStripe (renewed_at i life history)
 sound-renewed i life history sound unparked l h = record {
   capacity = sound.capacity;
   limit = ap (λ (p : Past). p.limit) h ∙ sound.limit;
   by_use = sym (λ k. by_use ((l k).opening) ((h k).events));
   promised = ap (λ (p : Past). p.promised) h ∙ sound.promised;
+  counted = ap (λ (p : Past). p.statistics) h ∙ sym (λ k. statistics_of (occurrences ((l k).opening) ((h k).events)));
   boxes = sound.boxes;
   state = subst IsReached (sym (state-renewed i life history sound l h)) (reached_renewed (state_of i) (after_renewal (state_of i)) sound.state (record { can = unparked; after = refl }));
 }
@@ -230,6 +230,7 @@ sound-living i sound = record {
   limit = sound.limit;
   by_use = sound.by_use;
   promised = sound.promised;
+  counted = sound.counted;
   boxes = sound.boxes;
   state = living_reached (state_of i) sound.state;
 }

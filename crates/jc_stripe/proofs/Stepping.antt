@@ -1,6 +1,7 @@
 -- A step that was made in the entries and appended is a step of the phase machine.
 use Rattle.std.proofs.Common.{◌≡◌, ◌≤◌, ◌+◌, ◌==◌, ◌&&◌, ◌++◌, ℕ, List, Option, length, cond, IsTrue, None, is_some, is_none, sym, ap, subst, ◌∙◌}
 use Rattle.std.specs.FinMap.{len, from_entries}
+use Rattle.std.specs.FinMap as finite
 use Rattle.jc_model.specs.declared.event.Op.{Op}
 use Rattle.jc_model.specs.declared.event.Out.{Out}
 use Rattle.jc_model.specs.declared.event.Event.{Event}
@@ -8,6 +9,8 @@ use Rattle.jc_model.specs.declared.event.Event.TheVariants.{Step}
 use Rattle.jc_stripe.specs.declared.begun.StepDone.{StepDone}
 use Rattle.jc_model.specs.Cache.{Bytes, key_cmp, entry_at}
 use Rattle.jc_model.specs.Listed.{has_distinct_keys}
+use Rattle.jc_model.specs.Statistics.{StatisticsLaws, statistics_of}
+use Rattle.jc_model.specs.declared.statistics.Statistics.{Statistics}
 use Rattle.jc_model.specs.Table.{answers_fit, entry_after, reply_after}
 use Rattle.jc_model.specs.Group.{Group, victim_events, events_of, step_place, cache_after_group}
 use Rattle.jc_model.proofs.CallerLemmas.{len-distinct}
@@ -16,9 +19,11 @@ use Rattle.jc_history.specs.Values.{IsStorable}
 use Rattle.jc_history.proofs.CallerLemmas.{storable_step}
 use Rattle.jc_stripe.specs.State.{State}
 use Rattle.jc_stripe.specs.OrderOfUse.{by_use, pinned}
+use Rattle.jc_stripe.specs.Occurrences.{occurrences}
+use Rattle.jc_stripe.proofs.Counting.{counted_group}
 use Rattle.jc_stripe.specs.Phases.{new_group, inserts_here, overflows, own_cause, own_eviction, Steps}
 use Rattle.jc_stripe.specs.Reached.{IsUsed}
-use Rattle.jc_stripe.specs.Appending.{NewGroup, new_step, AppliesStep, inserts_into, overflows_in, victim_in, group_events, entries_after, eviction_of}
+use Rattle.jc_stripe.specs.Appending.{NewGroup, new_step, AppliesStep, inserts_into, overflows_in, victim_in, group_events, entries_after, eviction_of, count_all}
 use Rattle.jc_stripe.proofs.Used.{find-entry, from-left}
 use Rattle.jc_stripe.proofs.Lawfully.{MayShare, made_lawful}
 use Rattle.jc_stripe.proofs.Stepped.{few_events, by_use_on}
@@ -72,10 +77,11 @@ pub record IsMade (m : State) (caller : Caller) (key : Bytes) (op : Op) (out : O
   pub op_is : made.op ≡ op
   pub out_is : made.out ≡ out
   pub reply_is : made.reply ≡ reply_after op (entry_at m.cache key) out
+  pub found_is : made.found ≡ is_some (entry_at m.cache key)
 
 -- what is known of it from the entry that it found
 pub made_is : (m : State) (caller : Caller) (key : Bytes) (op : Op) (out : Out) (entry : Option Bytes) (made : NewGroup)
-    → made ≡ record { caller = caller; key = key; op = op; out = out; reply = reply_after op entry out; victim = made.victim; evicted = made.evicted } → entry ≡ entry_at m.cache key → IsMade m caller key op out made
+    → made ≡ record { caller = caller; key = key; op = op; out = out; reply = reply_after op entry out; victim = made.victim; evicted = made.evicted; found = is_some entry } → entry ≡ entry_at m.cache key → IsMade m caller key op out made
 made_is m caller key op out entry made is found =
     record {
       caller_is = ap (λ (g : NewGroup). g.caller) is;
@@ -83,6 +89,7 @@ made_is m caller key op out entry made is found =
       op_is = ap (λ (g : NewGroup). g.op) is;
       out_is = ap (λ (g : NewGroup). g.out) is;
       reply_is = ap (λ (g : NewGroup). g.reply) is ∙ ap (λ o. reply_after op o out) found;
+      found_is = ap (λ (g : NewGroup). g.found) is ∙ ap is_some found;
     }
 
 -- if the answers are those that the tables ask for, it can be stored
@@ -143,3 +150,13 @@ by_use_put m entries next keys caller key op out callers made are is kept =
     ap (λ (e : ByUse). e.list) kept.left
     ∙ (λ i. entries_after (are.list i) (sym is.key_is i) (sym is.op_is i) (sym is.out_is i) made.victim made.evicted)
     ∙ sym (by_use_on m (group_put made callers))
+
+-- what is counted with it is what occurred
+pub counted_put : StatisticsLaws → (m : State) (entries next : ByUse) (keys : List Bytes) (caller : Caller) (key : Bytes) (op : Op) (out : Out) (callers : List Caller) (made : NewGroup) (counts : Statistics) → AreEntries m entries keys → IsMade m caller key op out made
+    → AppliesStep entries keys key op out made.victim made.evicted next → counts ≡ statistics_of (occurrences m.opening m.history)
+    → count_all made.found (group_events (length m.history) made callers) counts ≡ statistics_of (occurrences m.opening (m.history ++ group_events (length m.history) made callers))
+counted_put laws m entries next keys caller key op out callers made counts are is kept counted =
+    ap (count_all made.found (group_events (length m.history) made callers)) counted
+    ∙ counted_group laws entries keys (length m.history) made callers m.opening m.history are.list
+    (kept.victim_is ∙ (λ i. victim_in entries keys (sym is.key_is i) (sym is.op_is i) (sym is.out_is i)))
+    (is.found_is ∙ ap is_some (ap (λ c. entry_at c key) are.cache ∙ sym (find-entry entries.list key)) ∙ ap (λ k. is_some (finite.find key_cmp k entries.list)) (sym is.key_is))

@@ -7,6 +7,7 @@
 --     callers_in          the callers that share a load, if there is one
 --     new_step            the event of the step
 --     group_events        the events of a step with all that belongs to it
+--     count_all           the counts with more events, of each of which it is said whether its key had an entry before it
 --     append_all          the past with more events, in reserved room
 --     append_group        the same, and what of the reserved room isn't used is given back
 --     eviction_of         the eviction of the step's own key, at the last place of its group, if it was evicted
@@ -36,6 +37,8 @@ use Rattle.jc_model.specs.declared.event.WriteAnswer.{WriteAnswer}
 use Rattle.jc_model.specs.Table.{entry_after, is_load_given, is_write_given, is_process_given, load_fits, wanted_if, early_fault, process_ask}
 use Rattle.jc_model.specs.Group.{victim_events, shared_event, evicted_events, load_only, write_only}
 use Rattle.jc_model.specs.Listed.{others}
+use Rattle.jc_model.specs.Statistics.{with_event}
+use Rattle.jc_model.specs.declared.statistics.Statistics.{Statistics}
 use Rattle.jc_entries.specs.ByUse.{ByUse, lru_victim, after_eviction}
 use Rattle.jc_history.specs.Past.{Past}
 use Rattle.jc_inflight.specs.declared.joiner.Joiner.{Joiner}
@@ -59,9 +62,10 @@ pub record NewGroup : Type 0 where
   pub reply : Reply
   pub victim : Option Bytes  -- the key that is evicted before it
   pub evicted : Option Cause  -- why its own key goes after it, if it does
+  pub found : Bool  -- whether its key had an entry before it
 
 abbrev pub group_in : Inside → NewGroup
-group_in g = record { caller = g.caller; key = g.key.now; op = g.op.now; out = g.out.now; reply = g.reply.now; victim = g.victim; evicted = g.evicted }
+group_in g = record { caller = g.caller; key = g.key.now; op = g.op.now; out = g.out.now; reply = g.reply.now; victim = g.victim; evicted = g.evicted; found = g.found }
 
 -- 1. The entries.
 
@@ -89,11 +93,24 @@ group_events place new callers =
     victim_events new.victim ++ new_step new
     ∷ map (shared_event (place + length (victim_events new.victim)) new.key new.out.load) callers ++ evicted_events new.key new.evicted
 
-abbrev pub append_all : List Event → Past → Past
-append_all events past = record past { events = past.events ++ events; promised = past.promised - length events }
+-- of what a step's group is made of only the step itself counts by what it found
+abbrev pub count_all : Bool → List Event → Statistics → Statistics
+count_all found [] statistics = statistics
+count_all found (event ∷ events) statistics = count_all found events (with_event statistics found event)
 
-abbrev pub append_group : List Event → ℕ → Past → Past
-append_group events kept past = record past { events = past.events ++ events; promised = past.promised - kept }
+abbrev pub append_all : Bool → List Event → Past → Past
+append_all found events past = record past {
+  events = past.events ++ events;
+  promised = past.promised - length events;
+  statistics = count_all found events past.statistics;
+}
+
+abbrev pub append_group : Bool → List Event → ℕ → Past → Past
+append_group found events kept past = record past {
+  events = past.events ++ events;
+  promised = past.promised - kept;
+  statistics = count_all found events past.statistics;
+}
 
 -- `place` is that of the first event of the group
 abbrev pub eviction_of : ℕ → NewGroup → List Caller → Option Eviction

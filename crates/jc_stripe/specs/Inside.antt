@@ -1,12 +1,15 @@
 -- What a stripe's fields mean, and what is true of them. Callers see the state alone.
 --     state_of    the state that the fields mean
 --     IsStripe    entries and history are as large as the stripe's config says, the entries are in the order of use, the places
---                 that are promised are the reserved ones, there is a free box for each ticket that may come, and the state is reached
+--                 that are promised are the reserved ones, what occurred is counted, there is a free box for each ticket that may
+--                 come, and the state is reached
 use Rattle.std.specs.Prelude.{◌≡◌, ◌+◌, length}
 use Rattle.std.specs.FinMap.{from_entries}
 use Rattle.jc_types.specs.declared.limits.TheConstants.{RESERVATIONS_MAX}
 use Rattle.jc_stripe.specs.State.{State, promised}
+use Rattle.jc_model.specs.Statistics.{statistics_of}
 use Rattle.jc_stripe.specs.OrderOfUse.{by_use}
+use Rattle.jc_stripe.specs.Occurrences.{occurrences}
 use Rattle.jc_stripe.specs.Reached.{IsReached}
 use Rattle.jc_stripe.specs.declared.stripe.Stripe.TheInside.{Inside}
 
@@ -31,5 +34,6 @@ pub record IsStripe (s : Inside) : Type 0 where
   pub limit : s.history.limit ≡ s.config.history
   pub by_use : s.entries.list ≡ by_use s.life.opening s.history.events
   pub promised : s.history.promised ≡ promised (state_of s)
+  pub counted : s.history.statistics ≡ statistics_of (occurrences s.life.opening s.history.events)
   pub boxes : s.boxes + length s.reservations.held ≡ RESERVATIONS_MAX
   pub state : IsReached (state_of s)

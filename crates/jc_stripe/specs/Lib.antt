@@ -2,6 +2,7 @@ pub mod Tickets
 pub mod State
 pub mod Life
 pub mod OrderOfUse
+pub mod Occurrences
 pub mod Generations
 pub mod Refusals
 pub mod Finding

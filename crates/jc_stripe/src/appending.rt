@@ -37,6 +37,8 @@ pub(crate) struct NewGroup<'a> {
     pub(crate) victim: Option<Key>,
     /// Why the step's own key was evicted after it, if it was.
     pub(crate) evicted: Option<Cause>,
+    /// Whether its key had an entry before it.
+    pub(crate) found: bool,
 }
 
 impl<'a> Model for NewGroup<'a> {
@@ -125,11 +127,11 @@ pub(crate) fn apply_to_entries(
 /// Appends an eviction. It is a function of its own, as the other that builds an event is: most steps come without, and needn't
 /// clear the room of an event.
 #[inline(never)]
-fn append_eviction(history: &mut History, key: &Key, cause: Cause)
+fn append_eviction(history: &mut History, key: &Key, cause: Cause, found: bool)
     requires { 0 < history.old.promised }
-    ensures { history.new ≡ push (Evict key.now cause) history.old }
+    ensures { history.new ≡ push found (Evict key.now cause) history.old }
 {
-    history.push(&Event::Evict { key: *key, cause });
+    history.push(&Event::Evict { key: *key, cause }, found);
 }
 
 /// Appends the eviction before a step, if there is one, and the step. It answers the place of the step.
@@ -139,20 +141,21 @@ fn append_step(history: &mut History, group: &NewGroup) -> u32
     requires places { length (victim_events group.now.victim) + 1 ≤ history.old.promised }
     requires storable { IsStorable (new_step group.now) }
     ensures place { result ≡ length history.old.events + length (victim_events group.now.victim) }
-    ensures history { history.new ≡ append_all (victim_events group.now.victim ++ new_step group.now ∷ []) history.old }
+    ensures history { history.new ≡ append_all group.now.found (victim_events group.now.victim ++ new_step group.now ∷ []) history.old }
 {
     if let Some(victim) = &group.victim {
-        append_eviction(history, victim, Cause::Full);
+        append_eviction(history, victim, Cause::Full, group.found);
     }
     let place = history.len() as u32;
-    history.push_step(&LentStep {
+    let step = LentStep {
         caller: &group.caller,
         op: group.op,
         key: group.key,
         out: group.out,
         shared_with: &None,
         reply: group.reply,
-    });
+    };
+    history.push_step(&step, group.found);
     place
 }
 
@@ -177,15 +180,15 @@ fn shared_event(place: u32, key: &Key, answer: LoadAnswer, caller: Caller) -> Ev
 #[inline(never)]
 fn append_shared_step(history: &mut History, place: u32, group: &NewGroup, joiner: Caller)
     requires { 0 < history.old.promised }
-    ensures { history.new ≡ push (shared_event place group.now.key group.now.out.load joiner) history.old }
+    ensures { history.new ≡ push group.now.found (shared_event place group.now.key group.now.out.load joiner) history.old }
 {
-    history.push(&shared_event(place, group.key, group.out.load, joiner));
+    history.push(&shared_event(place, group.key, group.out.load, joiner), group.found);
 }
 
 /// Appends the shared step of each joiner that waits for a load, in the order of joining.
 fn append_shared(history: &mut History, joiners: &Joiners, load: u64, place: u32, group: &NewGroup)
     requires places { length (callers_of load joiners.now) ≤ history.old.promised }
-    ensures history { history.new ≡ append_all (map (shared_event place group.now.key group.now.out.load)
+    ensures history { history.new ≡ append_all group.now.found (map (shared_event place group.now.key group.now.out.load)
         (callers_of load joiners.now)) history.old }
 {
     for joiner in joiners.list() {
@@ -200,12 +203,12 @@ fn append_evicted(history: &mut History, group: &NewGroup) -> Option<Eviction>
     requires few { length history.old.events < 2 ^ 32 }
     requires places { length (evicted_events group.now.key group.now.evicted) ≤ history.old.promised }
     ensures evicted { result ≡ option_map (λ cause. record { cause = cause; place = length history.old.events }) group.now.evicted }
-    ensures history { history.new ≡ append_all (evicted_events group.now.key group.now.evicted) history.old }
+    ensures history { history.new ≡ append_all group.now.found (evicted_events group.now.key group.now.evicted) history.old }
 {
     match group.evicted {
         Some(cause) => {
             let place = history.len() as u32;
-            append_eviction(history, group.key, cause);
+            append_eviction(history, group.key, cause, group.found);
             Some(Eviction { cause, place })
         }
         None => None,
@@ -228,7 +231,7 @@ pub(crate) fn append_group(
     ensures place { result.place ≡ length history.old.events + length (victim_events group.now.victim) }
     ensures victim { result.victim ≡ group.now.victim }
     ensures evicted { result.evicted ≡ eviction_of (length history.old.events) group.now (callers_in load joiners.now) }
-    ensures history { history.new ≡ append_group
+    ensures history { history.new ≡ append_group group.now.found
         (group_events (length history.old.events) group.now (callers_in load joiners.now)) kept history.old }
 {
     let before = history.len();

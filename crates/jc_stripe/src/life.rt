@@ -2,7 +2,7 @@
 ghost use Rattle.std.specs.Prelude.{◌≡◌, [], ◌∷◌, ◌++◌, length, min};
 ghost use Rattle.jc_types.specs.declared.limits.TheConstants.{LAST_NUMBER};
 ghost use Rattle.jc_model.specs.Statistics.{statistics_of};
-ghost use Rattle.jc_stripe.specs.Generations.{past_events};
+ghost use Rattle.jc_stripe.specs.Occurrences.{occurrences, past_occurrences};
 
 use crate::log::Log;
 use jc_entries::Entries;
@@ -25,7 +25,7 @@ impl Model for Life {
     ghost use Rattle.std.specs.Prelude.{◌≡◌, length, min};
     ghost use Rattle.jc_types.specs.declared.limits.TheConstants.{LAST_NUMBER};
     ghost use Rattle.jc_model.specs.Statistics.{statistics_of};
-    ghost use Rattle.jc_stripe.specs.Generations.{past_events};
+    ghost use Rattle.jc_stripe.specs.Occurrences.{past_occurrences};
     ghost use Rattle.jc_stripe.specs.Life.{Life, noted_in, ended_in};
 
     ghost Value = { Life };
@@ -33,7 +33,7 @@ impl Model for Life {
     ghost view = { λ l. record { opening = noted_in l.opening.items; ended = ended_in l.ended.items } };
 
     ghost invariant = { λ l. (l.count ≡ min (length l.ended.items) LAST_NUMBER)
-        × (l.statistics ≡ statistics_of (past_events (ended_in l.ended.items))) };
+        × (l.statistics ≡ statistics_of (past_occurrences (ended_in l.ended.items))) };
 }
 
 impl Life {
@@ -50,7 +50,10 @@ impl Life {
     }
 
     /// The present generation has ended with this history, and the next one opens with these entries.
+    ///
+    /// Condition: the history has counted what occurred.
     pub(crate) fn next(&self, history: &History, entries: &Entries) -> Life
+        requires { history.now.statistics ≡ statistics_of (occurrences self.now.opening history.now.events) }
         ensures { result ≡ record {
           opening = entries.now.list;
           ended = self.now.ended ++ record { opening = self.now.opening; history = history.now.events } ∷ [];
@@ -72,9 +75,9 @@ impl Life {
         self.count
     }
 
-    /// What the events of the generations that have ended count.
+    /// What the events of the generations that have ended count, each with what it found.
     pub(crate) fn statistics(&self) -> Statistics
-        ensures { result ≡ statistics_of (past_events self.now.ended) }
+        ensures { result ≡ statistics_of (past_occurrences self.now.ended) }
     {
         self.statistics
     }

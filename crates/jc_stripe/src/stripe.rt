@@ -37,6 +37,7 @@ use beginning::{appended_alone, is_get};
 use jc_entries::Entries;
 use jc_history::History;
 use jc_inflight::{JoinState, Joiners};
+use jc_model::statistics::statistics_laws;
 use jc_model::{Event, Op, Out, Reply, WriteAnswer};
 use jc_mutentry::ProcDone;
 use jc_outside::{LoadDone, Origin, WriteDone};
@@ -328,6 +329,7 @@ impl Stripe {
         requires answers { AnswersFirst self.old.config reservation.value.first out.now }
         ensures { Commits self.old reservation.value out.now (with_reply result reply.new) self.new }
     {
+        statistics_laws();
         let ended = &*reservation;
         let key = ended.key;
         let load = ended.number;
@@ -347,6 +349,7 @@ impl Stripe {
             reply,
             victim,
             evicted,
+            found: entry.is_some(),
         };
         let done = append_group(&mut self.history, &self.joiners, Some(load), &group, kept);
         let _ = self.joiners.resolve(load, done.place);

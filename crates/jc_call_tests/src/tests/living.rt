@@ -61,9 +61,11 @@ tryget b = 2
 trycontains b = true
 s2 getremove b = 2
 remove c = false
-counts 14 1 1 1 0
-s2 counts 14 1 1 1 0
-own 16
+removeif a 9 = false
+removeif c 9 = false
+counts 15 2 1 1 0
+s2 counts 15 2 1 1 0
+own 18
 s2 own 2
 ";
 
@@ -81,7 +83,7 @@ own 3
 ";
 
 /// What they count in the end, in the words of a line.
-const IN_ALL: &str = "14 1 1 1 0";
+const IN_ALL: &str = "15 2 1 1 0";
 
 /// Four sessions.
 macro_rules! four_of {

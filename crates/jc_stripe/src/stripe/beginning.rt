@@ -19,6 +19,7 @@ use crate::appending::{NewGroup, append_group, apply_to_entries};
 use crate::begun::{Appended, Started};
 use crate::call_rules::{Found, places_needed, write_first_asked};
 use crate::ticket::{Join, Ticket};
+use jc_model::statistics::statistics_laws;
 use jc_model::{Op, Out, Reply};
 use jc_types::{Caller, HIT_PLACES, Key, STEP_PLACES, Value};
 
@@ -118,6 +119,7 @@ impl Stripe {
         if !self.entries.touch(key) {
             return false;
         }
+        statistics_laws();
         match self.entries.most_recent() {
             Some(value) => {
                 self.history.push_hit(&caller, key, value);
@@ -217,6 +219,7 @@ impl Stripe {
         requires begins { MayBegin self.old caller key.now }
         ensures { Steps self.old caller key.now op.now nothing_said [] (with_reply result reply.new) self.new }
     {
+        statistics_laws();
         let kept = places_needed(found.needs_free_key);
         let _ = self.history.promise(kept);
         let pinned = self.reservations.keys();
@@ -231,6 +234,7 @@ impl Stripe {
             reply,
             victim,
             evicted,
+            found: entry.is_some(),
         };
         append_group(&mut self.history, &self.joiners, None, &group, kept)
     }

@@ -4,7 +4,7 @@ ghost use Rattle.std.specs.List.{list_any};
 ghost use Rattle.jc_types.specs.declared.limits.TheConstants.{LAST_NUMBER};
 ghost use Rattle.jc_model.specs.Statistics.{statistics_of};
 ghost use Rattle.jc_model.specs.declared.event.Event.{Event};
-ghost use Rattle.jc_stripe.specs.Generations.{whole_history};
+ghost use Rattle.jc_stripe.specs.Occurrences.{all_occurrences};
 ghost use Rattle.jc_stripe.specs.OnePhase.{is_answered};
 ghost use Rattle.jc_stripe.specs.Renewal.{EndsGeneration, Renews, RenewsIfFull, can_renew, is_renewable, live_on};
 
@@ -86,9 +86,10 @@ impl Stripe {
         Ok(Some(generation))
     }
 
-    /// What the events of all generations count, the present one included (JSR 107, "Statistics"). It reads no event.
+    /// What the events of all generations count, the present one included, each with whether its key had an entry before it (JSR 107,
+    /// "Statistics"). It reads no event.
     pub fn statistics(&self) -> Statistics
-        ensures { result ≡ statistics_of (whole_history self.now) }
+        ensures { result ≡ statistics_of (all_occurrences self.now) }
     {
         statistics_laws();
         self.life.statistics().together(&self.history.statistics())

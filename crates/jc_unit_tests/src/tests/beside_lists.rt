@@ -286,7 +286,7 @@ fn pushes_both(rt: &impl Abort, history: &mut History, plain: &mut Vec<Event>, e
     requires { IsStorable event.now }
 {
     assert!(rt; history.promise(1));
-    history.push(event);
+    history.push(event, true);
     plain.push(*event).expect(rt, "memory");
     is(rt, "length", history.len(), plain.len());
 }
@@ -297,6 +297,8 @@ fn has_all(rt: &impl Abort, alloc: Global, history: &History, plain: &[Event]) {
     let len = history.len();
     history.append_to(0, len, &mut found).expect(rt, "memory");
     is(rt, "all", found.as_slice(), plain);
+    let events = history.events(alloc).expect(rt, "memory");
+    is(rt, "events", events.as_slice(), plain);
 }
 
 #[test]

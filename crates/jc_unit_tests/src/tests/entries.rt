@@ -159,6 +159,7 @@ fn fills(rt: &impl Abort, alloc: Global, capacity: usize) {
     let first = key(rt, &0usize.to_be_bytes());
     is(rt, "one more", found, Inserted::KeptAfter(first));
     is(rt, "full", entries.capacity(), capacity);
+    is(rt, "length", entries.len(), capacity);
 }
 
 #[test]

@@ -36,6 +36,7 @@ fn promises(rt: &impl Abort, alloc: Global, promise: &Promise) {
     assert!(rt; free <= HISTORY_MAX);
     let mut history = empty(rt, alloc, limit);
     is(rt, at, history.promise(promised), true);
+    is(rt, at, history.promised(), promised);
     is(rt, at, history.has_room(asked), fits);
     is(rt, at, history.promise(asked), fits);
     is(rt, at, history.has_room(free), true);
@@ -55,7 +56,7 @@ fn pushes(rt: &impl Abort, history: &mut History, event: &Event)
 {
     let fits = history.promise(1);
     assert!(rt; fits);
-    history.push(event);
+    history.push(event, true);
 }
 
 /// Pushes a step of which each part is lent into a place that is promised for it.
@@ -72,15 +73,18 @@ fn pushes_lent(rt: &impl Abort, history: &mut History, event: &Event)
             out,
             shared_with,
             reply,
-        } => history.push_step(&LentStep {
-            caller,
-            op,
-            key,
-            out,
-            shared_with,
-            reply,
-        }),
-        Event::Evict { .. } => history.push(event),
+        } => {
+            let step = LentStep {
+                caller,
+                op,
+                key,
+                out,
+                shared_with,
+                reply,
+            };
+            history.push_step(&step, true)
+        }
+        Event::Evict { .. } => history.push(event, true),
     }
 }
 
@@ -106,8 +110,8 @@ fn pushes_two_of(rt: &impl Abort, history: &mut History, n: usize, event: &Event
 {
     let fits = history.promise(n);
     assert!(rt; fits && 2 <= n);
-    history.push(event);
-    history.push(event);
+    history.push(event, true);
+    history.push(event, true);
     history.unpromise(n - 2);
 }
 

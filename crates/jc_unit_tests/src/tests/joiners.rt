@@ -162,5 +162,6 @@ fn holds_64_joiners_and_no_65th(rt: HostRuntime) {
     take(&rt, &mut joiners, &[(1, 0, "k", FIRST)]);
     is(&rt, "room", join(&rt, &mut joiners, late, &k, 9), true);
     is(&rt, "full again", joiners.is_full(), true);
+    is(&rt, "length", joiners.len(), 64);
     take(&rt, &mut joiners, LATE);
 }

@@ -25,16 +25,11 @@ impl Reserved for Slot {
 /// Reserves a key with this note, and gives the number of its reservation.
 fn reserve(table: &mut Reservations<Slot>, key: &Key, note: u8) -> Option<u64> {
     let number = table.next_number();
-    let slot = Slot {
+    table.reserve(&Slot {
         key: *key,
         number,
         note,
-    };
-    if table.reserve(&slot) {
-        Some(number)
-    } else {
-        None
-    }
+    })
 }
 
 /// The number and the note of a key's reservation.

@@ -1,47 +1,52 @@
-//! What each operation counts, by what was asked outside and by its reply.
+//! What each operation counts, by what it found, what was asked outside and its reply.
 use super::is;
 use super::script::event;
 use jc_model::Statistics;
 use std::process::Abort;
 
-// An event, in the words of `script`, and what it counts as.
+// Whether the key had an entry before, an event in the words of `script`, and what it counts as.
 const COUNTS: &str = "\
-1 s1 get a, is 1 = hit
-1 s1 get a, is - = miss
-1 s1 get a, read 1, is 1 = miss
-1 s1 get a, read -, is - = miss
-1 s1 get a, readfail 3, is LoaderFailed 3 = miss
-1 s1 get a, read 1, is 1 shared 0 = miss
-1 s1 contains a, is true = nothing
-1 s1 contains a, is false = nothing
-1 s1 put a 1, is ok = put
-1 s1 put a 1, apply, is ok = put
-1 s1 put a 1, applyfail 3, is WriterFailed 3 = nothing
-1 s1 getput a 2, is 1 = hit put
-1 s1 getput a 2, is - = miss put
-1 s1 getput a 2, applyfail 3, is WriterFailed 3 = nothing
-1 s1 putif a 2, is true = miss put
-1 s1 putif a 2, is false = hit
-1 s1 remove a, is true = removal
-1 s1 remove a, is false = nothing
-1 s1 removeif a 1, is true = hit removal
-1 s1 removeif a 1, is false = nothing
-1 s1 getremove a, is 1 = hit removal
-1 s1 getremove a, is - = miss
-1 s1 replace a 2, is true = hit put
-1 s1 replace a 2, is false = miss
-1 s1 replaceif a 1 2, is true = hit put
-1 s1 replaceif a 1 2, is false = nothing
-1 s1 getreplace a 2, is 1 = hit put
-1 s1 getreplace a 2, is - = miss
-1 s1 clear a, is ok = nothing
-1 s1 loadall a, read 1, is ok = nothing
-1 s1 invoke a, sets 1, is - = put
-1 s1 invoke a, removes, is 1 = removal
-1 s1 invoke a, keeps, is 1 = nothing
-1 s1 invoke a, sets 1, is WriterFailed 3 = nothing
-evict a full = eviction
-evict a memory = eviction
+there: 1 s1 get a, is 1 = hit
+missing: 1 s1 get a, is - = miss
+missing: 1 s1 get a, read 1, is 1 = miss
+missing: 1 s1 get a, read -, is - = miss
+missing: 1 s1 get a, readfail 3, is LoaderFailed 3 = miss
+there: 1 s1 get a, read 1, is 1 shared 0 = miss
+there: 1 s1 contains a, is true = nothing
+missing: 1 s1 contains a, is false = nothing
+there: 1 s1 put a 1, is ok = put
+missing: 1 s1 put a 1, apply, is ok = put
+there: 1 s1 put a 1, applyfail 3, is WriterFailed 3 = nothing
+there: 1 s1 getput a 2, is 1 = hit put
+missing: 1 s1 getput a 2, is - = miss put
+there: 1 s1 getput a 2, applyfail 3, is WriterFailed 3 = nothing
+missing: 1 s1 putif a 2, is true = miss put
+there: 1 s1 putif a 2, is false = hit
+there: 1 s1 remove a, is true = removal
+missing: 1 s1 remove a, is false = nothing
+there: 1 s1 removeif a 1, is true = hit removal
+there: 1 s1 removeif a 1, is false = hit
+missing: 1 s1 removeif a 1, is false = miss
+there: 1 s1 removeif a 1, applyfail 3, is WriterFailed 3 = nothing
+there: 1 s1 getremove a, is 1 = hit removal
+missing: 1 s1 getremove a, is - = miss
+there: 1 s1 replace a 2, is true = hit put
+missing: 1 s1 replace a 2, is false = miss
+there: 1 s1 replaceif a 1 2, is true = hit put
+there: 1 s1 replaceif a 1 2, is false = hit
+missing: 1 s1 replaceif a 1 2, is false = miss
+there: 1 s1 replaceif a 1 2, applyfail 3, is WriterFailed 3 = nothing
+there: 1 s1 getreplace a 2, is 1 = hit put
+missing: 1 s1 getreplace a 2, is - = miss
+there: 1 s1 clear a, is ok = nothing
+missing: 1 s1 loadall a, read 1, is ok = nothing
+missing: 1 s1 invoke a, sets 1, is - = miss put
+there: 1 s1 invoke a, removes, is 1 = hit removal
+there: 1 s1 invoke a, keeps, is 1 = hit
+there: 1 s1 invoke a, sets 1, is WriterFailed 3 = hit
+missing: 1 s1 invoke a, keeps, is ProcessorFailed 3 = miss
+there: evict a full = eviction
+there: evict a memory = eviction
 ";
 
 /// One of each of these.
@@ -63,9 +68,10 @@ fn counted(rt: &impl Abort, words: &str) -> Statistics {
 #[test]
 fn counts_by_operation(rt: HostRuntime) {
     for line in COUNTS.lines() {
-        let (text, words) = line.split_once(" = ").expect(&rt, line);
-        let found = Statistics::new().with_event(&event(&rt, text));
-        is(&rt, line, found, counted(&rt, words));
+        let (before, rest) = line.split_once(": ").expect(&rt, line);
+        let (text, words) = rest.split_once(" = ").expect(&rt, line);
+        let statistics = Statistics::new().with_event(before == "there", &event(&rt, text));
+        is(&rt, line, statistics, counted(&rt, words));
     }
 }
 

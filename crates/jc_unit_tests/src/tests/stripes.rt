@@ -209,6 +209,14 @@ commit 6 apply = true at 6
 counts 1 1 3 1 1 = yes
 counts 1 1 3 1 0 = no
 ==
+# A conditional call that answers false is a hit if the entry is there, and a miss if it isn't.
+open 100
+begin 1 s1 removeif a 1 = false at 0
+begin 2 s1 put a 1 = ok at 1
+begin 3 s1 removeif a 2 = false at 2
+begin 4 s1 replaceif a 2 3 = false at 3
+counts 2 1 1 0 0 = yes
+==
 # A processor may have a missing entry loaded.
 open 100 read write
 outside invoke a = yes

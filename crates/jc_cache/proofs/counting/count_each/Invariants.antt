@@ -1,7 +1,7 @@
 use Rattle.std.specs.Prelude.{◌≡◌, take}
 use Rattle.jc_model.specs.Statistics.{statistics_of}
-use Rattle.jc_cache.specs.Counting.{all_events}
+use Rattle.jc_cache.specs.Counting.{occurred_in}
 use Rattle.jc_cache.proofs.counting.count_each.Given as goal
 
 abbrev pub invariant-loop-i : goal.invariant-loop-i
-invariant-loop-i l = l.total ≡ statistics_of (all_events (take l.i l.stripes))
+invariant-loop-i l = l.total ≡ statistics_of (occurred_in (take l.i l.stripes))

@@ -28,13 +28,14 @@ group c =
       reply = c.reply_into.new.reply;
       victim = c.apply_to_entries-victim.result.0;
       evicted = c.apply_to_entries-victim.result.1;
+      found = c.is_some.result;
     }
 
 made : (c : goal.After-group-2-1) → IsMade (state_of c.self.inside) c.deref-ended.result.now.caller c.deref-ended.result.now.key c.deref-ended.result.now.op c.args.out.now (group c)
 made c =
     let r = c.deref-ended.result.now in
     made_is (state_of c.self.inside) r.caller r.key r.op c.args.out.now c.peek_into.new.value (group c)
-    (λ i. record (group c) { reply = (c.reply_into.ensures ∙ ap (λ o. reply_after r.op o c.args.out.now) c.as_ref.ensures.value) i })
+    (λ i. record (group c) { reply = (c.reply_into.ensures ∙ ap (λ o. reply_after r.op o c.args.out.now) c.as_ref.ensures.value) i; found = c.is_some.ensures i })
     (c.peek_into.ensures ∙ find-entry c.self.inside.entries.list r.key)
 
 pub append_group-done-requires-clause-kept : goal.append_group-done-requires-clause-kept
@@ -75,6 +76,7 @@ is_commit c =
       keeps = c.apply_to_entries-victim.ensures;
       told = record { reply = refl; place = c.append_group-done.ensures.place; victim = c.append_group-done.ensures.victim; evicted = c.append_group-done.ensures.evicted };
       put = c.append_group-done.ensures.history;
+      laws = c.statistics_laws.ensures;
       joiners = c.resolve.ensures.resolved;
       kept_is = ap (λ m. STEP_PLACES + m) c.waiting.ensures.count;
       one_more = c.give_back.ensures;

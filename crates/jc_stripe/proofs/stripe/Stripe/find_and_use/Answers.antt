@@ -58,7 +58,7 @@ room c = let Room : State → Type 0 = λ s. has_room s c.args.caller.call HIT_P
 
 -- the step that is made
 group : (c : goal.After-push_hit) → NewGroup
-group c = record { caller = c.args.caller; key = c.args.key.now; op = Get; out = nothing_said; reply = reply.Value (Some c.in-Some.value.now); victim = None; evicted = None }
+group c = record { caller = c.args.caller; key = c.args.key.now; op = Get; out = nothing_said; reply = reply.Value (Some c.in-Some.value.now); victim = None; evicted = None; found = true }
 
 -- what is done of it
 done : (c : goal.After-push_hit) → StepDone
@@ -77,6 +77,7 @@ is_done c =
       promises = refl;
       told = record { reply = refl; place = search rules; victim = refl; evicted = refl };
       put = c.push_hit.ensures.after;
+      laws = c.statistics_laws.ensures;
     }
 
 begins : (c : goal.After-push_hit) → Begins (state_of c.self.inside) c.args.caller c.args.key.now Get (begun.Done (done c)) (state_of (done_at c.self.inside c.touch.new.self c.push_hit.new.self))

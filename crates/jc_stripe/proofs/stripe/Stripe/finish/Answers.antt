@@ -62,12 +62,13 @@ group c =
       reply = c.reply_into.new.reply;
       victim = c.apply_to_entries-victim.result.0;
       evicted = c.apply_to_entries-victim.result.1;
+      found = c.is_some.result;
     }
 
 made : (c : goal.After-group-1) → IsMade (state_of c.self.inside) c.args.caller c.args.key.now c.args.op.now nothing_said (group c)
 made c =
     made_is (state_of c.self.inside) c.args.caller c.args.key.now c.args.op.now nothing_said c.args.entry.now (group c)
-    (λ i. record (group c) { out = c.nothing_said-out.ensures i; reply = replied c i })
+    (λ i. record (group c) { out = c.nothing_said-out.ensures i; reply = replied c i; found = c.is_some.ensures i })
     (c.requires.entry ∙ sym (ap (λ (s : State). entry_at s.cache c.args.key.now) c.self.view_is))
 
 -- what it left of the entries
@@ -99,6 +100,7 @@ is_done c = record {
   promises = promises c.before;
   told = record { reply = refl; place = c.append_group.ensures.place; victim = c.append_group.ensures.victim; evicted = c.append_group.ensures.evicted };
   put = c.append_group.ensures.history;
+  laws = c.statistics_laws.ensures;
 }
 
 steps : (c : goal.After-append_group) → Steps (state_of c.self.inside) c.args.caller c.args.key.now c.args.op.now nothing_said [] (step c) (state_of (done_at c.self.inside c.apply_to_entries-victim.new.entries c.append_group.new.history))

@@ -8,6 +8,8 @@ use Rattle.jc_history.specs.Past.{Past}
 use Rattle.jc_reserve.specs.Table.{Table}
 use Rattle.jc_stripe.specs.declared.stripe.Stripe.TheInside.{Inside}
 use Rattle.jc_stripe.specs.declared.ticket.Reservation.{Reservation}
+use Rattle.jc_model.specs.Statistics.{statistics_of}
+use Rattle.jc_stripe.specs.Occurrences.{occurrences}
 use Rattle.jc_stripe.specs.Inside.{state_of}
 use Rattle.jc_stripe.specs.Life.{Life}
 use Rattle.jc_stripe.specs.OrderOfUse.{by_use}
@@ -45,6 +47,7 @@ invariant_of-result c =
       limit = ap (λ (h : Past). h.limit) history;
       by_use = sym (λ k. by_use ((life k).opening) ((history k).events));
       promised = ap (λ (h : Past). h.promised) history ∙ sym (λ i. STEP_PLACES * length (table i).held + HIT_PLACES * count_by waits (joiners i));
+      counted = ap (λ (h : Past). h.statistics) history ∙ sym (λ k. statistics_of (occurrences ((life k).opening) ((history k).events)));
       boxes = ap (λ n. n + length c.new_from-reservations.result.held) c.in_ok-boxes.ensures ∙ ap (λ (t : Table Reservation). RESERVATIONS_MAX + length t.held) table;
       state = opened (record { config = c.args.config.now; number = c.args.number; origin = c.args.origin; entries = c.args.entries; reservations = c.new_from-reservations.result; boxes = c.in_ok-boxes.boxes; joiners = c.new-joiners.result; history = c.in_ok-history.history; lives = false; life = c.new-life.result }) c.requires.fits valid.distinct (let e = c.requires.capacity in omega arith) c.requires.own (ap (λ (t : Table Reservation). t.held) table) joiners (ap (λ (h : Past). h.events) history) life;
     }

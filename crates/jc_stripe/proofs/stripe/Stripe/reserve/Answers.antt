@@ -1,4 +1,4 @@
-use Rattle.std.proofs.Common.{MatchBool, ◌≡◌, ◌∙◌, ◌↔◌, IsTrue, None, true, sym, ap, subst}
+use Rattle.std.proofs.Common.{MatchBool, is_some, ◌≡◌, ◌∙◌, ◌↔◌, IsTrue, None, true, sym, ap, subst}
 use Rattle.jc_model.specs.Cache.{entry_at}
 use Rattle.jc_reserve.specs.Reserving.{CanReserve}
 use Rattle.jc_reserve.specs.Reserving as reserving
@@ -32,12 +32,12 @@ asked c = c.write_first_asked.ensures ∙ ap (λ (s : State). first_asked s.conf
 table_is : (c : goal.After-new)
     → c.reserve.new.self ≡ reserving.with_reservation c.self.inside.reservations (new_reservation (state_of c.self.inside) c.args.caller c.args.key.now c.args.op.now c.write_first_asked.new.first)
 table_is c =
-    let Reserves : Reservation → Type 0 = λ r. (IsTrue c.reserve.result ↔ CanReserve (λ (x : Reservation). x.key) c.self.inside.reservations r.key)
-    × MatchBool c.reserve.result (c.reserve.new.self ≡ reserving.with_reservation c.self.inside.reservations r) (c.reserve.new.self ≡ c.self.inside.reservations) in
+    let Reserves : Reservation → Type 0 = λ r. (IsTrue (is_some c.reserve.result) ↔ CanReserve (λ (x : Reservation). x.key) c.self.inside.reservations r.key)
+    × MatchBool (is_some c.reserve.result) (c.reserve.new.self ≡ reserving.with_reservation c.self.inside.reservations r) (c.reserve.new.self ≡ c.self.inside.reservations) in
     let same : c.deref.result.now ≡ claim c =
     c.deref.ensures ∙ ap (λ (r : Reservation). record { caller = r.caller; key = r.key; op = r.op; number = r.number; first = c.write_first_asked.new.first }) c.set_call.ensures in
     let reserves = subst Reserves same (c.reserve.ensures.can, c.reserve.ensures.table) in
-    table_made c.self.inside c.args.caller c.args.key.now c.args.op.now c.write_first_asked.new.first c.next_number.result c.reserve.result c.reserve.new.self (free_inside c) (needs_inside c)
+    table_made c.self.inside c.args.caller c.args.key.now c.args.op.now c.write_first_asked.new.first c.next_number.result (is_some c.reserve.result) c.reserve.new.self (free_inside c) (needs_inside c)
     c.next_number.ensures reserves.0 reserves.1
 
 pub invariant_of-self : goal.invariant_of-self
