@@ -23,14 +23,14 @@ use Rattle.jc_model.proofs.CallerLemmas.{missing-others}
 use Rattle.jc_entries.specs.ByUse.{ByUse, lru_victim}
 use Rattle.jc_stripe.specs.OrderOfUse.{by_use, order_after_event}
 use Rattle.jc_stripe.specs.State.{Generation}
-use Rattle.jc_stripe.specs.Occurrences.{occurrences, past_occurrences}
+use Rattle.jc_stripe.specs.Occurrences.{has_entry, occurrences, past_occurrences}
 use Rattle.jc_stripe.specs.Appending.{NewGroup, new_step, group_events, count_all, inserts_into, overflows_in, victim_in}
 
 -- 1. Rows of events.
 
 pub occurrences-append : (entries : List (Bytes × Bytes)) (first second : List Event) → occurrences entries (first ++ second) ≡ occurrences entries first ++ occurrences (by_use entries first) second
 occurrences-append entries [] second = refl
-occurrences-append entries (e ∷ es) second = ap (λ os. record { found = _; event = e } ∷ os) (occurrences-append (order_after_event entries e) es second)
+occurrences-append entries (e ∷ es) second = ap (λ (os : List Occurrence). record { found = has_entry entries e; event = e } ∷ os) (occurrences-append (order_after_event entries e) es second)
 
 pub occurrences-past : (ended : List Generation) (last : Generation) → past_occurrences (ended ++ last ∷ []) ≡ past_occurrences ended ++ occurrences last.opening last.history
 occurrences-past [] last = append-nil (occurrences last.opening last.history)
@@ -103,12 +103,12 @@ count_group entries keys place made callers counts victim_is found_is = of_victi
     step list at now same =
         ap (λ b. count_all made.found (rest at) (with_event now b (new_step made))) same
         ∙ blind_rest made.found (order_after_event list (new_step made)) (rest at) _ (blind_shared at made.key made.out.load callers _ (blind_gone made.key made.evicted))
-    of_victim : (v : Option Bytes) → made.victim ≡ v
-        → count_all made.found (victim_events v ++ new_step made ∷ rest (place + length (victim_events v))) counts
-        ≡ add_all (occurrences entries.list (victim_events v ++ new_step made ∷ rest (place + length (victim_events v)))) counts
-    of_victim None v = step entries.list (place + 0) counts found_is
+    events : Option Bytes → List Event
+    events v = victim_events v ++ new_step made ∷ map (shared_event (place + length (victim_events v)) made.key made.out.load) callers ++ evicted_events made.key made.evicted
+    of_victim : (v : Option Bytes) → made.victim ≡ v → count_all made.found (events v) counts ≡ add_all (occurrences entries.list (events v)) counts
+    of_victim None v = step entries.list (place + length (victim_events None)) counts found_is
     of_victim (Some gone) v =
-        step (others gone entries.list) (place + 1) _ (found_is ∙ same_found entries keys made.key gone made.op made.out (sym v ∙ victim_is))
+        step (others gone entries.list) (place + length (victim_events (Some gone))) _ (found_is ∙ same_found entries keys made.key gone made.op made.out (sym v ∙ victim_is))
 
 -- 4. A stripe's counts.
 

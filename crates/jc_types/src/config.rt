@@ -48,6 +48,29 @@ pub struct Config {
     pub write_through: bool,
 }
 
+/// A shape for a service, until it has measured its own: 16 stripes with 4,096 entries each, and histories of 256 events, in a cache
+/// that reads and writes through.
+///
+/// It is meant for a cache that lives on, in which a history that is full is begun anew. One field can be chosen alone:
+/// `Config { stripes: 64, ..Config::default() }`.
+impl Default for Config {
+    ghost use Rattle.std.specs.Prelude.{◌≡◌, Ok, true};
+    ghost use Rattle.jc_types.specs.Limits.{check};
+
+    ghost is_default = { λ config. (check config ≡ Ok tt)
+        × (config ≡ record { stripes = 16; capacity = 4096; history = 256; read_through = true; write_through = true }) };
+
+    fn default() -> Config {
+        Config {
+            stripes: 16,
+            capacity: 4_096,
+            history: 256,
+            read_through: true,
+            write_through: true,
+        }
+    }
+}
+
 impl Config {
     ghost use Rattle.jc_types.specs.Limits.{check};
 
