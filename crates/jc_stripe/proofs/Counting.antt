@@ -1,10 +1,13 @@
 -- What is counted of a group that is appended is what occurred.
 --     occurrences-append    a row of events finds what the first part of it left, and then the rest
 --     occurrences-past      what occurred in one more generation that has ended comes behind
+--     append_none           the past with no event more
+--     appended_group        what is appended in parts is appended as a group
 --     counted_group         a stripe's counts with a group are those of what occurred with it
-use Rattle.std.proofs.Common.{◌≡◌, ℕ, ◌+◌, List, [], ◌∷◌, ◌++◌, Bool, true, false, ◌&&◌, map, length, cond, Option, None, Some, is_none, is_some, refl, sym, ap, ◌∙◌, append_assoc}
+use Rattle.std.proofs.Common.{◌≡◌, ℕ, ◌+◌, ◌-◌, ◌≤◌, List, [], ◌∷◌, ◌++◌, Bool, true, false, ◌&&◌, map, length, cond, Option, None, Some, is_none, is_some, refl, sym, ap, ◌∙◌, append_assoc, arith}
 use Rattle.std.specs.FinMap as finite
-use Rattle.std.proofs.lemmas.List.{append-nil}
+use Rattle.std.proofs.Math.Nat.{sub-zero}
+use Rattle.std.proofs.lemmas.List.{append-nil, length-append}
 use Rattle.std.proofs.lemmas.Bool.{and_parts}
 use Rattle.jc_types.specs.declared.caller.Caller.{Caller}
 use Rattle.jc_model.specs.declared.event.Cause.{Cause}
@@ -21,10 +24,11 @@ use Rattle.jc_model.specs.Statistics.{Occurrence, StatisticsLaws, statistics_of,
 use Rattle.jc_model.specs.Table.{entry_after}
 use Rattle.jc_model.proofs.CallerLemmas.{missing-others}
 use Rattle.jc_entries.specs.ByUse.{ByUse, lru_victim}
+use Rattle.jc_history.specs.Past.{Past, unpromise}
 use Rattle.jc_stripe.specs.OrderOfUse.{by_use, order_after_event}
 use Rattle.jc_stripe.specs.State.{Generation}
 use Rattle.jc_stripe.specs.Occurrences.{has_entry, occurrences, past_occurrences}
-use Rattle.jc_stripe.specs.Appending.{NewGroup, new_step, group_events, count_all, inserts_into, overflows_in, victim_in}
+use Rattle.jc_stripe.specs.Appending.{NewGroup, new_step, group_events, count_all, append_all, append_group, inserts_into, overflows_in, victim_in}
 
 -- 1. Rows of events.
 
@@ -110,7 +114,39 @@ count_group entries keys place made callers counts victim_is found_is = of_victi
     of_victim (Some gone) v =
         step (others gone entries.list) (place + length (victim_events (Some gone))) _ (found_is ∙ same_found entries keys made.key gone made.op made.out (sym v ∙ victim_is))
 
--- 4. A stripe's counts.
+-- 4. A group that is appended in parts.
+
+count-append : (found : Bool) (first second : List Event) (counts : Statistics) → count_all found (first ++ second) counts ≡ count_all found second (count_all found first counts)
+count-append found [] second counts = refl
+count-append found (e ∷ es) second counts = count-append found es second (with_event counts found e)
+
+pub append_none : (found : Bool) (past : Past) → append_all found [] past ≡ past
+append_none found past = λ i. record past { events = append-nil past.events i; promised = sub-zero past.promised i }
+
+-- a step with a victim before it, and then what shares it and what goes after it; what of the room isn't used is given back
+pub appended_group : (found : Bool) (old middle new : Past) (before : List Event) (step : Event) (shared gone : List Event) (kept back : ℕ)
+    → middle ≡ append_all found shared (append_all found (before ++ step ∷ []) old)
+    → new ≡ unpromise back (append_all found gone middle)
+    → back ≡ kept - (length ((append_all found gone middle).events) - length old.events)
+    → length (before ++ step ∷ shared ++ gone) ≤ kept
+    → new ≡ append_group found (before ++ step ∷ shared ++ gone) kept old
+appended_group found old middle new before step shared gone kept back mid is less few =
+    let inner : (before ++ step ∷ []) ++ shared ++ gone ≡ before ++ step ∷ shared ++ gone = simp append_assoc in
+    let events : ((old.events ++ (before ++ step ∷ [])) ++ shared) ++ gone ≡ old.events ++ (before ++ step ∷ shared ++ gone) =
+        append_assoc (old.events ++ (before ++ step ∷ [])) shared gone ∙ append_assoc old.events (before ++ step ∷ []) (shared ++ gone)
+        ∙ ap (λ (es : List Event). old.events ++ es) (sym (append_assoc (before ++ step ∷ []) shared gone) ∙ inner) in
+    let counts : count_all found gone (count_all found shared (count_all found (before ++ step ∷ []) old.statistics)) ≡ count_all found (before ++ step ∷ shared ++ gone) old.statistics =
+        sym (count-append found ((before ++ step ∷ []) ++ shared) gone old.statistics ∙ ap (count_all found gone) (count-append found (before ++ step ∷ []) shared old.statistics))
+        ∙ ap (λ (es : List Event). count_all found es old.statistics) inner in
+    let all : new ≡ unpromise back (append_all found gone (append_all found shared (append_all found (before ++ step ∷ []) old))) = is ∙ ap (λ p. unpromise back (append_all found gone p)) mid in
+    let long : length ((append_all found gone middle).events) ≡ length old.events + length (before ++ step ∷ shared ++ gone) =
+        ap (λ (p : Past). length (p.events ++ gone)) mid ∙ ap length events ∙ length-append old.events (before ++ step ∷ shared ++ gone) in
+    let parts : length (before ++ step ∷ shared ++ gone) ≡ length (before ++ step ∷ []) + length shared + length gone =
+        ap length (sym inner) ∙ length-append ((before ++ step ∷ []) ++ shared) gone ∙ ap (λ n. n + length gone) (length-append (before ++ step ∷ []) shared) in
+    let promised : old.promised - length (before ++ step ∷ []) - length shared - length gone - back ≡ old.promised - kept = omega arith in
+    all ∙ (λ i. record old { events = events i; promised = promised i; statistics = counts i })
+
+-- 5. A stripe's counts.
 
 pub counted_group : StatisticsLaws → (entries : ByUse) (keys : List Bytes) (place : ℕ) (made : NewGroup) (callers : List Caller) (opening : List (Bytes × Bytes)) (history : List Event)
     → entries.list ≡ by_use opening history → made.victim ≡ victim_in entries keys made.key made.op made.out → made.found ≡ is_some (finite.find key_cmp made.key entries.list)
