@@ -4,7 +4,7 @@
 --     noted_same, fronts_same, logs_same  views that change in something else
 --     handed_back              the seats of a cache that was not closed
 --     log_there, log_at, logs_set    a seat's log; whose a log is; a row whose seat at one place is another one, with the same log
---     set_get, set_else, rest_set    the seat that was set, and others
+--     rest_set                 the seats that are as they were, when the next one is replaced
 --     idle_set, idle_logs      the first seats, and all, have looked once and found nothing out
 --     row_refusal, refusal_since    the stripe of one seat is not taken; since when
 --     opening_histories, opening_len, new_history, new_within    stripes in which nothing has happened: each history is empty; how
@@ -33,6 +33,7 @@ use Rattle.jc_cache.specs.CacheInside.{IsOwnSeat}
 use Rattle.jc_cache.specs.Closing.{AreIdle, HasLastFound, HasLookedOnce, HasMissed, HasOnlyLooked, IsInUse}
 use Rattle.jc_cache.specs.ClosingInside.{KeepsSeat, KeepSeats, Looks, IsTakeRefusal, IsRowRefusal}
 use Rattle.jc_cache.proofs.ClosingSeats.{keep_at}
+use Rattle.jc_cache.proofs.Meetings.{got_other}
 use Rattle.jc_cache.proofs.Rows.{Seated, map_get, push_get}
 
 -- 1. Places.
@@ -75,11 +76,6 @@ handed_back (x ∷ old) (y ∷ new) keeps = let rest = handed_back old new keeps
 
 -- 3. What is out.
 
-pub set_get : (seats : List Seated) (i : ℕ) (x y : Seated) → slice_get seats i ≡ Some x → slice_get (set seats i y) i ≡ Some y
-set_get [] i x y at = absurd (none-some x at)
-set_get (a ∷ seats) zero x y at = refl
-set_get (a ∷ seats) (suc i) x y at = set_get seats i x y at
-
 pub log_there : (seats : List Seated) (i : ℕ) (seat : Seated) → slice_get seats i ≡ Some seat → slice_get (logs_of seats) i ≡ Some (log_of seat.1)
 log_there seats i seat at = slice_get-map (λ (s : Seated). log_of s.1) seats i ∙ ap (option_map (λ (s : Seated). log_of s.1)) at
 
@@ -116,15 +112,8 @@ set_here (a ∷ seats) zero (suc k) x y z at there = inr ((λ e. absurd (omega a
 set_here (a ∷ seats) (suc i) zero x y z at there = inr ((λ e. absurd (omega arith)), there)
 set_here (a ∷ seats) (suc i) (suc k) x y z at there = ⊎_elim (λ t. inl (ap suc t.0, t.1)) (λ t. inr ((λ e. t.0 (omega arith)), t.1)) (set_here seats i k x y z at there)
 
-pub set_else : (seats : List Seated) (i k : ℕ) (y : Seated) → (k ≡ i → ⊥) → slice_get (set seats i y) k ≡ slice_get seats k
-set_else [] i k y ne = refl
-set_else (a ∷ seats) zero zero y ne = absurd (ne refl)
-set_else (a ∷ seats) zero (suc k) y ne = refl
-set_else (a ∷ seats) (suc i) zero y ne = refl
-set_else (a ∷ seats) (suc i) (suc k) y ne = set_else seats i k y (λ e. ne (ap suc e))
-
 pub rest_set : (old seats : List Seated) (i : ℕ) (y : Seated) → AreAsBefore i old seats → AreAsBefore (i + 1) old (set seats i y)
-rest_set old seats i y rest k le = set_else seats i k y (λ e. omega arith) ∙ rest k (omega arith)
+rest_set old seats i y rest k le = got_other seats i k y (λ e. omega arith) ∙ rest k (omega arith)
 
 pub idle_set : (old seats : List Seated) (i : ℕ) (x y : Seated) → AreAsBefore i old seats → AreIdleBelow i old seats → slice_get seats i ≡ Some x → HasLookedOnce (log_of x.1) (log_of y.1) y.1.noted × IsIdle y.1.noted → AreIdleBelow (i + 1) old (set seats i y)
 idle_set old seats i x y rest idle at is k w z near first there =

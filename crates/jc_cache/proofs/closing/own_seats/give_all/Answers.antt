@@ -1,6 +1,6 @@
 use Rattle.std.proofs.Common.{ap, le_refl, ◌∙◌, ◌<◌, ℕ, refl, sym, subst, rules}
 use Rattle.jc_cache.proofs.ClosingSeats.{keep_all, keep_set, none_phase, given_back, near_row, fewer, give_near, give_there, give_step, not_beyond}
-use Rattle.jc_cache.proofs.Noted.{set_else}
+use Rattle.jc_cache.proofs.Meetings.{got_other}
 use Rattle.jc_cache.proofs.closing.own_seats.give_all.Goals as goal
 
 pub loop-closed-init : goal.loop-closed-init
@@ -37,5 +37,5 @@ loop-closed-preserved c =
       keeps = keep_set _ _ _ c.len-i.result _ _ c.loop-closed.invariant.keeps there.0 given.0;
       taken = give_step _ _ _ _ c.len-i.result _ c.loop-closed.invariant.taken c.in-Some.ensures.items (c.len-i.ensures ∙ c.pop.new.self.ok.0) given.1;
       most = fewer _ _ _ _ c.in-Some.ensures.items c.loop-closed.invariant.most;
-      rest = λ i le. set_else _ c.len-i.result i _ (not_beyond _ _ _ _ i c.len-i.result c.in-Some.ensures.items c.loop-closed.invariant.most (c.len-i.ensures ∙ c.pop.new.self.ok.0) le) ∙ c.loop-closed.invariant.rest i le;
+      rest = λ i le. got_other _ c.len-i.result i _ (not_beyond _ _ _ _ i c.len-i.result c.in-Some.ensures.items c.loop-closed.invariant.most (c.len-i.ensures ∙ c.pop.new.self.ok.0) le) ∙ c.loop-closed.invariant.rest i le;
     }

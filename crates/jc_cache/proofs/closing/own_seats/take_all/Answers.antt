@@ -1,6 +1,7 @@
 use Rattle.std.proofs.Common.{◌∙◌, arith, refl, rules}
 use Rattle.jc_cache.proofs.ClosingSeats.{keep_all, keep_on, keep_set, keep_locks, own_there, next_free, next_stays, take_next}
-use Rattle.jc_cache.proofs.Noted.{logs_set, row_refusal, set_get}
+use Rattle.jc_cache.proofs.Meetings.{got_set}
+use Rattle.jc_cache.proofs.Noted.{logs_set, row_refusal}
 use Rattle.jc_cache.proofs.closing.own_seats.take_all.Goals as goal
 
 pub loop-i-init : goal.loop-i-init
@@ -28,7 +29,7 @@ pub returns-in-Err-clause-err : goal.returns-in-Err-clause-err
 returns-in-Err-clause-err c =
     let there = own_there _ _ _ _ c.loop-i.i _ _ c.requires.own.locks c.loop-i.invariant.keeps c.loop-i-test.true c.index_mut.ensures.value c.index-locks-i.is in
     let stays = c.give_all.ensures.rest c.loop-i.i (let long = c.loop-i.invariant.long in omega arith) in
-    (c.give_all.ensures.own.taken, row_refusal _ _ _ c.loop-i.i _ _ _ c.loop-i.invariant.keeps there.0 (stays ∙ set_get _ c.loop-i.i _ _ there.0) c.in-Err.ensures.err.1)
+    (c.give_all.ensures.own.taken, row_refusal _ _ _ c.loop-i.i _ _ _ c.loop-i.invariant.keeps there.0 (stays ∙ got_set _ c.loop-i.i _ _ there.0) c.in-Err.ensures.err.1)
 
 pub loop-i-preserved : goal.loop-i-preserved
 loop-i-preserved c =

@@ -2,7 +2,8 @@ use Rattle.std.proofs.Common.{arith, refl, rules, ◌∙◌}
 use Rattle.std.proofs.lemmas.Option.{slice_get_within}
 use Rattle.jc_cache.proofs.Rows.{length_locks}
 use Rattle.jc_cache.proofs.ClosingSeats.{keep_all, keep_set, keep_locks, own_there, free_at, free_set}
-use Rattle.jc_cache.proofs.Noted.{idle_logs, idle_set, rest_set, row_refusal, set_get}
+use Rattle.jc_cache.proofs.Meetings.{got_set}
+use Rattle.jc_cache.proofs.Noted.{idle_logs, idle_set, rest_set, row_refusal}
 use Rattle.jc_cache.proofs.closing.own_seats.test_all_idle.Goals as goal
 
 pub loop-i-init : goal.loop-i-init
@@ -21,7 +22,7 @@ returns-in_err-test_idle-clause-own c =
 pub returns-in_err-test_idle-clause-err : goal.returns-in_err-test_idle-clause-err
 returns-in_err-test_idle-clause-err c =
     let at = own_there _ _ _ _ c.loop-i.i _ _ c.requires.locks c.loop-i.invariant.keeps c.loop-i-test.true c.index_mut.ensures.value c.index-locks-i.is in
-    search (rules, row_refusal _ _ _ c.loop-i.i _ c.test_idle.new.seat _ c.loop-i.invariant.keeps at.0 (set_get _ c.loop-i.i _ _ at.0) c.in_err-test_idle.ensures.err)
+    search (rules, row_refusal _ _ _ c.loop-i.i _ c.test_idle.new.seat _ c.loop-i.invariant.keeps at.0 (got_set _ c.loop-i.i _ _ at.0) c.in_err-test_idle.ensures.err)
 
 pub loop-i-preserved : goal.loop-i-preserved
 loop-i-preserved c =
