@@ -12,14 +12,6 @@ use std::alloc::Global;
 use std::sync::Wait;
 use std::thread::Threads;
 
-const CONFIG: Config = Config {
-    stripes: 4,
-    capacity: 1_000,
-    history: 4_096,
-    read_through: true,
-    write_through: true,
-};
-
 /// What all clients share: the pages with their first counts, and what each worker puts at its end.
 #[derive(Drop)]
 struct Shift {
@@ -84,7 +76,11 @@ fn serve<R: Print + Threads + Wait + Sync>(
     alloc: Global,
     outside: Vec<Outside>,
 ) -> anyhow::Result<()> {
-    let mut owner = CacheOwner::living(alloc, &CONFIG)?;
+    let config = Config {
+        stripes: 4,
+        ..Config::default()
+    };
+    let mut owner = CacheOwner::living(alloc, &config)?;
     let sessions = owner.enlist_all(alloc, outside)?;
     let clients = owner.clients(alloc, sessions)?;
     call_all(rt, alloc, clients)?;

@@ -8,14 +8,6 @@ use jc_store::{Increment, SharedStore, Store};
 use std::alloc::Global;
 use std::sync::Wait;
 
-const CONFIG: Config = Config {
-    stripes: 4,
-    capacity: 1_000,
-    history: 4_096,
-    read_through: true,
-    write_through: true,
-};
-
 #[derive(Drop)]
 struct Visits {
     alloc: Global,
@@ -51,7 +43,7 @@ fn main(rt: HostRuntime) -> anyhow::Result<()> {
         alloc,
         page: Key::new(b"front")?,
     };
-    let (closed, _returned) = serve(&rt, alloc, &CONFIG, outside, &visits)?;
+    let (closed, _returned) = serve(&rt, alloc, &Config::default(), outside, &visits)?;
     for (page, count) in &store.entries(&rt, alloc)? {
         println!(rt; "{page:?} has {count:?} visits")?;
     }
