@@ -1,11 +1,12 @@
 -- The answers of a `loadAll`, by key (`CacheLoader.loadAll`).
 --     AnswersByKey     the answers: each key that was asked, with its value or none
+--     AnswersState     the same, and for how many keys there is memory
 --     answers_code     a code for answers, which their type needs
 --     no_answers       no answers yet, of these keys
 --     is_asked         whether a key was asked
 --     answers_with     the answers with this value at a key; of a key that wasn't asked nothing is kept
 --     answer_of        the answer at a key, or none
-use Rattle.std.specs.Prelude.{Bool, List, map, Option, None, Some, is_some, if◌then◌else◌}
+use Rattle.std.specs.Prelude.{ℕ, Bool, List, map, Option, None, Some, is_some, if◌then◌else◌}
 use Rattle.std.specs.Coded.{Coded, coded_list, coded_option, coded_ℕ}
 use Rattle.std.specs.FinMap.{FinMap, get, insert, from_entries, code}
 use Rattle.std.specs.Option.{option_map_or}
@@ -13,6 +14,10 @@ use Rattle.jc_model.specs.Cache.{Bytes, key_cmp}
 
 abbrev pub AnswersByKey : Type 0
 AnswersByKey = FinMap key_cmp (Option Bytes)
+
+pub record AnswersState : Type 0 where
+  pub by_key : AnswersByKey
+  pub room : ℕ
 
 abbrev pub answers_code : Coded AnswersByKey
 answers_code = code (coded_list coded_ℕ) (coded_option (coded_list coded_ℕ))

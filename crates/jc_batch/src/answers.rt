@@ -1,8 +1,9 @@
 //! The answers of a `loadAll`.
-ghost use Rattle.std.specs.Prelude.{◌≡◌, [], IfOk, OnOk};
+ghost use Rattle.std.specs.Prelude.{◌≡◌, ◌≤◌, ◌+◌, [], IfOk, OnOk};
 ghost use Rattle.std.specs.FinMap.{from_entries};
 ghost use Rattle.jc_model.specs.Cache.{key_cmp};
 ghost use Rattle.jc_batch.specs.Answers.{no_answers, is_asked, answers_with, answer_of};
+ghost use Rattle.indexmap.specs.IndexMap.{index_map_len, spare};
 
 use indexmap::IndexMap;
 use jc_types::{Key, Value};
@@ -11,47 +12,67 @@ use std::marker::Model;
 
 /// What a loader answers to `loadAll`, for the keys that it was asked: of each the last value that it put, or none.
 ///
-/// Contracts see a map from each key that was asked to its answer.
+/// Contracts see a map from each key that was asked to its answer, and for how many keys there is memory. Only [`put`](Answers::put)
+/// changes them, and it keeps the memory.
 #[derive(Drop)]
 pub struct Answers {
     answers: IndexMap<Key, Option<Value>>,
+    room: usize,
 }
 
 impl Model for Answers {
     ghost use Rattle.std.specs.Coded.{codes};
     ghost use Rattle.std.specs.FinMap.{from_entries};
+    ghost use Rattle.std.specs.Prelude.{◌≤◌, ◌+◌};
+    ghost use Rattle.indexmap.specs.IndexMap.{index_map_len, spare};
     ghost use Rattle.jc_model.specs.Cache.{key_cmp};
-    ghost use Rattle.jc_batch.specs.Answers.{AnswersByKey, answers_code};
+    ghost use Rattle.jc_batch.specs.Answers.{AnswersState, answers_code};
 
-    ghost Value = { AnswersByKey };
+    ghost Value = { AnswersState };
 
     ghost coded = { Prim.hlevel (codes, answers_code) };
 
-    ghost view = { λ a. from_entries {R = key_cmp} a.answers.entries };
+    ghost view = { λ a. record { by_key = from_entries {R = key_cmp} a.answers.entries; room = a.room } };
+
+    ghost invariant = { λ a. a.room ≤ index_map_len a.answers + spare a.answers };
 }
 
 impl Answers {
     /// No answers yet, of these keys. It makes all the room that answers take; an `Err` says that an allocation failed.
     pub fn new(alloc: Global, keys: &[Key]) -> Result<Self, AllocError>
-        ensures { IfOk result (λ a. a ≡ no_answers keys.now) }
+        ensures { IfOk result (λ a. a.by_key ≡ no_answers keys.now) }
     {
         let mut answers = IndexMap::with_capacity(alloc, keys.len())?;
         ask_all(&mut answers, keys)?;
-        Ok(Answers { answers })
+        let room = answers.len();
+        Ok(Answers { answers, room })
     }
 
-    /// The answers of a map from each key that is asked to its answer.
-    pub(crate) fn of(answers: IndexMap<Key, Option<Value>>) -> Self
-        ensures { result ≡ from_entries {R = key_cmp} answers.entries }
+    /// The answers of a map from each key that is asked to its answer, which has memory for so many keys.
+    pub(crate) fn of(answers: IndexMap<Key, Option<Value>>, room: usize) -> Self
+        requires { room ≤ index_map_len answers + spare answers }
+        ensures { result ≡ record { by_key = from_entries {R = key_cmp} answers.entries; room = room } }
     {
-        Answers { answers }
+        Answers { answers, room }
+    }
+
+    /// The map without a key, and for how many keys it has memory.
+    pub(crate) fn into_empty(self) -> (IndexMap<Key, Option<Value>>, usize)
+        ensures empty { result.0.entries ≡ [] }
+        ensures room { (result.1 ≡ self.room) × (self.room ≤ spare result.0) }
+    {
+        let Answers { answers, room } = self;
+        let mut answers = answers;
+        answers.clear();
+        (answers, room)
     }
 
     /// Answers this value at a key, in place of what was answered there before, and says whether the key was asked. If it
-    /// wasn't, nothing changes.
+    /// wasn't, nothing changes. It takes no memory.
     pub fn put(&mut self, key: &Key, value: &Value) -> bool
-        ensures asked { result ≡ is_asked self.old key.now }
-        ensures answers { self.new ≡ answers_with self.old key.now value.now }
+        ensures asked { result ≡ is_asked self.old.by_key key.now }
+        ensures answers { self.new.by_key ≡ answers_with self.old.by_key key.now value.now }
+        ensures room { self.new.room ≡ self.old.room }
     {
         match self.answers.get_mut(key) {
             Some(answer) => *answer = Some(*value),
@@ -62,7 +83,7 @@ impl Answers {
 
     /// The answer at a key: none if nothing was put there, or if the key wasn't asked.
     pub fn get(&self, key: &Key) -> Option<Value>
-        ensures { result ≡ answer_of self.now key.now }
+        ensures { result ≡ answer_of self.now.by_key key.now }
     {
         match self.answers.get(key) {
             Some(answer) => *answer,

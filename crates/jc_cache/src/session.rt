@@ -109,6 +109,8 @@ impl Session {
     /// Calls the session's loader once, with the keys of these asks (`loadAll`), and appends a done value for each ask, in their
     /// order. A failed call fails for each of the keys; a key without an answer isn't found. Without a loader nothing is found.
     ///
+    /// The asks are taken out, and the batch comes back without keys: both have memory for as many as before.
+    ///
     /// It may wait, as long as the loader does. It takes no memory of its own.
     ///
     /// Conditions: the session holds no stripe, as between any two calls of its cache; the batch is of the asks' keys, in their
@@ -116,19 +118,19 @@ impl Session {
     pub fn ask_loader_all<R: Wait>(
         &mut self,
         rt: &R,
-        asks: Vec<Ask>,
+        asks: &mut Vec<Ask>,
         batch: LoadBatch,
         done: &mut Vec<LoadDone<Ask>>,
-    )
+    ) -> LoadBatch
         requires nothing { HoldsNothing self.old }
-        requires batch { batch.items ≡ map (λ (ask : Claim). ask.reservation.key) asks.items }
-        requires room { vec_len done.old + vec_len asks ≤ vec_capacity done.old }
+        requires batch { batch.items ≡ map (λ (ask : Claim). ask.reservation.key) asks.old.items }
+        requires room { vec_len done.old + vec_len asks.old ≤ vec_capacity done.old }
         ensures asked { HasAsked self.old self.new
             (LoaderAskedAll loads_all load_state
-            self.old.agent asks.items batch.items done.old.items done.new.items self.new.agent) }
-        ensures room { vec_capacity done.new ≡ vec_capacity done.old }
+            self.old.agent asks.old.items batch.items done.old.items done.new.items self.new.agent) }
+        ensures room { KeepsLoadRoom asks.old asks.new batch result done.old done.new }
     {
-        self.agent.ask_loader_all(rt, asks, batch, done);
+        self.agent.ask_loader_all(rt, asks, batch, done)
     }
 
     /// Calls the session's writer once, for a whole batch (`writeAll` or `deleteAll`), and appends a done value for each ask, in

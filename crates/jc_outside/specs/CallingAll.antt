@@ -11,10 +11,12 @@
 --     WritesEntries      a writer that is there was called once, with exactly these entries; it returned this, and left these
 --     DeletesKeys        the same of keys to be deleted
 --     WritesAllOnce      a writer was called once, for exactly this batch: what it left and its fault say what became of each key
+--     KeepsLoadRoom      a loader's call has taken the asks and the batch's keys out, and there is memory for as many as before
 --     loads_done         the done values of asks, by what was answered for each key
 --     writes_done        the same of asks of a writer
 --     asked_changes      each ask's key, with the change that it asks for
-use Rattle.std.specs.Prelude.{◌≡◌, ℕ, List, Option, None, Some, Result, Ok, Err, map}
+use Rattle.std.specs.Prelude.{◌≡◌, ◌+◌, ℕ, List, [], length, vec_capacity, Option, None, Some, Result, Ok, Err, map}
+use Rattle.std.specs.Global.{Vec}
 use Rattle.std.specs.Map.{keys_of}
 use Rattle.jc_model.specs.Cache.{Bytes}
 use Rattle.jc_model.specs.Batches.{answer_in_batch}
@@ -22,6 +24,7 @@ use Rattle.jc_model.specs.declared.event.Change.{Change}
 use Rattle.jc_model.specs.declared.event.LoadAnswer.{LoadAnswer}
 use Rattle.jc_model.specs.declared.event.LoadAnswer.TheVariants as load
 use Rattle.jc_model.specs.declared.event.WriteAnswer.{WriteAnswer}
+use Rattle.jc_batch.specs.Batch.{BatchState, empty_batch}
 use Rattle.jc_batch.specs.declared.batch.Batch.{Batch}
 use Rattle.jc_batch.specs.declared.batch.Batch.TheVariants.{Writes, Deletes}
 use Rattle.jc_batch.specs.Answers.{AnswersByKey, no_answers, answer_of}
@@ -50,6 +53,12 @@ LoadsKeys loads_all state (Some old) keys returned answers (Some new) = loads_al
 abbrev pub LoadsAllOnce : {L : Type 0} → LoadAllRelation L → (L → List ℕ) → Option L → List Bytes → (Bytes → LoadAnswer) → Option L → Type 0
 LoadsAllOnce loads_all state old keys said new =
     (returned : Result (Unit {0}) ℕ) × (answers : AnswersByKey) × ((key : Bytes) → said key ≡ load_all_answer returned answers key) × LoadsKeys loads_all state old keys returned answers new
+
+pub record KeepsLoadRoom {A D : Type 0} (asks : Vec A) (asks' : Vec A) (batch : BatchState Bytes) (batch' : BatchState Bytes) (done : Vec D) (done' : Vec D) : Type 0 where
+  pub no_asks : asks'.items ≡ []
+  pub asks_room : vec_capacity asks' ≡ vec_capacity asks
+  pub batch_is : batch' ≡ empty_batch (length batch.items + batch.room)
+  pub done_room : vec_capacity done' ≡ vec_capacity done
 
 abbrev pub loads_done : {A : Type 0} → (A → Bytes) → (Bytes → LoadAnswer) → List A → List (LoadResult A)
 loads_done key_of said asks = map (λ ask. record { ask = ask; origin = Live; answer = said (key_of ask) }) asks

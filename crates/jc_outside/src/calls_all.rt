@@ -1,5 +1,5 @@
 //! Calls of a loader and a writer for many keys at once, while no stripe is held.
-ghost use Rattle.std.specs.Prelude.{◌≡◌, ◌≤◌, ◌+◌, ◌++◌, List, map, true, IsSome, Some, vec_len, vec_capacity};
+ghost use Rattle.std.specs.Prelude.{◌≡◌, ◌≤◌, ◌+◌, ◌++◌, [], List, map, true, IsSome, Some, vec_len, vec_capacity};
 ghost use Rattle.std.specs.Map.{keys_of};
 ghost use Rattle.jc_model.specs.Cache.{Bytes};
 ghost use Rattle.jc_model.specs.Batches.{answer_in_batch};
@@ -10,7 +10,7 @@ ghost use Rattle.jc_batch.specs.Changes.{changes_of};
 ghost use Rattle.jc_batch.specs.Answers.{no_answers};
 ghost use Rattle.jc_outside.specs.Calling.{KeepsType};
 ghost use Rattle.jc_outside.specs.CallingAll.{load_all_answer, found_or_nothing, returned_fault, LoadsKeys, WritesEntries};
-ghost use Rattle.jc_outside.specs.CallingAll.{DeletesKeys, LoadsAllOnce, WritesAllOnce, loads_done, writes_done, asked_changes};
+ghost use Rattle.jc_outside.specs.CallingAll.{DeletesKeys, KeepsLoadRoom, LoadsAllOnce, WritesAllOnce, loads_done, writes_done, asked_changes};
 
 use crate::ask::{Ask, AskWrite};
 use crate::done::{LoadDone, Origin, WriteDone};
@@ -26,23 +26,25 @@ use std::sync::Wait;
 /// Calls the loader once, with the keys of these asks (`loadAll`), and appends a done value for each ask, in their order. A failed
 /// call fails for each of the keys; a key without an answer isn't found. Without a loader nothing is found.
 ///
+/// The asks are taken out, and the batch comes back without keys: both have memory for as many as before, so they serve another call.
+///
 /// It may wait, as long as the loader does. It takes no memory of its own.
 ///
 /// Conditions: the session holds no stripe; the batch is of the asks' keys, in their order; there is room for the done values.
 pub fn call_loader_all<A: Ask, R: Wait>(
     _rt: &R,
     hands: &mut Hands<Outside>,
-    asks: Vec<A>,
+    asks: &mut Vec<A>,
     batch: LoadBatch,
     done: &mut Vec<LoadDone<A>>,
-)
+) -> LoadBatch
     requires held { hands.old.held ≡ 0 }
-    requires batch { batch.items ≡ map A.key asks.items }
-    requires room { vec_len done.old + vec_len asks ≤ vec_capacity done.old }
+    requires batch { batch.items ≡ map A.key asks.old.items }
+    requires room { vec_len done.old + vec_len asks.old ≤ vec_capacity done.old }
     ensures loader { (said : Bytes → LoadAnswerState)
         × LoadsAllOnce loads_all load_state hands.old.outside.loader batch.items said hands.new.outside.loader
-        × (done.new.items ≡ done.old.items ++ loads_done A.key said asks.items) }
-    ensures room { vec_capacity done.new ≡ vec_capacity done.old }
+        × (done.new.items ≡ done.old.items ++ loads_done A.key said asks.old.items) }
+    ensures room { KeepsLoadRoom asks.old asks.new batch result done.old done.new }
     ensures loader_type { KeepsType hands.old.outside.loader hands.new.outside.loader }
     ensures writer { hands.new.outside.writer ≡ hands.old.outside.writer }
     ensures held { hands.new.held ≡ 0 }
@@ -51,6 +53,7 @@ pub fn call_loader_all<A: Ask, R: Wait>(
     let mut answers = answers;
     let returned = load_keys(&mut hands.outside.loader, &keys, &mut answers);
     end_loads(asks, &returned, &answers, done);
+    LoadBatch::of_parts(keys, answers)
 }
 
 /// Calls the writer once, for a whole batch (`writeAll` or `deleteAll`), and appends a done value for each ask, in their order: a
@@ -102,9 +105,10 @@ fn load_keys(
     keys: &[Key],
     answers: &mut Answers,
 ) -> Result<(), u32>
-    requires { answers.old ≡ no_answers keys.now }
+    requires { answers.old.by_key ≡ no_answers keys.now }
     ensures loader_type { KeepsType loader.old loader.new }
-    ensures load { LoadsKeys loads_all load_state loader.old keys.now result answers.new loader.new }
+    ensures load { LoadsKeys loads_all load_state loader.old keys.now result answers.new.by_key loader.new }
+    ensures room { answers.new.room ≡ answers.old.room }
 {
     match loader {
         Some(loader) => loader.load_all(keys, answers),
@@ -151,7 +155,7 @@ fn returned_fault(returned: &Result<(), u32>) -> Option<u32>
 
 /// What a loader's call says of one key.
 fn load_all_answer(returned: &Result<(), u32>, answers: &Answers, key: &Key) -> LoadAnswer
-    ensures answer { result ≡ load_all_answer returned.now answers.now key.now }
+    ensures answer { result ≡ load_all_answer returned.now answers.now.by_key key.now }
     ensures given { is_load_given result ≡ true }
 {
     match returned {
@@ -163,24 +167,23 @@ fn load_all_answer(returned: &Result<(), u32>, answers: &Answers, key: &Key) -> 
     }
 }
 
-/// Ends the asks by what the loader answered for each key.
+/// Ends the asks by what the loader answered for each key, and takes them out.
 fn end_loads<A: Ask>(
-    asks: Vec<A>,
+    asks: &mut Vec<A>,
     returned: &Result<(), u32>,
     answers: &Answers,
     done: &mut Vec<LoadDone<A>>,
 )
-    requires { vec_len done.old + vec_len asks ≤ vec_capacity done.old }
-    ensures items { done.new.items ≡ done.old.items ++ loads_done A.key (load_all_answer returned.now answers.now) asks.items }
+    requires { vec_len done.old + vec_len asks.old ≤ vec_capacity done.old }
+    ensures items { done.new.items ≡ done.old.items ++ loads_done A.key (load_all_answer returned.now answers.now.by_key) asks.old.items }
+    ensures asks { (asks.new.items ≡ []) × (vec_capacity asks.new ≡ vec_capacity asks.old) }
     ensures room { vec_capacity done.new ≡ vec_capacity done.old }
 {
-    let mut asks = asks;
     asks.reverse();
     'ending: while let Some(ask) = asks.pop() {
         let answer = load_all_answer(returned, answers, ask.key());
         done.push_reserved(LoadDone::new(ask, Origin::Live, answer));
     }
-    asks.destroy_empty();
 }
 
 /// Ends the asks by what became of the batch's keys.

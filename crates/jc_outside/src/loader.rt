@@ -28,8 +28,11 @@ pub trait CacheLoader {
     /// Puts the value at each of the keys that has one into `answers` (`loadAll`). A key that is left out has none. An `Err`
     /// has a code of the loader's own, and stands for each of the keys.
     ///
+    /// `answers` keep their memory, which is used again for the loads of a later round: change them by [`Answers::put`] alone.
+    ///
     /// Conditions: `answers` are of these keys, and have no answer yet.
     fn load_all(&mut self, keys: &[Key], answers: &mut Answers) -> Result<(), u32>
-        requires { answers.old ≡ no_answers keys.now }
-        ensures { loads_all self.old keys.now result answers.new (load_state self.new) };
+        requires { answers.old.by_key ≡ no_answers keys.now }
+        ensures loads { loads_all self.old keys.now result answers.new.by_key (load_state self.new) }
+        ensures room { answers.new.room ≡ answers.old.room };
 }

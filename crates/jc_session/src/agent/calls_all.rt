@@ -1,7 +1,7 @@
 //! An agent's calls outside for many keys at once.
 ghost use Rattle.std.specs.Prelude.{◌≡◌, ◌≤◌, ◌+◌, map, IsSome, vec_len, vec_capacity};
 ghost use Rattle.jc_batch.specs.Changes.{changes_of};
-ghost use Rattle.jc_outside.specs.CallingAll.{asked_changes};
+ghost use Rattle.jc_outside.specs.CallingAll.{KeepsLoadRoom, asked_changes};
 ghost use Rattle.jc_stripe.specs.Tickets.{Claim};
 ghost use Rattle.jc_session.specs.Asked.{LoaderAskedAll, WriterAskedAll};
 
@@ -15,24 +15,26 @@ impl Agent {
     /// Calls the loader once, with the keys of these asks (`loadAll`), and appends a done value for each ask, in their order. A
     /// failed call fails for each of the keys; a key without an answer isn't found. Without a loader nothing is found.
     ///
+    /// The asks are taken out, and the batch comes back without keys: both have memory for as many as before.
+    ///
     /// It may wait, as long as the loader does. It takes no memory of its own.
     ///
     /// Conditions: the agent holds no stripe; the batch is of the asks' keys, in their order; there is room for the done values.
     pub fn ask_loader_all<R: Wait>(
         &mut self,
         rt: &R,
-        asks: Vec<Ask>,
+        asks: &mut Vec<Ask>,
         batch: LoadBatch,
         done: &mut Vec<LoadDone<Ask>>,
-    )
+    ) -> LoadBatch
         requires held { self.old.hands.held ≡ 0 }
-        requires batch { batch.items ≡ map (λ (ask : Claim). ask.reservation.key) asks.items }
-        requires room { vec_len done.old + vec_len asks ≤ vec_capacity done.old }
+        requires batch { batch.items ≡ map (λ (ask : Claim). ask.reservation.key) asks.old.items }
+        requires room { vec_len done.old + vec_len asks.old ≤ vec_capacity done.old }
         ensures asked { LoaderAskedAll loads_all load_state
-            self.old asks.items batch.items done.old.items done.new.items self.new }
-        ensures room { vec_capacity done.new ≡ vec_capacity done.old }
+            self.old asks.old.items batch.items done.old.items done.new.items self.new }
+        ensures room { KeepsLoadRoom asks.old asks.new batch result done.old done.new }
     {
-        call_loader_all(rt, &mut self.hands, asks, batch, done);
+        call_loader_all(rt, &mut self.hands, asks, batch, done)
     }
 
     /// Calls the writer once, for a whole batch (`writeAll` or `deleteAll`), and appends a done value for each ask, in their
