@@ -42,13 +42,14 @@ def write_program(kind, folder):
 
 
 def build(kind, crates, words, folder):
-    """The program of a kind, which uses these crates, proved and built in a folder, and run once with these words."""
+    """The program of a kind, which uses these crates, proved and built in a folder of its own below this one, and run once with these words."""
     with open(os.path.join(ABOVE, 'crates.txt')) as file:
         found = [line for line in file if ':' in line and not line.startswith('#')]
     lines = {re.match(r'\w+', line)[0]: line for line in found}
     name = f'bench_{kind}'
     own = f'{name}: {" ".join(crates)}\n'
     needed = list(dict.fromkeys(crates_below(own, lines)))
+    folder = os.path.join(folder, kind)
     at = os.path.join(folder, 'crates', name)
     os.makedirs(folder, exist_ok=True)
     for crate in needed:
