@@ -14,7 +14,7 @@ use jc_stripe::phase_laws::own_numbers;
 use std::thread;
 use std::thread::Threads;
 
-/// A `loadAll` by two sessions, whose loaders wait for each other: so both load some of the keys.
+/// `load_all_side_by_side`: a `loadAll` by two sessions, whose loaders wait for each other. So both load some of the keys.
 pub const LOADED: &str = "\
 open 2 64 400
 before

@@ -1,7 +1,7 @@
 //! Calls of sessions on threads whose loads and writes wait for each other, in texts. The loader and the writer of the first session
 //! wait for a signal.
 
-/// A loader that waits holds no stripe: another session's hit on the same stripe is answered meanwhile.
+/// `hit_during_load`: a loader that waits holds no stripe, and another session's hit on the same stripe is answered meanwhile.
 pub const HIT_DURING_LOAD: &str = "\
 open 1 4 100 read write
 store a=1 b=2

@@ -4,25 +4,26 @@ use super::stage::{bring, plays};
 use super::trial::{FAULTS, Trial};
 use super::*;
 
-/// All calls with many keys, and some with one.
+/// A day of a cache, from the first load to the last removal, in which each call with many keys is made; and then the calls with one key
+/// that it lacks, and some with many on what it has left. A `keep` is what each piece of a `loadAll` does; the whole one comes after it.
 const TOUR: [&str; 18] = [
-    "getall a b c",
-    "putall b=2 d=4",
+    "getall a b",
+    "putall b=2",
     "invokeall a b",
-    "get d",
+    "keep a c",
+    "removeall a",
+    "clear",
+    "get a",
+    "get b",
+    "removeevery",
+    "removeevery",
+    "getall a b c",
+    "putall a=7 b=8 d=9",
     "put e=5",
     "invoke a",
-    "keep a f",
     "replace a f",
-    "removeall a d",
-    "clear",
-    "getall a b d",
-    "getall e",
-    "get c",
     "remove b",
-    "putall a=7 b=8 d=9",
-    "removeevery",
-    "removeevery",
+    "removeall a d",
     "putall a=1 b=1 e=1",
 ];
 
@@ -83,7 +84,7 @@ impl Sweep {
     /// Which runs beside others meet a fault depends on who comes first.
     fn has_met_enough(&self, rt: &impl Abort) {
         if self.sessions == ALONE {
-            is(rt, (self.runs, self.faults), (1_140, 570));
+            is(rt, (self.runs, self.faults), (1_254, 574));
         }
         assert!(rt; self.faults > 500);
     }

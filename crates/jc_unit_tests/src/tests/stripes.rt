@@ -261,6 +261,14 @@ begin 70 s70 loadall k64 = refused Busy
 each 64: drop # = dropped
 idle = yes
 ==
+# So it is of puts: 64 are under way, the 65th is refused, and so is one whose key is reserved.
+open 400 write
+each 64: begin # s# put k# 1 = asks write 1
+begin 65 s65 put k65 1 = refused TooManyInFlight
+begin 65 s65 put k64 1 = refused Busy
+each 64: drop # = dropped
+idle = yes
+==
 # There is room for 64 joiners.
 open 400 read write
 begin 70 s70 get a = asks loader
