@@ -1,8 +1,10 @@
-//! Loaders, writers and entry processors of which their author states nothing (JSR 107, "Integration" and "Entry Processors").
+//! Loaders, writers, entry processors and listeners of which their author states nothing (JSR 107, "Integration" and "Entry
+//! Processors").
 //!
-//! [`Load`], [`Write`] and [`Update`] have plain methods alone. A wrapper makes of each what a cache calls: [`Loading`] a
-//! [`jc_outside::CacheLoader`], [`Writing`] a [`jc_outside::CacheWriter`], [`Updating`] a [`jc_mutentry::EntryProcessor`]. A
-//! program puts the wrapper into a box in its `main`, and hands the box to a session or to a call:
+//! [`Load`], [`Write`], [`Update`] and [`Listen`] have plain methods alone. A wrapper makes of each what a cache calls: [`Loading`] a
+//! [`jc_outside::CacheLoader`], [`Writing`] a [`jc_outside::CacheWriter`], [`Updating`] a [`jc_mutentry::EntryProcessor`], and
+//! [`Listening`] a [`jc_outside::CompletionListener`], which the call is lent as it is. A program puts each other wrapper into a box in
+//! its `main`, and hands the box to a session or to a call:
 //!
 //! ```rust,ignore
 //! let loader: Box<dyn CacheLoader + Send + Drop> = Box::new(alloc, Loading { loader: rows })?;
@@ -43,12 +45,14 @@
 #![tactic(auto)]
 
 mod attempts;
+mod listen;
 mod load;
 #[cfg(test)]
 mod tests;
 mod update;
 mod write;
 
+pub use listen::{Listen, Listening};
 pub use load::{Load, Loading};
 pub use update::{Update, Updating};
 pub use write::{Write, Writing};

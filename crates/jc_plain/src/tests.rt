@@ -10,6 +10,7 @@ macro_rules! boxed {
 }
 
 mod letters;
+mod listens;
 mod loads;
 mod noting;
 mod updates;
