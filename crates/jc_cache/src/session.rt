@@ -1,7 +1,7 @@
 //! Sessions.
 ghost use Rattle.std.specs.Prelude.{◌≡◌, ◌≤◌, ◌+◌, map, true, is_some, IsSome, vec_len, vec_capacity};
 ghost use Rattle.jc_batch.specs.Changes.{changes_of};
-ghost use Rattle.jc_outside.specs.CallingAll.{asked_changes};
+ghost use Rattle.jc_outside.specs.CallingAll.{KeepsLoadRoom, asked_changes};
 ghost use Rattle.jc_stripe.specs.Tickets.{Claim, asks_loader, asks_processor};
 ghost use Rattle.jc_session.specs.Asked.{LoaderAsked, LoaderAskedAll, ProcessorRun, WriterAsked, WriterAskedAll};
 ghost use Rattle.jc_cache.specs.Calls.{next_call};
