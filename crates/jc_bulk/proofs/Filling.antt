@@ -2,6 +2,7 @@
 --     MayAsk           calls of this kind are out only in such a cache: those that write, with write-through on
 --     asked_first      what asks at all asks as its kind does
 --     same_asks, puts_ask    each key of a call asks as the call does
+--     may_write        the kind of a round that asks is out only in a cache in which it may be
 --     may_fill         the tickets of a round may be asked for in one call
 --     asks_for         a round asks for keys of the call alone, and only for what their operations ask for
 use Rattle.std.proofs.Common.{◌≡◌, ◌&&◌, ◌||◌, inl, inr, ℕ, zero, suc, List, [], ◌∷◌, map, slice_get, Bool, true, false, true≢false, cond, Option, None, Some, is_none, refl, sym, ap, ◌∙◌, subst, arith}
@@ -162,6 +163,10 @@ module _ {I J : Type 0} {D : I → Type 0} {E : J → Type 0} where
   one_of cache session Load of may = tt
   one_of cache session Write of may = of.writes may
   one_of cache session Delete of may = of.writes may
+
+  pub may_write : (cache : CacheState) (past : Past) (start session : Session I J D E) (call : BulkCall) (outside : OutsideState) → HasStarted cache past start session call → IsReady call outside → (call.tickets.items ≡ [] → ⊥) → MayAsk outside.kind cache.config
+  may_write cache past start session call outside started ready some =
+      may_ask outside.kind past.caller cache.config (ops_of call.targets.now) ready.kind call.progress.items call.tickets.items some started.on.under.calls_are
 
   pub may_fill : (cache : CacheState) (past : Past) (start session : Session I J D E) (call : BulkCall) (outside : OutsideState) → HasStarted cache past start session call → IsReady call outside → (call.tickets.items ≡ [] → ⊥)
       → MayFill outside call.tickets.items × HasOneToAsk outside.kind session.agent.hands.outside.writer

@@ -4,12 +4,19 @@
 --     answered_call, asking_round    one that has asked
 --     runs_then       rounds after rounds
 --     ready_later, left_ready    what the next round asks outside with
+--     each_takes      each key of a call that writes or deletes may be refused since an allocation failed
+--     none_said, none_any, if_none, left_same    of what a round has left, if it has
+--     rest_on         what is left is left also after the answers were taken
 --     runs_refused    and then each key that waits is refused
 use Rattle.std.proofs.Common.{◌≡◌, ◌≤◌, ◌++◌, append-nil, append_assoc, List, [], ◌∷◌, map, length, IfNone, IfSome, Option, None, Some, option_map, slice_get, ℕ, refl, sym, ap, ◌∙◌, subst, arith}
 use Rattle.std.specs.Global.{Vec}
 use Rattle.std.specs.Option.{option_or}
 use Rattle.jc_types.specs.declared.caller.Caller.{Caller}
+use Rattle.jc_types.specs.declared.config.Config.{Config}
 use Rattle.jc_types.specs.declared.refusal.Refusal.{Refusal}
+use Rattle.jc_model.specs.Cache.{Bytes}
+use Rattle.jc_model.specs.declared.event.Op.{Op}
+use Rattle.jc_model.specs.declared.event.Op.TheVariants as op
 use Rattle.jc_outside.specs.CallingAll.{LoadAllRelation, WriteAllRelation, DeleteAllRelation}
 use Rattle.jc_session.specs.Boxed.{boxed}
 use Rattle.jc_session.specs.declared.agent.Agent.{Agent}
@@ -19,19 +26,22 @@ use Rattle.jc_cache.specs.declared.session.Session.{Session}
 use Rattle.jc_stripe.specs.Tickets.{TicketClaim}
 use Rattle.jc_rounds.specs.declared.answers.Answers.{Answers}
 use Rattle.jc_rounds.specs.declared.bulk_call.BulkCall.{BulkCall}
-use Rattle.jc_rounds.specs.Answers.{AreAnswers}
+use Rattle.jc_rounds.specs.declared.load_call.SpentLoads.{SpentLoads}
+use Rattle.jc_rounds.specs.OutsideCalls.{AreSpent, LoadCallState, no_loads}
+use Rattle.jc_rounds.specs.Answers.{AreAnswers, done_room}
 use Rattle.jc_rounds.specs.Asking.{reserved_keys}
 use Rattle.jc_rounds.specs.KeyProgress.{IsNoted, KeepsCause, failures, refused_if_waiting}
-use Rattle.jc_rounds.specs.Rounds.{Round, asked_in, keys_asked, round_fault}
-use Rattle.jc_rounds.specs.Running.{HasRun, IsRound, with_rounds}
+use Rattle.jc_rounds.specs.Rounds.{LoadAll, LoadRound, ProcessAll, Round, WriteAll, asked_in, keys_asked, round_fault}
+use Rattle.jc_rounds.specs.Running.{EachTakesMemory, HasRun, IsRound, with_rounds}
 use Rattle.jc_rounds.specs.SoFar.{GoesOn}
 use Rattle.jc_rounds.specs.Targets.{ops_of}
 use Rattle.jc_rounds.specs.Underway.{Advances, HasStarted, IsAnswered, IsBetween, Past, reserved_by, with_round}
 use Rattle.jc_rounds.proofs.CallerLemmas.{among_there, asked_call, goes_both, keeps_both, keeps_noted, keeps_or, refused_call, refused_round, round_of, run_more, some_more, some_one, spent_more}
 use Rattle.jc_bulk.specs.declared.outside.Kind.{Kind}
-use Rattle.jc_bulk.specs.Outside.{Answered, CallsInRounds, CallsOnce, IsFilled, OutsideState}
-use Rattle.jc_bulk.specs.RoundsRun.{IsReady, KeysAskAs, RunsOn}
-use Rattle.jc_bulk.proofs.Filling.{asks_for, keys_are}
+use Rattle.jc_bulk.specs.declared.outside.Kind.TheVariants.{Load, Write, Delete}
+use Rattle.jc_bulk.specs.Outside.{Answered, CallsInRounds, CallsOnce, IsAskedOf, IsFilled, IsRest, IsSpent, OutsideState, no_asks}
+use Rattle.jc_bulk.specs.RoundsRun.{IsReady, KeysAskAs, RunsOn, TakesNew}
+use Rattle.jc_bulk.proofs.Filling.{MayAsk, asks_for, keys_are}
 
 -- 1. Calls outside.
 
@@ -62,6 +72,78 @@ left_empty kind most (Some l) is = is.1
 
 pub left_most : (kind : Kind) (most less : ℕ) (left : Option OutsideState) → less ≡ most → IfSome left (λ call. (call.kind ≡ kind) × (call.items ≡ []) × (most ≤ call.room)) → IfSome left (λ call. (call.kind ≡ kind) × (call.items ≡ []) × (less ≤ call.room))
 left_most kind most less left is all = subst (λ n. IfSome left (λ call. (call.kind ≡ kind) × (call.items ≡ []) × (n ≤ call.room))) (sym is) all
+
+-- the call writes or deletes, so its later rounds take memory
+pub each_takes : (kind : Kind) (config : Config) (targets : List (Bytes × Op)) → KeysAskAs kind targets → TakesNew kind config → EachTakesMemory config targets
+each_takes Load config targets asks new place key o at = absurd new
+each_takes Write config targets asks new place key o at =
+    let put = asks place key o at in
+    record {
+      through = new;
+      not_get = λ is. let bad : op.Put put.0 ≡ op.Get = sym put.1 ∙ is in cc;
+      not_load = λ replace is. let bad : op.Put put.0 ≡ op.LoadAll replace = sym put.1 ∙ is in cc;
+      not_clear = λ is. let bad : op.Put put.0 ≡ op.Clear = sym put.1 ∙ is in cc;
+    }
+each_takes Delete config targets asks new place key o at =
+    let removed = asks place key o at in
+    record {
+      through = new;
+      not_get = λ is. let bad : op.Remove ≡ op.Get = sym removed ∙ is in cc;
+      not_load = λ replace is. let bad : op.Remove ≡ op.LoadAll replace = sym removed ∙ is in cc;
+      not_clear = λ is. let bad : op.Remove ≡ op.Clear = sym removed ∙ is in cc;
+    }
+
+pub none_said : {X : Type 0} (P : Type 0) (left : Option X) → left ≡ None → IfNone left P → P
+none_said P None is said = said
+none_said P (Some x) is said = cc
+
+pub none_any : {X : Type 0} (P : Type 0) (left : Option X) → P → IfNone left P
+none_any P None it = it
+none_any P (Some x) it = tt
+
+pub if_none : {X : Type 0} (P Q : Type 0) (left : Option X) → (P → Q) → IfNone left P → IfNone left Q
+if_none P Q None then said = then said
+if_none P Q (Some x) then said = tt
+
+pub left_same : (left : Option OutsideState) (a b : OutsideState) → a ≡ b → IfSome left (λ l. l ≡ a) → IfSome left (λ l. l ≡ b)
+left_same left a b same is = subst (λ x. IfSome left (λ l. l ≡ x)) same is
+
+pub takes_new : (kind : Kind) (config : Config) → MayAsk kind config → (kind ≡ Load → ⊥) → TakesNew kind config
+takes_new Load config may other = absurd (other refl)
+takes_new Write config may other = may
+takes_new Delete config may other = may
+
+pub rest_on : (kind : Kind) (room : ℕ) (a b : Answers) (rest : Option SpentLoads) → done_room b ≡ done_room a → IsRest kind room a rest → IsRest kind room b rest
+rest_on Load room a b (Some rest) same is = (is.0, is.1, subst (λ n. room ≤ n) (sym same) is.2)
+rest_on Load room a b None same is = absurd is
+rest_on Write room a b (Some rest) same is = absurd is
+rest_on Write room a b None same is = tt
+rest_on Delete room a b (Some rest) same is = absurd is
+rest_on Delete room a b None same is = tt
+
+-- of a call of the loader all memory is left
+pub spent_loads : (kind : Kind) (room : ℕ) (answers : Answers) (rest : Option SpentLoads) (r : SpentLoads) → IsSpent kind room answers rest → rest ≡ Some r
+    → (kind ≡ Load) × ((config : Config) × (round : LoadRound) × AreAnswers config (LoadAll round) answers []) × AreSpent r × (r.batch.room ≡ room) × (room ≤ done_room answers)
+spent_loads kind room answers rest r s is = by kind s.round s.asked s.none (subst (IsRest kind room answers) is s.rest_is)
+  where
+    by : (kind : Kind) (round : Round) → IsAskedOf kind s.calls round → AreAnswers s.config round answers [] → IsRest kind room answers (Some r)
+        → (kind ≡ Load) × ((config : Config) × (round : LoadRound) × AreAnswers config (LoadAll round) answers []) × AreSpent r × (r.batch.room ≡ room) × (room ≤ done_room answers)
+    by Load (LoadAll loads) asked none left = (refl, (s.config, loads, none), left.0, left.1, left.2)
+    by Load (WriteAll writes) asked none left = absurd asked
+    by Load (ProcessAll runs) asked none left = absurd asked
+    by Write round asked none left = absurd left
+    by Delete round asked none left = absurd left
+
+abbrev pub state_of : LoadCallState → OutsideState
+state_of call = record { kind = Load; items = call.items; room = call.room }
+
+pub again_left : (kind : Kind) (room n : ℕ) (call : LoadCallState) → kind ≡ Load → n ≡ room → call ≡ no_loads n → state_of call ≡ no_asks kind room
+again_left kind room n call is same of = ap state_of of ∙ (λ i. record { kind = sym is i; items = []; room = same i })
+
+pub not_loads : (kind : Kind) (room : ℕ) (answers : Answers) (rest : Option SpentLoads) → IsSpent kind room answers rest → rest ≡ None → kind ≡ Load → ⊥
+not_loads Load room answers rest s is same = subst (IsRest Load room answers) is s.rest_is
+not_loads Write room answers rest s is same = cc
+not_loads Delete room answers rest s is same = cc
 
 no_more : (past : Past) → with_rounds past [] ≡ past
 no_more past = λ i. record past { rounds = append-nil past.rounds i }
@@ -178,9 +260,9 @@ module _ {I J : Type 0} {D : I → Type 0} {E : J → Type 0} (loads_all : LoadA
   runs_then left past old mid new call between later one two = (runs_both past old mid new call between later one two.0, spent_more left one.rounds two.0.rounds two.1)
 
   pub runs_refused : (past : Past) (old mid : Session I J D E) (call between later : BulkCall) → later ≡ record between { progress = later.progress; cause = later.cause } → later.progress.items ≡ map refused_if_waiting between.progress.items
-      → IsNoted between.cause (failures later.progress.items) later.cause → (one : Runs past old call mid between) → (one.rounds ≡ [] → ⊥) → Runs past old call mid later
-  runs_refused past old mid call between later rest is noted one some =
+      → IsNoted between.cause (failures later.progress.items) later.cause → (one : Runs past old call mid between) → (one.rounds ≡ [] → ⊥) → EachTakesMemory cache.config (ops_of between.targets.now) → Runs past old call mid later
+  runs_refused past old mid call between later rest is noted one some takes =
       let now = one.run in
       let then = with_rounds past one.rounds in
       runs_both past old mid mid call between later one
-      (runs_quiet then mid mid between later now (refused_call cache then mid between later rest is noted (some_more past.rounds one.rounds some) now.between) (ap (λ (x : BulkCall). x.targets) rest) (ap (λ (x : BulkCall). x.most) rest) (keeps_noted between.cause later.cause (failures later.progress.items) noted) refl (refused_round cache then mid between later is now.between))
+      (runs_quiet then mid mid between later now (refused_call cache then mid between later rest is noted (some_more past.rounds one.rounds some) takes now.between) (ap (λ (x : BulkCall). x.targets) rest) (ap (λ (x : BulkCall). x.most) rest) (keeps_noted between.cause later.cause (failures later.progress.items) noted) refl (refused_round cache then mid between later is now.between))

@@ -6,6 +6,7 @@
 --     fits_next        what it asks for is of the call's kind
 --     new_next         its key is that of none before it
 --     whole_tickets    once all have asked
+--     writes_rest, loads_rest    of a call of the writer nothing is left, of a call of the loader its memory
 --     answered_loads, answered_writes    what the loader or the writer has answered
 use Rattle.std.proofs.Common.{◌≡◌, ◌==◌, ◌||◌, ◌<◌, ◌≤◌, ◌+◌, ◌++◌, ℕ, zero, suc, List, [], ◌∷◌, length, map, set, take, drop, get_or, slice_get, Bool, true, false, Option, None, Some, option_map, Result, refl, sym, ap, ◌∙◌, subst, arith}
 use Rattle.std.proofs.lemmas.Cmp.{nat_list_eq_equiv}
@@ -29,15 +30,17 @@ use Rattle.jc_stripe.specs.declared.ticket.First.TheVariants.{Nobody, Loader, Wr
 use Rattle.jc_stripe.specs.declared.ticket.Reservation.{Reservation}
 use Rattle.jc_stripe.specs.Tickets.{Claim, TicketClaim, asks_loader, asks_writer, change_asked, claim_of}
 use Rattle.jc_cache.specs.declared.session.Session.{Session}
+use Rattle.jc_rounds.specs.declared.answers.Answers.{Answers}
 use Rattle.jc_rounds.specs.declared.answers.Answers.TheVariants.{Loads, Writes}
-use Rattle.jc_rounds.specs.Answers.{IsToBeAnswered, key_of}
+use Rattle.jc_rounds.specs.declared.load_call.SpentLoads.{SpentLoads}
+use Rattle.jc_rounds.specs.Answers.{IsToBeAnswered, done_room, key_of}
 use Rattle.jc_rounds.specs.Asking.{reserved_keys}
-use Rattle.jc_rounds.specs.OutsideCalls.{LoadCallAsked, WriteCallAsked, WritesBatch, asked_keys, is_delete, wanted}
+use Rattle.jc_rounds.specs.OutsideCalls.{AreSpent, LoadCallAsked, WriteCallAsked, WritesBatch, asked_keys, is_delete, wanted}
 use Rattle.jc_rounds.specs.Rounds.{LoadAll, Round, WriteAll, WriteRound, fault_of, keys_asked}
 use Rattle.jc_rounds.specs.Underway.{reserved_by}
 use Rattle.jc_bulk.specs.declared.outside.Kind.{Kind}
 use Rattle.jc_bulk.specs.declared.outside.Kind.TheVariants.{Load, Write, Delete}
-use Rattle.jc_bulk.specs.Outside.{Answered, IsAskedOf, fits, fits_first, kind_of, wanted_changes}
+use Rattle.jc_bulk.specs.Outside.{Answered, IsAskedOf, IsRest, fits, fits_first, kind_of, wanted_changes}
 use Rattle.jc_bulk.proofs.Filling.{firsts}
 
 -- 1. Lists.
@@ -167,6 +170,14 @@ writes_first true (Processor entry loads) h = cc
 all_write : (deletes : Bool) (ts : List TicketClaim) → AllByRecursion (λ (t : TicketClaim). fits_first (kind_of deletes) t.reservation.first ≡ true) ts → AllByRecursion (λ (t : TicketClaim). asks_writer t.reservation.first ≡ true) ts
 all_write deletes [] all = tt
 all_write deletes (t ∷ ts) all = (writes_first deletes t.reservation.first all.0, all_write deletes ts all.1)
+
+-- of a call of the writer nothing is left, of a call of the loader its memory
+pub writes_rest : (kind : Kind) (deletes : Bool) (room : ℕ) (answers : Answers) → kind ≡ kind_of deletes → IsRest kind room answers None
+writes_rest kind false room answers is = subst (λ k. IsRest k room answers None) (sym is) tt
+writes_rest kind true room answers is = subst (λ k. IsRest k room answers None) (sym is) tt
+
+pub loads_rest : (kind : Kind) (room n : ℕ) (answers : Answers) (rest : SpentLoads) → kind ≡ Load → n ≡ room → AreSpent rest → (rest.batch.room ≡ n) × (n ≤ done_room answers) → IsRest kind room answers (Some rest)
+loads_rest kind room n answers rest is same spent left = subst (λ k. IsRest k room answers (Some rest)) (sym is) (spent, left.0 ∙ same, subst (λ m. m ≤ done_room answers) same left.1)
 
 module _ {I J : Type 0} {D : I → Type 0} {E : J → Type 0} (loads_all : LoadAllRelation ((i : I) × D i)) (load_state : (i : I) × D i → List ℕ) (writes_all : WriteAllRelation ((j : J) × E j)) (deletes_all : DeleteAllRelation ((j : J) × E j)) (write_state : (j : J) × E j → List ℕ) where
   pub answered_loads : (old new : Session I J D E) (kind : Kind) (ts : List TicketClaim) (asks : List Claim) (done : Vec (LoadResult Claim)) → kind ≡ Load → asks ≡ asks_of ts

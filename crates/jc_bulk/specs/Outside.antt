@@ -15,8 +15,10 @@
 --     wanted_changes  each reservation's key, with the change that it asks for
 --     IsWrittenOf     a round called the writer, for exactly what these reservations ask for
 --     IsAskedOf       a round called the one whom calls of this kind ask, for exactly what these reservations ask for
+--     IsRest          what such a call, with room for so many, leaves for a later round: of a call of the loader all its memory
+--     IsSpent         the same once none of the answers is left
 --     Answered        so it was called for these tickets, and has answered each of them
-use Rattle.std.specs.Prelude.{◌≡◌, ◌≤◌, ◌⊎◌, ◌-◌, ◌++◌, ◌==◌, ℕ, List, [], ◌∷◌, length, map, Bool, true, false, Option, IsSome, vec_capacity}
+use Rattle.std.specs.Prelude.{◌≡◌, ◌≤◌, ◌⊎◌, ◌-◌, ◌++◌, ◌==◌, ℕ, List, [], ◌∷◌, length, map, Bool, true, false, Option, None, Some, IsSome, vec_capacity}
 use Rattle.std.specs.Global.{Vec}
 use Rattle.std.specs.List.{AllByRecursion, IsDistinct}
 use Rattle.std.specs.Cmp.Lexicographic.{pointwise}
@@ -35,9 +37,10 @@ use Rattle.jc_session.specs.Boxed.{boxed}
 use Rattle.jc_engine.specs.Asking.{KeepsTypes}
 use Rattle.jc_cache.specs.declared.session.Session.{Session}
 use Rattle.jc_rounds.specs.declared.answers.Answers.{Answers}
-use Rattle.jc_rounds.specs.Answers.{AreAnswers, is_change_of}
+use Rattle.jc_rounds.specs.declared.load_call.SpentLoads.{SpentLoads}
+use Rattle.jc_rounds.specs.Answers.{AreAnswers, done_room, is_change_of}
 use Rattle.jc_rounds.specs.Asking.{reserved_keys}
-use Rattle.jc_rounds.specs.OutsideCalls.{is_delete}
+use Rattle.jc_rounds.specs.OutsideCalls.{AreSpent, is_delete}
 use Rattle.jc_rounds.specs.Rounds.{LoadAll, ProcessAll, Round, WriteAll, round_fault}
 use Rattle.jc_rounds.specs.Underway.{reserved_by}
 use Rattle.jc_bulk.specs.declared.outside.Kind.{Kind}
@@ -132,6 +135,22 @@ IsAskedOf Load calls (WriteAll r) = ⊥
 IsAskedOf Load calls (ProcessAll r) = ⊥
 IsAskedOf Write calls round = IsWrittenOf false calls round
 IsAskedOf Delete calls round = IsWrittenOf true calls round
+
+abbrev pub IsRest : Kind → ℕ → Answers → Option SpentLoads → Type 0
+IsRest Load room answers (Some rest) = AreSpent rest × (rest.batch.room ≡ room) × (room ≤ done_room answers)
+IsRest Load room answers None = ⊥
+IsRest Write room answers (Some rest) = ⊥
+IsRest Write room answers None = Unit {0}
+IsRest Delete room answers (Some rest) = ⊥
+IsRest Delete room answers None = Unit {0}
+
+pub record IsSpent (kind : Kind) (room : ℕ) (answers : Answers) (rest : Option SpentLoads) : Type 0 where
+  pub config : Config
+  pub calls : List Reservation
+  pub round : Round
+  pub asked : IsAskedOf kind calls round
+  pub none : AreAnswers config round answers []
+  pub rest_is : IsRest kind room answers rest
 
 pub record Answered
     {I J : Type 0} {D : I → Type 0} {E : J → Type 0}

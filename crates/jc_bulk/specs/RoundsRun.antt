@@ -2,9 +2,11 @@
 --     KeysAskAs   calls of this kind ask outside for each operation of the call, if it asks at all
 --     IsReady     what a round asks outside with: nothing is asked for yet, it is of the call's kind, and there is room for all keys that a
 --                 round may reserve
+--     TakesNew    a round of a call of this kind, after one that has asked, takes memory: it writes or deletes, in a cache that writes through
 --     RunsOn      rounds of a call, which have asked this outside: the call goes on, and the loader and the writer were called for exactly
 --                 these rounds
-use Rattle.std.specs.Prelude.{◌≡◌, ◌≤◌, ℕ, List, [], Some, slice_get}
+use Rattle.std.specs.Prelude.{◌≡◌, ◌≤◌, ℕ, List, [], true, Some, slice_get}
+use Rattle.jc_types.specs.declared.config.Config.{Config}
 use Rattle.jc_model.specs.Cache.{Bytes}
 use Rattle.jc_model.specs.declared.event.Op.{Op}
 use Rattle.jc_outside.specs.CallingAll.{LoadAllRelation, WriteAllRelation, DeleteAllRelation}
@@ -18,6 +20,7 @@ use Rattle.jc_rounds.specs.Running.{HasRun, with_rounds}
 use Rattle.jc_rounds.specs.Targets.{ops_of}
 use Rattle.jc_rounds.specs.Underway.{Past}
 use Rattle.jc_bulk.specs.declared.outside.Kind.{Kind}
+use Rattle.jc_bulk.specs.declared.outside.Kind.TheVariants.{Load, Write, Delete}
 use Rattle.jc_bulk.specs.Outside.{AsksAs, CallsInRounds, OutsideState}
 
 abbrev pub KeysAskAs : Kind → List (Bytes × Op) → Type 0
@@ -27,6 +30,11 @@ pub record IsReady (call : BulkCall) (outside : OutsideState) : Type 0 where
   pub none : outside.items ≡ []
   pub kind : KeysAskAs outside.kind (ops_of call.targets.now)
   pub room : call.most ≤ outside.room
+
+abbrev pub TakesNew : Kind → Config → Type 0
+TakesNew Load config = ⊥
+TakesNew Write config = config.write_through ≡ true
+TakesNew Delete config = config.write_through ≡ true
 
 pub record RunsOn
     {I J : Type 0} {D : I → Type 0} {E : J → Type 0}

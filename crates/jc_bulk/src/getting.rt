@@ -38,10 +38,9 @@ use std::sync::Wait;
 /// loader once, if at all; in a cache that lives on, a full history puts off, too.
 ///
 /// An `Err` names each key that failed, with its fault (`LoaderFailed`) or its refusal, and has the values of all others. A key is
-/// refused with `HistoryFull` if its stripe's history is near full or a number is at its end, and with `OutOfMemory` if, once the
-/// loader was called, the memory of a later round could not be taken. The cause is the first fault or refusal that the call met. Or the call is refused whole,
-/// and nothing changes: there are more than [`BULK_KEYS_MAX`] keys (`TooManyKeys`), or the memory for the
-/// first round and the results could not be taken (`OutOfMemory`).
+/// refused with `HistoryFull` if its stripe's history is near full or a number is at its end. The cause is the first fault or refusal
+/// that the call met. Or the call is refused whole, and nothing changes: there are more than [`BULK_KEYS_MAX`] keys (`TooManyKeys`),
+/// or the memory for its rounds and the results could not be taken (`OutOfMemory`).
 ///
 /// It may wait, as long as the loader does and for other calls' reservations and loads, and holds no stripe meanwhile.
 ///

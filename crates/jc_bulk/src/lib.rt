@@ -4,7 +4,7 @@
 //! Each is one call of its session, with one number, and one step of the key's stripe for each key that isn't refused; the whole
 //! isn't atomic. It works in rounds. A round begins each key that it can, without waiting, calls the loader or the writer once for
 //! those that it has reserved, and commits them; then it waits for the loads that it has joined. A key that another call has
-//! reserved is put off to a later round. All memory is taken before the first phase, but for the batch of a round after one that has asked.
+//! reserved is put off to a later round. All memory is taken before the first phase, but for the batch of a round after one that has asked the writer.
 //!
 //! What fails is told in a [`BulkFault`]: the cause, each key that failed, and what was found.
 //!

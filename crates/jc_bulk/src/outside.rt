@@ -1,13 +1,15 @@
 //! What a bulk call asks outside, in one call for all keys that a round has reserved.
-ghost use Rattle.std.specs.Prelude.{◌≡◌, ◌≤◌, ◌+◌, ◌-◌, ◌<◌, ◌++◌, ◌∷◌, [], false, length, map, vec_capacity, IfOk, IfSome, IsSome};
+ghost use Rattle.std.specs.Prelude.{◌≡◌, ◌≤◌, ◌+◌, ◌-◌, ◌<◌, ◌++◌, ◌∷◌, ℕ, [], false, length, map, vec_capacity, IfNone, IfOk, IfSome, IsSome};
 ghost use Rattle.jc_model.specs.Batches.{is_among};
 ghost use Rattle.jc_cache.specs.Sessions.{HasAsked, HoldsNothing};
 ghost use Rattle.jc_rounds.specs.OutsideCalls.{asked_keys};
 ghost use Rattle.jc_rounds.specs.Rounds.{fault_of};
-ghost use Rattle.jc_bulk.specs.Outside.{Answered, HasOneToAsk, IsFilled, MayFill, fits, no_asks, with_ask};
+ghost use Rattle.jc_bulk.specs.Outside.{Answered, HasOneToAsk, IsFilled, IsRest, IsSpent, MayFill, fits, no_asks, with_ask};
+ghost use Rattle.jc_bulk.specs.declared.outside.Kind.{Kind as KindState};
+ghost use Rattle.jc_bulk.specs.declared.outside.Kind.TheVariants.{Load as LoadKind};
 
 use jc_cache::Session;
-use jc_rounds::{Answers, LoadCall, WriteCall};
+use jc_rounds::{Answers, LoadCall, SpentLoads, WriteCall};
 use jc_stripe::{Ask, Ticket};
 use jc_types::Refusal;
 use std::alloc::{AllocError, Global};
@@ -95,8 +97,8 @@ impl OutsideCall {
         }
     }
 
-    /// Asks the session's loader or writer once, for all of these tickets. It returns what was answered, and the fault that the writer
-    /// returned, if it failed.
+    /// Asks the session's loader or writer once, for all of these tickets. It returns what was answered, the fault that the writer
+    /// returned, if it failed, and the memory of a call of the loader, which serves a later round.
     ///
     /// It may wait, as long as the loader or the writer does. It takes no memory of its own.
     ///
@@ -107,13 +109,14 @@ impl OutsideCall {
         rt: &R,
         session: &mut Session,
         tickets: &mut Vec<Ticket>,
-    ) -> (Answers, Option<Refusal>)
+    ) -> (Answers, Option<Refusal>, Option<SpentLoads>)
         requires nothing { HoldsNothing session.old }
         requires fill { MayFill self tickets.old.items }
         requires writer { HasOneToAsk self.kind session.old.agent.hands.outside.writer }
         ensures tickets { IsFilled tickets.old tickets.new }
         ensures asked { HasAsked session.old session.new (Answered loads_all load_state writes_all deletes_all write_state
             session.old self.kind tickets.old.items result.0 result.1 session.new) }
+        ensures rest { IsRest self.kind self.room result.0 result.2 }
     {
         let mut call = self;
         for place in 0..tickets.len() {
@@ -121,10 +124,33 @@ impl OutsideCall {
         }
         let OutsideCall { of } = call;
         match of {
-            CallOf::Loads(call) => (Answers::Loads(call.ask(rt, session)), None),
+            CallOf::Loads(call) => {
+                let (loaded, spent) = call.ask(rt, session);
+                (Answers::Loads(loaded), None, Some(spent))
+            }
             CallOf::Writes(call) => {
                 let (done, returned) = call.ask(rt, session);
-                (Answers::Writes(done), writer_fault(returned))
+                (Answers::Writes(done), writer_fault(returned), None)
+            }
+        }
+    }
+
+    /// What a later round asks outside with, of what a round has left, whose answers were all taken: nothing is asked for yet. It takes no
+    /// memory. A call of the writer leaves none.
+    pub(crate) fn again(answers: Answers, rest: Option<SpentLoads>) -> Option<OutsideCall>
+        requires { (kind : KindState) × (room : ℕ) × IsSpent kind room answers rest }
+        ensures left { (kind : KindState) (room : ℕ) → IsSpent kind room answers rest
+            → IfSome result (λ left. left ≡ no_asks kind room) }
+        ensures none { (kind : KindState) (room : ℕ) → IsSpent kind room answers rest
+            → IfNone result (kind ≡ LoadKind → ⊥) }
+    {
+        match rest {
+            Some(rest) => Some(OutsideCall {
+                of: CallOf::Loads(rest.again(answers)),
+            }),
+            None => {
+                answers.end();
+                None
             }
         }
     }

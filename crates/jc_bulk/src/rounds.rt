@@ -3,7 +3,7 @@ ghost use Rattle.std.specs.Prelude.{◌≡◌, ◌≤◌, [], IfNone, IfSome, If
 ghost use Rattle.jc_rounds.specs.Underway.{IsOver, Past};
 ghost use Rattle.jc_rounds.specs.Running.{HasRun};
 ghost use Rattle.jc_bulk.specs.Outside.{no_asks};
-ghost use Rattle.jc_bulk.specs.RoundsRun.{IsReady, KeysAskAs, RunsOn};
+ghost use Rattle.jc_bulk.specs.RoundsRun.{IsReady, KeysAskAs, RunsOn, TakesNew};
 
 use crate::outside::{Kind, OutsideCall};
 use jc_cache::{Cache, Session};
@@ -14,7 +14,7 @@ use std::sync::Wait;
 /// All rounds, until each key has ended.
 ///
 /// Between two rounds it waits for a change on the stripe of a key that was put off, with no reservation out. Nothing says that it
-/// returns. Each round uses the memory of the first one, but for what a round has asked outside with: that is taken anew before the first
+/// returns. Each round uses the memory of the first one, but for a batch that was handed to the writer: that is taken anew before the first
 /// phase of the next one. If that fails, each key that waits is refused.
 pub(crate) fn run_rounds<R: Wait>(
     alloc: Global,
@@ -51,7 +51,7 @@ pub(crate) fn run_rounds<R: Wait>(
 }
 
 /// One round: each key that can is begun, the loader or the writer is asked once for those that were reserved, if any were, and what
-/// follows. It returns what is to be asked outside if nobody was asked.
+/// follows. It returns what the next round is to ask outside with, unless it has handed that to the writer.
 fn run_round<R: Wait>(
     rt: &R,
     cache: &Cache,
@@ -65,17 +65,18 @@ fn run_round<R: Wait>(
     ensures runs { (past : Past) → HasRun cache.now past session.old call.old
         → (runs : RunsOn loads_all load_state writes_all deletes_all write_state cache.now past session.old call.old session.new call.new)
         × IfNone result (runs.rounds ≡ [] → ⊥) }
+    ensures spent { IfNone result (TakesNew outside.kind cache.now.config) }
 {
     call.start(rt, cache, session);
     if call.tickets.len() == 0 {
         call.pick_up(rt, cache, session);
         return Some(outside);
     }
-    let (answers, fault) = outside.ask_for(rt, session, &mut call.tickets);
+    let (answers, fault, rest) = outside.ask_for(rt, session, &mut call.tickets);
     call.note(fault);
-    call.commit(rt, cache, session, answers);
+    let spent = call.commit(rt, cache, session, answers);
     call.pick_up(rt, cache, session);
-    None
+    OutsideCall::again(spent, rest)
 }
 
 /// What a round is to ask outside with: what the round before has left, or, if it was spent, memory for as many keys. An `Err` says

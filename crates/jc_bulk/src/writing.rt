@@ -30,8 +30,8 @@ use std::sync::Wait;
 ///
 /// An `Err` names each key that failed, with its fault (`WriterFailed`) or its refusal; every other key is put. A key is refused with
 /// `HistoryFull` if its stripe's history is near full or a number is at its end, and with `OutOfMemory` if, once the writer was
-/// called, the memory of a later round could not be taken. The cause is the first fault or refusal that the call met; a writer that failed and left no key gives
-/// an `Err` that names none. Or the call is refused whole, and nothing changes: there are more than
+/// called, the memory of a later round could not be taken: so without write-through never. The cause is the first fault or refusal that
+/// the call met; a writer that failed and left no key gives an `Err` that names none. Or the call is refused whole, and nothing changes: there are more than
 /// [`BULK_KEYS_MAX`] keys (`TooManyKeys`), or the memory for the first round and the results could not be
 /// taken (`OutOfMemory`).
 ///

@@ -2,6 +2,7 @@
 --     op_there         each operation of the call is an `Invoke`
 --     IsCalled         a reservation is of a key of the call, and asks the processor
 --     asks_for         the runs are on keys of the call, each shown what is due
+--     left_room, left_none    what a round that has asked has left
 --     some_long        a vector that isn't empty has items
 --     all_called       so is each reservation that a round has made
 --     may_run          the processor may be run for each ticket that a round has
@@ -11,7 +12,7 @@
 --     answered_round   what was asked outside answers each ticket
 --     asked_round      a round that has asked
 use Rattle.std.specs.declared.dyn_box.DynBox.{DynBox}
-use Rattle.std.proofs.Common.{◌≡◌, ℕ, zero, suc, List, [], ◌∷◌, append-nil, length, map, slice_get, Bool, true, Option, None, Some, vec_len, refl, sym, ap, subst, ◌∙◌, arith}
+use Rattle.std.proofs.Common.{◌≡◌, ℕ, zero, suc, List, [], ◌∷◌, append-nil, length, map, slice_get, Bool, true, Option, None, Some, IfNone, IfSome, ◌≤◌, vec_len, refl, sym, ap, subst, ◌∙◌, arith}
 use Rattle.std.proofs.lemmas.Option.{same_Some}
 use Rattle.std.specs.Global.{Vec}
 use Rattle.std.specs.List.{All, AllByRecursion, IsAmong}
@@ -36,7 +37,7 @@ use Rattle.jc_cache.specs.declared.session.Session.{Session}
 use Rattle.jc_rounds.specs.declared.answers.Answers.{Answers}
 use Rattle.jc_rounds.specs.declared.bulk_call.BulkCall.{BulkCall}
 use Rattle.jc_rounds.specs.declared.progress.Progress.{Progress}
-use Rattle.jc_rounds.specs.Answers.{AreAnswers, RunState, key_run, reservations_of}
+use Rattle.jc_rounds.specs.Answers.{AreAnswers, RunState, done_room, key_run, reservations_of}
 use Rattle.jc_rounds.specs.Asking.{AsksFor, reserved_keys}
 use Rattle.jc_rounds.specs.KeyProgress.{is_reserved}
 use Rattle.jc_rounds.specs.Keys.{IsTicketFor}
@@ -51,16 +52,17 @@ use Rattle.jc_rounds.proofs.Held.{goes_both}
 use Rattle.jc_rounds.proofs.SeatPhases.{Seated}
 use Rattle.jc_rounds.proofs.SoFar.{among_last}
 use Rattle.jc_rounds.proofs.Whole.{asked_call, nobody_asked, round_of}
+use Rattle.jc_invoke.specs.declared.room.Batches.{Batches}
 use Rattle.jc_invoke.specs.declared.room.RoundRoom.{RoundRoom}
 use Rattle.jc_invoke.specs.InvokeRounds.{HasMadeRound, IsInvoked}
 use Rattle.jc_invoke.specs.Processing.{IsRoundAsked, IsToBeRun, KeepsTickets, MayRunEach}
-use Rattle.jc_invoke.specs.RoundRooms.{IsRoomFor}
+use Rattle.jc_invoke.specs.RoundRooms.{IsLeft, IsRoomFor, IsRoomOf}
 use Rattle.jc_invoke.specs.Runs.{CallsRound}
 use Rattle.jc_invoke.proofs.RoundAsked.{keys_run}
 
 -- 1. Keys.
 
-op_there : (keys : List Bytes) (place : ℕ) (key : Bytes) (op : Op) → slice_get (ops_with Invoke keys) place ≡ Some (key, op) → op ≡ Invoke
+pub op_there : (keys : List Bytes) (place : ℕ) (key : Bytes) (op : Op) → slice_get (ops_with Invoke keys) place ≡ Some (key, op) → op ≡ Invoke
 op_there [] place key op at = cc
 op_there (k ∷ keys) zero key op at = ap (λ (t : Bytes × Op). t.1) (sym (same_Some (k, Invoke) (key, op) at))
 op_there (k ∷ keys) (suc place) key op at = op_there keys place key op at
@@ -94,6 +96,25 @@ asks_for config targets round runs calls are same all =
 to_be_run : (config : Config) (targets : List (Bytes × Op)) (rounds : List Round) (ts : List TicketClaim) → are_fresh rounds ts → AllByRecursion (IsCalled config targets) (map reserved_by ts) → AllByRecursion IsToBeRun ts
 to_be_run config targets rounds [] fresh all = tt
 to_be_run config targets rounds (t ∷ ts) fresh all = ((fresh.0.0, fresh.0.1, ap asks_processor all.0.4 ∙ all.0.3), to_be_run config targets rounds ts fresh.1 all.1)
+
+none_any : {X : Type 0} (P : Type 0) (left : Option X) → P → IfNone left P
+none_any P None it = it
+none_any P (Some x) it = tt
+
+-- what a round that has asked has left
+pub left_room : (most : ℕ) (through : Bool) (room : RoundRoom) (answers : Answers) (rest : Option Batches) (left : Option RoundRoom) → IsRoomFor most through room → IsLeft room rest → IsRoomOf rest answers left → most ≤ done_room answers
+    → IfSome left (λ next. IsRoomFor most through next)
+left_room most through room answers None None is quiet next few = tt
+left_room most through room answers None (Some n) is quiet next few = absurd next
+left_room most through room answers (Some b) None is quiet next few = tt
+left_room most through room answers (Some b) (Some n) is quiet next few =
+    subst (λ t. IsRoomFor most t n) (sym quiet.0 ∙ is.through_is) (next most few (quiet.1 ∙ is.writes_are) (quiet.2 ∙ is.deletes_are))
+
+pub left_none : (most : ℕ) (through : Bool) (room : RoundRoom) (answers : Answers) (rest : Option Batches) (left : Option RoundRoom) → IsRoomFor most through room → IsLeft room rest → IsRoomOf rest answers left → IfNone left (through ≡ true)
+left_none most through room answers None None is quiet next = sym is.through_is ∙ quiet
+left_none most through room answers None (Some n) is quiet next = tt
+left_none most through room answers (Some b) None is quiet next = absurd next
+left_none most through room answers (Some b) (Some n) is quiet next = tt
 
 none_more : (o : Option Refusal) → option_or o None ≡ o
 none_more None = refl
@@ -144,6 +165,7 @@ module _ {I J P Z : Type 0} {D : I → Type 0} {E : J → Type 0} {F : P → Typ
       let writer = ap (λ (h : _). h.outside.writer) hands in
       record {
         left_is = is;
+        taken = tt;
         continues = record {
           agent = agent_by old.agent new.agent (ap (λ (a : Agent I J D E). a.caller) two.agent ∙ ap (λ (a : Agent I J D E). a.caller) one.agent);
           targets = two.targets ∙ one.targets;
@@ -195,14 +217,16 @@ module _ {I J P Z : Type 0} {D : I → Type 0} {E : J → Type 0} {F : P → Typ
         → HasAsked mid told (IsRoundAsked loads load_state writes_all deletes_all write_state processes process_state args cache.config.write_through mid.agent begun.tickets.items processor told.agent answers p) → KeepsTickets begun.tickets v
         → Advances told done (record begun { tickets = v }) committed → ((past : Past) (round : Round) → IsAnswered cache past round told (record begun { tickets = v }) answers → HasCommitted cache past done committed)
         → Advances done new committed later → ((past : Past) → HasCommitted cache past done committed → IsBetween cache past new later)
-        → HasMadeRound loads load_state writes_all deletes_all write_state processes process_state args cache old call processor new later p None
-    asked_round invoked some one starts has kept two commits three picks =
+        → (left : Option RoundRoom) → IfSome left (λ room. IsRoomFor call.most cache.config.write_through room) → IfNone left (cache.config.write_through ≡ true)
+        → HasMadeRound loads load_state writes_all deletes_all write_state processes process_state args cache old call processor new later p left
+    asked_round invoked some one starts has kept two commits three picks left left_is taken =
         let is = has.asked in
         let from = ap (λ (a : Agent I J D E). a.hands) one.agent in
         let to = ap (λ (a : Agent I J D E). a.hands) three.agent ∙ ap (λ (a : Agent I J D E). a.hands) two.agent in
         let seats : told.seats.items ≡ mid.seats.items = ap (λ (s : Session I J D E). s.seats.items) has.rest in
         record {
-          left_is = tt;
+          left_is = left_is;
+          taken = taken;
           continues = record {
             agent = agent_by old.agent new.agent (ap (λ (a : Agent I J D E). a.caller) three.agent ∙ ap (λ (a : Agent I J D E). a.caller) two.agent ∙ ap (λ (s : Session I J D E). s.agent.caller) has.rest ∙ ap (λ (a : Agent I J D E). a.caller) one.agent);
             targets = three.targets ∙ two.targets ∙ one.targets;
@@ -232,5 +256,5 @@ module _ {I J P Z : Type 0} {D : I → Type 0} {E : J → Type 0} {F : P → Typ
                     (omega arith) (append-nil (keys_asked (ProcessAll is.round)) ∙ keys);
                 between = picks (with_round past (ProcessAll is.round)) (commits (with_round past (ProcessAll is.round)) (ProcessAll is.round) (answered_round past invoked one started some kept has));
               };
-          spent = λ past between none. some_one is.round none;
+          spent = λ past between. none_any (is.round ∷ [] ≡ [] → ⊥) left (λ none. some_one is.round none);
         }

@@ -6,9 +6,11 @@
 --     may_more         another round may be made
 --     made_past        what the call has behind it after a round
 use Rattle.std.specs.declared.dyn_box.DynBox.{DynBox}
-use Rattle.std.proofs.Common.{◌≡◌, ◌++◌, ℕ, List, [], ◌∷◌, append-nil, append_assoc, map, Bool, Option, None, refl, sym, ap, subst, ◌∙◌}
+use Rattle.std.proofs.Common.{◌≡◌, ◌++◌, ℕ, List, [], ◌∷◌, append-nil, append_assoc, map, slice_get, Bool, true, Option, None, Some, IfNone, refl, sym, ap, subst, ◌∙◌}
 use Rattle.std.proofs.lemmas.List.{map-append}
 use Rattle.jc_model.specs.Cache.{Bytes}
+use Rattle.jc_model.specs.declared.event.Op.{Op}
+use Rattle.jc_model.specs.declared.event.Op.TheVariants.{Clear, Get, Invoke, LoadAll}
 use Rattle.jc_outside.specs.Calling.{LoadRelation}
 use Rattle.jc_outside.specs.CallingAll.{DeleteAllRelation, WriteAllRelation}
 use Rattle.jc_mutentry.specs.Running.{ProcessRelation}
@@ -19,7 +21,7 @@ use Rattle.jc_cache.specs.declared.session.Session.{Session}
 use Rattle.jc_rounds.specs.declared.bulk_call.BulkCall.{BulkCall}
 use Rattle.jc_rounds.specs.KeyProgress.{IsNoted, failures, refused_if_waiting}
 use Rattle.jc_rounds.specs.Rounds.{ProcessAll, ProcessRound, Round}
-use Rattle.jc_rounds.specs.Running.{HasRun, with_rounds}
+use Rattle.jc_rounds.specs.Running.{EachTakesMemory, HasRun, with_rounds}
 use Rattle.jc_rounds.specs.Targets.{ops_of}
 use Rattle.jc_rounds.specs.Underway.{IsBetween, Past}
 use Rattle.jc_rounds.proofs.Asked.{types_on}
@@ -27,10 +29,10 @@ use Rattle.jc_rounds.proofs.Failures.{keeps_both, keeps_itself, keeps_noted}
 use Rattle.jc_rounds.proofs.Started.{run_more, some_more, spent_none}
 use Rattle.jc_rounds.proofs.Whole.{refused_call, refused_round}
 use Rattle.jc_invoke.specs.declared.room.RoundRoom.{RoundRoom}
-use Rattle.jc_invoke.specs.InvokeRounds.{HasMadeRound, HasMadeRounds, MayMakeRound}
+use Rattle.jc_invoke.specs.InvokeRounds.{HasMadeRound, HasMadeRounds, IsInvoked, MayMakeRound}
 use Rattle.jc_invoke.specs.RoundRooms.{IsRoomFor}
 use Rattle.jc_invoke.specs.Runs.{CallsEach}
-use Rattle.jc_invoke.proofs.InvokeRound.{agent_by}
+use Rattle.jc_invoke.proofs.InvokeRound.{agent_by, op_there}
 
 -- 1. Lists of rounds.
 
@@ -102,10 +104,24 @@ module _ {I J P Z : Type 0} {D : I → Type 0} {E : J → Type 0} {F : P → Typ
       }
 
   -- the last round has asked, and the memory for one more could not be taken
+  each_invoked : (call : BulkCall) → IsInvoked call → cache.config.write_through ≡ true → EachTakesMemory cache.config (ops_of call.targets.now)
+  each_invoked call invoked through place key op at =
+      let is : op ≡ Invoke = op_there invoked.0 place key op (ap (λ ts. slice_get ts place) (sym invoked.1) ∙ at) in
+      record {
+        through = through;
+        not_get = λ same. let bad : Invoke ≡ Get = sym is ∙ same in cc;
+        not_load = λ replace same. let bad : Invoke ≡ LoadAll replace = sym is ∙ same in cc;
+        not_clear = λ same. let bad : Invoke ≡ Clear = sym is ∙ same in cc;
+      }
+
+  none_taken : {X : Type 0} (P : Type 0) (left : Option X) → left ≡ None → IfNone left P → P
+  none_taken P None is it = it
+  none_taken P (Some x) is it = cc
+
   pub rounds_refused : (old mid new : Session I J D E) (call begun last later : BulkCall) (processor p q : DynBox P Z F) (left : Option RoundRoom) → left ≡ None → later.progress.items ≡ map refused_if_waiting last.progress.items
-      → IsNoted last.cause (failures later.progress.items) later.cause → later ≡ record last { progress = later.progress; cause = later.cause } → Made old call processor mid begun p → MadeOne mid begun p new last q left → Made old call processor new later q
+      → IsNoted last.cause (failures later.progress.items) later.cause → later ≡ record last { progress = later.progress; cause = later.cause } → Made old call processor mid begun p → MadeOne mid begun p new last q left → IsInvoked begun → Made old call processor new later q
   unfolding rounds_more
-  rounds_refused old mid new call begun last later processor p q left none is noted rest many one =
+  rounds_refused old mid new call begun last later processor p q left none is noted rest many one invoked =
       let all = rounds_more old mid new call begun last processor p q left many one in
       let a = all.continues in
       let targets = ap (λ (x : BulkCall). x.targets) rest in
@@ -126,7 +142,8 @@ module _ {I J P Z : Type 0} {D : I → Type 0} {E : J → Type 0} {F : P → Typ
             let some = some_more first.0 next.rounds (spent_none left next.rounds none (one.spent (with_rounds past (map ProcessAll first.0)) first.2.between)) in
             let here = with_rounds past (map ProcessAll before.0) in
             let nothing = append-nil (past.rounds ++ map ProcessAll before.0) in
-            let between = refused_call cache here new last later rest is noted (some_more past.rounds (map ProcessAll before.0) (some_mapped before.0 some)) before.2.between in (
+            let between = refused_call cache here new last later rest is noted (some_more past.rounds (map ProcessAll before.0) (some_mapped before.0 some))
+            (each_invoked last (invoked.0, ap (λ t. ops_of t.now) one.continues.targets ∙ invoked.1) (none_taken (cache.config.write_through ≡ true) left none one.taken)) before.2.between in (
               before.0,
               before.1,
               ran_by cache past new later ((past.rounds ++ map ProcessAll before.0) ++ []) (past.rounds ++ map ProcessAll before.0) nothing

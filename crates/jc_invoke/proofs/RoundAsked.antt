@@ -3,9 +3,10 @@
 --     key_asked        the round asked for each of the keys that were reserved
 --     each_among       each run is one of the round's
 --     kind_asked       a call of the writer, as that of the round's changes of one kind
+--     unasked_writer   the writer isn't called for nothing
 --     round_asked      the round
 use Rattle.std.specs.declared.dyn_box.DynBox.{DynBox}
-use Rattle.std.proofs.Common.{◌≡◌, ◌==◌, ◌||◌, ℕ, zero, suc, List, [], ◌∷◌, map, reverse, Bool, true, false, Option, Result, refl, sym, ap, subst, ◌∙◌, arith}
+use Rattle.std.proofs.Common.{◌≡◌, ◌==◌, ◌||◌, ℕ, zero, suc, List, [], ◌∷◌, map, reverse, Bool, true, false, Option, Result, Ok, refl, sym, ap, subst, ◌∙◌, arith}
 use Rattle.std.proofs.lemmas.Cmp.{nat_list_eq_equiv}
 use Rattle.std.proofs.lemmas.List.{reverse-reverse}
 use Rattle.std.specs.Global.{Vec}
@@ -14,6 +15,7 @@ use Rattle.std.specs.Cmp.Lexicographic.{pointwise}
 use Rattle.jc_model.specs.Batches.{is_among}
 use Rattle.jc_model.specs.Cache.{Bytes}
 use Rattle.jc_model.specs.declared.event.WriteAnswer.{WriteAnswer}
+use Rattle.jc_model.specs.declared.event.WriteAnswer.TheVariants.{NotAsked}
 use Rattle.jc_outside.specs.Calling.{KeepsType, LoadRelation}
 use Rattle.jc_outside.specs.CallingAll.{DeleteAllRelation, WriteAllRelation, writes_done}
 use Rattle.jc_outside.specs.Done.{WriteResult}
@@ -29,6 +31,7 @@ use Rattle.jc_rounds.specs.Asking.{reserved_keys}
 use Rattle.jc_rounds.specs.OutsideCalls.{WriteCallAsked, WritesBatch, wanted}
 use Rattle.jc_rounds.specs.Rounds.{KeyRun, ProcessAll, ProcessRound, keys_asked}
 use Rattle.jc_rounds.specs.Underway.{reserved_by}
+use Rattle.jc_rounds.proofs.OutsideCalls.{no_batch}
 use Rattle.jc_rounds.proofs.SoFar.{or_true}
 use Rattle.jc_invoke.specs.declared.room.RoundRoom.{RoundRoom}
 use Rattle.jc_invoke.specs.Processing.{HasRunEach, IsRoundAsked, IsToBeRun}
@@ -67,6 +70,19 @@ kind_asked writes_all deletes_all write_state through kind deletes runs items v 
       (subst (λ x. WritesBatch writes_all deletes_all write_state kind x w returned said w') (ap wanted are ∙ changes_are through kind runs)
       (subst (λ x. WritesBatch writes_all deletes_all write_state x (wanted items) w returned said w') same batch)),
 )
+
+-- a writer that isn't called for nothing
+pub unasked_writer : {I J : Type 0} {D : I → Type 0} {E : J → Type 0}
+    (writes_all : WriteAllRelation ((j : J) × E j)) (deletes_all : DeleteAllRelation ((j : J) × E j)) (write_state : (j : J) × E j → List ℕ)
+    (session : Session I J D E) (deletes : Bool) (items : List Claim) (done : List (WriteResult Claim)) → items ≡ [] → done ≡ []
+    → WriteCallAsked writes_all deletes_all write_state session deletes items (Ok tt) done session
+unasked_writer writes_all deletes_all write_state session deletes items done none nothing = record {
+  said = λ key. NotAsked;
+  writes = no_batch (boxed writes_all) (boxed deletes_all) (boxed write_state) deletes items session.agent.hands.outside.writer (λ key. NotAsked) none;
+  done_are = ap reverse nothing ∙ sym (ap (writes_done key_of (λ key. NotAsked)) none);
+  writer_type = refl;
+  loader = refl;
+}
 
 -- 3. The round.
 

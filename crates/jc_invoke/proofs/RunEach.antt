@@ -1,5 +1,8 @@
 -- Runs of a processor at the tickets of a round, in their order.
 --     RoomLeft        there is room for the tickets from this place on
+--     keeps_itself, keeps_both    the room is kept
+--     only_through, keeps_noted   and so it is in a cache that doesn't write through, whose writer is never asked
+--     room_of         the room of the next round
 --     takes_same      the first tickets stand for the same reservations
 --     split_at        the tickets before a place, the one there and those after it
 --     reserved_set    a ticket was used: the reservations are the same
@@ -8,24 +11,27 @@
 --     may_take        there is room for the next run, and its key is new
 --     begins          before the first run
 use Rattle.std.specs.declared.dyn_box.DynBox.{DynBox}
-use Rattle.std.proofs.Common.{◌≡◌, ◌==◌, ◌≤◌, ◌<◌, ◌+◌, ◌++◌, ℕ, zero, suc, List, [], ◌∷◌, length, map, set, take, drop, get_or, Bool, false, true, vec_capacity, refl, sym, ap, subst, ◌∙◌, arith}
+use Rattle.std.proofs.Common.{◌≡◌, ◌==◌, ◌≤◌, ◌<◌, ◌+◌, ◌++◌, ℕ, zero, suc, List, [], ◌∷◌, length, map, set, take, drop, get_or, Bool, false, true, Option, None, Some, if◌then◌else◌, vec_capacity, refl, sym, ap, subst, ◌∙◌, arith}
 use Rattle.std.proofs.lemmas.List.{drop_more, length-append, map-append, take-append-drop, take-map, take_more}
 use Rattle.std.specs.List.{IsDistinct}
 use Rattle.std.specs.Cmp.Lexicographic.{pointwise}
 use Rattle.jc_model.specs.Batches.{is_among}
 use Rattle.jc_model.specs.Cache.{Bytes}
+use Rattle.jc_model.specs.declared.event.Change.{Change}
 use Rattle.jc_outside.specs.Calling.{LoadRelation}
 use Rattle.jc_mutentry.specs.Running.{ProcessRelation}
 use Rattle.jc_session.specs.Boxed.{boxed}
 use Rattle.jc_session.specs.declared.agent.Agent.{Agent}
 use Rattle.jc_stripe.specs.Tickets.{TicketClaim}
-use Rattle.jc_rounds.specs.Answers.{RunState, claims_after, done_of, reservations_of}
+use Rattle.jc_rounds.specs.declared.answers.Answers.{Answers}
+use Rattle.jc_rounds.specs.Answers.{RunState, claims_after, done_of, done_room, reservations_of}
 use Rattle.jc_rounds.specs.Asking.{reserved_keys}
-use Rattle.jc_rounds.specs.OutsideCalls.{WriteCallState, asked_keys}
+use Rattle.jc_rounds.specs.OutsideCalls.{WriteCallState, asked_keys, no_writes}
 use Rattle.jc_rounds.specs.Underway.{reserved_by}
+use Rattle.jc_invoke.specs.declared.room.Batches.{Batches}
 use Rattle.jc_invoke.specs.declared.room.RoundRoom.{RoundRoom}
-use Rattle.jc_invoke.specs.RoundRooms.{IsRoomFor}
-use Rattle.jc_invoke.specs.Processing.{HasRunEach, IsTicketRun, TakesKey}
+use Rattle.jc_invoke.specs.RoundRooms.{IsRoomFor, IsRoomOf}
+use Rattle.jc_invoke.specs.Processing.{HasRunEach, IsTicketRun, KeepsRoom, TakesKey}
 use Rattle.jc_invoke.proofs.Runs.{claims_push, new_claim, runs_push}
 
 pub record RoomLeft (through : Bool) (all place : ℕ) (room : RoundRoom) : Type 0 where
@@ -34,7 +40,31 @@ pub record RoomLeft (through : Bool) (all place : ℕ) (room : RoundRoom) : Type
   pub writes : all ≤ room.writes.room + place
   pub deletes : all ≤ room.deletes.room + place
 
--- 1. Tickets.
+-- 1. Room.
+
+pub keeps_itself : (room : RoundRoom) → KeepsRoom room room
+keeps_itself room = record { through_is = refl; runs_room = refl; quiet = λ off. (refl, refl) }
+
+pub keeps_both : (a b c : RoundRoom) → KeepsRoom a b → KeepsRoom b c → KeepsRoom a c
+keeps_both a b c one two = record {
+  through_is = two.through_is ∙ one.through_is;
+  runs_room = two.runs_room ∙ one.runs_room;
+  quiet = λ off. let first = one.quiet off in let second = two.quiet (one.through_is ∙ off) in (second.0 ∙ first.0, second.1 ∙ first.1);
+}
+
+-- a run asks the writer only in a cache that writes through
+pub only_through : (through : Bool) (effect result : Option Change) (change : Change) → result ≡ (if through then effect else None) → result ≡ Some change → through ≡ false → ⊥
+only_through true effect result change is some off = cc
+only_through false effect result change is some off = cc
+
+pub keeps_noted : (room room' : RoundRoom) → room'.through ≡ room.through → vec_capacity room'.runs ≡ vec_capacity room.runs → (room.through ≡ false → ⊥) → KeepsRoom room room'
+keeps_noted room room' through runs never = record { through_is = through; runs_room = runs; quiet = λ off. absurd (never off) }
+
+pub room_of : (rest : Option Batches) (batches : Batches) (answers : Answers) (room : RoundRoom) → rest ≡ Some batches
+    → ((keys : ℕ) → keys ≤ done_room answers → batches.writes ≡ no_writes false keys → batches.deletes ≡ no_writes true keys → IsRoomFor keys false room) → IsRoomOf rest answers (Some room)
+room_of rest batches answers room is next = subst (λ r. IsRoomOf r answers (Some room)) (sym is) next
+
+-- 2. Tickets.
 
 pub takes_same : (xs ys : List TicketClaim) (i : ℕ) → map reserved_by ys ≡ map reserved_by xs → map reserved_by (take i xs) ≡ map reserved_by (take i ys)
 takes_same xs ys i same = sym (take-map reserved_by i xs) ∙ ap (take i) (sym same) ∙ take-map reserved_by i ys
@@ -59,7 +89,7 @@ many_same xs ys same = sym (as_many ys) ∙ ap length same ∙ as_many xs
     as_many [] = refl
     as_many (z ∷ zs) = ap suc (as_many zs)
 
--- 2. The next run.
+-- 3. The next run.
 
 module _ {I J P Z : Type 0} {D : I → Type 0} {E : J → Type 0} {F : P → Type 0}
     (loads : LoadRelation ((i : I) × D i)) (load_state : (i : I) × D i → List ℕ)

@@ -5,10 +5,11 @@
 --                    loader, the writer and the processor are of the same types
 --     HaveAsked      these rounds have asked this outside, one after the other
 --     IsRoundMade    one round of the call, which has asked this outside, if it has asked
---     HasMadeRound   one round of the call, whatever it has behind it, and the memory that is left if it has asked nobody
+--     HasMadeRound   one round of the call, whatever it has behind it, and the memory that it has left: some if it has asked nobody, and
+--                    always in a cache that doesn't write through
 --     HasMadeRounds  the same of all rounds
 use Rattle.std.specs.declared.dyn_box.DynBox.{DynBox}
-use Rattle.std.specs.Prelude.{◌≡◌, ℕ, List, [], map, Option, IfNone, IfSome}
+use Rattle.std.specs.Prelude.{◌≡◌, ℕ, List, [], map, true, Option, IfNone, IfSome}
 use Rattle.jc_model.specs.Cache.{Bytes}
 use Rattle.jc_model.specs.declared.event.Op.TheVariants.{Invoke}
 use Rattle.jc_outside.specs.Calling.{LoadRelation}
@@ -66,6 +67,7 @@ module _ {I J P Z : Type 0} {D : I → Type 0} {E : J → Type 0} {F : P → Typ
 
   pub record HasMadeRound (left : Option RoundRoom) : Type 0 where
     pub left_is : IfSome left (λ room. IsRoomFor call.most cache.config.write_through room)
+    pub taken : IfNone left (cache.config.write_through ≡ true)
     pub continues : Continues old call processor new call' processor'
     pub made : (past : Past) → IsBetween cache past old call → IsRoundMade past
     pub spent : (past : Past) (between : IsBetween cache past old call) → IfNone left ((made past between).rounds ≡ [] → ⊥)

@@ -65,10 +65,10 @@ pub fn invoke<R: Wait>(
 /// [`RESERVATIONS_MAX`](jc_types::RESERVATIONS_MAX) keys in each stripe, has one round that runs it, if any; in a cache that lives on, a
 /// full history puts off, too.
 ///
-/// A key is refused with `HistoryFull` if its stripe's history is near full or a number is at its end, and with `OutOfMemory` if, once
-/// the processor was run, the memory of a later round could not be taken. An `Err` says that the call is refused whole, and nothing changes: there are more than
-/// [`BULK_KEYS_MAX`](jc_types::BULK_KEYS_MAX) keys (`TooManyKeys`), or the memory for the first round and the results could not be
-/// taken (`OutOfMemory`).
+/// A key is refused with `HistoryFull` if its stripe's history is near full or a number is at its end, and with `OutOfMemory` if, with
+/// write-through and once the processor was run, the memory of a later round could not be taken. An `Err` says that the call is refused
+/// whole, and nothing changes: there are more than [`BULK_KEYS_MAX`](jc_types::BULK_KEYS_MAX) keys (`TooManyKeys`), or the memory for
+/// the first round and the results could not be taken (`OutOfMemory`).
 ///
 /// It may wait, as long as the processor, the loader and the writer do and for other calls' reservations, and holds no stripe
 /// meanwhile.

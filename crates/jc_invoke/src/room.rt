@@ -1,5 +1,5 @@
 //! What one round takes in memory for what it asks outside.
-use jc_rounds::WriteCall;
+use jc_rounds::{Answers, WriteCall};
 use jc_stripe::{Ask, ProcDone};
 use std::alloc::{AllocError, Global};
 
@@ -16,9 +16,20 @@ pub(crate) struct RoundRoom {
     pub(crate) deletes: WriteCall,
 }
 
+/// The batches of a round that had nothing to write, in a cache that doesn't write through: nothing is in them. They can't be dropped.
+pub(crate) struct Batches {
+    /// What is to be written.
+    pub(crate) writes: WriteCall,
+    /// What is to be deleted.
+    pub(crate) deletes: WriteCall,
+}
+
 impl RoundRoom {
-    ghost use Rattle.std.specs.Prelude.{ℕ, Bool, IfOk};
-    ghost use Rattle.jc_invoke.specs.RoundRooms.{IsRoomFor};
+    ghost use Rattle.std.specs.Prelude.{ℕ, [], Bool, IfOk};
+    ghost use Rattle.jc_types.specs.declared.config.Config.{Config};
+    ghost use Rattle.jc_rounds.specs.Answers.{AreAnswers};
+    ghost use Rattle.jc_rounds.specs.Rounds.{ProcessAll, ProcessRound};
+    ghost use Rattle.jc_invoke.specs.RoundRooms.{IsRoomFor, IsRoomOf};
 
     /// Room for so many keys, in a cache that writes through or doesn't. An `Err` says that an allocation failed.
     pub(crate) fn new(alloc: Global, through: bool, keys: usize) -> Result<RoundRoom, AllocError>
@@ -42,6 +53,26 @@ impl RoundRoom {
             Err(failed) => {
                 runs.destroy_empty();
                 Err(failed)
+            }
+        }
+    }
+
+    /// The room of the next round, of what a round has left whose answers were all taken. It takes no memory. A round that had a batch
+    /// for the writer leaves none.
+    pub(crate) fn again(answers: Answers, rest: Option<Batches>) -> Option<RoundRoom>
+        requires { (config : Config) × (round : ProcessRound) × AreAnswers config (ProcessAll round) answers [] }
+        ensures { IsRoomOf rest answers result }
+    {
+        match rest {
+            Some(Batches { writes, deletes }) => Some(RoundRoom {
+                through: false,
+                runs: answers.into_runs(),
+                writes,
+                deletes,
+            }),
+            None => {
+                answers.end();
+                None
             }
         }
     }

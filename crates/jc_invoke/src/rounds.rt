@@ -14,8 +14,8 @@ use std::sync::Wait;
 /// All rounds, until each key has ended.
 ///
 /// Between two rounds it pauses until something has changed on the stripe of a key that was put off, with no reservation out. Nothing
-/// says that it returns. The memory for what a later round asks outside is taken before its first phase; if it can't be, each key that
-/// waits is refused.
+/// says that it returns. Without write-through each round uses the memory of the first one. With it, the memory for what a round after one
+/// that has asked is to ask outside is taken before its first phase; if it can't be, each key that waits is refused.
 pub(crate) fn run_rounds<R: Wait>(
     rt: &R,
     cache: &Cache,
@@ -55,8 +55,8 @@ pub(crate) fn run_rounds<R: Wait>(
     unreachable!()
 }
 
-/// One round: its first phases, what it asks outside, and its last phases. It returns the memory for what it asks outside if it has
-/// asked nobody.
+/// One round: its first phases, what it asks outside, and its last phases. It returns the memory for what the next round asks outside,
+/// unless a batch of it was handed to the writer.
 fn run_round<R: Wait>(
     rt: &R,
     cache: &Cache,
@@ -77,10 +77,10 @@ fn run_round<R: Wait>(
         call.pick_up(rt, cache, session);
         return Some(room);
     }
-    let answers = room.ask(rt, session, &mut call.tickets, processing);
-    call.commit(rt, cache, session, answers);
+    let (answers, rest) = room.ask(rt, session, &mut call.tickets, processing);
+    let spent = call.commit(rt, cache, session, answers);
     call.pick_up(rt, cache, session);
-    None
+    RoundRoom::again(spent, rest)
 }
 
 /// The memory for what the next round asks outside: what the last one has left, or as much anew. An `Err` says that an allocation

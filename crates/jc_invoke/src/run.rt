@@ -1,9 +1,11 @@
 //! What a round asks outside for the keys that it has reserved: a processor for each of them, and then the writer.
-ghost use Rattle.std.specs.Prelude.{◌≡◌};
+ghost use Rattle.std.specs.Prelude.{◌≡◌, vec_capacity};
 ghost use Rattle.jc_cache.specs.Sessions.{HasAsked, HoldsNothing};
-ghost use Rattle.jc_invoke.specs.Processing.{HasNoted, HasRunEach, IsRoundAsked, IsTicketRun, IsToBeRun, KeepsTickets, MayNote, MayRunEach, TakesKey};
+ghost use Rattle.jc_rounds.specs.Answers.{done_room};
+ghost use Rattle.jc_invoke.specs.RoundRooms.{IsLeft};
+ghost use Rattle.jc_invoke.specs.Processing.{HasNoted, HasRunEach, IsRoundAsked, IsTicketRun, IsToBeRun, KeepsRoom, KeepsTickets, MayNote, MayRunEach, TakesKey};
 
-use crate::room::RoundRoom;
+use crate::room::{Batches, RoundRoom};
 use jc_cache::Session;
 use jc_model::Change;
 use jc_mutentry::EntryProcessor;
@@ -27,7 +29,8 @@ pub(crate) struct Processing<'a> {
 impl RoundRoom {
     /// Runs the processor once for each of these tickets, in their order, each run from what the one before has left. Then the writer is
     /// called, at most twice: for what is to be written, and for what is to be deleted, also if the first call failed. What it returns
-    /// is dropped: each key that it leaves in a collection is told in the answers.
+    /// is dropped: each key that it leaves in a collection is told in the answers. In a cache that doesn't write through the batches come
+    /// back as they were, for a later round.
     ///
     /// It may wait, as long as the processor, the loader and the writer do. It takes no memory.
     ///
@@ -39,11 +42,13 @@ impl RoundRoom {
         session: &mut Session,
         tickets: &mut Vec<Ticket>,
         processing: &mut Processing<'_>,
-    ) -> Answers
+    ) -> (Answers, Option<Batches>)
         requires may { MayRunEach session.old tickets.old self }
         ensures asked { HasAsked session.old session.new (IsRoundAsked loads load_state writes_all deletes_all write_state
             processes process_state processing.old.args.now self.through session.old.agent tickets.old.items processing.old.processor.now
-            session.new.agent result processing.new.processor.now) }
+            session.new.agent result.0 processing.new.processor.now) }
+        ensures left { IsLeft self result.1 }
+        ensures room { done_room result.0 ≡ vec_capacity self.runs }
         ensures tickets { KeepsTickets tickets.old tickets.new }
         ensures same { (processing.new.processor.ghost_name ≡ processing.old.processor.ghost_name)
             × (processing.new.args ≡ processing.old.args) }
@@ -51,16 +56,23 @@ impl RoundRoom {
         let mut room = self;
         room.run_each(rt, session, tickets, processing);
         let RoundRoom {
-            through: _,
+            through,
             runs,
             writes,
             deletes,
         } = room;
         let mut done = runs;
-        let (written, _returned) = writes.ask(rt, session);
-        let (deleted, _also_returned) = deletes.ask(rt, session);
         done.reverse();
-        Answers::Processes(done, written, deleted)
+        if through {
+            let (written, _returned) = writes.ask(rt, session);
+            let (deleted, _also_returned) = deletes.ask(rt, session);
+            (Answers::Processes(done, written, deleted), None)
+        } else {
+            let written = Vec::new(processing.alloc);
+            let deleted = Vec::new(processing.alloc);
+            let rest = Batches { writes, deletes };
+            (Answers::Processes(done, written, deleted), Some(rest))
+        }
     }
 
     /// Runs the processor once for each of these tickets, and notes what the writer is to be asked for.
@@ -75,6 +87,7 @@ impl RoundRoom {
         ensures run { HasAsked session.old session.new (HasRunEach loads load_state processes process_state
             processing.old.args.now self.old.through session.old.agent tickets.old.items processing.old.processor.now
             session.new.agent self.new processing.new.processor.now) }
+        ensures room { KeepsRoom self.old self.new }
         ensures tickets { KeepsTickets tickets.old tickets.new }
         ensures same { (processing.new.processor.ghost_name ≡ processing.old.processor.ghost_name)
             × (processing.new.args ≡ processing.old.args) }
@@ -97,6 +110,7 @@ impl RoundRoom {
         ensures run { HasAsked session.old session.new (IsTicketRun loads load_state processes process_state
             processing.old.args.now session.old.agent ticket.old self.old processing.old.processor.now
             session.new.agent ticket.new self.new processing.new.processor.now) }
+        ensures room { KeepsRoom self.old self.new }
         ensures same { (processing.new.processor.ghost_name ≡ processing.old.processor.ghost_name)
             × (processing.new.args ≡ processing.old.args) }
     {
@@ -111,6 +125,7 @@ impl RoundRoom {
         ensures noted { HasNoted (record { reservation = ticket.old.reservation; load = done.now.load; process = done.now.process })
             self.old self.new }
         ensures runs { self.new.runs ≡ self.old.runs }
+        ensures room { KeepsRoom self.old self.new }
         ensures reservation { ticket.new.reservation ≡ ticket.old.reservation }
     {
         match change_after(self.through, done) {

@@ -37,10 +37,12 @@ pub trait Load {
     /// Puts the value at each of the keys that has one into `answers` (`loadAll`). A key that is left out has none.
     ///
     /// By default it loads one key after the other, in their order, up to the first failure, which it returns. An `Err` stands for
-    /// each of the keys, whatever is in `answers` then. A store that finds many keys in one query has a body of its own here.
+    /// each of the keys, whatever is in `answers` then. A store that finds many keys in one query has a body of its own here; it
+    /// changes `answers` by [`Answers::put`] alone, since a later round of the call uses their memory again.
     fn load_all(&mut self, keys: &[Key], answers: &mut Answers) -> Result<(), u32>
-        ensures { LoadsEach loads load_state self.old keys.now answers.old result answers.new (load_state self.new)
-            ⊎ loads_all self.old keys.now result answers.new (load_state self.new) }
+        ensures loads { LoadsEach loads load_state self.old keys.now answers.old.by_key result answers.new.by_key (load_state self.new)
+            ⊎ loads_all self.old keys.now result answers.new.by_key (load_state self.new) }
+        ensures room { answers.new.room ≡ answers.old.room }
     {
         for key in keys {
             match self.load(key) {
@@ -54,7 +56,8 @@ pub trait Load {
 
 /// Puts what was found at a key into the answers, if anything was.
 fn put_found(answers: &mut Answers, key: &Key, found: &Option<Value>)
-    ensures { answers.new ≡ with_found answers.old key.now found.now }
+    ensures found { answers.new.by_key ≡ with_found answers.old.by_key key.now found.now }
+    ensures room { answers.new.room ≡ answers.old.room }
 {
     if let Some(value) = found {
         answers.put(key, value);

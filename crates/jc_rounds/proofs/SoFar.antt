@@ -183,7 +183,7 @@ at_more config caller rounds more u w key op (Ended (Ok reply)) none at = record
 at_more config caller rounds more u w key op (Ended (Err refusal)) none at = (
   at.0,
   asked_more rounds more key at.1 (none (Err refusal) refl),
-  ⊎_elim (λ memory. inl (memory.0, some_more rounds memory.1)) (λ full. inr full) at.2,
+  ⊎_elim (λ memory. inl (memory.0, some_more rounds memory.1, memory.2)) (λ full. inr full) at.2,
 )
   where
     some_more : (rs : List Round) → (rs ≡ [] → ⊥) → rs ++ more ≡ [] → ⊥

@@ -64,7 +64,7 @@ use Rattle.jc_rounds.specs.KeyProgress.{IsCauseIn, IsNoted, StayEnded, all_waiti
 use Rattle.jc_rounds.specs.Keys.{HasEnded, IsAt, IsJoinFor, IsTicketFor, WasRefused}
 use Rattle.jc_rounds.specs.Rounds.{Round, asked_in, faults_in, keys_asked, round_fault}
 use Rattle.jc_rounds.specs.Causes.{IsFirst}
-use Rattle.jc_rounds.specs.Running.{HasRun, IsCarriedOut, IsNearFull, IsRound, WasNearFull}
+use Rattle.jc_rounds.specs.Running.{EachTakesMemory, HasRun, IsCarriedOut, IsNearFull, IsRound, WasNearFull}
 use Rattle.jc_rounds.specs.SoFar.{GoesOn, IsUnderway}
 use Rattle.jc_rounds.specs.Starting.{IsFull}
 use Rattle.jc_rounds.specs.Targets.{ops_of}
@@ -345,20 +345,20 @@ module _ {I J : Type 0} {D : I → Type 0} {E : J → Type 0} where
   }
 
   -- a key that waits was not asked for
-  refused_here : (cache : CacheState) (past : Past) (session : Session I J D E) (call : BulkCall) → (past.rounds ≡ [] → ⊥) → IsBetween cache past session call → (place : ℕ) (key : Bytes) (op : Op) (p : Progress) → slice_get (ops_of call.targets.now) place ≡ Some (key, op) → slice_get call.progress.items place ≡ Some p
+  refused_here : (cache : CacheState) (past : Past) (session : Session I J D E) (call : BulkCall) → (past.rounds ≡ [] → ⊥) → EachTakesMemory cache.config (ops_of call.targets.now) → IsBetween cache past session call → (place : ℕ) (key : Bytes) (op : Op) (p : Progress) → slice_get (ops_of call.targets.now) place ≡ Some (key, op) → slice_get call.progress.items place ≡ Some p
       → IsAt cache.config past.caller past.rounds (view_of cache.config.stripes past.first key) (view_of cache.config.stripes session.seats.items key) key op (refused_if_waiting p)
-  refused_here cache past session call some between place key op p at there = by p there (between.on.under.so_far.each place key op p at there)
+  refused_here cache past session call some takes between place key op p at there = by p there (between.on.under.so_far.each place key op p at there)
     where
       by : (p : Progress) → slice_get call.progress.items place ≡ Some p → IsAt cache.config past.caller past.rounds (view_of cache.config.stripes past.first key) (view_of cache.config.stripes session.seats.items key) key op p
           → IsAt cache.config past.caller past.rounds (view_of cache.config.stripes past.first key) (view_of cache.config.stripes session.seats.items key) key op (refused_if_waiting p)
-      by Waiting there so = (so, unasked_at cache.config (ops_of call.targets.now) past.rounds call.progress.items place key op Waiting at there refl between.on.asked, inl (refl, some))
+      by Waiting there so = (so, unasked_at cache.config (ops_of call.targets.now) past.rounds call.progress.items place key op Waiting at there refl between.on.asked, inl (refl, some, takes place key op at))
       by Reserved there so = so
       by Joined there so = so
       by (Ended e) there so = so
 
   pub refused_call : (cache : CacheState) (past : Past) (session : Session I J D E) (call later : BulkCall) → later ≡ record call { progress = later.progress; cause = later.cause } → later.progress.items ≡ map refused_if_waiting call.progress.items
-      → IsNoted call.cause (failures later.progress.items) later.cause → (past.rounds ≡ [] → ⊥) → IsBetween cache past session call → IsBetween cache past session later
-  refused_call cache past session call later rest is noted some between =
+      → IsNoted call.cause (failures later.progress.items) later.cause → (past.rounds ≡ [] → ⊥) → EachTakesMemory cache.config (ops_of call.targets.now) → IsBetween cache past session call → IsBetween cache past session later
+  refused_call cache past session call later rest is noted some takes between =
       let u = between.on.under in
       let ops = ops_of call.targets.now in
       let ps = call.progress.items in
@@ -381,7 +381,7 @@ module _ {I J : Type 0} {D : I → Type 0} {E : J → Type 0} where
               many = as_many refused_if_waiting ps ∙ u.so_far.many;
               each = λ place key op r at there.
                   let from = map_from ps place r there in
-                  subst (IsAt cache.config past.caller past.rounds (view_of n past.first key) (view_of n session.seats.items key) key op) (sym from.2) (refused_here cache past session call some between place key op from.0 at from.1);
+                  subst (IsAt cache.config past.caller past.rounds (view_of n past.first key) (view_of n session.seats.items key) key op) (sym from.2) (refused_here cache past session call some takes between place key op from.0 at from.1);
               others = u.so_far.others;
             };
             calls_are = none_are is_reserved (IsTicketFor past.caller cache.config) ops (map refused_if_waiting ps)

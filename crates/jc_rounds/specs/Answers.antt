@@ -12,8 +12,9 @@
 --     AreProcessed      the processor has run for each of these reservations, and the writer has reported where it is due
 --     IsReportedOn      the first of these runs, with the reports of all of them, the first one last
 --     TakesReport       the report on it, if one is due, and the reports that are left
+--     done_room         for how many done values of whom a round asks first there is memory
 --     AreAnswers        these answer each of these reservations, with what a round said of its key
-use Rattle.std.specs.Prelude.{◌≡◌, ◌∷◌, List, map, reverse, Bool, true, false, not, Option, None, Some, if◌then◌else◌}
+use Rattle.std.specs.Prelude.{◌≡◌, ◌∷◌, ℕ, vec_capacity, List, map, reverse, Bool, true, false, not, Option, None, Some, if◌then◌else◌}
 use Rattle.std.specs.List.{AllByRecursion, IsAmong, filter_map}
 use Rattle.jc_types.specs.declared.config.Config.{Config}
 use Rattle.jc_model.specs.Batches.{is_among}
@@ -99,6 +100,11 @@ pub record TakesReport (through : Bool) (round : ProcessRound) (run : RunState) 
   pub answer : report_answer report ≡ answer_by (change_of through (key_run run)) (round.written run.reservation.key) (round.deleted run.reservation.key)
   pub written_are : reverse written ≡ reports through false round.written runs
   pub deleted_are : reverse deleted ≡ reports through true round.deleted runs
+
+abbrev pub done_room : Answers → ℕ
+done_room (answers.Loads done) = vec_capacity done
+done_room (answers.Writes done) = vec_capacity done
+done_room (answers.Processes done written deleted) = vec_capacity done
 
 abbrev pub AreAnswers : Config → Round → Answers → List Reservation → Type 0
 AreAnswers config (LoadAll r) (answers.Loads done) calls =

@@ -6,8 +6,9 @@
 --                    it is in the front, which is the whole history of the noted state, behind the former front
 --     WasRefused     the seat has found the stripe, between these views, in a state in which the call might begin at this key and this was its
 --                    first refusal, and has left it so
---     HasEnded       the key's end: the call has made its one step there; or it was refused, has none, and no round asked for the key; for want
---                    of memory only after a round that asked outside
+--     TakesMemory    a round after one that has asked takes memory, in such a cache, for a call that does this at its keys: it may write through
+--     HasEnded       the key's end: the call has made its one step there; or it was refused, has none, and no round asked for the key; since
+--                    an allocation failed only after a round that asked, in a call whose later rounds take memory
 --     IsAt           the key is so far: it has no step of the call yet, or has ended
 --     IsEarly        the call's number isn't the last one
 --     IsTicketFor    a reservation of the call for this key, which asks whom the operation asks first, in a cache of this shape
@@ -21,7 +22,7 @@
 --     IsPickedUp     a pick-up that wasn't too early
 --     HasPicked      how far a pick-up leaves the key
 use Rattle.std.specs.List.{IsAmong}
-use Rattle.std.specs.Prelude.{◌≡◌, ◌≤◌, ◌⊎◌, ℕ, List, [], ◌∷◌, length, true, false, Option, None, Some, Result, Ok, Err, slice_get, nat_lt}
+use Rattle.std.specs.Prelude.{◌≡◌, ◌≤◌, ◌⊎◌, ℕ, List, [], ◌∷◌, length, Bool, true, false, Option, None, Some, Result, Ok, Err, slice_get, nat_lt}
 use mathlib.Core.List.{IsPrefix}
 use Rattle.jc_types.specs.declared.caller.Caller.{Caller}
 use Rattle.jc_types.specs.declared.config.Config.{Config}
@@ -33,7 +34,7 @@ use Rattle.jc_model.specs.Cache.{Bytes, entry_at}
 use Rattle.jc_model.specs.Group.{nothing_said}
 use Rattle.jc_model.specs.declared.event.Event.TheVariants.{Step}
 use Rattle.jc_model.specs.declared.event.Op.{Op}
-use Rattle.jc_model.specs.declared.event.Op.TheVariants.{Get}
+use Rattle.jc_model.specs.declared.event.Op.TheVariants.{Clear, Get, LoadAll}
 use Rattle.jc_model.specs.declared.event.Out.{Out}
 use Rattle.jc_model.specs.declared.event.Reply.{Reply}
 use Rattle.jc_stripe.specs.State.{State}
@@ -95,11 +96,17 @@ pub record WasRefused (caller : Caller) (before after : View) (key : Bytes) (op 
   pub may : MayBegin seen caller key
   pub why : first_refusal seen caller key op ≡ Some refusal
 
+pub record TakesMemory (config : Config) (op : Op) : Type 0 where
+  pub through : config.write_through ≡ true
+  pub not_get : op ≡ Get → ⊥
+  pub not_load : (replace : Bool) → op ≡ LoadAll replace → ⊥
+  pub not_clear : op ≡ Clear → ⊥
+
 abbrev pub HasEnded : Config → Caller → List Round → View → View → Bytes → Op → Result Reply Refusal → Type 0
 HasEnded config caller rounds before after key op (Ok reply) = HasStep config caller rounds before after key op reply
 HasEnded config caller rounds before after key op (Err refusal) =
     (steps_of caller key after.own ≡ []) × (is_among (asked_in rounds) key ≡ false)
-    × ((refusal ≡ OutOfMemory) × (rounds ≡ [] → ⊥) ⊎ ((refusal ≡ HistoryFull) × WasRefused caller before after key op refusal))
+    × ((refusal ≡ OutOfMemory) × (rounds ≡ [] → ⊥) × TakesMemory config op ⊎ ((refusal ≡ HistoryFull) × WasRefused caller before after key op refusal))
 
 -- 2. On the way.
 

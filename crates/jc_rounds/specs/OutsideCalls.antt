@@ -8,6 +8,7 @@
 --     no_loads, no_writes    for none, with room for so many
 --     with_load, with_write  for one more
 --     IsLoadCall, IsWriteCall    the asks and their batch, in one order, with room for so many more and for their done values
+--     AreSpent          what is left of a loader's call that was made: no ask and no key, and memory for as many asks as keys
 --     LoadCallAsked     the loader was called once, and has said this of the keys; the last ask's done value comes first
 --     WritesBatch       the writer was called once for exactly these changes, if there are any, and else it wasn't
 --     WriteCallAsked    so the writer was called, and has said this of the keys; the last ask's done value comes first
@@ -26,6 +27,7 @@ use Rattle.jc_outside.specs.Done.{LoadResult, WriteResult}
 use Rattle.jc_session.specs.Boxed.{boxed}
 use Rattle.jc_stripe.specs.Tickets.{Claim}
 use Rattle.jc_cache.specs.declared.session.Session.{Session}
+use Rattle.jc_rounds.specs.declared.load_call.SpentLoads.{SpentLoads}
 use Rattle.jc_rounds.specs.Answers.{key_of}
 
 abbrev pub asked_keys : List Claim → List Bytes
@@ -60,6 +62,11 @@ pub record IsLoadCall (asks : Vec Claim) (keys : List Bytes) (room : ℕ) (done 
   pub asks_room : vec_len asks + room ≤ vec_capacity asks
   pub done_room : vec_len asks + room ≤ vec_capacity done
   pub none : done.items ≡ []
+
+pub record AreSpent (spent : SpentLoads) : Type 0 where
+  pub no_asks : spent.asks.items ≡ []
+  pub no_keys : spent.batch.items ≡ []
+  pub asks_room : spent.batch.room ≤ vec_capacity spent.asks
 
 pub record LoadCallAsked
     {I J : Type 0} {D : I → Type 0} {E : J → Type 0} (loads_all : LoadAllRelation ((i : I) × D i)) (load_state : (i : I) × D i → List ℕ)

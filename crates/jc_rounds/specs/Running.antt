@@ -5,6 +5,7 @@
 --     with_rounds    these rounds more
 --     HasRun         the call with nothing out, after rounds of which each started every key that it could; its cause is one of the first that
 --                    it met
+--     EachTakesMemory    a later round takes memory for each of these keys
 --     near_places    how many places of a history may be held by promises, and how many one step more needs
 --     IsNearFull     the present generation's history has hardly any place left, or a number has come to its end
 --     WasNearFull    so was the stripe in a state in which the seat has found it between these views, and has left it
@@ -14,6 +15,7 @@ use Rattle.std.specs.Prelude.{◌≡◌, ◌≤◌, ◌<◌, ◌+◌, ◌*◌, �
 use mathlib.Core.List.{IsPrefix}
 use Rattle.atomic_table.specs.Seated.{TableId}
 use Rattle.jc_types.specs.declared.caller.Caller.{Caller}
+use Rattle.jc_types.specs.declared.config.Config.{Config}
 use Rattle.jc_types.specs.declared.limits.TheConstants.{JOINERS_MAX, RESERVATIONS_MAX, STEP_PLACES}
 use Rattle.jc_types.specs.declared.refusal.Refusal.TheVariants.{HistoryFull}
 use Rattle.jc_model.specs.Batches.{is_among}
@@ -33,7 +35,7 @@ use Rattle.jc_rounds.specs.declared.progress.Progress.TheVariants.{Waiting}
 use Rattle.jc_rounds.specs.Asking.{AsksEachOnce}
 use Rattle.jc_rounds.specs.Causes.{IsFirst}
 use Rattle.jc_rounds.specs.Ends.{KeyEnd, key_ops}
-use Rattle.jc_rounds.specs.Keys.{HasEnded}
+use Rattle.jc_rounds.specs.Keys.{HasEnded, TakesMemory}
 use Rattle.jc_rounds.specs.Lendings.{OnlyPhases}
 use Rattle.jc_rounds.specs.Recorded.{former_steps, steps_of}
 use Rattle.jc_rounds.specs.Rounds.{Round, asked_in}
@@ -67,6 +69,9 @@ pub record HasRun {I J : Type 0} {D : I → Type 0} {E : J → Type 0} (cache : 
   pub started : HasStartedAll past.caller cache.config.stripes (ops_of call.targets.now) past.first session.seats.items past.rounds
   pub held : HeldInEach past.caller cache.config.stripes (ops_of call.targets.now) past.first started.ends call.progress.items
   pub first : IsFirst past.caller cache.config.stripes (ops_of call.targets.now) [] started.ends call.cause
+
+abbrev pub EachTakesMemory : Config → List (Bytes × Op) → Type 0
+EachTakesMemory config targets = (place : ℕ) (key : Bytes) (op : Op) → slice_get targets place ≡ Some (key, op) → TakesMemory config op
 
 -- 2. The call.
 

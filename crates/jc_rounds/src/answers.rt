@@ -1,14 +1,14 @@
 //! What was answered outside for the keys that a round has reserved, and the last phases that it leads to.
-ghost use Rattle.std.specs.Prelude.{◌≡◌, ◌∷◌, [], List, None, if◌then◌else◌};
+ghost use Rattle.std.specs.Prelude.{◌≡◌, ◌∷◌, [], List, None, vec_capacity, if◌then◌else◌};
 ghost use Rattle.jc_types.specs.declared.config.Config.{Config};
 ghost use Rattle.jc_model.specs.declared.event.Out.{Out};
 ghost use Rattle.jc_mutentry.specs.Done.{effect_change};
 ghost use Rattle.jc_stripe.specs.declared.ticket.Reservation.{Reservation};
 ghost use Rattle.jc_session.specs.declared.counts.Counted.TheVariants.{Committed};
-ghost use Rattle.jc_rounds.specs.Answers.{AreAnswers, IsReportedOn, RunState, TakesReport};
+ghost use Rattle.jc_rounds.specs.Answers.{AreAnswers, IsReportedOn, RunState, TakesReport, done_room};
 ghost use Rattle.jc_rounds.specs.KeyPhases.{IsKeyPhase, MayStep};
 ghost use Rattle.jc_rounds.specs.Keys.{IsCommitted, IsEarly};
-ghost use Rattle.jc_rounds.specs.Rounds.{IsAnswer, ProcessRound, Round};
+ghost use Rattle.jc_rounds.specs.Rounds.{IsAnswer, ProcessAll, ProcessRound, Round};
 ghost use Rattle.jc_rounds.specs.Seats.{view_of};
 
 use jc_cache::{Cache, Session};
@@ -45,7 +45,7 @@ impl Answers {
         requires caller { (ticket.reservation.caller ≡ session.old.agent.caller) × IsEarly session.old.agent.caller }
         requires answers { (round : Round) × (rest : List Reservation)
             × AreAnswers cache.now.config round self.old (ticket.reservation ∷ rest) }
-        ensures { (round : Round) (rest : List Reservation)
+        ensures told { (round : Round) (rest : List Reservation)
             → AreAnswers cache.now.config round self.old (ticket.reservation ∷ rest)
             → AreAnswers cache.now.config round self.new rest
             × IsKeyPhase cache.now session.old ticket.reservation.key Committed session.new
@@ -53,6 +53,7 @@ impl Answers {
             × IsCommitted cache.now.config session.old.agent.caller ticket.reservation out
             (view_of cache.now.config.stripes session.old.seats.items ticket.reservation.key)
             (view_of cache.now.config.stripes session.new.seats.items ticket.reservation.key) reply.new) }
+        ensures room { done_room self.new ≡ done_room self.old }
     {
         is_uniform();
         own_steps();
@@ -80,8 +81,25 @@ impl Answers {
         }
     }
 
+    /// The memory of the done values of a processor's runs, of which none is left.
+    pub fn into_runs(self) -> Vec<ProcDone<Ask>>
+        requires { (config : Config) × (round : ProcessRound) × AreAnswers config (ProcessAll round) self [] }
+        ensures none { result.items ≡ [] }
+        ensures room { vec_capacity result ≡ done_room self }
+    {
+        match self {
+            Answers::Processes(done, written, deleted) => {
+                written.destroy_empty();
+                deleted.destroy_empty();
+                done
+            }
+            Answers::Loads(_done) => unreachable!(),
+            Answers::Writes(_done) => unreachable!(),
+        }
+    }
+
     /// Ends answers of which none is left.
-    pub(crate) fn end(self)
+    pub fn end(self)
         requires { (config : Config) × (round : Round) × AreAnswers config round self [] }
     {
         match self {

@@ -1,6 +1,7 @@
 //! The last phases of a round of a call with many keys, once those outside have answered.
-ghost use Rattle.std.specs.Prelude.{◌≡◌, ◌<◌, ◌+◌, length, slice_get, reverse, Some, ◌∷◌};
+ghost use Rattle.std.specs.Prelude.{◌≡◌, ◌<◌, ◌+◌, [], length, slice_get, reverse, Some, ◌∷◌};
 ghost use Rattle.jc_rounds.specs.declared.progress.Progress.TheVariants.{Reserved};
+ghost use Rattle.jc_rounds.specs.Answers.{AreAnswers, done_room};
 ghost use Rattle.jc_rounds.specs.Rounds.{Round};
 ghost use Rattle.jc_rounds.specs.KeyProgress.{IsNoted, failures};
 ghost use Rattle.jc_rounds.specs.Underway.{Advances, AdvancesUnnoted, HasCommitted, IsAnswered, IsCommitting, IsCommittingNext, Past};
@@ -15,7 +16,8 @@ use jc_types::Value;
 use std::sync::Wait;
 
 impl<'a> BulkCall<'a> {
-    /// The last phases of a round, at each key that is reserved, in their order.
+    /// The last phases of a round, at each key that is reserved, in their order. It returns the answers, of which none is left, with the
+    /// memory that they had.
     ///
     /// Conditions: the call is the session's current one; these answers are what a round of the call has said of the keys that are
     /// reserved.
@@ -25,20 +27,23 @@ impl<'a> BulkCall<'a> {
         cache: &Cache,
         session: &mut Session,
         answers: Answers,
-    )
+    ) -> Answers
         requires answered { (past : Past) × (round : Round) × IsAnswered cache.now past round session.old self.old answers }
         ensures advances { Advances session.old session.new self.old self.new }
         ensures cause { IsNoted self.old.cause (failures self.new.progress.items) self.new.cause }
         ensures committed { (past : Past) (round : Round) → IsAnswered cache.now past round session.old self.old answers
             → HasCommitted cache.now past session.new self.new }
+        ensures spent { (past : Past) (round : Round) → IsAnswered cache.now past round session.old self.old answers
+            → AreAnswers cache.now.config round result [] }
+        ensures room { done_room result ≡ done_room answers }
     {
         let mut left = answers;
         self.tickets.reverse();
         for place in 0..self.progress.len() {
             self.commit_at(rt, cache, session, place, &mut left);
         }
-        left.end();
         self.note_failures();
+        left
     }
 
     /// The last phase at the key of this place, if it is reserved. No key before it is. The last of the tickets is the first key's.
@@ -57,6 +62,7 @@ impl<'a> BulkCall<'a> {
         ensures committed { (past : Past) (round : Round)
             → IsCommitting cache.now past round session.old self.old answers.old place
             → IsCommitting cache.now past round session.new self.new answers.new (place + 1) }
+        ensures room { done_room answers.new ≡ done_room answers.old }
     {
         if self.progress[place].is_reserved() {
             match self.tickets.pop() {
@@ -83,6 +89,7 @@ impl<'a> BulkCall<'a> {
         ensures committed { (past : Past) (round : Round)
             → IsCommittingNext cache.now past round session.old self.old ticket answers.old place
             → IsCommitting cache.now past round session.new self.new answers.new (place + 1) }
+        ensures room { done_room answers.new ≡ done_room answers.old }
     {
         let _types: Option<&(Reply, Value)> = None;
         let mut reply = Reply::Unit;

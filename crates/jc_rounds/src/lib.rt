@@ -27,7 +27,7 @@ mod write_call;
 
 pub use answers::{Answers, change_after};
 pub use bulk_call::{BulkCall, Rooms};
-pub use load_call::LoadCall;
+pub use load_call::{LoadCall, SpentLoads};
 pub use progress::Progress;
 pub use targets::Targets;
 pub use write_call::WriteCall;

@@ -1,9 +1,10 @@
 //! One call of the loader (`loadAll`) for many keys.
-ghost use Rattle.std.specs.Prelude.{◌≡◌, ◌<◌, [], false, IfOk};
+ghost use Rattle.std.specs.Prelude.{◌≡◌, ◌<◌, ◌≤◌, ◌+◌, [], length, false, vec_capacity, IfOk};
 ghost use Rattle.jc_model.specs.Batches.{is_among};
 ghost use Rattle.jc_cache.specs.Sessions.{HasAsked, HoldsNothing};
-ghost use Rattle.jc_rounds.specs.OutsideCalls.{LoadCallAsked, asked_keys, no_loads, with_load};
+ghost use Rattle.jc_rounds.specs.OutsideCalls.{AreSpent, LoadCallAsked, asked_keys, no_loads, with_load};
 
+use crate::answers::Answers;
 use jc_batch::LoadBatch;
 use jc_cache::Session;
 use jc_outside::Ask as OutsideAsk;
@@ -57,23 +58,28 @@ impl LoadCall {
         self.asks.push_reserved(ask);
     }
 
-    /// Calls the session's loader once, for all of these asks. It returns the done values, the last ask's first.
+    /// Calls the session's loader once, for all of these asks. It returns the done values, the last ask's first, and the memory of the
+    /// call, which serves a later round.
     ///
     /// A failed call fails for each of the keys; a key without an answer isn't found, nor is any without a loader.
     ///
     /// It may wait, as long as the loader does. It takes no memory of its own.
     ///
     /// Condition: the session holds no stripe.
-    pub fn ask<R: Wait>(self, rt: &R, session: &mut Session) -> Vec<LoadDone<Ask>>
+    pub fn ask<R: Wait>(self, rt: &R, session: &mut Session) -> (Vec<LoadDone<Ask>>, SpentLoads)
         requires nothing { HoldsNothing session.old }
-        ensures { HasAsked session.old session.new
-            (LoadCallAsked loads_all load_state session.old self.items result.items session.new) }
+        ensures asked { HasAsked session.old session.new
+            (LoadCallAsked loads_all load_state session.old self.items result.0.items session.new) }
+        ensures spent { AreSpent result.1 }
+        ensures room { (result.1.batch.room ≡ length self.items + self.room)
+            × (length self.items + self.room ≤ vec_capacity result.0) }
     {
         let LoadCall { asks, batch, done } = self;
+        let mut asks = asks;
         let mut done = done;
-        session.ask_loader_all(rt, asks, batch, &mut done);
+        let batch = session.ask_loader_all(rt, &mut asks, batch, &mut done);
         done.reverse();
-        done
+        (done, SpentLoads { asks, batch })
     }
 
     /// Ends a call that asks for nothing: nobody is asked.
@@ -87,5 +93,37 @@ impl LoadCall {
         } = self;
         asks.destroy_empty();
         done.destroy_empty();
+    }
+}
+
+/// The memory of a call of the loader that was made, but for the done values, which were handed out. It can't be dropped.
+pub struct SpentLoads {
+    asks: Vec<Ask>,
+    batch: LoadBatch,
+}
+
+impl SpentLoads {
+    ghost use Rattle.std.specs.Prelude.{◌≡◌, ◌≤◌, []};
+    ghost use Rattle.jc_types.specs.declared.config.Config.{Config};
+    ghost use Rattle.jc_rounds.specs.Answers.{AreAnswers, done_room};
+    ghost use Rattle.jc_rounds.specs.OutsideCalls.{AreSpent, no_loads};
+    ghost use Rattle.jc_rounds.specs.Rounds.{LoadAll, LoadRound};
+
+    /// A call for a later round, of this memory and that of its answers: nothing to load, with room for as many keys as before. It
+    /// takes no memory.
+    ///
+    /// Condition: none of the answers is left, and there was room for them.
+    pub fn again(self, answers: Answers) -> LoadCall
+        requires spent { AreSpent self }
+        requires answers { (config : Config) × (round : LoadRound) × AreAnswers config (LoadAll round) answers [] }
+        requires room { self.batch.room ≤ done_room answers }
+        ensures { result ≡ no_loads self.batch.room }
+    {
+        let SpentLoads { asks, batch } = self;
+        match answers {
+            Answers::Loads(done) => LoadCall { asks, batch, done },
+            Answers::Writes(_done) => unreachable!(),
+            Answers::Processes(_done, _written, _deleted) => unreachable!(),
+        }
     }
 }

@@ -58,6 +58,7 @@ impl Shared {
     pub(crate) fn load_all(&mut self, keys: &[Key], answers: &mut Answers) -> Result<(), u32>
         ensures code { IfErr result (λ code. 0 < code) }
         ensures kept { KeepsFailure (λ failure. IsSome failure.key) self.old.last_error result self.new.last_error }
+        ensures room { answers.new.room ≡ answers.old.room }
     {
         match table::load_all(&mut self.connection, keys, answers) {
             Ok(()) => Ok(()),

@@ -145,7 +145,8 @@ pub fn load_all<S: Alter>(
     answers: &mut Answers,
 ) -> Result<(), Failure>
     ensures loads { HasCleanDisk (state S.Store conn.new)
-        → LoadsAll S.Store keys.now conn.old conn.new answers.old answers.new result }
+        → LoadsAll S.Store keys.now conn.old conn.new answers.old.by_key answers.new.by_key result }
+    ensures room { answers.new.room ≡ answers.old.room }
     ensures named { IfErr result (λ failure. IsSome failure.key) }
 {
     for key in keys {
@@ -161,7 +162,8 @@ fn load_into<S: Alter>(
     answers: &mut Answers,
 ) -> Result<(), Failure>
     ensures loads { HasCleanDisk (state S.Store conn.new)
-        → LoadsInto key.now (state S.Store conn.old) (state S.Store conn.new) answers.old answers.new result }
+        → LoadsInto key.now (state S.Store conn.old) (state S.Store conn.new) answers.old.by_key answers.new.by_key result }
+    ensures room { answers.new.room ≡ answers.old.room }
     ensures named { IfErr result (λ failure. IsSome failure.key) }
     ensures survives { Survives (state S.Store conn.old) (state S.Store conn.new)
         (CommitsShowing load_sql (key_row key.now) (state S.Store conn.old)) }
@@ -180,7 +182,8 @@ fn load_into<S: Alter>(
 
 /// Puts what was found at a key into the answers, if anything was.
 fn put_found(answers: &mut Answers, key: &Key, found: &Option<Value>)
-    ensures { answers.new ≡ with_found answers.old key.now found.now }
+    ensures found { answers.new.by_key ≡ with_found answers.old.by_key key.now found.now }
+    ensures room { answers.new.room ≡ answers.old.room }
 {
     if let Some(value) = found {
         answers.put(key, value);

@@ -98,7 +98,8 @@ impl<L: CacheLoader> CacheLoader for ScheduledLoader<L> {
 
 /// Gives these answers, in their order.
 fn put_all(answers: &mut Answers, more: &[(Key, Value)])
-    ensures { answers.new ≡ answers_with_all answers.old more.now }
+    ensures answers { answers.new.by_key ≡ answers_with_all answers.old.by_key more.now }
+    ensures room { answers.new.room ≡ answers.old.room }
 {
     for (key, value) in more {
         answers.put(key, value);

@@ -61,8 +61,9 @@ impl Store {
     ///
     /// Condition: the answers are of these keys, and have no answer yet.
     pub fn read_all(&self, keys: &[Key], answers: &mut Answers)
-        requires { answers.old ≡ no_answers keys.now }
-        ensures { answers.new ≡ answers_from self.now keys.now }
+        requires { answers.old.by_key ≡ no_answers keys.now }
+        ensures answers { answers.new.by_key ≡ answers_from self.now keys.now }
+        ensures room { answers.new.room ≡ answers.old.room }
     {
         for key in keys {
             if let Some(value) = self.read(key) {

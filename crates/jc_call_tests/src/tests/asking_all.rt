@@ -67,7 +67,8 @@ fn loads<R: Abort + Wait>(
     asks.push_reserved(about(b, Change::Delete));
     batch.insert(b);
     is(rt, batch.len(), 2);
-    call_loader_all(rt, hands, asks, batch, &mut done);
+    let _spent = call_loader_all(rt, hands, &mut asks, batch, &mut done);
+    asks.destroy_empty();
     were_loaded(rt, done, want);
 }
 

@@ -145,7 +145,8 @@ fn load_two<R: Abort + Wait>(
     batch.insert(a);
     asks.push_reserved(ask(b));
     batch.insert(b);
-    call_loader_all(rt, hands, asks, batch, &mut done);
+    let _spent = call_loader_all(rt, hands, &mut asks, batch, &mut done);
+    asks.destroy_empty();
     let [before, last] = want;
     was_loaded(rt, &mut done, last);
     was_loaded(rt, &mut done, before);

@@ -1,9 +1,9 @@
-use Rattle.std.proofs.Common.{◌≤◌, subst, sym}
+use Rattle.std.proofs.Common.{◌≤◌, IfNone, subst, sym}
 use Rattle.jc_rounds.specs.Targets.{ops_of}
 use Rattle.jc_rounds.specs.Running.{with_rounds}
 use Rattle.jc_rounds.proofs.CallerLemmas.{refused_over, spent_none}
-use Rattle.jc_bulk.specs.RoundsRun.{KeysAskAs}
-use Rattle.jc_bulk.proofs.RoundsOn.{left_empty, left_most, left_ready, runs_refused, runs_then}
+use Rattle.jc_bulk.specs.RoundsRun.{KeysAskAs, TakesNew}
+use Rattle.jc_bulk.proofs.RoundsOn.{each_takes, left_empty, left_most, left_ready, none_said, runs_refused, runs_then}
 use Rattle.jc_bulk.proofs.rounds.run_rounds.Goals as goal
 
 pub loop-init : goal.loop-init
@@ -12,6 +12,7 @@ loop-init g c =
     let one = (c.run_round-left.ensures.runs r.0 r.1).0 in
     record {
       left = left_most c.kind-kind.result _ _ c.run_round-left.result one.most (left_ready c.kind-kind.result _ c.args.outside c.run_round-left.result c.run_round-left.ensures.left (sym c.kind-kind.ensures, c.requires.ready.none, c.requires.ready.room));
+      spent = subst (λ k. IfNone c.run_round-left.result (TakesNew k c.args.cache.now.config)) (sym c.kind-kind.ensures) c.run_round-left.ensures.spent;
       keys = subst (λ k. KeysAskAs k (ops_of c.run_round-left.new.call.targets.now)) (sym c.kind-kind.ensures) (subst (λ t. KeysAskAs c.args.outside.kind (ops_of t.now)) (sym one.targets) c.requires.ready.kind);
       runs = c.run_round-left.ensures.runs;
     }
@@ -52,6 +53,7 @@ loop-preserved g c =
     record {
       left = left_most c.kind-kind.result _ _ c.run_round-left-in-Ok.result one.most
           (left_ready c.kind-kind.result _ c.in-Ok.outside c.run_round-left-in-Ok.result c.run_round-left-in-Ok.ensures.left (c.in-Ok.ensures.ok.0, c.in-Ok.ensures.ok.1, subst (λ n. n ≤ c.in-Ok.outside.room) c.most.ensures c.in-Ok.ensures.ok.2));
+      spent = subst (λ k. IfNone c.run_round-left-in-Ok.result (TakesNew k c.args.cache.now.config)) c.in-Ok.ensures.ok.0 c.run_round-left-in-Ok.ensures.spent;
       keys = subst (λ t. KeysAskAs c.kind-kind.result (ops_of t.now)) (sym one.targets) c.loop.invariant.keys;
       runs = λ past run.
           let before = (c.loop.invariant.runs past run).0 in
@@ -68,3 +70,4 @@ returns-in-Err-clause-runs g c past run =
     runs_refused (λ v. (goal.CacheLoader-dyn g v).loads_all v.1) (λ v. (goal.CacheLoader-dyn g v).load_state v.1) (λ v. (goal.CacheWriter-dyn g v).writes_all v.1) (λ v. (goal.CacheWriter-dyn g v).deletes_all v.1) (λ v. (goal.CacheWriter-dyn g v).write_state v.1)
     c.args.cache.now past c.args.session.now c.loop.session c.args.call.now c.loop.call c.refuse_rest.new.self c.refuse_rest.ensures.rest c.refuse_rest.ensures.progress c.refuse_rest.ensures.cause (c.loop.invariant.runs past run).0
     (spent_none c.loop.left (c.loop.invariant.runs past run).0.rounds c.in-Err.ensures.err (c.loop.invariant.runs past run).1)
+    (each_takes c.kind-kind.result c.args.cache.now.config (ops_of c.loop.call.targets.now) c.loop.invariant.keys (none_said (TakesNew c.kind-kind.result c.args.cache.now.config) c.loop.left c.in-Err.ensures.err c.loop.invariant.spent))

@@ -80,7 +80,7 @@ returns-in-Err-clause-made g c =
     (λ b. (goal.EntryProcessor-dyn g (b.vtable, b.value)).processes b.value) (λ b. (goal.EntryProcessor-dyn g (b.vtable, b.value)).process_state b.value)
     c.args.processing.now.args.now c.args.cache.now c.args.session.now c.loop.session c.run_round-left.new.session c.args.call.now c.loop.call c.run_round-left.new.call c.refuse_rest.new.self
     c.args.processing.now.processor.now c.loop.processing.processor.now c.run_round-left.new.processing.processor.now c.run_round-left.result c.in-Err.ensures.err
-    c.refuse_rest.ensures.progress c.refuse_rest.ensures.cause c.refuse_rest.ensures.rest c.loop.invariant.made one
+    c.refuse_rest.ensures.progress c.refuse_rest.ensures.cause c.refuse_rest.ensures.rest c.loop.invariant.made one c.loop.invariant.may.invoked
 
 pub returns-in-Err-clause-same : goal.returns-in-Err-clause-same
 returns-in-Err-clause-same g c = (c.run_round-left.ensures.same.0 ∙ c.loop.invariant.same_processor, c.run_round-left.ensures.same.1 ∙ c.loop.invariant.same_args)

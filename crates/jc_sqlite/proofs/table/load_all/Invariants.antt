@@ -1,6 +1,9 @@
-use Rattle.std.proofs.Common.{drop}
+use Rattle.std.proofs.Common.{◌≡◌, drop}
 use Rattle.jc_sqlite.proofs.Statements.{Loading}
 use Rattle.jc_sqlite.proofs.table.load_all.Given as goal
 
 abbrev pub invariant-loop-key : goal.invariant-loop-key
-invariant-loop-key g l = Loading g.S.Store l.keys (drop l.key-index l.keys) l.fn.conn l.conn l.fn.answers l.answers
+invariant-loop-key g l = record {
+  loads : Loading g.S.Store l.keys (drop l.key-index l.keys) l.fn.conn l.conn l.fn.answers.by_key l.answers.by_key;
+  room : l.answers.room ≡ l.fn.answers.room;
+}

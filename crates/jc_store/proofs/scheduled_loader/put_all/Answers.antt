@@ -11,7 +11,11 @@ loop-key-preserved c =
     let more = c.args.more.now in
     let done = take c.loop-key.key-index more in
     let e = c.loop-key-item.result in
-    c.put.ensures.answers
-    ∙ ap (λ m. answers_with m e.0 e.1) c.loop-key.invariant
-    ∙ sym (answers_with_all-last c.args.answers.now done e)
-    ∙ ap (answers_with_all c.args.answers.now) (ap (λ (x : Bytes × Bytes). done ++ x ∷ []) c.loop-key-item.is ∙ sym (take_more more c.loop-key.key-index e c.loop-key-test.true))
+    record {
+      answers = c.put.ensures.answers
+          ∙ ap (λ m. answers_with m e.0 e.1) c.loop-key.invariant.answers
+          ∙ sym (answers_with_all-last c.args.answers.now.by_key done e)
+          ∙ ap (answers_with_all c.args.answers.now.by_key)
+          (ap (λ (x : Bytes × Bytes). done ++ x ∷ []) c.loop-key-item.is ∙ sym (take_more more c.loop-key.key-index e c.loop-key-test.true));
+      room = c.put.ensures.room ∙ c.loop-key.invariant.room;
+    }

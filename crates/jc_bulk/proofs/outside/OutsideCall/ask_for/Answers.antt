@@ -1,8 +1,9 @@
+use Rattle.std.proofs.lemmas.List.{length-map}
 use Rattle.std.proofs.Common.{◌≡◌, ◌<◌, ◌+◌, ◌-◌, ◌++◌, ◌∷◌, [], length, take, get_or, slice_set, sym, ap, ◌∙◌, arith}
 use Rattle.jc_model.specs.Batches.{is_among}
 use Rattle.jc_rounds.specs.OutsideCalls.{asked_keys}
-use Rattle.jc_bulk.specs.Outside.{items_in, kind_in, with_ask}
-use Rattle.jc_bulk.proofs.Tickets.{answered_loads, answered_writes, ask_of, asked_ticket, asks_next, asks_of, new_next, next_ticket, tickets_next, whole_asks, whole_tickets}
+use Rattle.jc_bulk.specs.Outside.{items_in, kind_in, room_in, with_ask}
+use Rattle.jc_bulk.proofs.Tickets.{answered_loads, answered_writes, loads_rest, writes_rest, ask_of, asked_ticket, asks_next, asks_of, new_next, next_ticket, tickets_next, whole_asks, whole_tickets}
 use Rattle.jc_bulk.proofs.outside.OutsideCall.ask_for.Goals as goal
 
 pub push-requires-clause-new : goal.push-requires-clause-new
@@ -39,12 +40,12 @@ returns-in-Loads-clause-tickets g c = record {
 
 pub returns-in-Loads-clause-asked : goal.returns-in-Loads-clause-asked
 returns-in-Loads-clause-asked g c =
-    let e = c.ask-in-Loads.ensures in
+    let e = c.ask-loaded.ensures.asked in
     let is = c.call.view_is ∙ c.loop-place.invariant.call in
     let asks = whole_asks c.args.tickets.now.items c.loop-place.place c.in-Loads.call.items (omega (arith, c.loop-place-test.false, c.len-place-end.ensures, c.args.tickets.now.ok.0)) (sym (ap items_in c.in-Loads.is) ∙ ap (λ s. s.items) is) in
     record {
       asked = answered_loads (λ v. (goal.CacheLoader-dyn g v).loads_all v.1) (λ v. (goal.CacheLoader-dyn g v).load_state v.1) (λ v. (goal.CacheWriter-dyn g v).writes_all v.1) (λ v. (goal.CacheWriter-dyn g v).deletes_all v.1) (λ v. (goal.CacheWriter-dyn g v).write_state v.1)
-          c.args.session.now c.ask-in-Loads.new.session c.args.self.kind c.args.tickets.now.items c.in-Loads.call.items c.ask-in-Loads.result (sym (ap (λ s. s.kind) is) ∙ ap kind_in c.in-Loads.is) asks c.requires.fill.kind e.asked;
+          c.args.session.now c.ask-loaded.new.session c.args.self.kind c.args.tickets.now.items c.in-Loads.call.items c.ask-loaded.result.0 (sym (ap (λ s. s.kind) is) ∙ ap kind_in c.in-Loads.is) asks c.requires.fill.kind e.asked;
       rest = e.rest;
       own = e.own;
     }
@@ -67,3 +68,17 @@ returns-in-Writes-clause-asked g c =
       rest = e.rest;
       own = e.own;
     }
+
+pub returns-in-Loads-clause-rest : goal.returns-in-Loads-clause-rest
+returns-in-Loads-clause-rest g c =
+    let is = c.call.view_is ∙ c.loop-place.invariant.call in
+    let ts = c.args.tickets.now.items in
+    let asks = whole_asks ts c.loop-place.place c.in-Loads.call.items (omega (arith, c.loop-place-test.false, c.len-place-end.ensures, c.args.tickets.now.ok.0)) (sym (ap items_in c.in-Loads.is) ∙ ap (λ s. s.items) is) in
+    let room : c.in-Loads.call.room ≡ c.args.self.room - c.loop-place.place = sym (ap room_in c.in-Loads.is) ∙ ap (λ s. s.room) is in
+    let many : length c.in-Loads.call.items ≡ length ts = ap length asks ∙ length-map ts ask_of in
+    loads_rest c.args.self.kind c.args.self.room _ _ _ (sym (ap (λ s. s.kind) is) ∙ ap kind_in c.in-Loads.is) (omega (arith, room, many, c.requires.fill.room, c.loop-place-test.false, c.loop-place.auto.place-end, c.len-place-end.ensures, c.args.tickets.now.ok.0)) c.ask-loaded.ensures.spent c.ask-loaded.ensures.room
+
+pub returns-in-Writes-clause-rest : goal.returns-in-Writes-clause-rest
+returns-in-Writes-clause-rest g c =
+    let is = c.call.view_is ∙ c.loop-place.invariant.call in
+    writes_rest c.args.self.kind c.in-Writes.call.deletes _ _ (sym (ap (λ s. s.kind) is) ∙ ap kind_in c.in-Writes.is)

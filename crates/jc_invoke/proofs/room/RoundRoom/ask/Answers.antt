@@ -1,6 +1,7 @@
-use Rattle.std.proofs.Common.{sym, true, false, ◌∙◌}
+use Rattle.std.proofs.Common.{Ok, ap, sym, true, false, ◌∙◌}
 use Rattle.jc_cache.proofs.SessionPhases.{holds_nothing}
-use Rattle.jc_invoke.proofs.RoundAsked.{round_asked}
+use Rattle.jc_rounds.specs.OutsideCalls.{WriteCallState}
+use Rattle.jc_invoke.proofs.RoundAsked.{round_asked, unasked_writer}
 use Rattle.jc_invoke.proofs.Runs.{has_writer, rest_on}
 use Rattle.jc_invoke.proofs.room.RoundRoom.ask.Goals as goal
 
@@ -24,8 +25,8 @@ ask-deleted-requires-clause-writer g c =
     let own = c.ask-written.ensures.own may.cache (run.own may.cache may.own) in
     has_writer c.args.self.through true run.asked.runs c.run_each.new.self.deletes.items c.ask-written.new.session.agent.hands.outside.writer run.asked.deletes_are (λ is. own.writes (sym may.room_is.through_is ∙ is))
 
-pub returns-clause-asked : goal.returns-clause-asked
-returns-clause-asked g c =
+pub returns-then-through-clause-asked : goal.returns-then-through-clause-asked
+returns-then-through-clause-asked g c =
     let run = c.run_each.ensures.run in
     let w = c.ask-written.ensures in
     let d = c.ask-deleted.ensures in
@@ -40,3 +41,41 @@ returns-clause-asked g c =
       rest = rest_on c.args.session.now c.ask-written.new.session c.ask-deleted.new.session d.rest (rest_on c.args.session.now c.run_each.new.session c.ask-written.new.session w.rest run.rest);
       own = λ cache of. d.own cache (w.own cache (run.own cache of));
     }
+
+pub returns-else-through-clause-asked : goal.returns-else-through-clause-asked
+returns-else-through-clause-asked g c =
+    let run = c.run_each.ensures.run in
+    let kept = c.run_each.ensures.room in
+    let quiet = kept.quiet (sym kept.through_is ∙ c.if-through.false) in
+    let room = c.requires.may.room_is in
+    record {
+      asked = round_asked (λ v. (goal.CacheLoader-dyn g v).loads v.1) (λ v. (goal.CacheLoader-dyn g v).load_state v.1)
+          (λ v. (goal.CacheWriter-dyn g v).writes_all v.1) (λ v. (goal.CacheWriter-dyn g v).deletes_all v.1) (λ v. (goal.CacheWriter-dyn g v).write_state v.1)
+          (λ b. (goal.EntryProcessor-dyn g (b.vtable, b.value)).processes b.value) (λ b. (goal.EntryProcessor-dyn g (b.vtable, b.value)).process_state b.value)
+          c.args.processing.now.args.now c.args.self.through c.args.session.now.agent c.run_each.new.session c.run_each.new.session c.run_each.new.session
+          c.args.processing.now.processor.now c.run_each.new.processing.processor.now c.args.tickets.now.items c.run_each.new.self
+          c.reverse.new.self c.new-written.result c.new-deleted.result (Ok tt) (Ok tt)
+          run.asked
+          (unasked_writer (λ v. (goal.CacheWriter-dyn g v).writes_all v.1) (λ v. (goal.CacheWriter-dyn g v).deletes_all v.1) (λ v. (goal.CacheWriter-dyn g v).write_state v.1)
+          c.run_each.new.session c.run_each.new.self.writes.deletes c.run_each.new.self.writes.items c.new-written.result.items (ap (λ (w : WriteCallState). w.items) (quiet.0 ∙ room.writes_are)) c.new-written.ensures.items)
+          (unasked_writer (λ v. (goal.CacheWriter-dyn g v).writes_all v.1) (λ v. (goal.CacheWriter-dyn g v).deletes_all v.1) (λ v. (goal.CacheWriter-dyn g v).write_state v.1)
+          c.run_each.new.session c.run_each.new.self.deletes.deletes c.run_each.new.self.deletes.items c.new-deleted.result.items (ap (λ (w : WriteCallState). w.items) (quiet.1 ∙ room.deletes_are)) c.new-deleted.ensures.items)
+          c.reverse.ensures.items c.requires.may.fresh;
+      rest = run.rest;
+      own = run.own;
+    }
+
+pub returns-then-through-clause-left : goal.returns-then-through-clause-left
+returns-then-through-clause-left g c = sym c.run_each.ensures.room.through_is ∙ c.if-through.true
+
+pub returns-else-through-clause-left : goal.returns-else-through-clause-left
+returns-else-through-clause-left g c =
+    let kept = c.run_each.ensures.room in
+    let off = sym kept.through_is ∙ c.if-through.false in
+    (off, (kept.quiet off).0, (kept.quiet off).1)
+
+pub returns-then-through-clause-room : goal.returns-then-through-clause-room
+returns-then-through-clause-room g c = c.reverse.ensures.capacity ∙ c.run_each.ensures.room.runs_room
+
+pub returns-else-through-clause-room : goal.returns-else-through-clause-room
+returns-else-through-clause-room g c = c.reverse.ensures.capacity ∙ c.run_each.ensures.room.runs_room

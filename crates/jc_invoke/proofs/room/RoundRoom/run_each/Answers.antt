@@ -3,7 +3,7 @@ use Rattle.std.proofs.lemmas.List.{drop-set-lt, drop_more}
 use Rattle.std.specs.List.{AllByRecursion}
 use Rattle.jc_stripe.specs.Tickets.{TicketClaim}
 use Rattle.jc_invoke.specs.Processing.{IsTicketRun, IsToBeRun, TakesKey}
-use Rattle.jc_invoke.proofs.RunEach.{begins, left_next, many_same, may_take, reserved_set, run_next}
+use Rattle.jc_invoke.proofs.RunEach.{begins, keeps_both, keeps_itself, left_next, many_same, may_take, reserved_set, run_next}
 use Rattle.jc_invoke.proofs.Runs.{rest_on}
 use Rattle.jc_invoke.proofs.room.RoundRoom.run_each.Goals as goal
 
@@ -17,6 +17,7 @@ loop-place-init g c =
       kept = record { reservations = refl; room = refl };
       fresh = may.fresh;
       left = start.0;
+      keeps = keeps_itself c.args.self.now;
       run = record { asked = start.1; rest = refl; own = λ cache of. of };
       same_processor = refl;
       same_args = refl;
@@ -62,6 +63,7 @@ loop-place-preserved g c =
           (λ b. (goal.EntryProcessor-dyn g (b.vtable, b.value)).processes b.value) (λ b. (goal.EntryProcessor-dyn g (b.vtable, b.value)).process_state b.value) c.args.processing.now.args.now
           c.args.self.now.through c.args.session.now.agent c.loop-place.session.agent c.run_one.new.session.agent c.args.processing.now.processor.now c.loop-place.processing.processor.now c.run_one.new.processing.processor.now
           c.args.tickets.now.items now i d c.run_one.new.ticket c.loop-place.self c.run_one.new.self (length c.args.tickets.now.items) old.left one;
+      keeps = keeps_both c.args.self.now c.loop-place.self c.run_one.new.self old.keeps c.run_one.ensures.room;
       run = record {
         asked = run_next (λ v. (goal.CacheLoader-dyn g v).loads v.1) (λ v. (goal.CacheLoader-dyn g v).load_state v.1)
             (λ b. (goal.EntryProcessor-dyn g (b.vtable, b.value)).processes b.value) (λ b. (goal.EntryProcessor-dyn g (b.vtable, b.value)).process_state b.value) c.args.processing.now.args.now

@@ -5,6 +5,11 @@ use Rattle.jc_rounds.specs.Answers.{RunState}
 use Rattle.jc_invoke.proofs.Runs.{done_as, one_of}
 use Rattle.jc_invoke.proofs.room.RoundRoom.run_one.Goals as goal
 
+pub returns-clause-room : goal.returns-clause-room
+returns-clause-room g c =
+    let kept = c.note.ensures.room in
+    record { through_is = kept.through_is; runs_room = c.push_reserved.ensures.capacity ∙ kept.runs_room; quiet = kept.quiet }
+
 pub returns-clause-run : goal.returns-clause-run
 returns-clause-run g c =
     let e = c.run_processor-done.ensures in

@@ -1,4 +1,4 @@
-use Rattle.std.proofs.Common.{refl, arith}
+use Rattle.std.proofs.Common.{refl, arith, ◌∙◌}
 use Rattle.jc_rounds.proofs.Failures.{keeps_itself}
 use Rattle.jc_rounds.proofs.Held.{goes_itself}
 use Rattle.jc_rounds.proofs.Loops.{commit_from, commit_noted, commit_over, noted_advances, noted_since}
@@ -9,6 +9,7 @@ pub loop-place-init : goal.loop-place-init
 loop-place-init g c = record {
   advances = record { advances = record { goes = goes_itself c.args.session.now.seats.items c.args.self.now.progress.items; agent = refl; targets = refl; most = refl; cause = keeps_itself c.args.self.now.cause }; cause = refl };
   committed = λ past round answered. commit_from c.args.cache.now past round c.args.session.now c.args.self.now c.reverse.new.self c.args.answers c.reverse.ensures.items c.reverse.ensures.capacity answered;
+  room = refl;
 }
 
 pub commit_at-requires-clause-answered : goal.commit_at-requires-clause-answered
@@ -18,16 +19,13 @@ pub loop-place-preserved : goal.loop-place-preserved
 loop-place-preserved g c = record {
   advances = unnoted_both _ _ _ _ _ _ c.loop-place.invariant.advances c.commit_at.ensures.advances;
   committed = λ past round answered. c.commit_at.ensures.committed past round (c.loop-place.invariant.committed past round answered);
+  room = c.commit_at.ensures.room ∙ c.loop-place.invariant.room;
 }
 
-pub end-requires : goal.end-requires
-end-requires g c =
-    let r = c.requires.answered in (
-      c.args.cache.now.config,
-      r.1,
-      (commit_over c.args.cache.now r.0 r.1 c.loop-place.session c.loop-place.self c.loop-place.left c.loop-place.place
-          (let many = c.loop-place.invariant.advances.advances.goes.stay.many in omega (arith, many, c.args.self.now.progress.ok.0, c.len-place-end.ensures, c.loop-place-test.false)) (c.loop-place.invariant.committed r.0 r.1 r.2)).1,
-    )
+pub returns-clause-spent : goal.returns-clause-spent
+returns-clause-spent g c past round answered =
+    (commit_over c.args.cache.now past round c.loop-place.session c.loop-place.self c.loop-place.left c.loop-place.place
+    (let many = c.loop-place.invariant.advances.advances.goes.stay.many in omega (arith, many, c.args.self.now.progress.ok.0, c.len-place-end.ensures, c.loop-place-test.false)) (c.loop-place.invariant.committed past round answered)).1
 
 pub returns-clause-advances : goal.returns-clause-advances
 returns-clause-advances g c = noted_advances _ _ _ _ _ c.note_failures.ensures.rest c.note_failures.ensures.cause c.loop-place.invariant.advances.advances

@@ -15,12 +15,12 @@ index_mut-requires g c = near_in c.args.self.now.progress c.args.place Reserved 
 pub returns-clause-advances : goal.returns-clause-advances
 returns-clause-advances g c =
     let r = c.requires.answered in
-    let phase = (c.commit_next.ensures r.1 _ r.2.answered).1 in
+    let phase = (c.commit_next.ensures.told r.1 _ r.2.answered).1 in
     unnoted_by c.args.cache.now r.0 c.args.session.now c.commit_next.new.session c.args.self.now _ (record { targets = refl; most = refl; cause = refl; tickets_room = refl; joins_room = refl })
     _ c.args.ticket.reservation.key _ c.args.place Reserved (Ended (Ok c.commit_next.new.reply)) refl c.requires.there (λ e bad. cc) (λ bad. cc) phase
 
 pub returns-clause-committed : goal.returns-clause-committed
 returns-clause-committed g c past round next =
-    let told = c.commit_next.ensures round _ next.answered in
+    let told = c.commit_next.ensures.told round _ next.answered in
     committing_on c.args.cache.now past c.args.session.now c.commit_next.new.session c.args.self.now _ (record { targets = refl; most = refl; cause = refl; tickets_room = refl; joins_room = refl })
     round c.args.place c.args.ticket c.commit_next.new.reply c.args.answers.now c.commit_next.new.self refl refl refl c.requires.there told.0 told.1 next

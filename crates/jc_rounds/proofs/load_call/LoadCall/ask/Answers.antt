@@ -1,4 +1,5 @@
-use Rattle.std.proofs.Common.{◌∙◌, ap, subst}
+use Rattle.std.proofs.Common.{◌≡◌, ◌+◌, ◌∙◌, length, vec_len, ap, subst, sym, arith}
+use Rattle.std.proofs.lemmas.List.{length-map}
 use Rattle.jc_outside.specs.CallingAll.{LoadsAllOnce, loads_done}
 use Rattle.jc_session.specs.Boxed.{boxed}
 use Rattle.jc_rounds.specs.Answers.{key_of}
@@ -6,18 +7,40 @@ use Rattle.jc_rounds.specs.OutsideCalls.{asked_keys}
 use Rattle.jc_rounds.proofs.OutsideCalls.{done_back}
 use Rattle.jc_rounds.proofs.load_call.LoadCall.ask.Goals as goal
 
-pub returns : goal.returns
-returns g c =
-    let e = c.ask_loader_all.ensures.asked in
+pub returns-clause-asked : goal.returns-clause-asked
+returns-clause-asked g c =
+    let e = c.ask_loader_all-batch.ensures.asked in
     let items = ap (λ s. s.items) c.self.view_is in
     record {
       asked = record {
         said = e.asked.said;
-        loads = subst (λ ks. LoadsAllOnce (boxed (λ v. (goal.CacheLoader-dyn g v).loads_all v.1)) (boxed (λ v. (goal.CacheLoader-dyn g v).load_state v.1)) c.args.session.now.agent.hands.outside.loader ks e.asked.said c.ask_loader_all.new.self.agent.hands.outside.loader) (c.self.invariant.keys_are ∙ ap asked_keys items) e.asked.loader;
-        done_are = done_back c.self.inside.done.items c.ask_loader_all.new.done.items c.reverse.new.self.items _ c.self.invariant.none e.asked.done c.reverse.ensures.items ∙ ap (loads_done key_of e.asked.said) items;
+        loads = subst (λ ks. LoadsAllOnce (boxed (λ v. (goal.CacheLoader-dyn g v).loads_all v.1)) (boxed (λ v. (goal.CacheLoader-dyn g v).load_state v.1)) c.args.session.now.agent.hands.outside.loader ks e.asked.said c.ask_loader_all-batch.new.self.agent.hands.outside.loader) (c.self.invariant.keys_are ∙ ap asked_keys items) e.asked.loader;
+        done_are = done_back c.self.inside.done.items c.ask_loader_all-batch.new.done.items c.reverse.new.self.items _ c.self.invariant.none e.asked.done c.reverse.ensures.items ∙ ap (loads_done key_of e.asked.said) items;
         loader_type = e.asked.loader_type;
         writer = e.asked.writer;
       };
       rest = e.rest;
       own = e.own;
     }
+
+pub returns-clause-spent : goal.returns-clause-spent
+returns-clause-spent g c =
+    let kept = c.ask_loader_all-batch.ensures.room in
+    let room = ap (λ b. b.room) kept.batch_is in
+    let many : length c.self.inside.batch.items ≡ vec_len c.self.inside.asks = ap length c.self.invariant.keys_are ∙ length-map c.self.inside.asks.items key_of ∙ sym c.self.inside.asks.ok.0 in
+    record {
+      no_asks = kept.no_asks;
+      no_keys = ap (λ b. b.items) kept.batch_is;
+      asks_room = omega (arith, room, many, kept.asks_room, c.self.invariant.asks_room);
+    }
+
+pub returns-clause-room : goal.returns-clause-room
+returns-clause-room g c =
+    let kept = c.ask_loader_all-batch.ensures.room in
+    let room = ap (λ b. b.room) kept.batch_is in
+    let keys : length c.self.inside.batch.items ≡ length c.self.inside.asks.items = ap length c.self.invariant.keys_are ∙ length-map c.self.inside.asks.items key_of in
+    let items = ap (λ s. length s.items) c.self.view_is in
+    let free = ap (λ s. s.room) c.self.view_is in (
+      omega (arith, room, keys, items, free),
+      omega (arith, items, free, c.self.inside.asks.ok.0, c.reverse.ensures.capacity, kept.done_room, c.self.invariant.done_room),
+    )
