@@ -102,13 +102,16 @@ count_group entries keys place made callers counts victim_is found_is = of_victi
   where
     rest : (at : ℕ) → List Event
     rest at = map (shared_event at made.key made.out.load) callers ++ evicted_events made.key made.evicted
+
     step : (list : List (Bytes × Bytes)) (at : ℕ) (now : Statistics) → made.found ≡ is_some (finite.find key_cmp made.key list)
         → count_all made.found (new_step made ∷ rest at) now ≡ add_all (occurrences list (new_step made ∷ rest at)) now
     step list at now same =
         ap (λ b. count_all made.found (rest at) (with_event now b (new_step made))) same
         ∙ blind_rest made.found (order_after_event list (new_step made)) (rest at) _ (blind_shared at made.key made.out.load callers _ (blind_gone made.key made.evicted))
+
     events : Option Bytes → List Event
     events v = victim_events v ++ new_step made ∷ map (shared_event (place + length (victim_events v)) made.key made.out.load) callers ++ evicted_events made.key made.evicted
+
     of_victim : (v : Option Bytes) → made.victim ≡ v → count_all made.found (events v) counts ≡ add_all (occurrences entries.list (events v)) counts
     of_victim None v = step entries.list (place + length (victim_events None)) counts found_is
     of_victim (Some gone) v =
@@ -133,16 +136,16 @@ pub appended_group : (found : Bool) (old middle new : Past) (before : List Event
 appended_group found old middle new before step shared gone kept back mid is less few =
     let inner : (before ++ step ∷ []) ++ shared ++ gone ≡ before ++ step ∷ shared ++ gone = simp append_assoc in
     let events : ((old.events ++ (before ++ step ∷ [])) ++ shared) ++ gone ≡ old.events ++ (before ++ step ∷ shared ++ gone) =
-        append_assoc (old.events ++ (before ++ step ∷ [])) shared gone ∙ append_assoc old.events (before ++ step ∷ []) (shared ++ gone)
-        ∙ ap (λ (es : List Event). old.events ++ es) (sym (append_assoc (before ++ step ∷ []) shared gone) ∙ inner) in
+    append_assoc (old.events ++ (before ++ step ∷ [])) shared gone ∙ append_assoc old.events (before ++ step ∷ []) (shared ++ gone)
+    ∙ ap (λ (es : List Event). old.events ++ es) (sym (append_assoc (before ++ step ∷ []) shared gone) ∙ inner) in
     let counts : count_all found gone (count_all found shared (count_all found (before ++ step ∷ []) old.statistics)) ≡ count_all found (before ++ step ∷ shared ++ gone) old.statistics =
-        sym (count-append found ((before ++ step ∷ []) ++ shared) gone old.statistics ∙ ap (count_all found gone) (count-append found (before ++ step ∷ []) shared old.statistics))
-        ∙ ap (λ (es : List Event). count_all found es old.statistics) inner in
+    sym (count-append found ((before ++ step ∷ []) ++ shared) gone old.statistics ∙ ap (count_all found gone) (count-append found (before ++ step ∷ []) shared old.statistics))
+    ∙ ap (λ (es : List Event). count_all found es old.statistics) inner in
     let all : new ≡ unpromise back (append_all found gone (append_all found shared (append_all found (before ++ step ∷ []) old))) = is ∙ ap (λ p. unpromise back (append_all found gone p)) mid in
     let long : length ((append_all found gone middle).events) ≡ length old.events + length (before ++ step ∷ shared ++ gone) =
-        ap (λ (p : Past). length (p.events ++ gone)) mid ∙ ap length events ∙ length-append old.events (before ++ step ∷ shared ++ gone) in
+    ap (λ (p : Past). length (p.events ++ gone)) mid ∙ ap length events ∙ length-append old.events (before ++ step ∷ shared ++ gone) in
     let parts : length (before ++ step ∷ shared ++ gone) ≡ length (before ++ step ∷ []) + length shared + length gone =
-        ap length (sym inner) ∙ length-append ((before ++ step ∷ []) ++ shared) gone ∙ ap (λ n. n + length gone) (length-append (before ++ step ∷ []) shared) in
+    ap length (sym inner) ∙ length-append ((before ++ step ∷ []) ++ shared) gone ∙ ap (λ n. n + length gone) (length-append (before ++ step ∷ []) shared) in
     let promised : old.promised - length (before ++ step ∷ []) - length shared - length gone - back ≡ old.promised - kept = omega arith in
     all ∙ (λ i. record old { events = events i; promised = promised i; statistics = counts i })
 

@@ -182,7 +182,10 @@ fn append_shared_step(history: &mut History, place: u32, group: &NewGroup, joine
     requires { 0 < history.old.promised }
     ensures { history.new ≡ push group.now.found (shared_event place group.now.key group.now.out.load joiner) history.old }
 {
-    history.push(&shared_event(place, group.key, group.out.load, joiner), group.found);
+    history.push(
+        &shared_event(place, group.key, group.out.load, joiner),
+        group.found,
+    );
 }
 
 /// Appends the shared step of each joiner that waits for a load, in the order of joining.
