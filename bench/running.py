@@ -13,7 +13,7 @@ from concurrent.futures import ThreadPoolExecutor
 STRIPES = (1, 16, 64)
 HISTORIES = (16, 64, 256, 512, 1024, 4096, 65536)
 # The stripes and places of the one that is compared with other caches, as words of a command line.
-LIVING = ('16', '512')
+LIVING = ('16', '256')
 COUNTED = 10_000, 30_000  # between how many calls instructions are counted
 
 
