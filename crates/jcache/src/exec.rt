@@ -53,11 +53,26 @@ fn complain<E: Write>(err: &mut E, text: &str) {
     let _ = err.write_all(text.as_bytes());
 }
 
-/// Says that standard output failed, and answers the status.
-fn end_of_output<E: Write>(err: &mut E) -> u8
+/// Says that a stream failed, and why if it has said so.
+fn complain_of<S, E: Write>(stream: &Noted<S>, err: &mut E, text: &str) {
+    match stream.failure() {
+        Some(why) => {
+            let _ = write!(err, "jcache: {text}: {why}\n");
+        }
+        None => {
+            let _ = write!(err, "jcache: {text}\n");
+        }
+    }
+}
+
+/// Says that standard output failed, and answers the status. It says nothing if nobody reads standard output any more: who has closed
+/// it, as `head` does, has all that was wanted.
+fn end_of_output<W, E: Write>(out: &Noted<W>, err: &mut E) -> u8
     ensures { result ≡ 3 }
 {
-    complain(err, "jcache: write failed\n");
+    if !matches!(out.failure(), Some(io::ErrorKind::BrokenPipe)) {
+        complain_of(out, err, "write failed");
+    }
     STREAMS
 }
 
@@ -109,10 +124,10 @@ fn play<R: Read, W: Write, E: Write>(
             LINE_FAULT
         }
         Err(RunFault::Read) => {
-            complain(err, "jcache: read failed\n");
+            complain_of(reader, err, "read failed");
             STREAMS
         }
-        Err(RunFault::Write) => end_of_output(err),
+        Err(RunFault::Write) => end_of_output(out, err),
         Err(RunFault::TooLong) => {
             let _ = write!(err, "jcache: input too long: over {SCRIPT_MAX} bytes\n");
             STREAMS
@@ -129,7 +144,7 @@ fn show<W: Write, E: Write>(text: &str, out: &mut Noted<W>, err: &mut E) -> u8
 {
     match out.write_all(text.as_bytes()) {
         Ok(()) => CLEAN,
-        Err(_) => end_of_output(err),
+        Err(_) => end_of_output(out, err),
     }
 }
 
@@ -178,7 +193,7 @@ fn show_report<W: Write, E: Write>(
         return end_without_memory(err);
     };
     if out.write_all(&text).is_err() {
-        return end_of_output(err);
+        return end_of_output(out, err);
     }
     status_of(report)
 }

@@ -90,7 +90,7 @@ fn tells_a_fault(rt: HostRuntime) {
         Wanted {
             status: 1,
             out: "open\n1 a load\nline 3: not now\n",
-            err: "jcache: line 3, column 1: not now 'end'\n",
+            err: "jcache: line 3, column 1: not now 'end' (it fits if the call has a started key, and waits for no loader, writer or processor)\n",
         },
     );
 }
@@ -162,7 +162,7 @@ fn says_why_a_read_failed(rt: HostRuntime) {
     );
     assert_eq!(&rt; status, 3);
     assert_eq!(&rt; out.len(), 0);
-    let said = "jcache: read failed\n";
+    let said = "jcache: read failed: is a directory\n";
     assert_eq!(&rt; err.as_slice(), said.as_bytes());
 }
 
@@ -186,8 +186,13 @@ fn write_fails(rt: &impl Abort, alloc: Global, why: io::ErrorKind, said: &str) {
 
 #[test]
 fn says_why_a_write_failed(rt: HostRuntime) {
-    let full = "jcache: write failed\n";
+    let full = "jcache: write failed: no storage space\n";
     write_fails(&rt, rt.alloc(), io::ErrorKind::StorageFull, full);
+}
+
+#[test]
+fn says_nothing_to_a_closed_pipe(rt: HostRuntime) {
+    write_fails(&rt, rt.alloc(), io::ErrorKind::BrokenPipe, "");
 }
 
 /// The command line without its words.
