@@ -1,3 +1,5 @@
+mod loads;
+
 use jc_cache::{
     CacheOwner, Client, Config, EntryProcessor, Event, Key, Outside, Refusal, Service, Value, serve,
 };
