@@ -3,5 +3,5 @@ pub mod Noting
 pub mod JoinedNotes
 pub mod Gathered
 pub mod TeamWork
-pub mod SessionWork
+pub mod ToolWork
 pub mod LoadedPieces

@@ -4,12 +4,14 @@
 --     out_of_memory   the keys of a piece whose call was refused whole, since an allocation failed
 --     LoadsPiece      a session's next call, which loads the keys of a piece: it is carried out, and its cause is one of the first that it
 --                     met; or it is refused whole, and nothing changes
+--     ClientLoadsPiece  the same of a client: its session does so on its cache, of which it still is
 --     all_ends        how the keys of the first so many pieces ended, in the order of the keys
 --     first_cause     the cause of the first of so many pieces that has one
---     LoadsInPieces   each of the pieces of these keys was loaded by one session, once, and ended so: there is a share of the pieces for
---                     each session, which loaded them one after another, and did nothing else
+--     LoadsInPieces   each of the pieces of these keys was loaded by one of these, sessions or clients, once, and ended so: there is a share
+--                     of the pieces for each, who loaded them one after another, and did nothing else
 --     SucceedsInPieces  the same, and no key ended in a fault or a refusal
 --     FailsInPieces   the same, with the cause of the first piece that has one, and each key that ended in a fault or a refusal
+--     OnFault         what is so if there is no client, and what is so of the fault of a call that has failed
 use Rattle.std.specs.Prelude.{◌≡◌, ◌<◌, ◌⊎◌, ◌++◌, ℕ, zero, suc, List, [], length, map, Bool, Option, None, Some, IfSome, Err, slice_index_or}
 use Rattle.std.specs.Option.{option_or}
 use Rattle.std.specs.List.{concat}
@@ -19,13 +21,18 @@ use Rattle.jc_model.specs.Cache.{Bytes}
 use Rattle.jc_model.specs.declared.event.Op.{Op}
 use Rattle.jc_outside.specs.CallingAll.{LoadAllRelation, WriteAllRelation, DeleteAllRelation}
 use Rattle.jc_cache.specs.Caches.{CacheState}
+use Rattle.jc_cache.specs.Clients.{OnSameCache}
+use Rattle.jc_cache.specs.declared.client.Client.{Client}
 use Rattle.jc_cache.specs.declared.session.Session.{Session}
+use Rattle.jc_bulk.specs.declared.fault.BulkFault.{BulkFault}
 use Rattle.jc_bulk.specs.Bulk.{IsBulkCall, TellsFirst, causes_of}
 use Rattle.jc_rounds.specs.Ends.{KeyEnd, failed_entries}
 use Rattle.jc_rounds.specs.KeyProgress.{IsCauseIn}
 use Rattle.jc_rounds.specs.Rounds.{Round}
 use Rattle.jc_bulk.specs.Targets.{load_ops}
 use Rattle.jc_pool.specs.Shares.{LeadsTo, once_below, times}
+use Rattle.jc_loadall.specs.declared.fault.LoadAllFault.{LoadAllFault}
+use Rattle.jc_loadall.specs.declared.fault.LoadAllFault.TheVariants.{NoClient, Failed}
 use Rattle.jc_loadall.specs.Pieces.{piece_at, piece_count}
 
 pub record PieceEnd : Type 0 where
@@ -37,6 +44,21 @@ pub record PieceEnd : Type 0 where
 abbrev pub out_of_memory : List (Bytes × Op) → List KeyEnd
 out_of_memory targets = map (λ (t : Bytes × Op). record { key = t.0; op = t.1; ended = Err OutOfMemory }) targets
 
+module _ {I J : Type 0} {D : I → Type 0} {E : J → Type 0}
+    (loads_all : LoadAllRelation ((i : I) × D i)) (load_state : (i : I) × D i → List ℕ)
+    (writes_all : WriteAllRelation ((j : J) × E j)) (deletes_all : DeleteAllRelation ((j : J) × E j)) (write_state : (j : J) × E j → List ℕ) where
+  -- `old` and `new` are the session before and after
+  abbrev pub LoadsPiece : CacheState → List (Bytes × Op) → PieceEnd → Session I J D E → Session I J D E → Type 0
+  LoadsPiece cache targets end old new =
+      ((rounds : List Round) × (call : IsBulkCall loads_all load_state writes_all deletes_all write_state cache old targets end.ends rounds new)
+      × IsCauseIn end.cause (causes_of end.ends rounds)
+      × IfSome end.cause (λ (cause : Refusal). TellsFirst loads_all load_state writes_all deletes_all write_state cache old targets call (Some cause)))
+      ⊎ ((end.cause ≡ Some OutOfMemory) × (end.ends ≡ out_of_memory targets) × (new ≡ old))
+
+  -- `old` and `new` are the client before and after
+  abbrev pub ClientLoadsPiece : List (Bytes × Op) → PieceEnd → Client I J D E → Client I J D E → Type 0
+  ClientLoadsPiece targets end old new = OnSameCache old.cache new.cache (LoadsPiece old.cache.now targets end old.session new.session)
+
 -- 2. All pieces.
 
 abbrev pub all_ends : (ℕ → PieceEnd) → ℕ → List KeyEnd
@@ -47,34 +69,30 @@ abbrev pub first_cause : (ℕ → PieceEnd) → ℕ → Option Refusal
 first_cause ends zero = None
 first_cause ends (suc n) = option_or (first_cause ends n) (ends n).cause
 
-module _ {I J : Type 0} {D : I → Type 0} {E : J → Type 0}
-    (loads_all : LoadAllRelation ((i : I) × D i)) (load_state : (i : I) × D i → List ℕ)
-    (writes_all : WriteAllRelation ((j : J) × E j)) (deletes_all : DeleteAllRelation ((j : J) × E j)) (write_state : (j : J) × E j → List ℕ)
-    (cache : CacheState) where
-  -- `old` and `new` are the session before and after
-  abbrev pub LoadsPiece : List (Bytes × Op) → PieceEnd → Session I J D E → Session I J D E → Type 0
-  LoadsPiece targets end old new =
-      ((rounds : List Round) × (call : IsBulkCall loads_all load_state writes_all deletes_all write_state cache old targets end.ends rounds new)
-      × IsCauseIn end.cause (causes_of end.ends rounds)
-      × IfSome end.cause (λ (cause : Refusal). TellsFirst loads_all load_state writes_all deletes_all write_state cache old targets call (Some cause)))
-      ⊎ ((end.cause ≡ Some OutOfMemory) × (end.ends ≡ out_of_memory targets) × (new ≡ old))
-
-  -- `old` and `new` are the sessions before and after
-  pub record LoadsInPieces (keys : List Bytes) (replace : Bool) (ends : ℕ → PieceEnd) (old new : List (Session I J D E)) : Type 0 where
+-- `Loads` is what one of them did to load a piece
+module _ {T : Type 0} (Loads : List (Bytes × Op) → PieceEnd → T → T → Type 0) where
+  -- `old` and `new` are they before and after
+  pub record LoadsInPieces (keys : List Bytes) (replace : Bool) (ends : ℕ → PieceEnd) (old new : List T) : Type 0 where
     pub shares : List (List ℕ)
     pub share_each : length shares ≡ length old
-    pub sessions : length new ≡ length old
-    pub each : (k : ℕ) (d : Session I J D E) → k < length old
-        → LeadsTo (λ before piece after. LoadsPiece (load_ops replace (piece_at keys piece)) (ends piece) before after)
+    pub count : length new ≡ length old
+    pub each : (k : ℕ) (d : T) → k < length old
+        → LeadsTo (λ before piece after. Loads (load_ops replace (piece_at keys piece)) (ends piece) before after)
         (slice_index_or old k d) (slice_index_or shares k []) (slice_index_or new k d)
     pub once : (piece : ℕ) → times piece (concat shares) ≡ once_below piece (piece_count (length keys))
 
-  abbrev pub SucceedsInPieces : List Bytes → Bool → List (Session I J D E) → List (Session I J D E) → Type 0
+  abbrev pub SucceedsInPieces : List Bytes → Bool → List T → List T → Type 0
   SucceedsInPieces keys replace old new =
       (ends : ℕ → PieceEnd) × LoadsInPieces keys replace ends old new
       × (first_cause ends (piece_count (length keys)) ≡ None) × (failed_entries (all_ends ends (piece_count (length keys))) ≡ [])
 
-  abbrev pub FailsInPieces : List Bytes → Bool → Refusal → List (Bytes × Refusal) → List (Session I J D E) → List (Session I J D E) → Type 0
+  abbrev pub FailsInPieces : List Bytes → Bool → Refusal → List (Bytes × Refusal) → List T → List T → Type 0
   FailsInPieces keys replace cause failed old new =
       (ends : ℕ → PieceEnd) × LoadsInPieces keys replace ends old new
       × (first_cause ends (piece_count (length keys)) ≡ Some cause) × (failed ≡ failed_entries (all_ends ends (piece_count (length keys))))
+
+-- 3. Clients.
+
+abbrev pub OnFault : LoadAllFault → Type 0 → (BulkFault → Type 0) → Type 0
+OnFault NoClient Nobody Fails = Nobody
+OnFault (Failed fault) Nobody Fails = Fails fault

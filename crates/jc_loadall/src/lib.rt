@@ -1,9 +1,12 @@
-//! `loadAll` on a cache that threads share, by many sessions side by side (JSR 107, `javax.cache.Cache.loadAll`).
+//! `loadAll` on a cache that threads share, by many sessions or clients side by side (JSR 107, `javax.cache.Cache.loadAll`).
 //!
-//! The keys are cut into pieces, and the pool of `jc_pool` does them: each worker has a session for the time of the call, and loads
-//! one piece after another by it, by `load_keys` of `jc_bulk`. What the pieces ended with is joined in the order of the keys.
+//! The keys are cut into pieces, and the pool of `jc_pool` does them: each worker is lent a tool for the time of the call, a session or
+//! a client, and loads one piece after another by it, by `load_keys` of `jc_bulk`. What the pieces ended with is joined in the order of
+//! the keys.
 #![tactic(auto)]
 
+mod clients;
+mod fault;
 mod joining;
 mod limits;
 mod loading;
@@ -12,5 +15,7 @@ mod pieces;
 mod team;
 mod worker;
 
+pub use clients::load_all_by_clients;
+pub use fault::LoadAllFault;
 pub use limits::PIECE_KEYS;
 pub use loading::load_all;

@@ -1,5 +1,5 @@
 //! `loadAll` by many sessions.
-ghost use Rattle.std.specs.Prelude.{◌≡◌, ◌==◌, ◌≤◌, ◌<◌, ◌⊎◌, [], All, Err, IfErr, IfNone, IfOk, IfSome, OnErr, Ok, length};
+ghost use Rattle.std.specs.Prelude.{◌≡◌, ◌==◌, ◌≤◌, ◌<◌, ◌⊎◌, [], All, Err, IfErr, IfOk, Ok, length};
 ghost use Rattle.std.specs.List.{IsDistinct};
 ghost use Rattle.std.specs.Cmp.Lexicographic.{pointwise};
 ghost use Rattle.jc_types.specs.declared.limits.TheConstants.{BULK_KEYS_MAX};
@@ -11,13 +11,13 @@ ghost use Rattle.jc_loadall.specs.Notes.{IsNoteOf};
 ghost use Rattle.jc_loadall.specs.declared.limits.TheConstants.{PIECE_KEYS};
 
 use crate::notes::PieceResult;
-use crate::team::load_by_team;
-use indexmap::{IndexMap, IndexSet};
+use crate::team::load_or_refuse;
+use indexmap::IndexSet;
 use jc_bulk::{BulkFault, load_keys};
 use jc_cache::{Cache, Session};
 use jc_outside::CompletionListener;
-use jc_types::{BULK_KEYS_MAX, Key, Refusal};
-use std::alloc::{AllocError, Global};
+use jc_types::Key;
+use std::alloc::Global;
 use std::sync::Wait;
 use std::thread::Threads;
 
@@ -32,7 +32,7 @@ use std::thread::Threads;
 /// An `Err` names each key that ended in a fault (`LoaderFailed`) or was refused, in the order of the keys; every other key is loaded,
 /// if it was to be. A piece whose call was refused whole, since an allocation failed, has each of its keys refused with
 /// `OutOfMemory`. The cause is that of the first piece that has one. Or the whole is refused, and nothing changes: there are more than
-/// [`BULK_KEYS_MAX`] keys (`TooManyKeys`), or an allocation before the first piece failed (`OutOfMemory`).
+/// [`BULK_KEYS_MAX`](jc_types::BULK_KEYS_MAX) keys (`TooManyKeys`), or an allocation before the first piece failed (`OutOfMemory`).
 ///
 /// The listener is told once how the call ended, before it returns: of success, or of the cause.
 ///
@@ -50,11 +50,11 @@ pub fn load_all<R: Wait + Threads + Sync>(
     requires may { All (λ s. MayCall cache.now s) sessions.old }
     ensures may { All (λ s. MayCall cache.now s) sessions.new }
     ensures ok { IfOk result (λ done. (length keys.now.keys ≤ BULK_KEYS_MAX)
-        × SucceedsInPieces loads_all load_state writes_all deletes_all write_state
-        cache.now keys.now.keys replace sessions.old sessions.new) }
+        × SucceedsInPieces (LoadsPiece loads_all load_state writes_all deletes_all write_state cache.now)
+        keys.now.keys replace sessions.old sessions.new) }
     ensures err { IfErr result (λ fault. ((length keys.now.keys ≤ BULK_KEYS_MAX)
-        × FailsInPieces loads_all load_state writes_all deletes_all write_state
-        cache.now keys.now.keys replace fault.cause fault.failed.entries sessions.old sessions.new
+        × FailsInPieces (LoadsPiece loads_all load_state writes_all deletes_all write_state cache.now)
+        keys.now.keys replace fault.cause fault.failed.entries sessions.old sessions.new
         × (fault.found.entries ≡ []))
         ⊎ IsRefusedWhole sessions.old (length keys.now.keys)
         fault.cause fault.failed.entries fault.found.entries sessions.new) }
@@ -62,7 +62,7 @@ pub fn load_all<R: Wait + Threads + Sync>(
     ensures told_err { IfErr result (λ fault. hears listener.old (Err fault.cause) (listener_state listener.new)) }
     ensures listener_type { listener.new.vtable ≡ listener.old.vtable }
 {
-    let ended = load_or_refuse(alloc, rt, cache, sessions, keys, replace);
+    let ended = load_by_sessions(alloc, rt, cache, sessions, keys, replace);
     tell(listener, &ended);
     ended
 }
@@ -80,7 +80,7 @@ fn tell(listener: &mut Box<dyn CompletionListener + Send + Drop>, ended: &Result
 }
 
 /// Loads many keys, as [`load_all`] does, and tells nobody.
-fn load_or_refuse<R: Wait + Threads + Sync>(
+fn load_by_sessions<R: Wait + Threads + Sync>(
     alloc: Global,
     rt: &R,
     cache: &Cache,
@@ -92,58 +92,14 @@ fn load_or_refuse<R: Wait + Threads + Sync>(
     requires may { All (λ s. MayCall cache.now s) sessions.old }
     ensures may { All (λ s. MayCall cache.now s) sessions.new }
     ensures ok { IfOk result (λ done. (length keys.now.keys ≤ BULK_KEYS_MAX)
-        × SucceedsInPieces loads_all load_state writes_all deletes_all write_state
-        cache.now keys.now.keys replace sessions.old sessions.new) }
+        × SucceedsInPieces (LoadsPiece loads_all load_state writes_all deletes_all write_state cache.now)
+        keys.now.keys replace sessions.old sessions.new) }
     ensures err { IfErr result (λ fault. ((length keys.now.keys ≤ BULK_KEYS_MAX)
-        × FailsInPieces loads_all load_state writes_all deletes_all write_state
-        cache.now keys.now.keys replace fault.cause fault.failed.entries sessions.old sessions.new
+        × FailsInPieces (LoadsPiece loads_all load_state writes_all deletes_all write_state cache.now)
+        keys.now.keys replace fault.cause fault.failed.entries sessions.old sessions.new
         × (fault.found.entries ≡ []))
         ⊎ IsRefusedWhole sessions.old (length keys.now.keys)
         fault.cause fault.failed.entries fault.found.entries sessions.new) }
-{
-    if keys.len() > BULK_KEYS_MAX {
-        return Err(refused_whole(alloc, Refusal::TooManyKeys));
-    }
-    match load_in_pieces(alloc, rt, cache, sessions, keys, replace) {
-        Ok(None) => Ok(()),
-        Ok(Some(fault)) => Err(fault),
-        Err(AllocError) => Err(refused_whole(alloc, Refusal::OutOfMemory)),
-    }
-}
-
-/// What a call returns that is refused whole, and so names no key.
-fn refused_whole(alloc: Global, cause: Refusal) -> BulkFault
-    ensures cause { result.cause ≡ cause }
-    ensures failed { result.failed.entries ≡ [] }
-    ensures found { result.found.entries ≡ [] }
-{
-    BulkFault {
-        cause,
-        failed: IndexMap::new(alloc),
-        found: IndexMap::new(alloc),
-    }
-}
-
-/// Loads the pieces of these keys: what failed, if a key did. An `Err` says that an allocation before the first piece failed.
-///
-/// Conditions: those of [`load_all`].
-fn load_in_pieces<R: Wait + Threads + Sync>(
-    alloc: Global,
-    rt: &R,
-    cache: &Cache,
-    sessions: &mut [Session],
-    keys: &IndexSet<Key>,
-    replace: bool,
-) -> Result<Option<BulkFault>, AllocError>
-    requires some { 0 < length sessions.old }
-    requires may { All (λ s. MayCall cache.now s) sessions.old }
-    ensures may { All (λ s. MayCall cache.now s) sessions.new }
-    ensures none { IfOk result (λ fault. IfNone fault (SucceedsInPieces loads_all load_state writes_all deletes_all write_state
-        cache.now keys.now.keys replace sessions.old sessions.new)) }
-    ensures some { IfOk result (λ fault. IfSome fault (λ f. FailsInPieces loads_all load_state writes_all deletes_all write_state
-        cache.now keys.now.keys replace f.cause f.failed.entries sessions.old sessions.new
-        × (f.found.entries ≡ []))) }
-    ensures err { OnErr result (sessions.new ≡ sessions.old) }
 {
     let load = |piece_keys: &IndexSet<Key>, session: &mut Session| -> PieceResult
         requires { MayCall cache.now session.now × (length piece_keys.now.keys ≤ PIECE_KEYS) × IsDistinct (pointwise ◌==◌) piece_keys.now.keys }
@@ -152,13 +108,13 @@ fn load_in_pieces<R: Wait + Threads + Sync>(
             cache.entry.now (load_ops replace piece_keys.now.keys) end session.entry.now session.exit.now
             × IsNoteOf piece_keys.now.keys result end) }
     { load_piece(alloc, rt, cache, session, piece_keys, replace) };
-    load_by_team(alloc, rt, &load, sessions, keys)
+    load_or_refuse(alloc, rt, &load, sessions, keys)
 }
 
 /// Loads the keys of a piece, as the session's next call.
 ///
 /// Conditions: the session may call the cache; the keys are no more than those of a piece, and they all differ.
-fn load_piece<R: Wait>(
+pub(crate) fn load_piece<R: Wait>(
     alloc: Global,
     rt: &R,
     cache: &Cache,

@@ -1,11 +1,10 @@
 //! Workers side by side.
-ghost use Rattle.std.specs.Prelude.{◌≡◌, ◌<◌, ◌≤◌, ◌+◌, All, IfOk, OnErr, length, option_map, vec_len, IfSome};
+ghost use Rattle.std.specs.Prelude.{◌≡◌, ◌<◌, ◌≤◌, ◌+◌, ◌⊎◌, [], All, IfErr, IfNone, IfOk, IfSome, OnErr, length, vec_len};
 ghost use Rattle.std.specs.List.{IsDistinct};
-ghost use Rattle.jc_loadall.specs.Notes.{all_noted, first_noted};
+ghost use Rattle.jc_types.specs.declared.limits.TheConstants.{BULK_KEYS_MAX};
+ghost use Rattle.jc_bulk.specs.Bulk.{IsRefusedWhole};
 ghost use Rattle.jc_loadall.specs.Pieces.{piece_count};
-ghost use Rattle.jc_loadall.specs.Working.{AreLoadedBy, CanLoadBy, IsIdle, Keeps};
-ghost use Rattle.jc_loadall.specs.declared.notes.PieceResult.{PieceResult};
-ghost use Rattle.std.specs.Prelude.{ℕ, []};
+ghost use Rattle.jc_loadall.specs.Working.{CanLoadBy, FailsBy, IsIdle, Keeps, SucceedsBy};
 
 use crate::joining::join_notes;
 use crate::notes::PieceResult;
@@ -14,20 +13,61 @@ use crate::worker::Worker;
 use indexmap::{IndexMap, IndexSet};
 use jc_bulk::BulkFault;
 use jc_pool::run_pieces_with;
-use jc_types::{Key, Refusal};
+use jc_types::{BULK_KEYS_MAX, Key, Refusal};
 use std::alloc::{AllocError, Global};
 use std::thread::Threads;
+
+/// Loads many keys in pieces, by as many workers side by side as there are tools, or refuses the whole call.
+///
+/// An `Err` names each key that failed. Or the whole is refused, and the tools are as they were: there are more than
+/// [`BULK_KEYS_MAX`] keys (`TooManyKeys`), or an allocation before the first piece failed (`OutOfMemory`).
+///
+/// Conditions: those of [`load_by_team`].
+pub(crate) fn load_or_refuse<
+    T: Send,
+    F: Fn(&IndexSet<Key>, &mut T) -> PieceResult + Sync,
+    R: Threads + Sync,
+>(alloc: Global, rt: &R, load: &F, tools: &mut [T], keys: &IndexSet<Key>) -> Result<(), BulkFault>
+    requires some { 0 < length tools.old }
+    requires able { All (CanLoadBy F.Fn load.now) tools.old }
+    requires keeps { Keeps F.Fn load.now }
+    ensures ok { IfOk result (λ done. (length keys.now.keys ≤ BULK_KEYS_MAX)
+        × SucceedsBy F.Fn load.now keys.now.keys tools.old tools.new) }
+    ensures err { IfErr result (λ fault. ((length keys.now.keys ≤ BULK_KEYS_MAX)
+        × FailsBy F.Fn load.now keys.now.keys fault.cause fault.failed.entries tools.old tools.new
+        × (fault.found.entries ≡ []))
+        ⊎ IsRefusedWhole tools.old (length keys.now.keys)
+        fault.cause fault.failed.entries fault.found.entries tools.new) }
+{
+    if keys.len() > BULK_KEYS_MAX {
+        return Err(refused_whole(alloc, Refusal::TooManyKeys));
+    }
+    match load_by_team(alloc, rt, load, tools, keys) {
+        Ok(None) => Ok(()),
+        Ok(Some(fault)) => Err(fault),
+        Err(AllocError) => Err(refused_whole(alloc, Refusal::OutOfMemory)),
+    }
+}
+
+/// What a call returns that is refused whole, and so names no key.
+fn refused_whole(alloc: Global, cause: Refusal) -> BulkFault
+    ensures cause { result.cause ≡ cause }
+    ensures failed { result.failed.entries ≡ [] }
+    ensures found { result.found.entries ≡ [] }
+{
+    BulkFault {
+        cause,
+        failed: IndexMap::new(alloc),
+        found: IndexMap::new(alloc),
+    }
+}
 
 /// Loads the keys in pieces, by as many workers side by side as there are tools: what failed, if a key did.
 ///
 /// An `Err` says that an allocation failed. Nothing was loaded, and the tools are as they were.
 ///
 /// Conditions: there is at least one tool; the function that loads a piece may be called with each, and can be called again.
-pub(crate) fn load_by_team<
-    T: Send,
-    F: Fn(&IndexSet<Key>, &mut T) -> PieceResult + Sync,
-    R: Threads + Sync,
->(
+fn load_by_team<T: Send, F: Fn(&IndexSet<Key>, &mut T) -> PieceResult + Sync, R: Threads + Sync>(
     alloc: Global,
     rt: &R,
     load: &F,
@@ -38,10 +78,9 @@ pub(crate) fn load_by_team<
     requires able { All (CanLoadBy F.Fn load.now) tools.old }
     requires keeps { Keeps F.Fn load.now }
     ensures err { OnErr result (tools.new ≡ tools.old) }
-    ensures loaded { IfOk result (λ fault. (results : ℕ → PieceResult)
-        × AreLoadedBy F.Fn load.now keys.now.keys results tools.old tools.new
-        × (option_map (λ f. f.cause) fault ≡ first_noted results (piece_count (length keys.now.keys)))
-        × IfSome fault (λ f. (f.failed.entries ≡ all_noted results keys.now.keys (piece_count (length keys.now.keys))) × (f.found.entries ≡ []))) }
+    ensures none { IfOk result (λ fault. IfNone fault (SucceedsBy F.Fn load.now keys.now.keys tools.old tools.new)) }
+    ensures some { IfOk result (λ fault. IfSome fault (λ f.
+        FailsBy F.Fn load.now keys.now.keys f.cause f.failed.entries tools.old tools.new × (f.found.entries ≡ []))) }
 {
     let pieces = piece_count(keys.len());
     let mut failed = IndexMap::with_capacity(alloc, keys.len())?;

@@ -3,8 +3,8 @@
 //!
 //! [`Load`], [`Write`], [`Update`] and [`Listen`] have plain methods alone. A wrapper makes of each what a cache calls: [`Loading`] a
 //! [`jc_outside::CacheLoader`], [`Writing`] a [`jc_outside::CacheWriter`], [`Updating`] a [`jc_mutentry::EntryProcessor`], and
-//! [`Listening`] a [`jc_outside::CompletionListener`], which the call is lent as it is. A program puts each other wrapper into a box in
-//! its `main`, and hands the box to a session or to a call:
+//! [`Listening`] a [`jc_outside::CompletionListener`]. A program puts the wrapper into a box in its `main`, and hands the box to a
+//! session or to a call:
 //!
 //! ```rust,ignore
 //! let loader: Box<dyn CacheLoader + Send + Drop> = Box::new(alloc, Loading { loader: rows })?;

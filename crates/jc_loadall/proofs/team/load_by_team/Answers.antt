@@ -17,8 +17,8 @@ run_pieces_with-requires-clause-able g c κs within =
     (subst (IsDistinct (pointwise ◌==◌)) (sym c.as_slice.ensures.keys) c.as_slice.ensures.unique)
     (c.piece_count-pieces.ensures ∙ ap piece_count (c.len.ensures.len ∙ sym (ap length c.as_slice.ensures.keys)))
 
-pub returns-in-Some-clause-loaded : goal.returns-in-Some-clause-loaded
-returns-in-Some-clause-loaded g c =
+pub returns-in-Some-clause-some : goal.returns-in-Some-clause-some
+returns-in-Some-clause-some g c =
     let pieces = c.piece_count-pieces.ensures ∙ ap piece_count c.len.ensures.len in
     let many = c.run_pieces_with.ensures.len.0 in
     let room = c.as_mut_slice.ensures.len in
@@ -29,14 +29,17 @@ returns-in-Some-clause-loaded g c =
     (subst (All (IsIdle c.args.load.now c.as_slice.result.now c.piece_count-pieces.result)) (sym c.as_mut_slice.ensures.value) c.in_ok-workers.ensures.idle)
     (c.piece_count-pieces.ensures ∙ ap piece_count (c.len.ensures.len ∙ sym (ap length c.as_slice.ensures.keys)))
     c.in_ok-run_pieces_with.ensures.done in (
-      result_in (flat_map (λ w. w.notes.items) c.as_slice-2.result.now),
-      subst (λ (z : List Bytes × List (Worker g.row.F.Denot)). AreLoadedBy g.F.Fn c.args.load.now z.0 (result_in (flat_map (λ w. w.notes.items) z.1)) c.args.tools.now c.run_pieces_with.new.tools) (λ i. (c.as_slice.ensures.keys i, joined i)) loaded,
-      c.in-Some.ensures.cause ∙ ap (first_noted (result_in (flat_map (λ w. w.notes.items) c.as_slice-2.result.now))) pieces,
-      (c.join_notes.ensures.failed ∙ (λ i. all_noted (result_in (flat_map (λ w. w.notes.items) c.as_slice-2.result.now)) (c.as_slice-3.ensures.keys i) (pieces i)), search rules),
+      (
+        result_in (flat_map (λ w. w.notes.items) c.as_slice-2.result.now),
+        subst (λ (z : List Bytes × List (Worker g.row.F.Denot)). AreLoadedBy g.F.Fn c.args.load.now z.0 (result_in (flat_map (λ w. w.notes.items) z.1)) c.args.tools.now c.run_pieces_with.new.tools) (λ i. (c.as_slice.ensures.keys i, joined i)) loaded,
+        sym (c.in-Some.ensures.cause ∙ ap (first_noted (result_in (flat_map (λ w. w.notes.items) c.as_slice-2.result.now))) pieces),
+        c.join_notes.ensures.failed ∙ (λ i. all_noted (result_in (flat_map (λ w. w.notes.items) c.as_slice-2.result.now)) (c.as_slice-3.ensures.keys i) (pieces i)),
+      ),
+      search rules,
     )
 
-pub returns-in-None-clause-loaded : goal.returns-in-None-clause-loaded
-returns-in-None-clause-loaded g c =
+pub returns-in-None-clause-none : goal.returns-in-None-clause-none
+returns-in-None-clause-none g c =
     let pieces = c.piece_count-pieces.ensures ∙ ap piece_count c.len.ensures.len in
     let many = c.run_pieces_with.ensures.len.0 in
     let room = c.as_mut_slice.ensures.len in
@@ -49,6 +52,5 @@ returns-in-None-clause-loaded g c =
     c.in_ok-run_pieces_with.ensures.done in (
       result_in (flat_map (λ w. w.notes.items) c.as_slice-2.result.now),
       subst (λ (z : List Bytes × List (Worker g.row.F.Denot)). AreLoadedBy g.F.Fn c.args.load.now z.0 (result_in (flat_map (λ w. w.notes.items) z.1)) c.args.tools.now c.run_pieces_with.new.tools) (λ i. (c.as_slice.ensures.keys i, joined i)) loaded,
-      c.in-None.ensures.cause ∙ ap (first_noted (result_in (flat_map (λ w. w.notes.items) c.as_slice-2.result.now))) pieces,
-      tt,
+      sym (c.in-None.ensures.cause ∙ ap (first_noted (result_in (flat_map (λ w. w.notes.items) c.as_slice-2.result.now))) pieces),
     )

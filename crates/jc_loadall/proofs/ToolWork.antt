@@ -1,5 +1,5 @@
--- Sessions that load pieces, by what is known of each call.
---     sessions_loaded    what is known of the pieces and of their results tells how each ended
+-- Tools with which pieces are loaded, by what is known of each call.
+--     tools_loaded       what is known of the pieces and of their results tells how each ended
 --     causes_are, failed_are    the first cause, and what failed, by the results and by the ends
 --     none_noted         without a cause nothing failed
 use Rattle.std.proofs.Common.{◌≡◌, ◌<◌, ◌≤◌, ◌++◌, ℕ, zero, suc, List, [], ◌∷◌, Bool, length, get_or, None, Some, Option, refl, sym, ap, subst, ◌∙◌, arith, cond, nat_lt, true, false}
@@ -12,16 +12,13 @@ use denote.Param.Members.{Shared}
 use Rattle.indexmap.specs.IndexSet.{IndexSet}
 use Rattle.jc_types.specs.declared.refusal.Refusal.{Refusal}
 use Rattle.jc_model.specs.Cache.{Bytes}
-use Rattle.jc_outside.specs.CallingAll.{LoadAllRelation, WriteAllRelation, DeleteAllRelation}
-use Rattle.jc_cache.specs.Caches.{CacheState}
-use Rattle.jc_cache.specs.Sessions.{MayCall}
-use Rattle.jc_cache.specs.declared.session.Session.{Session}
+use Rattle.jc_model.specs.declared.event.Op.{Op}
 use Rattle.jc_rounds.specs.Ends.{failed_entries}
 use Rattle.jc_bulk.specs.Targets.{load_ops}
 use Rattle.jc_pool.specs.Shares.{LeadsTo, once_below, times}
 use Rattle.jc_loadall.specs.declared.notes.PieceResult.{PieceResult}
 use Rattle.jc_loadall.specs.declared.notes.PieceResult.TheVariants.{Loaded, Failed, Refused}
-use Rattle.jc_loadall.specs.Loading.{LoadsInPieces, LoadsPiece, PieceEnd, all_ends, first_cause}
+use Rattle.jc_loadall.specs.Loading.{LoadsInPieces, PieceEnd, all_ends, first_cause}
 use Rattle.jc_loadall.specs.Notes.{IsNoteOf, all_noted, cause_noted, entries_noted, first_noted}
 use Rattle.jc_loadall.specs.Pieces.{piece_at, piece_count}
 use Rattle.jc_loadall.specs.Working.{AreLoadedBy, LoadsBy}
@@ -61,42 +58,39 @@ once_at_most p n = elim (nat_lt p n) as (λ b. cond b 1 0 ≤ 1) [ true ↦ omeg
 once_is : (p n : ℕ) → p < n → once_below p n ≡ 1
 once_is p n lt = let yes : nat_lt p n ≡ true = lt-ltb p n lt in counted (nat_lt p n) yes
 
--- 2. The sessions.
+-- 2. The tools.
 
-module _ {I J F S : Type 0} {D : I → Type 0} {E : J → Type 0}
-    (loads_all : LoadAllRelation ((i : I) × D i)) (load_state : (i : I) × D i → List ℕ)
-    (writes_all : WriteAllRelation ((j : J) × E j)) (deletes_all : DeleteAllRelation ((j : J) × E j)) (write_state : (j : J) × E j → List ℕ)
-    (cache : CacheState) (replace : Bool)
-    (g : Shared F (Bor (IndexSet Bytes S) × (MutBor (Session I J D E) × Unit {0})) (PieceResult × (MutBor (Session I J D E) × Unit {0}))) (load : F) (keys : List Bytes) (results : ℕ → PieceResult)
-    (says : (ks : List Bytes) (old : Session I J D E) (result : PieceResult) (new : Session I J D E) → LoadsBy g load ks old result new
-    → MayCall cache new × ((end : PieceEnd) × LoadsPiece loads_all load_state writes_all deletes_all write_state cache (load_ops replace ks) end old new × IsNoteOf ks result end)) where
-  abbrev Step : Session I J D E → ℕ → PieceEnd → Session I J D E → Type 0
-  Step old p end new =
-      LoadsPiece loads_all load_state writes_all deletes_all write_state cache (load_ops replace (piece_at keys p)) end old new × IsNoteOf (piece_at keys p) (results p) end × MayCall cache new
+-- `Loads` is what was done with one to load a piece
+module _ {F S T : Type 0} (Loads : List (Bytes × Op) → PieceEnd → T → T → Type 0) (replace : Bool)
+    (g : Shared F (Bor (IndexSet Bytes S) × (MutBor T × Unit {0})) (PieceResult × (MutBor T × Unit {0}))) (load : F) (keys : List Bytes) (results : ℕ → PieceResult)
+    (says : (ks : List Bytes) (old : T) (result : PieceResult) (new : T) → LoadsBy g load ks old result new
+    → (end : PieceEnd) × Loads (load_ops replace ks) end old new × IsNoteOf ks result end) where
+  abbrev Step : T → ℕ → PieceEnd → T → Type 0
+  Step old p end new = Loads (load_ops replace (piece_at keys p)) end old new × IsNoteOf (piece_at keys p) (results p) end
 
-  told : (old new : Session I J D E) (share : List ℕ) → LeadsTo (λ o p n. LoadsBy g load (piece_at keys p) o (results p) n) old share new → LeadsTo (SomeStep Step) old share new
+  told : (old new : T) (share : List ℕ) → LeadsTo (λ o p n. LoadsBy g load (piece_at keys p) o (results p) n) old share new → LeadsTo (SomeStep Step) old share new
   told old new [] led = led
   told old new (p ∷ share) led =
       let said = says (piece_at keys p) old (results p) led.0 led.1 in
-      (led.0, (said.1.0, (said.1.1, said.1.2, said.0)), told led.0 new share led.2)
+      (led.0, (said.0, (said.1, said.2)), told led.0 new share led.2)
 
-  only : (old new : Session I J D E) (share : List ℕ) (f : ℕ → PieceEnd) → LeadsTo (λ o p n. Step o p (f p) n) old share new
-      → LeadsTo (λ o p n. LoadsPiece loads_all load_state writes_all deletes_all write_state cache (load_ops replace (piece_at keys p)) (f p) o n) old share new
+  only : (old new : T) (share : List ℕ) (f : ℕ → PieceEnd) → LeadsTo (λ o p n. Step o p (f p) n) old share new
+      → LeadsTo (λ o p n. Loads (load_ops replace (piece_at keys p)) (f p) o n) old share new
   only old new [] f led = led
   only old new (p ∷ share) f led = (led.0, led.1.0, only led.0 new share f led.2)
 
-  abbrev pub Told : List (Session I J D E) → List (Session I J D E) → Type 0
+  abbrev pub Told : List T → List T → Type 0
   Told olds news =
-      (ends : ℕ → PieceEnd) × LoadsInPieces loads_all load_state writes_all deletes_all write_state cache keys replace ends olds news
+      (ends : ℕ → PieceEnd) × LoadsInPieces Loads keys replace ends olds news
       × ((p : ℕ) → p < piece_count (length keys) → IsNoteOf (piece_at keys p) (results p) (ends p))
 
-  pub sessions_loaded : (olds news : List (Session I J D E)) → AreLoadedBy g load keys results olds news → Told olds news
-  sessions_loaded olds news loaded = (
+  pub tools_loaded : (olds news : List T) → AreLoadedBy g load keys results olds news → Told olds news
+  tools_loaded olds news loaded = (
     fact_at (joined team.dss) nothing,
     record {
       shares = loaded.shares;
       share_each = loaded.share_each;
-      sessions = loaded.tools;
+      count = loaded.tools;
       each = λ k d lt. only (get_or olds k d) (get_or news k d) (get_or loaded.shares k []) (fact_at (joined team.dss) nothing)
           (subst (λ (ss : List (List ℕ)). LeadsTo (λ o p n. Step o p (fact_at (joined team.dss) nothing p) n) (get_or olds k d) (get_or ss k []) (get_or news k d)) team.numbers
           (led_back Step (fact_at (joined team.dss) nothing) olds news team.dss (agrees_all (joined team.dss) nothing few) team.chains k d lt));
