@@ -26,3 +26,13 @@ module _ {O T : Type 0} (opens : O → Result T OpenCause → O → Type 0) (pau
   ends_last all at old now new answer over so_far opened =
       let none : zero ≡ all - at = omega (arith, over) in
       so_far answer new (subst (λ left. OpensInTurns opens pauses left now answer new) none opened)
+
+  -- what each try's answer is, the last one's is
+  pub in_the_end : (P : Result T OpenCause → Type 0) → ((old : O) (answer : Result T OpenCause) (new : O) → opens old answer new → P answer)
+      → (retries : ℕ) (old new : O) (answer : Result T OpenCause) → OpensInTurns opens pauses retries old answer new → P answer
+  in_the_end P each zero old new answer h = each old answer new h
+  in_the_end P each (suc retries) old new answer (inl h) = each old answer new h.0
+  in_the_end P each (suc retries) old new answer (inr h) = in_the_end P each retries h.1 new answer h.4
+
+  pub is_opened : (opened : T) → Ok opened ≢ Err Locked
+  is_opened opened same = let no = same in cc

@@ -61,7 +61,8 @@ pub(crate) fn open_in_turns<O: Opening>(
         match opening.open() {
             Ok(opened) => return Ok(opened),
             Err(OpenCause::Locked) => opening.pause(),
-            Err(cause) => return Err(cause),
+            Err(OpenCause::OtherTable) => return Err(OpenCause::OtherTable),
+            Err(OpenCause::Failed(error)) => return Err(OpenCause::Failed(error)),
         }
     }
     opening.open()
