@@ -2,7 +2,7 @@
 -- `HasOwnTable`: the same of a connection to a file, as far as the disk has returned what was written to it.
 -- `OpensInTurns`: it was tried until it wasn't locked, at most so many times again, with a pause between two tries, and the answer is that
 -- of the last try.
-use Rattle.std.specs.Prelude.{◌≡◌, ◌≢◌, ◌⊎◌, ℕ, zero, suc, true, Result, Ok, Err}
+use Rattle.std.specs.Prelude.{◌≢◌, ◌⊎◌, ℕ, zero, suc, true, Result, Ok, Err}
 use Rattle.sqlite_disk.specs.declared.Disk as disk
 use Rattle.sqlite_store.specs.declared.store.FileStore.{FileStore}
 use Rattle.sqlite.specs.Store.{Ghosts}
