@@ -51,7 +51,7 @@ file_send = modelled.the_send File.the_row Unknown.the_row calls.ghosts start.gh
 
 shared_send : IsSend Shared.the_row
 shared_send = declared_send Shared.the_type
-    (connection.the_send _ (stored.ghosts file_row file_ghosts stored.no_dict) (store.the_send file_row file_ghosts file_send), (option.the_send _ failure.the_send, tt))
+    (option.the_send _ (connection.the_send _ (stored.ghosts file_row file_ghosts stored.no_dict) (store.the_send file_row file_ghosts file_send)), (option.the_send _ failure.the_send, tt))
 
 arc_send : IsSend (Arc.the_row (Mutex.the_row Shared.the_row) Heap.the_row ghosts)
 arc_send = std.Arc-send (Mutex.the_row Shared.the_row) (mutex.the_send Shared.the_row shared_send) (mutex.the_sync Shared.the_row shared_send)

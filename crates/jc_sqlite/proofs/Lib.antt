@@ -1,3 +1,4 @@
 mod Batches
 pub mod CallerLemmas
 mod Statements
+mod Turns

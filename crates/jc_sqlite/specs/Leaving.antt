@@ -3,7 +3,8 @@
 -- `says_closed`: the error says that an earlier failure has shut the connection.
 -- `failure_to_keep`: the failure that is kept, which is the new one, unless that says only that an earlier one has shut the connection.
 -- `KeepsFailure`: a call that succeeds leaves what is kept; one that fails keeps its failure, of which this holds.
-use Rattle.std.specs.Prelude.{◌≡◌, ◌<◌, ℕ, Bool, true, false, if◌then◌else◌, List, [], Result, Ok, Err, Option, None, Some}
+-- `NeedsOpen`: a connection that is there stays there; without one the call fails.
+use Rattle.std.specs.Prelude.{◌≡◌, ◌<◌, ℕ, Bool, true, false, if◌then◌else◌, List, [], Result, Ok, Err, Option, None, Some, IsSome, IsErr}
 use Rattle.sqlite.specs.declared.error.ErrorCode.TheVariants.{Closed}
 use Rattle.sqlite.specs.declared.error.Error.{Error}
 use Rattle.sqlite.specs.declared.error.Error.TheVariants.{SqliteFailure}
@@ -24,3 +25,7 @@ failure_to_keep (Some first) failure = if says_closed failure.error then first e
 abbrev pub KeepsFailure : {T : Type 0} → (Failure → Type 0) → Option Failure → Result T ℕ → Option Failure → Type 0
 KeepsFailure Of before (Ok done) after = after ≡ before
 KeepsFailure Of before (Err code) after = (failure : Failure) × Of failure × (after ≡ Some (failure_to_keep before failure))
+
+abbrev pub NeedsOpen : {C T : Type 0} → Option C → Result T ℕ → Option C → Type 0
+NeedsOpen None result after = IsErr result × (after ≡ None)
+NeedsOpen (Some connection) result after = IsSome after

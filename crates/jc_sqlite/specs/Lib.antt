@@ -1,3 +1,4 @@
 pub mod Batch
 pub mod Leaving
+pub mod Opening
 pub mod Statements

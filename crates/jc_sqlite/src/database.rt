@@ -1,10 +1,14 @@
 //! The database, which all of its loaders and writers share.
-use crate::failure::{Failure, OpenError};
+ghost use Rattle.jc_sqlite.specs.Opening.{HasOwnTable};
+
+use crate::failure::{Failure, OpenCause, OpenError};
+use crate::opening::{OpenOptions, open_file};
 use crate::shared::Shared;
-use crate::table;
-use sqlite::Connection;
+use sqlite::{Connection, Error, ErrorCode, File, FileStore};
 use std::alloc::{AllocError, Global};
 use std::sync::{Arc, Mutex, Wait};
+
+const NO_MEMORY: OpenCause = OpenCause::Failed(Error::SqliteFailure(ErrorCode::OutOfMemory));
 
 /// A SQLite file with a table of keys and values, behind a cache.
 ///
@@ -19,24 +23,73 @@ use std::sync::{Arc, Mutex, Wait};
 /// writes much makes few calls for many keys.
 #[derive(Drop)]
 pub struct Database {
+    path: String,
     shared: Arc<Mutex<Shared>, Global>,
 }
 
 impl Database {
-    /// Opens a file, or makes it, and makes the table if it isn't there.
-    ///
-    /// Errors: `OtherTable` if the file has another `entry`; `Failed` with `DatabaseBusy` if the file is open already, in this process
-    /// or another, with `CannotOpen` if it can't be opened or made, with `NotADatabase` or `DatabaseCorrupt` if it is no database, and
-    /// with what a read or a write of the file may fail with. A file that is no database, or has another `entry`, is left as it is,
-    /// maybe with an empty second file beside it.
+    /// Opens a file as [`Database::open_with`] does, in one try: a file that is locked is an error at once.
     pub fn open(rt: &HostRuntime, path: &str) -> Result<Database, OpenError> {
-        let mut connection = Connection::open(rt, path)?;
-        table::create(&mut connection)?;
-        if !table::is_own(&mut connection)? {
-            return Err(OpenError::OtherTable);
+        Database::open_with(rt, path, &OpenOptions::ONCE)
+    }
+
+    /// Opens a file, or makes it, and makes the table if it isn't there. If the file is locked, it tries again, as the options say: it
+    /// sleeps between two tries, and waits for nothing else.
+    ///
+    /// Errors have the path and the cause: `Locked` if at the last try the file was open still, in this process or another;
+    /// `OtherTable` if the file has another `entry`; `Failed` with `CannotOpen` if it can't be opened or made, with `NotADatabase` or
+    /// `DatabaseCorrupt` if it is no database, and with what a read or a write of the file may fail with. A file that is no database, or
+    /// has another `entry`, is left as it is, maybe with an empty second file beside it.
+    pub fn open_with(
+        rt: &HostRuntime,
+        path: &str,
+        options: &OpenOptions,
+    ) -> Result<Database, OpenError> {
+        match open_file(rt, path, options) {
+            Ok(connection) => Database::over(rt.alloc(), path, connection),
+            Err(cause) => Err(OpenError::of(rt.alloc(), path, cause)),
         }
-        let shared = Arc::new(rt.alloc(), Mutex::new(Shared::new(connection)))?;
-        Ok(Database { shared })
+    }
+
+    /// A database over a file that is open. Condition: its table was looked at.
+    fn over(
+        alloc: Global,
+        path: &str,
+        connection: Connection<FileStore<File>>,
+    ) -> Result<Database, OpenError>
+        requires { HasOwnTable connection }
+    {
+        let Ok(kept) = String::from_str(alloc, path) else {
+            return Err(OpenError::of(alloc, path, NO_MEMORY));
+        };
+        match Arc::new(alloc, Mutex::new(Shared::new(connection))) {
+            Ok(shared) => Ok(Database { path: kept, shared }),
+            Err(_failed) => Err(OpenError {
+                path: kept,
+                cause: NO_MEMORY,
+            }),
+        }
+    }
+
+    /// Shuts the file and opens it again, as [`Database::open_with`] does, under the loaders and writers that there are: they continue with
+    /// the new connection. It is for a file whose connection a failure of the disk has shut (`CLOSED`), and does no harm to another:
+    /// what was written is in the file. It waits for the lock, and holds it till it is done: a call meanwhile waits for the new
+    /// connection.
+    ///
+    /// After an `Err` the database is shut: each call fails with `CLOSED`, until a later `reopen` succeeds. Meanwhile something else may
+    /// open the file. Of the call whose failure shut the connection the file has all or nothing: what a cache has of its keys may be
+    /// older. The last error stays.
+    pub fn reopen(
+        &self,
+        host: &HostRuntime,
+        rt: &impl Wait,
+        options: &OpenOptions,
+    ) -> Result<(), OpenError> {
+        let path = self.path.as_str();
+        match self.shared.lock(rt).reopen(host, path, options) {
+            Ok(()) => Ok(()),
+            Err(cause) => Err(OpenError::of(host.alloc(), path, cause)),
+        }
     }
 
     /// How many entries the table has. It waits for the lock. An `Err` has the failure's code.

@@ -1,7 +1,9 @@
 //! What failed: a call, and at which key; or the opening of a file.
+ghost use Rattle.std.specs.Prelude.{◌≡◌};
+
 use jc_types::Key;
-use sqlite::Error;
-use std::alloc::AllocFailed;
+use sqlite::{Error, ErrorCode};
+use std::alloc::Global;
 use std::fmt::{self, Display, Formatter, Write};
 
 /// A failure of a call, and the key of the call.
@@ -24,9 +26,11 @@ impl Display for Failure {
     }
 }
 
-/// Why [`Database::open`](crate::Database::open) opened no database.
+/// Why a file wasn't opened.
 #[derive(Clone, Copy, Debug, PartialEq, Eq)]
-pub enum OpenError {
+pub enum OpenCause {
+    /// The file is open already: in another process, or by another [`Database`](crate::Database) of this one.
+    Locked,
     /// The file has another `entry` than the table that [`create`](crate::table::create) makes: one with other columns, a view, or one
     /// with a trigger.
     OtherTable,
@@ -34,27 +38,59 @@ pub enum OpenError {
     Failed(Error),
 }
 
-impl Display for OpenError {
+impl Display for OpenCause {
     fn fmt<W: Write>(&self, f: &mut Formatter<W>) -> fmt::Result {
         match self {
-            OpenError::OtherTable => f.write_str(
+            OpenCause::Locked => f.write_str(
+                "database is locked: open in another process, or twice in this one",
+            ),
+            OpenCause::OtherTable => f.write_str(
                 "`entry` in this file is not the table of keys and values that jc_sqlite makes",
             ),
-            OpenError::Failed(error) => write!(f, "{error}"),
+            OpenCause::Failed(error) => write!(f, "{error}"),
         }
     }
 }
 
+impl From<Error> for OpenCause {
+    fn from(error: Error) -> OpenCause {
+        match error {
+            Error::SqliteFailure(ErrorCode::DatabaseBusy) => OpenCause::Locked,
+            other => OpenCause::Failed(other),
+        }
+    }
+}
+
+/// Which file wasn't opened, and why.
+///
+/// It displays both: `visits.db: unable to open database file`.
+#[derive(Debug, Drop)]
+pub struct OpenError {
+    /// The file's path, as it was given. It is empty if no memory was left for it.
+    pub path: String,
+    /// Why it wasn't opened.
+    pub cause: OpenCause,
+}
+
+impl OpenError {
+    /// The error of a file at this path.
+    pub(crate) fn of(alloc: Global, path: &str, cause: OpenCause) -> OpenError
+        ensures { result.cause ≡ cause }
+    {
+        match String::from_str(alloc, path) {
+            Ok(path) => OpenError { path, cause },
+            Err(_) => OpenError {
+                path: String::new(alloc),
+                cause,
+            },
+        }
+    }
+}
+
+impl Display for OpenError {
+    fn fmt<W: Write>(&self, f: &mut Formatter<W>) -> fmt::Result {
+        write!(f, "{}: {}", self.path, self.cause)
+    }
+}
+
 impl std::error::Error for OpenError {}
-
-impl From<Error> for OpenError {
-    fn from(error: Error) -> OpenError {
-        OpenError::Failed(error)
-    }
-}
-
-impl<T: Drop> From<AllocFailed<T>> for OpenError {
-    fn from(failed: AllocFailed<T>) -> OpenError {
-        OpenError::Failed(Error::from(failed))
-    }
-}

@@ -10,12 +10,14 @@ pub mod code;
 mod database;
 mod failure;
 mod loader;
+mod opening;
 mod shared;
 pub mod table;
 mod writer;
 
 pub use code::code_of;
 pub use database::Database;
-pub use failure::{Failure, OpenError};
+pub use failure::{Failure, OpenCause, OpenError};
 pub use loader::DatabaseLoader;
+pub use opening::OpenOptions;
 pub use writer::DatabaseWriter;

@@ -1,29 +1,53 @@
 //! What all loaders and writers of a database share, behind a lock.
-ghost use Rattle.std.specs.Prelude.{◌≡◌, ◌<◌, Some, None, IsSome, IfErr};
-ghost use Rattle.jc_sqlite.specs.Leaving.{LeavesAllOrNone, failure_to_keep, KeepsFailure};
+ghost use Rattle.std.specs.Prelude.{◌≡◌, ◌≢◌, ◌<◌, [], IsErr, Some, None, IsSome, IsSomeAnd, IfErr, OnOk, OnErr};
+ghost use Rattle.jc_sqlite.specs.Opening.{HasOwnTable};
+ghost use Rattle.jc_sqlite.specs.Leaving.{LeavesAllOrNone, failure_to_keep, KeepsFailure, NeedsOpen};
 
 use crate::code::code_of;
-use crate::failure::Failure;
+use crate::failure::{Failure, OpenCause};
+use crate::opening::{OpenOptions, open_file};
 use crate::table;
 use indexmap::{IndexMap, IndexSet};
 use jc_outside::Answers;
 use jc_types::{Key, Value};
 use sqlite::{Connection, Error, ErrorCode, File, FileStore};
 
+/// The file isn't open.
+const SHUT: Error = Error::SqliteFailure(ErrorCode::Closed);
+
 /// The one connection to the file, and the last failure. Each call keeps its failure, and returns the failure's code. A call that fails
 /// because the connection is shut keeps what shut it.
 #[derive(Drop)]
 pub struct Shared {
-    connection: Connection<FileStore<File>>,
+    connection: Option<Connection<FileStore<File>>>,
     last_error: Option<Failure>,
 }
 
 impl Shared {
-    pub(crate) fn new(connection: Connection<FileStore<File>>) -> Shared {
+    /// Condition: the connection's table was looked at.
+    pub(crate) fn new(connection: Connection<FileStore<File>>) -> Shared
+        requires { HasOwnTable connection }
+    {
         Shared {
-            connection,
+            connection: Some(connection),
             last_error: None,
         }
+    }
+
+    /// Shuts the file and opens it again. If that fails there is no connection, and each call fails with `CLOSED`.
+    pub(crate) fn reopen(
+        &mut self,
+        rt: &HostRuntime,
+        path: &str,
+        options: &OpenOptions,
+    ) -> Result<(), OpenCause>
+        ensures open { OnOk result (IsSomeAnd self.new.connection HasOwnTable) }
+        ensures shut { OnErr result (self.new.connection ≡ None) }
+        ensures kept { self.new.last_error ≡ self.old.last_error }
+    {
+        self.connection = None;
+        self.connection = Some(open_file(rt, path, options)?);
+        Ok(())
     }
 
     pub(crate) fn last_error(&self) -> Option<Failure>
@@ -34,9 +58,13 @@ impl Shared {
 
     pub(crate) fn entry_count(&mut self) -> Result<u64, u32>
         ensures code { IfErr result (λ code. 0 < code) }
+        ensures open { NeedsOpen self.old.connection result self.new.connection }
         ensures kept { KeepsFailure (λ failure. failure.key ≡ None) self.old.last_error result self.new.last_error }
     {
-        match table::entry_count(&mut self.connection) {
+        let Some(connection) = &mut self.connection else {
+            return Err(self.shut(None));
+        };
+        match table::entry_count(connection) {
             Ok(count) => Ok(count),
             Err(error) => Err(self.failed(Failure { key: None, error })),
         }
@@ -44,9 +72,13 @@ impl Shared {
 
     pub(crate) fn load(&mut self, key: &Key) -> Result<Option<Value>, u32>
         ensures code { IfErr result (λ code. 0 < code) }
+        ensures open { NeedsOpen self.old.connection result self.new.connection }
         ensures kept { KeepsFailure (λ failure. failure.key ≡ Some key.now) self.old.last_error result self.new.last_error }
     {
-        match table::load(&mut self.connection, key) {
+        let Some(connection) = &mut self.connection else {
+            return Err(self.shut(Some(*key)));
+        };
+        match table::load(connection, key) {
             Ok(found) => Ok(found),
             Err(error) => Err(self.failed(Failure {
                 key: Some(*key),
@@ -57,10 +89,14 @@ impl Shared {
 
     pub(crate) fn load_all(&mut self, keys: &[Key], answers: &mut Answers) -> Result<(), u32>
         ensures code { IfErr result (λ code. 0 < code) }
+        ensures open { keys.now ≢ [] → NeedsOpen self.old.connection result self.new.connection }
         ensures kept { KeepsFailure (λ failure. IsSome failure.key) self.old.last_error result self.new.last_error }
         ensures room { answers.new.room ≡ answers.old.room }
     {
-        match table::load_all(&mut self.connection, keys, answers) {
+        let Some(connection) = &mut self.connection else {
+            return self.shut_at_first(keys);
+        };
+        match table::load_all(connection, keys, answers) {
             Ok(()) => Ok(()),
             Err(failure) => Err(self.failed(failure)),
         }
@@ -68,9 +104,13 @@ impl Shared {
 
     pub(crate) fn write(&mut self, key: &Key, value: &Value) -> Result<(), u32>
         ensures code { IfErr result (λ code. 0 < code) }
+        ensures open { NeedsOpen self.old.connection result self.new.connection }
         ensures kept { KeepsFailure (λ failure. failure.key ≡ Some key.now) self.old.last_error result self.new.last_error }
     {
-        match table::write(&mut self.connection, key, value) {
+        let Some(connection) = &mut self.connection else {
+            return Err(self.shut(Some(*key)));
+        };
+        match table::write(connection, key, value) {
             Ok(()) => Ok(()),
             Err(error) => Err(self.failed(Failure {
                 key: Some(*key),
@@ -81,9 +121,13 @@ impl Shared {
 
     pub(crate) fn delete(&mut self, key: &Key) -> Result<(), u32>
         ensures code { IfErr result (λ code. 0 < code) }
+        ensures open { NeedsOpen self.old.connection result self.new.connection }
         ensures kept { KeepsFailure (λ failure. failure.key ≡ Some key.now) self.old.last_error result self.new.last_error }
     {
-        match table::delete(&mut self.connection, key) {
+        let Some(connection) = &mut self.connection else {
+            return Err(self.shut(Some(*key)));
+        };
+        match table::delete(connection, key) {
             Ok(()) => Ok(()),
             Err(error) => Err(self.failed(Failure {
                 key: Some(*key),
@@ -94,9 +138,13 @@ impl Shared {
 
     pub(crate) fn write_all(&mut self, entries: &mut IndexMap<Key, Value>) -> Result<(), u32>
         ensures left { LeavesAllOrNone entries.old.entries result entries.new.entries }
+        ensures open { NeedsOpen self.old.connection result self.new.connection }
         ensures kept { KeepsFailure (λ failure. failure.key ≡ None) self.old.last_error result self.new.last_error }
     {
-        match table::write_all(&mut self.connection, entries) {
+        let Some(connection) = &mut self.connection else {
+            return Err(self.shut(None));
+        };
+        match table::write_all(connection, entries) {
             Ok(()) => Ok(()),
             Err(error) => Err(self.failed(Failure { key: None, error })),
         }
@@ -104,17 +152,44 @@ impl Shared {
 
     pub(crate) fn delete_all(&mut self, keys: &mut IndexSet<Key>) -> Result<(), u32>
         ensures left { LeavesAllOrNone keys.old.keys result keys.new.keys }
+        ensures open { NeedsOpen self.old.connection result self.new.connection }
         ensures kept { KeepsFailure (λ failure. failure.key ≡ None) self.old.last_error result self.new.last_error }
     {
-        match table::delete_all(&mut self.connection, keys) {
+        let Some(connection) = &mut self.connection else {
+            return Err(self.shut(None));
+        };
+        match table::delete_all(connection, keys) {
             Ok(()) => Ok(()),
             Err(error) => Err(self.failed(Failure { key: None, error })),
         }
     }
 
+    /// Without a connection the load of the first key fails.
+    fn shut_at_first(&mut self, keys: &[Key]) -> Result<(), u32>
+        ensures fails { keys.now ≢ [] → IsErr result }
+        ensures code { IfErr result (λ code. 0 < code) }
+        ensures kept { KeepsFailure (λ failure. IsSome failure.key) self.old.last_error result self.new.last_error }
+        ensures same { self.new.connection ≡ self.old.connection }
+    {
+        match keys.first() {
+            Some(key) => Err(self.shut(Some(*key))),
+            None => Ok(()),
+        }
+    }
+
+    /// Without a connection a call fails.
+    fn shut(&mut self, key: Option<Key>) -> u32
+        ensures code { 0 < result }
+        ensures kept { self.new.last_error ≡ Some (failure_to_keep self.old.last_error (record { key = key; error = Error.SqliteFailure ErrorCode.Closed })) }
+        ensures same { self.new.connection ≡ self.old.connection }
+    {
+        self.failed(Failure { key, error: SHUT })
+    }
+
     fn failed(&mut self, failure: Failure) -> u32
         ensures code { 0 < result }
         ensures kept { self.new.last_error ≡ Some (failure_to_keep self.old.last_error failure) }
+        ensures same { self.new.connection ≡ self.old.connection }
     {
         let code = code_of(failure.error);
         let kept = self.last_error;

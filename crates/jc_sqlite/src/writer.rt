@@ -14,8 +14,9 @@ use std::sync::{Arc, Mutex, Wait};
 /// keeps the failure.
 ///
 /// After an `Err` nothing of the call is in the file, with one exception: a failure of the disk may shut the connection, which fails
-/// every later call with `CLOSED`. Then, as after a crash, the file has the call's whole transaction or nothing of it when it is opened
-/// again: a sync that failed may have written all. A cache that outlives such a failure may differ from the file at these keys.
+/// every later call with `CLOSED`, until [`Database::reopen`] has opened it again. Then, as after a crash, the file has the call's whole
+/// transaction or nothing of it: a sync that failed may have written all. What a cache has of its keys may be older than the file, so
+/// load them anew.
 #[derive(Drop)]
 pub struct DatabaseWriter<R: Wait + Drop> {
     rt: R,
