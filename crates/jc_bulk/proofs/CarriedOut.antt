@@ -73,8 +73,8 @@ module _ {I J : Type 0} {D : I → Type 0} {E : J → Type 0} (loads_all : LoadA
       (subst (λ (p : Vec Progress). EndsSo loads_all load_state writes_all deletes_all write_state cache old (ops_of later.targets.now) (key_ends (ops_of later.targets.now) p.items) cause new) (sym progress_is)
       (subst (λ o. EndsSo loads_all load_state writes_all deletes_all write_state cache old (ops_of later.targets.now) (key_ends (ops_of later.targets.now) later.progress.items) o new) (sym cause_is) e))
 
-  first_by : (cache : CacheState) (old : Session I J D E) (targets : List (Bytes × Op)) (es : List RoundEnd) (cause same : Option Refusal) → cause ≡ same → IsFirst (next_call old).agent.caller cache.config.stripes targets [] es cause → IsFirst (next_call old).agent.caller cache.config.stripes targets [] es same
-  first_by cache old targets es cause same is first = subst (IsFirst (next_call old).agent.caller cache.config.stripes targets [] es) is first
+  first_by : (cache : CacheState) (old : Session I J D E) (targets : List (Bytes × Op)) (es : List RoundEnd) (cause same : Option Refusal) → cause ≡ same → IsFirst cache.config (next_call old).agent.caller targets old.seats.items [] es cause → IsFirst cache.config (next_call old).agent.caller targets old.seats.items [] es same
+  first_by cache old targets es cause same is first = subst (IsFirst cache.config (next_call old).agent.caller targets old.seats.items [] es) is first
 
   pub end_ok : (cache : CacheState) (old new : Session I J D E) (targets : List (Bytes × Op)) (ends : List KeyEnd) (cause : Option Refusal) → cause ≡ None
       → EndsSo loads_all load_state writes_all deletes_all write_state cache old targets ends cause new → Succeeds loads_all load_state writes_all deletes_all write_state cache old targets new

@@ -63,7 +63,7 @@ module _ {I J : Type 0} {D : I → Type 0} {E : J → Type 0}
     pub types : KeepsTypes old.agent new.agent
 
   abbrev pub TellsFirst : {ends : List KeyEnd} {rounds : List Round} {new : Session I J D E} → IsBulkCall ends rounds new → Option Refusal → Type 0
-  TellsFirst call cause = IsFirst (next_call old).agent.caller cache.config.stripes targets [] call.carried.started.ends cause
+  TellsFirst call cause = IsFirst cache.config (next_call old).agent.caller targets old.seats.items [] call.carried.started.ends cause
 
   abbrev pub Succeeds : Session I J D E → Type 0
   Succeeds new = (ends : List KeyEnd) × (rounds : List Round) × IsBulkCall ends rounds new × (causes_of ends rounds ≡ [])

@@ -164,8 +164,8 @@ module _ {I J : Type 0} {D : I → Type 0} {E : J → Type 0} where
             (subst (λ (seats : List Seated). AreHeldBack (IsFull caller n (ops_of call.targets.now) seats new.seats.items (length (asked_in calls))) (length (ops_of call.targets.now)) caller n (ops_of call.targets.now) seats new.seats.items later.progress.items) (sym run.started.seats_are) round.held)
             (subst (λ t. HaveNoStep caller n t new.seats.items later.progress.items) (sym goes) (have_none cache (with_rounds past calls) new later between))
             (held_less caller n (ops_of call.targets.now) past.first es old.seats.items new.seats.items call.progress.items later.progress.items round.goes run.held));
-        first = first_more cache.config caller n (ops_of later.targets.now) [] es e (past.rounds ++ calls) past.first later.progress.items call.cause later.cause (ap (λ rs. rs ++ calls) run.started.calls_are) keeps
-            between.on.under.so_far between.cause (subst (λ t. IsFirst caller n t [] es call.cause) goes run.first);
+        first = first_more cache.config caller (ops_of later.targets.now) [] es e (past.rounds ++ calls) past.first later.progress.items call.cause later.cause (ap (λ rs. rs ++ calls) run.started.calls_are) keeps
+            between.on.under.so_far between.cause (subst (λ t. IsFirst cache.config caller t past.first [] es call.cause) goes run.first);
       }
     where
       ops_same : (call later : BulkCall) → later.targets ≡ call.targets → ops_of call.targets.now ≡ ops_of later.targets.now

@@ -418,7 +418,7 @@ module _ {I J : Type 0} {D : I → Type 0} {E : J → Type 0} where
   pub carried_out : (cache : CacheState) (past : Past) (old new : Session I J D E) (call : BulkCall) → past.caller ≡ (next_call old).agent.caller → past.first ≡ old.seats.items → IsOver call → new.agent ≡ record (next_call old).agent { counts = new.agent.counts; hands = new.agent.hands }
       → HasRun cache past new call
       → (carried : IsCarriedOut cache old (ops_of call.targets.now) (key_ends (ops_of call.targets.now) call.progress.items) past.rounds new)
-      × IsFirst (next_call old).agent.caller cache.config.stripes (ops_of call.targets.now) [] carried.started.ends call.cause
+      × IsFirst cache.config (next_call old).agent.caller (ops_of call.targets.now) old.seats.items [] carried.started.ends call.cause
   carried_out cache past old new call caller_is first_is late left run =
       let u = run.between.on.under in
       let ops = ops_of call.targets.now in
@@ -431,9 +431,9 @@ module _ {I J : Type 0} {D : I → Type 0} {E : J → Type 0} where
       λ i key op ended at there.
       subst (λ (s : List Seated). HasEnded cache.config (next_call old).agent.caller past.rounds (view_of n s key) (view_of n new.seats.items key) key op ended) first_is
       (subst (λ (c : Caller). HasEnded cache.config c past.rounds (view_of n past.first key) (view_of n new.seats.items key) key op ended) caller_is (u.so_far.each i key op (Ended ended) at there)) in
-      let started : (has : HasStartedAll (next_call old).agent.caller n ops old.seats.items new.seats.items past.rounds) × IsFirst (next_call old).agent.caller n ops [] has.ends call.cause =
-      subst (λ (s : List Seated). (has : HasStartedAll (next_call old).agent.caller n ops s new.seats.items past.rounds) × IsFirst (next_call old).agent.caller n ops [] has.ends call.cause) first_is
-      (subst (λ (c : Caller). (has : HasStartedAll c n ops past.first new.seats.items past.rounds) × IsFirst c n ops [] has.ends call.cause) caller_is (run.started, run.first)) in (
+      let started : (has : HasStartedAll (next_call old).agent.caller n ops old.seats.items new.seats.items past.rounds) × IsFirst cache.config (next_call old).agent.caller ops old.seats.items [] has.ends call.cause =
+      subst (λ (s : List Seated). (has : HasStartedAll (next_call old).agent.caller n ops s new.seats.items past.rounds) × IsFirst cache.config (next_call old).agent.caller ops s [] has.ends call.cause) first_is
+      (subst (λ (c : Caller). (has : HasStartedAll c n ops past.first new.seats.items past.rounds) × IsFirst cache.config c ops past.first [] has.ends call.cause) caller_is (run.started, run.first)) in (
         record {
           targets_are = ops_are ops ps u.so_far.many over;
           grown = subst (λ (s : List Seated). (i : ℕ) → HasGrown (view_at s i) (view_at new.seats.items i)) first_is u.so_far.grown;

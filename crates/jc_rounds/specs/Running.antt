@@ -68,7 +68,7 @@ pub record HasRun {I J : Type 0} {D : I → Type 0} {E : J → Type 0} (cache : 
   pub between : IsBetween cache past session call
   pub started : HasStartedAll past.caller cache.config.stripes (ops_of call.targets.now) past.first session.seats.items past.rounds
   pub held : HeldInEach past.caller cache.config.stripes (ops_of call.targets.now) past.first started.ends call.progress.items
-  pub first : IsFirst past.caller cache.config.stripes (ops_of call.targets.now) [] started.ends call.cause
+  pub first : IsFirst cache.config past.caller (ops_of call.targets.now) past.first [] started.ends call.cause
 
 abbrev pub EachTakesMemory : Config → List (Bytes × Op) → Type 0
 EachTakesMemory config targets = (place : ℕ) (key : Bytes) (op : Op) → slice_get targets place ≡ Some (key, op) → TakesMemory config op
