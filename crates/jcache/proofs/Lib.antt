@@ -1,2 +1,3 @@
 mod Asking
 mod Teams
+mod Counted
