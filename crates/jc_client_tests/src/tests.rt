@@ -1,5 +1,4 @@
 mod held;
-mod loads;
 
 use jc_cache::{
     CacheOwner, Client, Config, EntryProcessor, Event, Key, Outside, Refusal, Service, Value, serve,
