@@ -16,7 +16,9 @@
 --     is_begin         a line begins a call
 --     shape_text, what_text     what is wrong: with the shape of a line, and of any fault that is about a word
 --     quoted           the word itself
---     word_text        the column of a word, what is wrong, and the word
+--     not_now_hint     when a line with this first word fits
+--     hint_of          what would fit in the place of a wrong word, or when the line fits; nothing of the other faults
+--     word_text        the column of a word, what is wrong, the word, and what would fit
 --     byte_text, bytes_text, bad_byte_text     what is wrong with a byte, and at which column
 --     whole_text       what is wrong with a whole line
 --     fault_text       the column and what is wrong, if it isn't the whole line
@@ -32,7 +34,7 @@ use Rattle.jc_script.specs.declared.commands.BulkName.TheVariants as name
 use Rattle.jc_script.specs.declared.commands.Form.{Form}
 use Rattle.jc_script.specs.declared.commands.Form.TheVariants as form
 use Rattle.jc_script.specs.declared.fault.Fault.{Fault}
-use Rattle.jc_script.specs.declared.fault.Fault.TheVariants.{CutLine, LineTooLong, BadByte, BadLine, BadNumber, BadCaller, BadKey, BadValue, RepeatedKey, BadConfig, NotRising, CallerBusy, NoSuchCall}
+use Rattle.jc_script.specs.declared.fault.Fault.TheVariants.{CutLine, LineTooLong, BadByte, BadLine, BadNumber, BadCaller, BadKey, BadValue, RepeatedKey, NotOpen, BadConfig, SetTooLate, NotRising, CallerBusy, NoSuchCall, NotNow}
 use Rattle.jc_script.specs.declared.place.Kind.{Kind}
 use Rattle.jc_script.specs.declared.place.Kind.TheVariants as kind
 use Rattle.jc_script.specs.declared.place.Following.{Following}
@@ -196,10 +198,43 @@ abbrev pub quoted : List (List ℕ) → List ℕ
 quoted [] = []
 quoted (word ∷ words) = if length word == 0 then [] else codes " '" ++ word ++ codes "'"
 
+abbrev pub not_now_hint : List (List ℕ) → List ℕ
+not_now_hint [] = []
+not_now_hint (first ∷ words) =
+    if bytes_eq first (codes "read") || bytes_eq first (codes "readfail") || bytes_eq first (codes "say") then
+    codes " (it fits while the call waits for its loader)" else
+    if bytes_eq first (codes "apply") || bytes_eq first (codes "applyfail") || bytes_eq first (codes "applylie") then
+    codes " (it fits while the call waits for its writer; with but, if the call has many keys)" else
+    if bytes_eq first (codes "process") then codes " (it fits while the call waits for its processor)" else
+    if bytes_eq first (codes "end") then
+    codes " (it fits if the call has a started key, and waits for no loader, writer or processor)" else
+    if bytes_eq first (codes "drop") then
+    codes " (it fits if no key is joined, and nothing has answered for a started key)" else
+    if bytes_eq first (codes "take") then codes " (it fits if a key is joined, and none is started)" else
+    if bytes_eq first (codes "more") then
+    codes " (it fits if a key was put off or told to retry, and none is started or joined)" else
+    codes " (it fits if no call is under way)"
+
+abbrev pub hint_of : Fault → List (List ℕ) → List ℕ
+hint_of BadNumber words = codes " (0 to 999999999, without leading zeros)"
+hint_of BadCaller words = codes " (s1 to s32)"
+hint_of BadKey words = codes " (1 to 32 letters, digits, _ or .)"
+hint_of BadValue words = codes " (1 to 64 letters, digits, _ or .; or ~ for the empty value; a pair is KEY=VALUE)"
+hint_of NotOpen words = codes " (a script begins with open)"
+hint_of (BadConfig Stripes) words = codes " (1 to 64)"
+hint_of (BadConfig Capacity) words = codes " (1 to 4096)"
+hint_of (BadConfig History) words = codes " (16 to 65536)"
+hint_of SetTooLate words = codes " (it fits before the first begin, foreign or reopen)"
+hint_of NotRising words = codes " (the number of each call is above those before)"
+hint_of CallerBusy words = codes " (its call isn't over)"
+hint_of NotNow words = not_now_hint words
+hint_of other words = []
+
 -- of a fault that is about a word
 unfoldable pub word_text : Fault → ℕ → List ℕ → List ℕ
 word_text fault at line =
     codes ", column " ++ decimal (start_of at line + 1) ++ codes ": " ++ what_text fault at (words_of line) ++ quoted (drop at (words_of line))
+    ++ hint_of fault (words_of line)
 
 -- of the bytes from the first on that may not be in a line
 abbrev pub byte_text : List ℕ → List ℕ

@@ -1,5 +1,5 @@
 //! Readers and writers that note their failures, so that a contract can say that one failed.
-ghost use Rattle.std.specs.Prelude.{◌≡◌, ◌||◌, false, is_ok, not, OnOk};
+ghost use Rattle.std.specs.Prelude.{◌≡◌, ◌||◌, false, is_ok, is_some, not, OnOk};
 ghost use Rattle.std.specs.Io.{ReadsAtMost, WritesAtMost};
 ghost use Rattle.std.specs.Io.KnownBytes.{Appends, Keeps, ReadConsumes, WriteAppends};
 ghost use Rattle.jc_script.specs.Noting.{is_failed_write};
@@ -8,19 +8,20 @@ use std::io;
 use std::io::{Read, Write};
 use std::marker::Model;
 
-/// A reader or a writer that notes whether a call of it has failed. The note is never taken back.
+/// A reader or a writer that notes whether a call of it has failed, and why. The note is never taken back.
 #[derive(Drop)]
 pub struct Noted<S> {
     inner: S,
-    failed: bool,
+    failure: Option<io::ErrorKind>,
 }
 
 impl<S> Model for Noted<S> {
+    ghost use Rattle.std.specs.Prelude.{is_some};
     ghost use Rattle.jc_script.specs.Noting.{Noting};
 
     ghost Value = { Noting S };
 
-    ghost view = { λ n. record { inner = n.inner; failed = n.failed } };
+    ghost view = { λ n. record { inner = n.inner; failed = is_some n.failure } };
 }
 
 impl<S> Noted<S> {
@@ -30,8 +31,15 @@ impl<S> Noted<S> {
     {
         Noted {
             inner,
-            failed: false,
+            failure: None,
         }
+    }
+
+    /// Why the last call that failed has failed. None says that no call has.
+    pub fn failure(&self) -> Option<io::ErrorKind>
+        ensures { is_some result ≡ self.now.failed }
+    {
+        self.failure
     }
 }
 
@@ -44,8 +52,8 @@ impl<R: Read> Read for Noted<R> {
         ensures noted { self.new.failed ≡ (self.old.failed || not (is_ok result)) }
     {
         let read = self.inner.read(buf);
-        if read.is_err() {
-            self.failed = true;
+        if let Err(error) = &read {
+            self.failure = Some(error.kind());
         }
         read
     }
@@ -61,12 +69,13 @@ impl<W: Write> Write for Noted<W> {
         ensures noted { self.new.failed ≡ (self.old.failed || is_failed_write result buf.now) }
     {
         let written = self.inner.write(buf);
-        let has_failed = match &written {
-            Ok(n) => *n == 0 && !buf.is_empty(),
-            Err(_) => true,
-        };
-        if has_failed {
-            self.failed = true;
+        match &written {
+            Ok(n) => {
+                if *n == 0 && !buf.is_empty() {
+                    self.failure = Some(io::ErrorKind::WriteZero);
+                }
+            }
+            Err(error) => self.failure = Some(error.kind()),
         }
         written
     }
@@ -76,8 +85,8 @@ impl<W: Write> Write for Noted<W> {
         ensures noted { self.new.failed ≡ (self.old.failed || not (is_ok result)) }
     {
         let flushed = self.inner.flush();
-        if flushed.is_err() {
-            self.failed = true;
+        if let Err(error) = &flushed {
+            self.failure = Some(error.kind());
         }
         flushed
     }
@@ -87,8 +96,8 @@ impl<W: Write> Write for Noted<W> {
         ensures noted { self.new.failed ≡ (self.old.failed || not (is_ok result)) }
     {
         let written = self.inner.write_all(buf);
-        if written.is_err() {
-            self.failed = true;
+        if let Err(error) = &written {
+            self.failure = Some(error.kind());
         }
         written
     }

@@ -4,7 +4,7 @@ ghost use Rattle.std.specs.List.{position};
 ghost use Rattle.jc_script.specs.Lines.{is_plain};
 ghost use Rattle.jc_script.specs.Words.{words_of};
 ghost use Rattle.jc_script.specs.Places.{shape_text, what_text, quoted, word_text, byte_text, bytes_text, whole_text, bad_byte_text, is_begin};
-ghost use Rattle.jc_script.specs.Places.{word_meant, fault_text, complaint};
+ghost use Rattle.jc_script.specs.Places.{not_now_hint, hint_of, word_meant, fault_text, complaint};
 
 use crate::fault::{Fault, text};
 use crate::grammar::is_plain;
@@ -12,6 +12,7 @@ use crate::place::{start_of, word_meant};
 use crate::printing::{put, put_number};
 use crate::process_words::begins;
 use crate::words::{is, split};
+use jc_types::Field;
 use std::alloc::{AllocError, Global};
 
 /// Whether a line begins a call.
@@ -70,7 +71,63 @@ fn words_from<'a, 'b>(at: usize, words: &'a [&'b [u8]]) -> &'a [&'b [u8]]
     if words.len() < at { &[] } else { &words[at..] }
 }
 
-/// Of a fault that is about the word at a place: the column, what is wrong, and the word.
+/// When a line with this first word fits.
+fn not_now_hint(words: &[&[u8]]) -> &'static str
+    ensures { result.now ≡ not_now_hint (map (λ w. w.now) words.now) }
+{
+    match words {
+        [] => "",
+        [first, ..] if is(first, "read") || is(first, "readfail") || is(first, "say") => {
+            " (it fits while the call waits for its loader)"
+        }
+        [first, ..] if is(first, "apply") || is(first, "applyfail") || is(first, "applylie") => {
+            " (it fits while the call waits for its writer; with but, if the call has many keys)"
+        }
+        [first, ..] if is(first, "process") => " (it fits while the call waits for its processor)",
+        [first, ..] if is(first, "end") => {
+            " (it fits if the call has a started key, and waits for no loader, writer or processor)"
+        }
+        [first, ..] if is(first, "drop") => {
+            " (it fits if no key is joined, and nothing has answered for a started key)"
+        }
+        [first, ..] if is(first, "take") => " (it fits if a key is joined, and none is started)",
+        [first, ..] if is(first, "more") => {
+            " (it fits if a key was put off or told to retry, and none is started or joined)"
+        }
+        _ => " (it fits if no call is under way)",
+    }
+}
+
+/// What would fit in the place of a wrong word, or when the line fits.
+fn hint(fault: Fault, words: &[&[u8]]) -> &'static str
+    ensures { result.now ≡ hint_of fault (map (λ w. w.now) words.now) }
+{
+    match fault {
+        Fault::BadNumber => " (0 to 999999999, without leading zeros)",
+        Fault::BadCaller => " (s1 to s32)",
+        Fault::BadKey => " (1 to 32 letters, digits, _ or .)",
+        Fault::BadValue => {
+            " (1 to 64 letters, digits, _ or .; or ~ for the empty value; a pair is KEY=VALUE)"
+        }
+        Fault::NotOpen => " (a script begins with open)",
+        Fault::BadConfig(Field::Stripes) => " (1 to 64)",
+        Fault::BadConfig(Field::Capacity) => " (1 to 4096)",
+        Fault::BadConfig(Field::History) => " (16 to 65536)",
+        Fault::SetTooLate => " (it fits before the first begin, foreign or reopen)",
+        Fault::NotRising => " (the number of each call is above those before)",
+        Fault::CallerBusy => " (its call isn't over)",
+        Fault::NotNow => not_now_hint(words),
+        Fault::CutLine
+        | Fault::LineTooLong
+        | Fault::BadByte
+        | Fault::BadLine
+        | Fault::RepeatedKey
+        | Fault::OpenTwice
+        | Fault::NoSuchCall => "",
+    }
+}
+
+/// Of a fault that is about the word at a place: the column, what is wrong, the word, and what would fit.
 #[tactic(auto, unfolding(crate::specs::Places::word_text))]
 fn put_word_text(
     out: &mut Vec<u8>,
@@ -86,7 +143,8 @@ fn put_word_text(
     put_number(out, start_of(at, line) as u64 + 1)?;
     put(out, ": ")?;
     put(out, what_text(fault, at, words))?;
-    put_quoted(out, words_from(at, words))
+    put_quoted(out, words_from(at, words))?;
+    put(out, hint(fault, words))
 }
 
 /// Of a fault that is about a word.

@@ -7,13 +7,14 @@
 --     ExitOfThreads     a report on these threads was shown; or they were too much work; or an allocation failed, and nothing was written
 --     ExitOfTask        a task was carried out, and this status says how that ended
 --     version_text      what `--version` shows
---     statuses_text     what help ends with: what the statuses mean
---     IsHelp            a text of help; what `clap` says before the statuses, its contract leaves open
+--     ending_text       what help ends with: what the statuses mean, and what the repository's script does
+--     IsHelp            a text of help; what `clap` says before the ending, its contract leaves open
 --     Shows             a text that was asked for was written; or a write failed
 --     ExitOfFault       what is written for these words with an error of this kind: the text that they asked for on standard
 --                       output, or what is wrong with them on standard error
 --     Exit              the task of right words is carried out; wrong ones are reported, and nothing is read; or an allocation failed,
 --                       and nothing was read or written
+--     status_without_words   the status if the words of the command line can't be had: 4 if memory is short, else 2
 --     FailsByStreams    status 3 comes if a stream failed, and only then or if the script is too long; after a failed read nothing is on standard output
 use Rattle.std.specs.Prelude.{◌≡◌, ◌⊎◌, ◌<◌, ◌*◌, ◌&&◌, ◌++◌, ℕ, List, [], Bool, true, false, nat_lt, is_none, Option, IfSome, codes, length, if◌then◌else◌}
 use Rattle.std.specs.Io.KnownBytes.{Appends}
@@ -21,6 +22,8 @@ use Rattle.clap.specs.Walk.{Row, Text}
 use Rattle.clap.specs.Words.{IsAmong, Kinds}
 use Rattle.clap.specs.declared.error.kind.ErrorKind.{ErrorKind}
 use Rattle.clap.specs.declared.error.kind.ErrorKind.TheVariants as kind
+use Rattle.std.specs.declared.io.ErrorKind.{ErrorKind as IoErrorKind}
+use Rattle.std.specs.declared.io.ErrorKind.TheVariants as io-kind
 use Rattle.jc_script.specs.Running.{Broke, Ran}
 use Rattle.jc_script.specs.declared.run.RunEnd.TheVariants.{Clean, LineFault}
 use Rattle.jc_types.specs.declared.limits.TheConstants.{SCRIPT_MAX}
@@ -66,12 +69,12 @@ ExitOfTask (task.Threads plan) played counted unread = counted plan × unread
 abbrev pub version_text : List ℕ
 version_text = codes "jcache 0.2.0\n"
 
-abbrev pub statuses_text : List ℕ
-statuses_text =
-    codes "\nExit status: 0 done, 1 a line has a fault, 2 wrong words, 3 a stream failed, 4 out of memory, 5 wrong report\n"
+abbrev pub ending_text : List ℕ
+ending_text =
+    codes "\nExit status: 0 done, 1 a line has a fault, 2 wrong words, 3 a stream failed, 4 out of memory, 5 wrong report\n\nThe script ./jcache of the repository builds this program if it has to, and has further words:\n  run FILE..       Plays these scripts, one after the other, up to the first whose exit status isn't 0; - is standard input\n  build [CRATE..]  Proves and builds the program, and these crates with those below them; exit status 125 if that fails\n\nFor example: ./jcache run examples/put_seen_after_commit.script\nThe words of a script, and all limits: docs/SCRIPT.md\n"
 
 abbrev pub IsHelp : List ℕ → Type 0
-IsHelp text = (before : List ℕ) × (text ≡ before ++ statuses_text)
+IsHelp text = (before : List ℕ) × (text ≡ before ++ ending_text)
 
 abbrev pub Shows : (asked : List ℕ → Type 0) (status : ℕ) (old new : Option (List ℕ)) → Type 0
 Shows asked status old new =
@@ -82,6 +85,10 @@ abbrev pub ExitOfFault : ErrorKind → (status : ℕ) (old new : Option (List �
 ExitOfFault kind.DisplayHelp status old new silent = Shows IsHelp status old new
 ExitOfFault kind.DisplayVersion status old new silent = Shows (λ text. text ≡ version_text) status old new
 ExitOfFault k status old new silent = (status ≡ 2) × silent
+
+abbrev pub status_without_words : IoErrorKind → ℕ
+status_without_words io-kind.OutOfMemory = 4
+status_without_words why = 2
 
 -- found: the subcommand with its options; done: that a task was carried out
 abbrev pub Exit : Kinds → (found : Option (Text × List Row)) → (status : ℕ) (done : Task → Type 0) (unread : Type 0) (old new : Option (List ℕ)) (silent : Type 0) → Type 0

@@ -1,4 +1,5 @@
 -- What the counting on threads reports.
+--     AreCounts      there is a number of steps for each of so many threads, at most its rounds
 --     IsReportOf     a report is on this plan: there is a number of steps for each thread's session, at most its rounds
 --     is_count       a value spells this number in decimal digits
 --     is_right       counter and store have as many increments as all threads were to make, each thread's session has as many steps as its
@@ -15,6 +16,9 @@ use Rattle.std.specs.Str.{bytes_eq}
 use Rattle.jc_script.specs.Printing.{flag_text}
 use Rattle.jcache.specs.declared.plan.Plan.{Plan}
 use Rattle.jcache.specs.declared.report.Report.{Report}
+
+abbrev pub AreCounts : (workers rounds : ℕ) → List ℕ → Type 0
+AreCounts workers rounds own = (length own ≡ workers) × All (λ n. n ≤ rounds) own
 
 pub record IsReportOf (plan : Plan) (report : Report) : Type 0 where
   pub plan_is : report.plan ≡ plan

@@ -1,32 +1,34 @@
 //! What the program does with its words, and the status that it ends with.
-ghost use Rattle.std.specs.Prelude.{◌≡◌, ◌⊎◌, ◌↔◌, map, string_bytes, true, false, IfOk};
+ghost use Rattle.std.specs.Prelude.{◌≡◌, ◌⊎◌, ◌↔◌, Result, map, string_bytes, true, false, IfOk, IfErr};
 ghost use Rattle.std.specs.Io.KnownBytes.{Appends};
+ghost use Rattle.std.specs.IoError.{error_kind};
 ghost use Rattle.jcache.specs.CommandLine.{faults_at, subcommand_at};
 ghost use Rattle.clap.specs.Words.{kind_of};
-ghost use Rattle.jcache.specs.Exit.{Exit, ExitOfFault, ExitOfPlay, ExitOfTask, ExitOfThreads, FailsByStreams, IsHelp, ShowsReport, status_of};
+ghost use Rattle.jcache.specs.Exit.{Exit, ExitOfFault, ExitOfPlay, ExitOfTask, ExitOfThreads, FailsByStreams, IsHelp, ShowsReport};
+ghost use Rattle.jcache.specs.Exit.{status_of, status_without_words};
+ghost use Rattle.jcache.specs.Reports.{IsReportOf};
 
 use crate::commands::{Task, read_task};
-use crate::plan::Plan;
+use crate::plan::{INCREMENTS_MAX, Plan};
 use crate::report::Report;
-use crate::threads::{Crew, count_on_threads};
+use crate::threads::CountFault;
 use clap::Error;
 use clap::error::ErrorKind;
 use jc_script::run::run;
 use jc_script::{Noted, RunEnd, RunFault};
+use jc_types::SCRIPT_MAX;
 use std::alloc::{AllocError, Global};
-use std::io::{Read, Write};
-use std::sync::Wait;
-use std::thread::Threads;
+use std::io::{self, Read, Write};
 
 /// The script was played to its end, or the text that was asked for was shown.
 const CLEAN: u8 = 0;
 /// The transcript ends with a line's fault.
 const LINE_FAULT: u8 = 1;
-/// The command line is not one of this program's.
+/// The command line is not one of this program's, or asks for too much work.
 const USAGE: u8 = 2;
 /// Standard input or output failed, or the input is too long.
 const STREAMS: u8 = 3;
-/// An allocation failed.
+/// An allocation failed, or a thread couldn't be started.
 const MEMORY: u8 = 4;
 /// What was counted on threads isn't what the plan says.
 const MISCOUNTED: u8 = 5;
@@ -34,21 +36,66 @@ const MISCOUNTED: u8 = 5;
 /// What `--version` shows.
 const VERSION: &str = "jcache 0.2.0\n";
 
-/// What help ends with.
-const STATUSES: &str =
-    "\nExit status: 0 done, 1 a line has a fault, 2 wrong words, 3 a stream failed, 4 out of memory, 5 wrong report\n";
+/// What help ends with. The script `jcache` at the top of the repository shows the same help.
+const ENDING: &str = "
+Exit status: 0 done, 1 a line has a fault, 2 wrong words, 3 a stream failed, 4 out of memory, 5 wrong report
 
-/// Says that an allocation failed, before there was anything to carry out, and answers the status.
-pub fn end_without_memory<E: Write>(err: &mut E) -> u8
+The script ./jcache of the repository builds this program if it has to, and has further words:
+  run FILE..       Plays these scripts, one after the other, up to the first whose exit status isn't 0; - is standard input
+  build [CRATE..]  Proves and builds the program, and these crates with those below them; exit status 125 if that fails
+
+For example: ./jcache run examples/put_seen_after_commit.script
+The words of a script, and all limits: docs/SCRIPT.md
+";
+
+/// Says what failed. Nobody is left to hear of it if that fails, too.
+fn complain<E: Write>(err: &mut E, text: &str) {
+    let _ = err.write_all(text.as_bytes());
+}
+
+/// Says that a stream failed, and why if it has said so.
+fn complain_of<S, E: Write>(stream: &Noted<S>, err: &mut E, text: &str) {
+    match stream.failure() {
+        Some(why) => {
+            let _ = write!(err, "jcache: {text}: {why}\n");
+        }
+        None => {
+            let _ = write!(err, "jcache: {text}\n");
+        }
+    }
+}
+
+/// Says that standard output failed, and answers the status. It says nothing if nobody reads standard output any more: who has closed
+/// it, as `head` does, has all that was wanted.
+fn end_of_output<W, E: Write>(out: &Noted<W>, err: &mut E) -> u8
+    ensures { result ≡ 3 }
+{
+    if !matches!(out.failure(), Some(io::ErrorKind::BrokenPipe)) {
+        complain_of(out, err, "write failed");
+    }
+    STREAMS
+}
+
+/// Says that an allocation failed, and answers the status.
+fn end_without_memory<E: Write>(err: &mut E) -> u8
     ensures { result ≡ 4 }
 {
     complain(err, "jcache: out of memory\n");
     MEMORY
 }
 
-/// Says what failed. Nobody is left to hear of it if that fails, too.
-fn complain<E: Write>(err: &mut E, text: &str) {
-    let _ = err.write_all(text.as_bytes());
+/// Says why the words of the command line couldn't be had, and answers the status.
+fn end_without_words<E: Write>(why: io::ErrorKind, err: &mut E) -> u8
+    ensures status { result ≡ status_without_words why }
+    ensures others { (result ≡ 2) ⊎ (result ≡ 4) }
+{
+    match why {
+        io::ErrorKind::OutOfMemory => end_without_memory(err),
+        _ => {
+            complain(err, "jcache: a word of the command line isn't UTF-8\n");
+            USAGE
+        }
+    }
 }
 
 /// Says where a line's fault is.
@@ -77,21 +124,15 @@ fn play<R: Read, W: Write, E: Write>(
             LINE_FAULT
         }
         Err(RunFault::Read) => {
-            complain(err, "jcache: read failed\n");
+            complain_of(reader, err, "read failed");
             STREAMS
         }
-        Err(RunFault::Write) => {
-            complain(err, "jcache: write failed\n");
-            STREAMS
-        }
+        Err(RunFault::Write) => end_of_output(out, err),
         Err(RunFault::TooLong) => {
-            complain(err, "jcache: input too long\n");
+            let _ = write!(err, "jcache: input too long: over {SCRIPT_MAX} bytes\n");
             STREAMS
         }
-        Err(RunFault::OutOfMemory) => {
-            complain(err, "jcache: out of memory\n");
-            MEMORY
-        }
+        Err(RunFault::OutOfMemory) => end_without_memory(err),
     }
 }
 
@@ -103,10 +144,7 @@ fn show<W: Write, E: Write>(text: &str, out: &mut Noted<W>, err: &mut E) -> u8
 {
     match out.write_all(text.as_bytes()) {
         Ok(()) => CLEAN,
-        Err(_) => {
-            complain(err, "jcache: write failed\n");
-            STREAMS
-        }
+        Err(_) => end_of_output(out, err),
     }
 }
 
@@ -125,14 +163,11 @@ fn answer<W: Write, E: Write>(alloc: Global, error: &Error, out: &mut Noted<W>, 
     }
     match help(alloc, error) {
         Ok(text) => show(&text, out, err),
-        Err(_) => {
-            complain(err, "jcache: out of memory\n");
-            MEMORY
-        }
+        Err(_) => end_without_memory(err),
     }
 }
 
-/// The help that the words ask for, and after it what the statuses mean.
+/// The help that the words ask for, with its ending.
 fn help(alloc: Global, error: &Error) -> Result<String, AllocError>
     ensures { IfOk result (λ text. IsHelp (string_bytes text)) }
 {
@@ -140,7 +175,7 @@ fn help(alloc: Global, error: &Error) -> Result<String, AllocError>
         Ok(text) => text,
         Err(_) => return Err(AllocError),
     };
-    text.push_str(STATUSES)?;
+    text.push_str(ENDING)?;
     Ok(text)
 }
 
@@ -155,12 +190,10 @@ fn show_report<W: Write, E: Write>(
     ensures streams { out.old.failed ≡ false → (result ≡ 3 ↔ out.new.failed ≡ true) }
 {
     let Ok(text) = report.text(alloc) else {
-        complain(err, "jcache: out of memory\n");
-        return MEMORY;
+        return end_without_memory(err);
     };
     if out.write_all(&text).is_err() {
-        complain(err, "jcache: write failed\n");
-        return STREAMS;
+        return end_of_output(out, err);
     }
     status_of(report)
 }
@@ -172,41 +205,65 @@ fn status_of(report: &Report) -> u8
     if report.is_right() { CLEAN } else { MISCOUNTED }
 }
 
-/// Counts on threads, and answers the status.
-fn count<Rt: Threads + Wait + Sync, W: Write, E: Write>(
-    rt: &Rt,
+/// Says that a plan is too much work.
+fn complain_of_plan<E: Write>(plan: &Plan, err: &mut E) {
+    let (workers, rounds) = (plan.workers, plan.rounds);
+    let _ = write!(
+        err,
+        "jcache: too much work: {workers} times {rounds} is over {INCREMENTS_MAX}; with --history NUMBER there is no such limit\n",
+    );
+}
+
+/// What is reported on a plan.
+fn report_on<F: FnOnce(&Plan) -> Result<Report, CountFault>>(
+    count: F,
+    plan: &Plan,
+) -> Result<Report, CountFault>
+    requires callable { (plan : _) → F.pre count plan }
+    requires reports { (plan : _) (r : _) → F.post count plan r → IfOk r (IsReportOf plan.now) }
+    ensures { IfOk result (λ report. IsReportOf plan.now report) }
+{
+    count(plan)
+}
+
+/// Has threads count, and answers the status.
+fn count_and_show<F: FnOnce(&Plan) -> Result<Report, CountFault>, W: Write, E: Write>(
     alloc: Global,
-    crew: Crew,
+    count: F,
     plan: &Plan,
     out: &mut Noted<W>,
     err: &mut E,
 ) -> u8
+    requires callable { (plan : _) → F.pre count plan }
+    requires reports { (plan : _) (r : _) → F.post count plan r → IfOk r (IsReportOf plan.now) }
     ensures counted { ExitOfThreads plan.now result (W.contents out.old.inner) (W.contents out.new.inner) (out.new ≡ out.old) }
     ensures streams { out.old.failed ≡ false → (result ≡ 3 ↔ out.new.failed ≡ true) }
 {
     if plan.is_too_much() {
-        complain(err, "jcache: too much work\n");
+        complain_of_plan(plan, err);
         return USAGE;
     }
-    match count_on_threads(rt, alloc, crew, plan) {
+    match report_on(count, plan) {
         Ok(report) => show_report(alloc, &report, out, err),
-        Err(_) => {
-            complain(err, "jcache: out of memory\n");
+        Err(CountFault::OutOfMemory) => end_without_memory(err),
+        Err(CountFault::NoThread) => {
+            complain(err, "jcache: out of memory: a thread can't be started\n");
             MEMORY
         }
     }
 }
 
 /// Carries a task out, and answers the status.
-fn carry_out<Rt: Threads + Wait + Sync, R: Read, W: Write, E: Write>(
-    rt: &Rt,
+fn carry_out<F: FnOnce(&Plan) -> Result<Report, CountFault>, R: Read, W: Write, E: Write>(
     alloc: Global,
-    crew: Crew,
+    count: F,
     task: &Task,
     reader: &mut Noted<R>,
     out: &mut Noted<W>,
     err: &mut E,
 ) -> u8
+    requires callable { (plan : _) → F.pre count plan }
+    requires reports { (plan : _) (r : _) → F.post count plan r → IfOk r (IsReportOf plan.now) }
     ensures done { ExitOfTask task.now
         (ExitOfPlay result (R.remaining reader.old.inner) (R.remaining reader.new.inner) (W.contents out.old.inner)
         (W.contents out.new.inner) (out.new ≡ out.old))
@@ -217,28 +274,21 @@ fn carry_out<Rt: Threads + Wait + Sync, R: Read, W: Write, E: Write>(
 {
     match task {
         Task::Run => play(alloc, reader, out, err),
-        Task::Threads(plan) => count(rt, alloc, crew, plan, out, err),
+        Task::Threads(plan) => count_and_show(alloc, count, plan, out, err),
     }
 }
 
-/// Does what the words of a command line ask for, and answers the status: 0 if the script was played to its end, if threads
-/// counted right, or if a text was asked for and shown, as by `--help` and `--version`; 1 if the transcript ends with a line's
-/// fault, of which `err` gets the column and the word; 2 if the words are none of this program's or ask for too much work, which is
-/// written to `err`; 3 if the input or output failed, or the input is too long; 4 if an allocation failed; 5 if the report that was
-/// written shows a wrong number, or that the history isn't legal. If a thread can't be started, another one makes its calls after its own.
-///
-/// For threads it waits until all have ended. Nothing else waits.
-pub fn exec<Rt: Threads + Wait + Sync, R: Read, W: Write, E: Write>(
-    rt: &Rt,
+/// Does what these words ask for, and answers the status.
+fn do_words<F: FnOnce(&Plan) -> Result<Report, CountFault>, R: Read, W: Write, E: Write>(
     alloc: Global,
-    crew: Crew,
+    count: F,
     words: &[String],
     reader: &mut Noted<R>,
     out: &mut Noted<W>,
     err: &mut E,
 ) -> u8
-    // What right words ask for is done. For others, that they are wrong is said, or the text that they ask for is shown; then
-    // nothing is read.
+    requires callable { (plan : _) → F.pre count plan }
+    requires reports { (plan : _) (r : _) → F.post count plan r → IfOk r (IsReportOf plan.now) }
     ensures answered { Exit (faults_at (map string_bytes words.now)) (subcommand_at (map string_bytes words.now)) result
         (λ task. ExitOfTask task
         (ExitOfPlay result (R.remaining reader.old.inner) (R.remaining reader.new.inner) (W.contents out.old.inner)
@@ -246,18 +296,57 @@ pub fn exec<Rt: Threads + Wait + Sync, R: Read, W: Write, E: Write>(
         (λ plan. ExitOfThreads plan result (W.contents out.old.inner) (W.contents out.new.inner) (out.new ≡ out.old))
         (reader.new ≡ reader.old))
         (reader.new ≡ reader.old) (W.contents out.old.inner) (W.contents out.new.inner) (out.new ≡ out.old) }
-    // Status 3 comes if a stream failed in this call, and only then or if the script is too long.
     ensures streams { reader.old.failed ≡ false → out.old.failed ≡ false
         → FailsByStreams result reader.new.failed out.new.failed (R.remaining reader.old.inner) (out.new ≡ out.old) }
 {
     match read_task(alloc, words) {
-        Ok(task) => carry_out(rt, alloc, crew, &task, reader, out, err),
+        Ok(task) => carry_out(alloc, count, &task, reader, out, err),
         Err(error) => {
             if error.kind() == ErrorKind::OutOfMemory {
-                complain(err, "jcache: out of memory\n");
-                return MEMORY;
+                return end_without_memory(err);
             }
             answer(alloc, &error, out, err)
         }
+    }
+}
+
+/// Does what the words of a command line ask for, and answers the status: 0 if the script was played to its end, if threads
+/// counted right, or if a text was asked for and shown, as by `--help` and `--version`; 1 if the transcript ends with a line's
+/// fault, of which `err` gets the column and the word; 2 if the words are none of this program's, ask for too much work or aren't
+/// UTF-8, which is written to `err`; 3 if the input or output failed, or the input is too long; 4 if an allocation failed, or a thread
+/// couldn't be started; 5 if the report that was written shows a wrong number, or that the history isn't legal.
+///
+/// `count` has threads count by a plan. It is called once if the words ask for it and it isn't too much work, else never, so what
+/// threads need is made only then. While it is at work, this waits. Nothing else waits.
+///
+/// Conditions: `count` may be called, and what it reports is on the plan that it was given.
+pub fn exec<F: FnOnce(&Plan) -> Result<Report, CountFault>, R: Read, W: Write, E: Write>(
+    alloc: Global,
+    count: F,
+    words: io::Result<Vec<String>>,
+    reader: &mut Noted<R>,
+    out: &mut Noted<W>,
+    err: &mut E,
+) -> u8
+    requires callable { (plan : _) → F.pre count plan }
+    requires reports { (plan : _) (r : _) → F.post count plan r → IfOk r (IsReportOf plan.now) }
+    // What right words ask for is done. For others, that they are wrong is said, or the text that they ask for is shown; then
+    // nothing is read.
+    ensures answered { IfOk words (λ w. Exit (faults_at (map string_bytes w.items)) (subcommand_at (map string_bytes w.items)) result
+        (λ task. ExitOfTask task
+        (ExitOfPlay result (R.remaining reader.old.inner) (R.remaining reader.new.inner) (W.contents out.old.inner)
+        (W.contents out.new.inner) (out.new ≡ out.old))
+        (λ plan. ExitOfThreads plan result (W.contents out.old.inner) (W.contents out.new.inner) (out.new ≡ out.old))
+        (reader.new ≡ reader.old))
+        (reader.new ≡ reader.old) (W.contents out.old.inner) (W.contents out.new.inner) (out.new ≡ out.old)) }
+    // Without words nothing is read or written.
+    ensures without_words { IfErr words (λ e. (result ≡ status_without_words (error_kind e)) × (reader.new ≡ reader.old) × (out.new ≡ out.old)) }
+    // Status 3 comes if a stream failed in this call, and only then or if the script is too long.
+    ensures streams { reader.old.failed ≡ false → out.old.failed ≡ false
+        → FailsByStreams result reader.new.failed out.new.failed (R.remaining reader.old.inner) (out.new ≡ out.old) }
+{
+    match words {
+        Ok(words) => do_words(alloc, count, &words, reader, out, err),
+        Err(error) => end_without_words(error.kind(), err),
     }
 }

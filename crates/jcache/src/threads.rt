@@ -2,9 +2,10 @@
 //!
 //! Each thread has a session of its own, and increments one counter by an entry processor. So a lost update would show in the
 //! counter, in the store of record, or in the history.
-ghost use Rattle.std.specs.Prelude.{◌≡◌, ◌+◌, ◌≤◌, OnOk, IfOk, All, map, length};
-ghost use Rattle.jc_cache.specs.Sessions.{IsOf, MayCall};
-ghost use Rattle.jcache.specs.Reports.{IsReportOf};
+ghost use Rattle.std.specs.Prelude.{◌≡◌, ◌+◌, ◌≤◌, OnOk, IfOk, All, length};
+ghost use Rattle.jc_cache.specs.Sessions.{MayCall};
+ghost use Rattle.jcache.specs.declared.threads.CountFault.TheVariants as faults;
+ghost use Rattle.jcache.specs.Reports.{AreCounts, IsReportOf};
 ghost use Rattle.jcache.specs.Teams.{HasCounted};
 
 use crate::plan::{Plan, WORKERS_MAX};
@@ -14,9 +15,10 @@ use jc_cache::{
     Value,
 };
 use jc_store::SharedStore;
-use std::alloc::{AllocError, Global};
+use std::alloc::{AllocError, AllocFailed, Global};
 use std::sync::Wait;
-use std::thread::{self, Threads};
+use std::thread::{self, Promise, PromisedHandle, Scope, Threads};
+use thiserror::Error;
 
 /// The key that all threads increment.
 const COUNTER: &[u8] = b"counter";
@@ -70,8 +72,7 @@ pub struct Outfit {
 /// What threads bring that count: the store of record, which is to be empty, and an outfit over it for each session, of which there
 /// are to be [`OUTFITS`].
 ///
-/// `main` makes it, before it looks at what the words ask for. Elsewhere it can't be made: a loader that waits is made into a box
-/// only where the runtime is known, and a function that makes a boxed `dyn` value and hands it out is refused.
+/// `main` says how it is made: a loader that waits is made into a box only where the runtime is known.
 #[derive(Drop)]
 pub struct Crew {
     /// The store of record.
@@ -83,20 +84,48 @@ pub struct Crew {
 /// How many outfits a crew has: one for each of the most threads, and one for the session that reads the counter in the end.
 pub const OUTFITS: u32 = WORKERS_MAX + 1;
 
-/// Counts on threads, as the plan says, and reports what was found.
+/// Why threads have not counted.
+#[derive(Clone, Copy, Debug, PartialEq, Eq, Error)]
+pub enum CountFault {
+    /// An allocation failed, or there is no session left.
+    #[error("an allocation failed")]
+    OutOfMemory,
+    /// The system starts no further thread.
+    #[error("a thread can't be started")]
+    NoThread,
+}
+
+impl From<AllocError> for CountFault {
+    ghost from_gives = { λ _ e. e ≡ faults.OutOfMemory };
+
+    fn from(_error: AllocError) -> CountFault {
+        CountFault::OutOfMemory
+    }
+}
+
+impl<T: Drop> From<AllocFailed<T>> for CountFault {
+    ghost from_gives = { λ _ e. e ≡ faults.OutOfMemory };
+
+    fn from(_failed: AllocFailed<T>) -> CountFault {
+        CountFault::OutOfMemory
+    }
+}
+
+/// Counts on threads, as the plan says, each worker on a thread of its own, and reports what was found.
 ///
-/// It waits until all threads have ended. An `Err` says that an allocation failed, or that the crew has too few outfits.
+/// It waits until all threads have ended. If one can't be started, no further one is, and the fault comes once those that were
+/// started have ended. `OutOfMemory` also says that the crew has too few outfits.
 pub fn count_on_threads<R: Threads + Wait + Sync>(
     rt: &R,
     alloc: Global,
     crew: Crew,
     plan: &Plan,
-) -> Result<Report, AllocError>
+) -> Result<Report, CountFault>
     ensures { IfOk result (λ report. IsReportOf plan.now report) }
 {
     let Crew { store, outfits } = crew;
     let Ok(mut owner) = owner_for(alloc, plan) else {
-        return Err(AllocError);
+        return Err(CountFault::OutOfMemory);
     };
     let team = hire(alloc, &mut owner, outfits, plan.workers)?;
     count(rt, alloc, owner, &store, team, plan)
@@ -149,7 +178,7 @@ fn enlist(
     }
 }
 
-/// All of the team but the last count, each on a thread of its own. The last gets the counter then, and the cache is closed.
+/// All of the team but the last count, each on a thread of its own. The last gets the counter then, and the cache is ended.
 fn count<R: Threads + Wait + Sync>(
     rt: &R,
     alloc: Global,
@@ -157,7 +186,7 @@ fn count<R: Threads + Wait + Sync>(
     store: &SharedStore,
     team: Vec<Worker>,
     plan: &Plan,
-) -> Result<Report, AllocError>
+) -> Result<Report, CountFault>
     requires ready { All (λ w. HasCounted owner.cache 0 w.session) team.items }
     requires len { length team.items ≡ plan.now.workers + 1 }
     ensures { IfOk result (λ report. IsReportOf plan.now report) }
@@ -169,8 +198,9 @@ fn count<R: Threads + Wait + Sync>(
     let Some(last) = team.pop() else {
         unreachable!()
     };
-    let own = work_and_report(rt, alloc, owner.cache(), &mut team, &key, plan.rounds)?;
-    let (counter, legal) = finish(rt, alloc, owner, team, last, &key)?;
+    let own = work_side_by_side(rt, alloc, owner.cache(), team, &key, plan.rounds)?;
+    let counter = counter(rt, owner.cache(), last, &key);
+    let legal = end(alloc, owner)?;
     Ok(Report {
         plan: *plan,
         counter,
@@ -180,55 +210,110 @@ fn count<R: Threads + Wait + Sync>(
     })
 }
 
-/// Each of the team works on a thread of its own: how many steps each session has made then. It waits until all have ended.
-fn work_and_report<R: Threads + Wait + Sync>(
+/// Each of the team works on a thread of its own: how many steps each session has made then, in their order. It waits until all that
+/// were started have ended.
+fn work_side_by_side<R: Threads + Wait + Sync>(
     rt: &R,
     alloc: Global,
     cache: &Cache,
-    team: &mut [Worker],
+    team: Vec<Worker>,
     key: &Key,
+    rounds: u32,
+) -> Result<Vec<u64>, CountFault>
+    requires { All (λ w. HasCounted cache.now 0 w.session) team.items }
+    ensures { IfOk result (λ own. AreCounts (length team.items) rounds own.items) }
+{
+    thread::scope(
+        thread::scope_env(),
+        rt,
+        |scope| -> Result<Vec<u64>, CountFault>
+            requires { All (λ w. HasCounted cache.now 0 w.session) team.items }
+            ensures { IfOk result (λ own. AreCounts (length team.items) rounds own.items) }
+        {
+            let handles = start_all(rt, alloc, scope, cache, team, key, rounds)?;
+            Ok(join_all(rt, alloc, handles, rounds)?)
+        },
+    )
+}
+
+/// What a thread promises of the number that it returns: it is at most this one.
+#[derive(Clone, Copy)]
+struct AtMost(u32);
+
+impl Promise<u64> for AtMost {
+    ghost kept_by = { λ most own. own ≤ most.0 };
+}
+
+/// Starts a thread for each of the team. An `Err` leaves those that were started at work.
+fn start_all<'s, 'c: 's, E, R: Threads + Wait + Sync>(
+    rt: &'c R,
+    alloc: Global,
+    scope: &Scope<'s, E>,
+    cache: &'c Cache,
+    team: Vec<Worker>,
+    key: &'c Key,
+    rounds: u32,
+) -> Result<Vec<PromisedHandle<u64, AtMost>>, CountFault>
+    requires { All (λ w. HasCounted cache.now 0 w.session) team.items }
+    ensures promised { IfOk result (λ handles. All (λ h. h.promise.0 ≡ rounds) handles.items) }
+    ensures len { IfOk result (λ handles. length handles.items ≡ length team.items) }
+{
+    let mut handles = Vec::with_capacity(alloc, team.len())?;
+    for worker in team {
+        handles.push_reserved(start(rt, scope, cache, worker, key, rounds)?);
+    }
+    Ok(handles)
+}
+
+/// Starts a thread on which a worker works.
+fn start<'s, 'c: 's, E, R: Threads + Wait + Sync>(
+    rt: &'c R,
+    scope: &Scope<'s, E>,
+    cache: &'c Cache,
+    worker: Worker,
+    key: &'c Key,
+    rounds: u32,
+) -> Result<PromisedHandle<u64, AtMost>, CountFault>
+    requires { HasCounted cache.now 0 worker.session }
+    ensures { IfOk result (λ handle. handle.promise.0 ≡ rounds) }
+{
+    let task = move || -> u64
+        requires { HasCounted cache.now 0 worker.session }
+        ensures { result ≤ rounds }
+    { work(rt, cache, worker, key, rounds) };
+    match scope.spawn_with(AtMost(rounds), task) {
+        Ok(handle) => Ok(handle),
+        Err(_) => Err(CountFault::NoThread),
+    }
+}
+
+/// What the threads return, in their order. It waits until all have ended.
+fn join_all<R: Threads>(
+    rt: &R,
+    alloc: Global,
+    handles: Vec<PromisedHandle<u64, AtMost>>,
     rounds: u32,
 ) -> Result<Vec<u64>, AllocError>
-    requires ready { All (λ w. HasCounted cache.now 0 w.session) team.old }
-    ensures counted { All (λ w. HasCounted cache.now rounds w.session) team.new }
-    ensures len { length team.new ≡ length team.old }
-    ensures own { IfOk result (λ own. own.items ≡ map (λ w. w.session.agent.counts.own) team.new) }
+    requires { All (λ h. h.promise.0 ≡ rounds) handles.items }
+    ensures { IfOk result (λ own. AreCounts (length handles.items) rounds own.items) }
 {
-    work_side_by_side(rt, cache, team, key, rounds);
-    own_steps(alloc, team)
-}
-
-/// Each of the team works on a thread of its own. It waits until all have ended.
-fn work_side_by_side<R: Threads + Wait + Sync>(
-    rt: &R,
-    cache: &Cache,
-    team: &mut [Worker],
-    key: &Key,
-    rounds: u32,
-)
-    requires ready { All (λ w. HasCounted cache.now 0 w.session) team.old }
-    ensures counted { All (λ w. HasCounted cache.now rounds w.session) team.new }
-    ensures len { length team.new ≡ length team.old }
-{
-    if team.is_empty() {
-        return;
+    let mut own = Vec::with_capacity(alloc, handles.len())?;
+    for handle in handles {
+        own.push_reserved(handle.join(rt));
     }
-    let threads = team.len();
-    let turn = |_: usize, worker: &mut Worker|
-        requires { HasCounted cache.now 0 worker.now.session }
-        ensures { HasCounted cache.entry.now rounds worker.exit.now.session }
-    { work(rt, cache, worker, key, rounds) };
-    thread::for_each_mut(rt, team, threads, &turn);
+    Ok(own)
 }
 
-/// What one thread does: so many increments.
-fn work<R: Wait>(rt: &R, cache: &Cache, worker: &mut Worker, key: &Key, rounds: u32)
-    requires { HasCounted cache.now 0 worker.old.session }
-    ensures { HasCounted cache.now rounds worker.new.session }
+/// What one thread does: so many increments. It returns how many steps its session has made.
+fn work<R: Wait>(rt: &R, cache: &Cache, worker: Worker, key: &Key, rounds: u32) -> u64
+    requires { HasCounted cache.now 0 worker.session }
+    ensures { result ≤ rounds }
 {
+    let mut worker = worker;
     for round in 0..rounds {
-        increment(rt, cache, worker, key, round);
+        increment(rt, cache, &mut worker, key, round);
     }
+    worker.session.own()
 }
 
 /// One increment, of a thread that has made so many. If it is refused or fails, it shows in the end.
@@ -239,74 +324,22 @@ fn increment<R: Wait>(rt: &R, cache: &Cache, worker: &mut Worker, key: &Key, mad
     let _ = cache.invoke(rt, &mut worker.session, key, &mut worker.increment, &[]);
 }
 
-/// How many steps each session has made.
-fn own_steps(alloc: Global, team: &[Worker]) -> Result<Vec<u64>, AllocError>
-    ensures { IfOk result (λ own. own.items ≡ map (λ w. w.session.agent.counts.own) team.now) }
+/// The counter in the cache, as this worker's session gets it. None if it isn't there, or can't be got.
+fn counter<R: Wait>(rt: &R, cache: &Cache, worker: Worker, key: &Key) -> Option<Value>
+    requires { MayCall cache.now worker.session }
 {
-    let mut own = Vec::with_capacity(alloc, team.len())?;
-    for worker in team {
-        own.push_reserved(worker.session.own());
-    }
-    Ok(own)
-}
-
-/// The last session gets the counter, and the cache is closed: whether its history is legal. An `Err` says that an allocation
-/// failed.
-fn finish<R: Wait>(
-    rt: &R,
-    alloc: Global,
-    owner: CacheOwner,
-    team: Vec<Worker>,
-    last: Worker,
-    key: &Key,
-) -> Result<(Option<Value>, bool), AllocError>
-    requires team { All (λ w. MayCall owner.cache w.session) team.items }
-    requires last { MayCall owner.cache last.session }
-{
-    let mut team = team;
-    let mut last = last;
-    let counter = counter(rt, owner.cache(), &mut last.session, key);
-    team.push(last)?;
-    let sessions = sessions_of(alloc, owner.cache(), team)?;
-    let legal = close(alloc, owner, sessions)?;
-    Ok((counter, legal))
-}
-
-/// The counter in the cache. None if it isn't there, or can't be got.
-fn counter<R: Wait>(rt: &R, cache: &Cache, session: &mut Session, key: &Key) -> Option<Value>
-    requires { MayCall cache.now session.old }
-    ensures { MayCall cache.now session.new }
-{
-    match cache.get(rt, session, key) {
+    let mut worker = worker;
+    match cache.get(rt, &mut worker.session, key) {
         Ok(value) => value,
         Err(_) => None,
     }
 }
 
-/// The sessions of a team of this cache. An `Err` says that an allocation failed.
-fn sessions_of(alloc: Global, cache: &Cache, team: Vec<Worker>) -> Result<Vec<Session>, AllocError>
-    requires { All (λ w. MayCall cache.now w.session) team.items }
-    ensures { IfOk result (λ sessions. All (λ s. IsOf cache.now s) sessions.items) }
-{
-    let mut team = team;
-    let mut sessions = Vec::with_capacity(alloc, team.len())?;
-    while let Some(worker) = team.pop() {
-        let Worker {
-            session,
-            increment: _,
-        } = worker;
-        sessions.push_reserved(session);
-    }
-    Ok(sessions)
-}
-
-/// Ends the cache, and says whether its history is legal. It isn't said to be if the cache can't be closed. An `Err` says that an
+/// Ends the cache, and says whether its history is legal. It isn't said to be if the cache can't be ended. An `Err` says that an
 /// allocation failed.
-fn close(alloc: Global, owner: CacheOwner, sessions: Vec<Session>) -> Result<bool, AllocError>
-    requires { All (λ s. IsOf owner.cache s) sessions.items }
-{
-    match owner.close(alloc, sessions) {
-        Ok(closed) => Ok(closed.legal),
+fn end(alloc: Global, owner: CacheOwner) -> Result<bool, AllocError> {
+    match owner.end(alloc) {
+        Ok(ended) => Ok(ended.legal),
         Err(fault) => {
             if fault.refusal == Refusal::OutOfMemory {
                 Err(AllocError)

@@ -325,34 +325,41 @@ open 1 2 100 fast => line 1, column 14: unexpected word 'fast'
 process 1 get put => line 1, column 15: unexpected word 'put'
 begin 1 s1 get => line 1, column 16: wrong number or order of words
 process 1 get loadfail=1 => line 1, column 26: wrong number or order of words
-open 1 2 100; read 01 => line 2, column 6: bad number '01'
-open 1 2 100x => line 1, column 10: bad number '100x'
-process 1 get fail=x => line 1, column 15: bad number 'fail=x'
-begin 1 s33 get a => line 1, column 9: bad caller 's33'
-begin 1 s1 put a! 1 => line 1, column 16: bad key 'a!'
-foreign - - => line 1, column 9: bad key '-'
-begin 1 s1 getall a=1 => line 1, column 19: bad key 'a=1'
-begin 1 s1 putall a=1 b!=2 => line 1, column 23: bad key 'b!=2'
-begin 1 s1 replaceif a 1 ! => line 1, column 26: bad value '!'
-begin 1 s1 putall a=1 b=! => line 1, column 23: bad value 'b=!'
-say 1 a=1 b => line 1, column 11: bad value 'b'
-process 1 loadsay=- set=- => line 1, column 21: bad value 'set=-'
-foreign a ! => line 1, column 11: bad value '!'
+open 1 2 100; read 01 => line 2, column 6: bad number '01' (0 to 999999999, without leading zeros)
+open 1 2 100x => line 1, column 10: bad number '100x' (0 to 999999999, without leading zeros)
+process 1 get fail=x => line 1, column 15: bad number 'fail=x' (0 to 999999999, without leading zeros)
+begin 1 s33 get a => line 1, column 9: bad caller 's33' (s1 to s32)
+begin 1 s1 put a! 1 => line 1, column 16: bad key 'a!' (1 to 32 letters, digits, _ or .)
+foreign - - => line 1, column 9: bad key '-' (1 to 32 letters, digits, _ or .)
+begin 1 s1 getall a=1 => line 1, column 19: bad key 'a=1' (1 to 32 letters, digits, _ or .)
+begin 1 s1 putall a=1 b!=2 => line 1, column 23: bad key 'b!=2' (1 to 32 letters, digits, _ or .)
+begin 1 s1 replaceif a 1 ! => line 1, column 26: bad value '!' (1 to 64 letters, digits, _ or .; or ~ for the empty value; a pair is KEY=VALUE)
+begin 1 s1 putall a=1 b=! => line 1, column 23: bad value 'b=!' (1 to 64 letters, digits, _ or .; or ~ for the empty value; a pair is KEY=VALUE)
+say 1 a=1 b => line 1, column 11: bad value 'b' (1 to 64 letters, digits, _ or .; or ~ for the empty value; a pair is KEY=VALUE)
+process 1 loadsay=- set=- => line 1, column 21: bad value 'set=-' (1 to 64 letters, digits, _ or .; or ~ for the empty value; a pair is KEY=VALUE)
+foreign a ! => line 1, column 11: bad value '!' (1 to 64 letters, digits, _ or .; or ~ for the empty value; a pair is KEY=VALUE)
 begin 1 s1 putall a=1 b=2 a=3 => line 1, column 27: repeated key 'a=3'
 begin 1 s1 getall s1 getall a s1 => line 1, column 31: repeated key 's1'
 begin 1 s1 loadall keep a keep a => line 1, column 32: repeated key 'a'
 apply 1 but a b a => line 1, column 17: repeated key 'a'
 applyfail 1 2 but 1 2 1 => line 1, column 23: repeated key '1'
-audit => line 1, column 1: not open 'audit'
+audit => line 1, column 1: not open 'audit' (a script begins with open)
 open 1 2 100; open 1 2 100 => line 2, column 1: open twice 'open'
-open 0 2 100 => line 1, column 6: bad config stripes '0'
-open 1 5000 100 => line 1, column 8: bad config capacity '5000'
-open 1 2 15 => line 1, column 10: bad config history '15'
-open 1 2 100; foreign a 1; set a 1 => line 3, column 1: set too late 'set'
-open 1 2 100; begin 2 s1 get a; begin 2 s1 get a => line 3, column 7: number not rising '2'
-open 1 2 100 read; begin 1 s1 get a; begin 2 s1 get a => line 3, column 9: caller busy 's1'
+open 0 2 100 => line 1, column 6: bad config stripes '0' (1 to 64)
+open 1 5000 100 => line 1, column 8: bad config capacity '5000' (1 to 4096)
+open 1 2 15 => line 1, column 10: bad config history '15' (16 to 65536)
+open 1 2 100; foreign a 1; set a 1 => line 3, column 1: set too late 'set' (it fits before the first begin, foreign or reopen)
+open 1 2 100; begin 2 s1 get a; begin 2 s1 get a => line 3, column 7: number not rising '2' (the number of each call is above those before)
+open 1 2 100 read; begin 1 s1 get a; begin 2 s1 get a => line 3, column 9: caller busy 's1' (its call isn't over)
 open 1 2 100; end 9 => line 2, column 5: no such call '9'
-open 1 2 100 read; begin 1 s1 get a; apply 1 => line 3, column 1: not now 'apply'
+open 1 2 100 read; begin 1 s1 get a; apply 1 => line 3, column 1: not now 'apply' (it fits while the call waits for its writer; with but, if the call has many keys)
+open 1 2 100 read; begin 1 s1 get a; process 1 get => line 3, column 1: not now 'process' (it fits while the call waits for its processor)
+open 1 2 100 write; begin 1 s1 put a 1; readfail 1 2 => line 3, column 1: not now 'readfail' (it fits while the call waits for its loader)
+open 1 2 100 read; begin 1 s1 get a; end 1 => line 3, column 1: not now 'end' (it fits if the call has a started key, and waits for no loader, writer or processor)
+open 1 2 100 read; begin 1 s1 get a; read 1; drop 1 => line 4, column 1: not now 'drop' (it fits if no key is joined, and nothing has answered for a started key)
+open 1 2 100 read; begin 1 s1 get a; take 1 => line 3, column 1: not now 'take' (it fits if a key is joined, and none is started)
+open 1 2 100 read; begin 1 s1 get a; more 1 => line 3, column 1: not now 'more' (it fits if a key was put off or told to retry, and none is started or joined)
+open 1 2 100 read; begin 1 s1 get a; reopen 1 2 100 => line 3, column 1: not now 'reopen' (it fits if no call is under way)
 audit\r => line 1, column 6: carriage return (lines end with a line feed alone)
 set\ta 1 => line 1, column 4: tab (single spaces separate words)
 \u{feff}audit => line 1, column 1: byte order mark (save the script without one)

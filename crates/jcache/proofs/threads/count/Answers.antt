@@ -1,26 +1,20 @@
-use Rattle.std.proofs.Common.{◌∙◌, refl, rules}
-use Rattle.jcache.proofs.Counted.{may_call_again}
-use Rattle.jcache.proofs.Teams.{ready_less, steps}
+use Rattle.std.proofs.Common.{◌∙◌, refl, sym, subst}
+use Rattle.jc_cache.specs.Caches.{CacheState}
+use Rattle.jc_cache.specs.Sessions.{MayCall}
+use Rattle.jcache.proofs.Teams.{are_left, ready_less}
 use Rattle.jcache.proofs.threads.count.Goals as goal
 
-pub work_and_report-requires : goal.work_and_report-requires
-work_and_report-requires g c = (
-  search rules,
-  rw c.deref_mut.ensures.value
-      (ready_less c.args.owner.cache c.cache.result.now _ _ _ c.cache.ensures c.in-Some.ensures.items c.requires.ready).0,
-)
+pub work_side_by_side-requires : goal.work_side_by_side-requires
+work_side_by_side-requires g c =
+    (ready_less c.args.owner.cache c.cache.result.now _ _ _ c.cache.ensures c.in-Some.ensures.items c.requires.ready).0
 
-pub finish-requires-clause-team : goal.finish-requires-clause-team
-finish-requires-clause-team g c =
-    may_call_again c.args.owner.cache c.cache.result.now _ _ _ _ (c.work_and_report.ensures.len ∙ c.deref_mut.ensures.len) c.cache.ensures
-    c.work_and_report.ensures.counted
-
-pub finish-requires-clause-last : goal.finish-requires-clause-last
-finish-requires-clause-last g c =
+pub counter-counter-requires : goal.counter-counter-requires
+counter-counter-requires g c =
+    subst (λ (cache : CacheState). MayCall cache c.in-Some.last.session) (sym c.cache-2.ensures)
     (ready_less c.args.owner.cache c.args.owner.cache _ _ _ refl c.in-Some.ensures.items c.requires.ready).1
 
 pub returns : goal.returns
 returns g c =
-    let made = steps c.cache.result.now _ c.args.plan.now.workers _ _ _ _ c.in_ok-own.own.items c.in-Some.ensures.items c.requires.len
-    (rw c.deref_mut.ensures.value at c.work_and_report.ensures.len) c.in_ok-own.ensures.own c.work_and_report.ensures.counted in
-    record { plan_is = refl; each = made.0; few = made.1 }
+    let left = are_left c.args.plan.now.workers _ _ _ c.in-Some.ensures.items c.requires.len in
+    let made = c.in_ok-own.ensures in
+    record { plan_is = refl; each = made.0 ∙ left; few = made.1 }

@@ -1,0 +1,319 @@
+//! Each exit status, and what stands on standard output and standard error beside it.
+ghost use Rattle.std.specs.Prelude.{Result, IfOk};
+ghost use Rattle.jcache.specs.Reports.{IsReportOf};
+
+use crate::exec::exec;
+use crate::plan::Plan;
+use crate::report::Report;
+use crate::threads::{CountFault, Crew, Outfit, count_on_threads};
+use jc_cache::{CacheLoader, CacheWriter, EntryProcessor, Value};
+use jc_script::Noted;
+use jc_store::{Increment, SharedStore, Store};
+use std::alloc::Global;
+use std::io;
+use std::process::Abort;
+
+/// What a command line is to end with.
+#[derive(Clone, Copy)]
+struct Wanted<'a> {
+    status: u8,
+    out: &'a str,
+    err: &'a str,
+}
+
+/// The words of a command line, which single spaces separate.
+fn words(rt: &impl Abort, alloc: Global, text: &str) -> Vec<String> {
+    let mut all = Vec::new(alloc);
+    for word in text.split(' ') {
+        let word = format!(in alloc; "{word}").expect(rt, "memory");
+        all.push(word).expect(rt, "memory");
+    }
+    all
+}
+
+/// Has these words done, with this script on standard input.
+fn ends<F: FnOnce(&Plan) -> Result<Report, CountFault>>(
+    rt: &impl Abort,
+    alloc: Global,
+    count: F,
+    text: &str,
+    script: &[u8],
+    wanted: Wanted<'_>,
+)
+    requires callable { (plan : _) → F.pre count plan }
+    requires reports { (plan : _) (r : _) → F.post count plan r → IfOk r (IsReportOf plan.now) }
+{
+    let (mut out, mut err) = (Vec::new(alloc), Vec::new(alloc));
+    let status = exec(
+        alloc,
+        count,
+        Ok(words(rt, alloc, text)),
+        &mut Noted::new(script),
+        &mut Noted::new(&mut out),
+        &mut err,
+    );
+    assert_eq!(rt; status, wanted.status, "{text}");
+    assert_eq!(rt; out.as_slice(), wanted.out.as_bytes(), "{text}");
+    assert_eq!(rt; err.as_slice(), wanted.err.as_bytes(), "{text}");
+}
+
+/// The same, of words that don't have threads count.
+fn ends_alone(rt: &impl Abort, alloc: Global, text: &str, script: &[u8], wanted: Wanted<'_>) {
+    let count = |plan: &Plan| -> Result<Report, CountFault>
+        ensures { IfOk result (IsReportOf plan.entry.now) }
+    { Err(CountFault::OutOfMemory) };
+    ends(rt, alloc, count, text, script, wanted);
+}
+
+#[test]
+fn plays_a_script(rt: HostRuntime) {
+    ends_alone(
+        &rt,
+        rt.alloc(),
+        "jcache run",
+        b"open 1 2 100\nbegin 1 s1 put a 1\n",
+        Wanted {
+            status: 0,
+            out: "open\n1 a is ok at 0.0\n",
+            err: "",
+        },
+    );
+}
+
+#[test]
+fn tells_a_fault(rt: HostRuntime) {
+    ends_alone(
+        &rt,
+        rt.alloc(),
+        "jcache run",
+        b"open 1 2 100 read\nbegin 1 s1 get a\nend 1\n",
+        Wanted {
+            status: 1,
+            out: "open\n1 a load\nline 3: not now\n",
+            err: "jcache: line 3, column 1: not now 'end' (it fits if the call has a started key, and waits for no loader, writer or processor)\n",
+        },
+    );
+}
+
+#[test]
+fn refuses_too_much_work(rt: HostRuntime) {
+    ends_alone(
+        &rt,
+        rt.alloc(),
+        "jcache threads --workers 7 --rounds 10000",
+        b"",
+        Wanted {
+            status: 2,
+            out: "",
+            err: "jcache: too much work: 7 times 10000 is over 60000; with --history NUMBER there is no such limit\n",
+        },
+    );
+}
+
+#[test]
+fn shows_the_version(rt: HostRuntime) {
+    ends_alone(
+        &rt,
+        rt.alloc(),
+        "jcache --version",
+        b"",
+        Wanted {
+            status: 0,
+            out: "jcache 0.2.0\n",
+            err: "",
+        },
+    );
+}
+
+/// A stream that fails, and says this.
+#[derive(Drop)]
+struct Broken(io::ErrorKind);
+
+impl io::Read for Broken {
+    fn read(&mut self, _buf: &mut [u8]) -> io::Result<usize> {
+        Err(io::Error::from(self.0))
+    }
+}
+
+impl io::Write for Broken {
+    fn write(&mut self, _buf: &[u8]) -> io::Result<usize> {
+        Err(io::Error::from(self.0))
+    }
+
+    fn flush(&mut self) -> io::Result<()> {
+        Ok(())
+    }
+}
+
+#[test]
+fn says_why_a_read_failed(rt: HostRuntime) {
+    let alloc = rt.alloc();
+    let (mut out, mut err) = (Vec::new(alloc), Vec::new(alloc));
+    let count = |plan: &Plan| -> Result<Report, CountFault>
+        ensures { IfOk result (IsReportOf plan.entry.now) }
+    { Err(CountFault::OutOfMemory) };
+    let status = exec(
+        alloc,
+        count,
+        Ok(words(&rt, alloc, "jcache run")),
+        &mut Noted::new(Broken(io::ErrorKind::IsADirectory)),
+        &mut Noted::new(&mut out),
+        &mut err,
+    );
+    assert_eq!(&rt; status, 3);
+    assert_eq!(&rt; out.len(), 0);
+    let said = "jcache: read failed: is a directory\n";
+    assert_eq!(&rt; err.as_slice(), said.as_bytes());
+}
+
+/// Shows the version on a standard output that fails so.
+fn write_fails(rt: &impl Abort, alloc: Global, why: io::ErrorKind, said: &str) {
+    let mut err = Vec::new(alloc);
+    let count = |plan: &Plan| -> Result<Report, CountFault>
+        ensures { IfOk result (IsReportOf plan.entry.now) }
+    { Err(CountFault::OutOfMemory) };
+    let status = exec(
+        alloc,
+        count,
+        Ok(words(rt, alloc, "jcache --version")),
+        &mut Noted::new(io::empty()),
+        &mut Noted::new(Broken(why)),
+        &mut err,
+    );
+    assert_eq!(rt; status, 3, "{said}");
+    assert_eq!(rt; err.as_slice(), said.as_bytes(), "{said}");
+}
+
+#[test]
+fn says_why_a_write_failed(rt: HostRuntime) {
+    let full = "jcache: write failed: no storage space\n";
+    write_fails(&rt, rt.alloc(), io::ErrorKind::StorageFull, full);
+}
+
+#[test]
+fn says_nothing_to_a_closed_pipe(rt: HostRuntime) {
+    write_fails(&rt, rt.alloc(), io::ErrorKind::BrokenPipe, "");
+}
+
+/// The command line without its words.
+fn has_no_words(rt: &impl Abort, alloc: Global, why: io::ErrorKind, status: u8, said: &str) {
+    let (mut out, mut err) = (Vec::new(alloc), Vec::new(alloc));
+    let count = |plan: &Plan| -> Result<Report, CountFault>
+        ensures { IfOk result (IsReportOf plan.entry.now) }
+    { Err(CountFault::OutOfMemory) };
+    let found = exec(
+        alloc,
+        count,
+        Err(io::Error::from(why)),
+        &mut Noted::new(io::empty()),
+        &mut Noted::new(&mut out),
+        &mut err,
+    );
+    assert_eq!(rt; found, status, "{said}");
+    assert_eq!(rt; out.len(), 0, "{said}");
+    assert_eq!(rt; err.as_slice(), said.as_bytes(), "{said}");
+}
+
+#[test]
+fn needs_its_words(rt: HostRuntime) {
+    let alloc = rt.alloc();
+    has_no_words(
+        &rt,
+        alloc,
+        io::ErrorKind::OutOfMemory,
+        4,
+        "jcache: out of memory\n",
+    );
+    let unknown = "jcache: a word of the command line isn't UTF-8\n";
+    has_no_words(&rt, alloc, io::ErrorKind::InvalidData, 2, unknown);
+}
+
+/// The words of most counts.
+const FOUR: &str = "jcache threads --workers 4 --rounds 100";
+
+#[test]
+fn ends_where_threads_have_no_memory(rt: HostRuntime) {
+    let wanted = Wanted {
+        status: 4,
+        out: "",
+        err: "jcache: out of memory\n",
+    };
+    ends_alone(&rt, rt.alloc(), FOUR, b"", wanted);
+}
+
+#[test]
+fn ends_where_a_thread_can_not_be_started(rt: HostRuntime) {
+    let count = |plan: &Plan| -> Result<Report, CountFault>
+        ensures { IfOk result (IsReportOf plan.entry.now) }
+    { Err(CountFault::NoThread) };
+    let wanted = Wanted {
+        status: 4,
+        out: "",
+        err: "jcache: out of memory: a thread can't be started\n",
+    };
+    ends(&rt, rt.alloc(), count, FOUR, b"", wanted);
+}
+
+#[test]
+fn counts_on_threads(rt: HostRuntime) {
+    let alloc = rt.alloc();
+    let count = move |plan: &Plan| -> Result<Report, CountFault>
+        ensures { IfOk result (IsReportOf plan.entry.now) }
+    {
+        let store = SharedStore::new(alloc, Store::new(alloc))?;
+        let mut outfits = Vec::new(alloc);
+        for _ in 0..5 {
+            let loader: Box<dyn CacheLoader + Send + Drop> = Box::new(alloc, store.loader(rt)?)?;
+            let writer: Box<dyn CacheWriter + Send + Drop> = Box::new(alloc, store.writer(rt)?)?;
+            let increment: Box<dyn EntryProcessor + Send + Drop> = Box::new(alloc, Increment)?;
+            outfits.push(Outfit {
+                loader,
+                writer,
+                increment,
+            })?;
+        }
+        count_on_threads(&rt, alloc, Crew { store, outfits }, plan)
+    };
+    let wanted = Wanted {
+        status: 0,
+        out: "workers 4 rounds 100\ncounter 400\nstore 400\nown 100 100 100 100\nlegal true\n",
+        err: "",
+    };
+    ends(&rt, alloc, count, FOUR, b"", wanted);
+}
+
+/// A report on a plan with one worker, in which the cache counts one more than the store.
+fn false_report(alloc: Global, plan: &Plan) -> Result<Report, CountFault>
+    ensures { IfOk result (IsReportOf plan.now) }
+{
+    let (Ok(counter), Ok(store)) = (Value::new(b"2"), Value::new(b"1")) else {
+        return Err(CountFault::OutOfMemory);
+    };
+    if plan.workers != 1 || plan.rounds < 1 {
+        return Err(CountFault::OutOfMemory);
+    }
+    let mut own = Vec::new(alloc);
+    own.push(1)?;
+    Ok(Report {
+        plan: *plan,
+        counter: Some(counter),
+        store: Some(store),
+        own,
+        legal: true,
+    })
+}
+
+#[test]
+fn tells_a_wrong_count(rt: HostRuntime) {
+    let alloc = rt.alloc();
+    let count = move |plan: &Plan| -> Result<Report, CountFault>
+        ensures { IfOk result (IsReportOf plan.entry.now) }
+    { false_report(alloc, plan) };
+    let wanted = Wanted {
+        status: 5,
+        out: "workers 1 rounds 1\ncounter 2\nstore 1\nown 1\nlegal true\n",
+        err: "",
+    };
+    let text = "jcache threads --workers 1 --rounds 1";
+    ends(&rt, alloc, count, text, b"", wanted);
+}
