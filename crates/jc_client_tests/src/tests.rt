@@ -1,4 +1,5 @@
 mod held;
+mod loads;
 
 use jc_cache::{
     CacheOwner, Client, Config, EntryProcessor, Event, Key, Outside, Refusal, Service, Value, serve,
