@@ -21,8 +21,8 @@ pub struct BulkFault {
 }
 
 impl BulkFault {
-    /// What a call returns that is refused whole, and so names no key.
-    pub(crate) fn of_whole_call(alloc: Global, cause: Refusal) -> BulkFault
+    /// What a call returns that is refused whole, and so names no key. It takes no memory.
+    pub fn of_whole_call(alloc: Global, cause: Refusal) -> BulkFault
         ensures cause { result.cause ≡ cause }
         ensures failed { result.failed.entries ≡ [] }
         ensures found { result.found.entries ≡ [] }

@@ -3,7 +3,12 @@
 --     as_many          as many sessions were given out as brought something
 --     all_given        its owner, who has given them out
 --     not_enlisted, not_ended    why it wasn't served whole
-use Rattle.std.proofs.Common.{◌≡◌, ◌+◌, ◌∙◌, inl, inr, ℕ, List, [], true, Result, Ok, Err, length, sym, ap, subst, arith}
+--     work_of_each     what each call of a service's work says tells what is said of all clients
+--     are_new          clients of sessions that were just given out
+--     have_worked      so each client's work is that of a new one
+use Rattle.std.proofs.Common.{◌≡◌, ◌+◌, ◌∙◌, inl, inr, ℕ, suc, List, [], ◌∷◌, All, true, Result, Ok, Err, length, map, refl, sym, ap, subst, arith}
+use denote.Param.Members.{Shared}
+use Rattle.std.specs.Fork.{GivesJobs}
 use Rattle.std.specs.Result.{IfErr, IsErrAnd}
 use Rattle.std.proofs.lemmas.List.{length-map}
 use Rattle.jc_types.specs.declared.config.Config.{Config}
@@ -11,12 +16,25 @@ use Rattle.jc_types.specs.declared.refusal.Refusal.{Refusal}
 use Rattle.jc_outside.specs.declared.hands.Outside.{Outside}
 use Rattle.jc_cache.specs.declared.session.Session.{Session}
 use Rattle.jc_cache.specs.Caches.{OpensWith, OwnerState}
-use Rattle.jc_cache.specs.Clients.{AreGivenOut, IsNotEnlisted, IsServeRefusal}
+use Rattle.jc_cache.specs.Clients.{AreGivenOut, ClientState, HasWorked, HaveNumbers, IsNotEnlisted, IsServeRefusal, WorksEach, client_state, new_clients}
 use Rattle.jc_cache.specs.Closing.{IsEndRefusal}
+use Rattle.jc_cache.specs.Sessions.{BeginsAt}
 
 pub err_is : {T E : Type 0} (r : Result T E) (Q P : E → Type 0) → ((e : E) → Q e → P e) → IsErrAnd r Q → IfErr r P
 err_is (Ok x) Q P leads is = absurd is
 err_is (Err e) Q P leads is = leads e is
+
+module _ {F J S X : Type 0} (g : Shared F (J × Unit {0}) X) (f : F) (session : J → S) (state : S → ClientState) (works : ClientState → X → ClientState → Type 0)
+    (says : (client : J) (returned : X) → g.post f (client, tt) returned → HasWorked works (state (session client)) returned) where
+  pub work_of_each : (clients : List J) (returned : List X) → length returned ≡ length clients → GivesJobs g f clients returned → WorksEach works (map state (map session clients)) returned
+  work_of_each [] [] many gives = tt
+  work_of_each [] (one ∷ rest) many gives = absurd (omega arith)
+  work_of_each (client ∷ clients) [] many gives = absurd (omega arith)
+  work_of_each (client ∷ clients) (one ∷ rest) many gives =
+      let first = (gives 0 one (omega arith)).1 in (
+        subst (λ (c : J). HasWorked works (state (session c)) one) (sym (first.job_is client)) (says first.job one first.call.met),
+        work_of_each clients rest (omega arith) (λ i d low. let later = (gives (suc i) d (omega arith)).1 in (refl, record { job = later.job; job_read = later.job_read; job_is = later.job_is; call = later.call })),
+      )
 
 module _ {I J : Type 0} {D : I → Type 0} {E : J → Type 0} where
   pub as_many : (from left : OwnerState) (outside : List (Outside I J D E)) (sessions : List (Session I J D E)) → AreGivenOut from left outside sessions → length sessions ≡ length outside
@@ -37,3 +55,15 @@ module _ {I J : Type 0} {D : I → Type 0} {E : J → Type 0} where
       → IsEndRefusal refusal owner left → IsServeRefusal config outside refusal
   not_ended config opened owner left outside sessions refusal opens are why =
       record { why = inr (inr (opened, left, opens, inr (subst (λ (o : OwnerState). IsEndRefusal refusal o left) (all_given config opened owner outside sessions opens are) why))) }
+
+  are_new : (owner : OwnerState) (number : ℕ) (sessions : List (Session I J D E)) → All (λ (s : Session I J D E). (s.agent.counts.own ≡ 0) × BeginsAt owner s) sessions → HaveNumbers number sessions
+      → map client_state sessions ≡ new_clients number (length sessions)
+  are_new owner number [] fresh numbers = refl
+  are_new owner number (s ∷ sessions) fresh numbers = λ i. record { caller = numbers.0 i; own = fresh.0.0 i } ∷ are_new owner (number + 1) sessions fresh.1 numbers.1 i
+
+  pub have_worked : {X : Type 0} (works : ClientState → X → ClientState → Type 0) (config : Config) (opened left : OwnerState) (outside : List (Outside I J D E)) (sessions : List (Session I J D E)) (returned : List X)
+      → OpensWith true config [] opened → AreGivenOut opened left outside sessions → WorksEach works (map client_state sessions) returned → WorksEach works (new_clients 0 (length outside)) returned
+  have_worked works config opened left outside sessions returned opens are each =
+      let new : map client_state sessions ≡ new_clients 0 (length outside) =
+      are_new opened opened.given sessions are.fresh are.numbers ∙ (λ i. new_clients (opens.given i) (as_many opened left outside sessions are i)) in
+      subst (λ (clients : List ClientState). WorksEach works clients returned) new each

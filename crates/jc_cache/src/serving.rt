@@ -1,6 +1,6 @@
 //! A service whole: a cache is opened, clients of it work on threads of their own, and it is ended.
-ghost use Rattle.std.specs.Prelude.{◌≡◌, length, IfOk, IfErr};
-ghost use Rattle.jc_cache.specs.Clients.{HasServed, IsServeRefusal};
+ghost use Rattle.std.specs.Prelude.{◌≡◌, length, map, IfOk, IfErr};
+ghost use Rattle.jc_cache.specs.Clients.{HasServed, HasWorked, IsServeRefusal, WorksEach, client_state};
 
 use crate::client::Client;
 use crate::closing::Closed;
@@ -12,16 +12,24 @@ use std::marker::{Send, Sync};
 use std::sync::Wait;
 use std::thread::{self, Threads};
 
-/// What a service does with each client of its cache. An implementation states nothing.
+/// What a service does with each client of its cache.
+///
+/// Its relation holds of every call unless an author gives another, so an author who states nothing writes none of the `ghost` lines.
 pub trait Service<R: Wait, X> {
+    ghost use Rattle.jc_cache.specs.Clients.{ClientState};
+
+    /// One call of `work`: the client's state before it, what is returned, the client's state after it.
+    ghost works: { Self → ClientState → X → ClientState → Type 0 } = { λ service before returned after. Unit {0} };
+
     /// The work of one client, on a thread of its own. Which one it is, its session's number says (`client.caller().session`). What is
     /// returned comes back to who has the service [served](serve).
     fn work(&self, rt: &R, client: &mut Client<'_>) -> X
-        requires { Unit {0} };
+        requires { Unit {0} }
+        ensures { works self.now (client_state client.old.session) result (client_state client.new.session) };
 }
 
-/// Has each of these clients do its work, on a thread of its own if one can be made, and waits until all have ended. What they have
-/// returned comes back, in the order of the clients. The clients are dropped after their work: [`CacheOwner::end`] is what ends the cache.
+/// Has each of these clients do its work, once, on a thread of its own if one can be made, and waits until all have ended. What they
+/// have returned comes back, in the order of the clients. The clients are dropped after their work: [`CacheOwner::end`] is what ends the cache.
 ///
 /// An `Err` says that an allocation failed; then some of them may not have worked. It may wait, as long as the work does.
 pub fn work_all<R: Threads + Wait + Sync, X: Send + Drop, S: Service<R, X> + Sync>(
@@ -30,12 +38,14 @@ pub fn work_all<R: Threads + Wait + Sync, X: Send + Drop, S: Service<R, X> + Syn
     clients: Vec<Client<'_>>,
 ) -> Result<Vec<X>, AllocError>
     requires { Unit {0} }
-    ensures each { IfOk result (λ v. length v.items ≡ length clients.entry.items) }
+    ensures each { IfOk result (λ v. WorksEach (S.works service.now) (map client_state (map (λ c. c.session) clients.entry.items)) v.items) }
 {
     thread::map_vec(
         rt,
         clients,
-        &|client: Client<'_>| -> X { work_by(rt, service, client) },
+        &|client: Client<'_>| -> X
+            ensures { HasWorked (S.works service.now) (client_state client.entry.session) result }
+        { work_by(rt, service, client) },
     )
 }
 
@@ -55,7 +65,7 @@ pub fn serve<R: Threads + Wait + Sync, X: Send + Drop, S: Service<R, X> + Sync>(
     service: &S,
 ) -> Result<(Closed, Vec<X>), Refusal>
     requires { Unit {0} }
-    ensures served { IfOk result (λ r. HasServed config.now (length outside.items) r.0.stripes.items (length r.1.items)) }
+    ensures served { IfOk result (λ r. HasServed (S.works service.now) config.now (length outside.items) r.0.stripes.items r.1.items) }
     ensures refused { IfErr result (λ r. IsServeRefusal config.now outside.items r) }
 {
     let mut owner = CacheOwner::living(alloc, config)?;
@@ -75,6 +85,7 @@ pub fn serve<R: Threads + Wait + Sync, X: Send + Drop, S: Service<R, X> + Sync>(
 /// Has this client do its work.
 fn work_by<R: Wait, X, S: Service<R, X>>(rt: &R, service: &S, client: Client<'_>) -> X
     requires { Unit {0} }
+    ensures { HasWorked (S.works service.now) (client_state client.entry.session) result }
 {
     let mut client = client;
     service.work(rt, &mut client)

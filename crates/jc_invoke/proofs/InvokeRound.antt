@@ -56,7 +56,7 @@ use Rattle.jc_invoke.specs.declared.room.Batches.{Batches}
 use Rattle.jc_invoke.specs.declared.room.RoundRoom.{RoundRoom}
 use Rattle.jc_invoke.specs.InvokeRounds.{HasMadeRound, IsInvoked}
 use Rattle.jc_invoke.specs.Processing.{IsRoundAsked, IsToBeRun, KeepsTickets, MayRunEach}
-use Rattle.jc_invoke.specs.RoundRooms.{IsLeft, IsRoomFor, IsRoomOf}
+use Rattle.jc_invoke.specs.RoundRooms.{LeavesBatches, IsRoomFor, IsNextRoom}
 use Rattle.jc_invoke.specs.Runs.{CallsRound}
 use Rattle.jc_invoke.proofs.RoundAsked.{keys_run}
 
@@ -102,7 +102,7 @@ none_any P None it = it
 none_any P (Some x) it = tt
 
 -- what a round that has asked has left
-pub left_room : (most : ℕ) (through : Bool) (room : RoundRoom) (answers : Answers) (rest : Option Batches) (left : Option RoundRoom) → IsRoomFor most through room → IsLeft room rest → IsRoomOf rest answers left → most ≤ done_room answers
+pub left_room : (most : ℕ) (through : Bool) (room : RoundRoom) (answers : Answers) (rest : Option Batches) (left : Option RoundRoom) → IsRoomFor most through room → LeavesBatches room rest → IsNextRoom rest answers left → most ≤ done_room answers
     → IfSome left (λ next. IsRoomFor most through next)
 left_room most through room answers None None is quiet next few = tt
 left_room most through room answers None (Some n) is quiet next few = absurd next
@@ -110,7 +110,7 @@ left_room most through room answers (Some b) None is quiet next few = tt
 left_room most through room answers (Some b) (Some n) is quiet next few =
     subst (λ t. IsRoomFor most t n) (sym quiet.0 ∙ is.through_is) (next most few (quiet.1 ∙ is.writes_are) (quiet.2 ∙ is.deletes_are))
 
-pub left_none : (most : ℕ) (through : Bool) (room : RoundRoom) (answers : Answers) (rest : Option Batches) (left : Option RoundRoom) → IsRoomFor most through room → IsLeft room rest → IsRoomOf rest answers left → IfNone left (through ≡ true)
+pub left_none : (most : ℕ) (through : Bool) (room : RoundRoom) (answers : Answers) (rest : Option Batches) (left : Option RoundRoom) → IsRoomFor most through room → LeavesBatches room rest → IsNextRoom rest answers left → IfNone left (through ≡ true)
 left_none most through room answers None None is quiet next = sym is.through_is ∙ quiet
 left_none most through room answers None (Some n) is quiet next = tt
 left_none most through room answers (Some b) None is quiet next = absurd next

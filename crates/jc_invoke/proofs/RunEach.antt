@@ -30,8 +30,8 @@ use Rattle.jc_rounds.specs.OutsideCalls.{WriteCallState, asked_keys, no_writes}
 use Rattle.jc_rounds.specs.Underway.{reserved_by}
 use Rattle.jc_invoke.specs.declared.room.Batches.{Batches}
 use Rattle.jc_invoke.specs.declared.room.RoundRoom.{RoundRoom}
-use Rattle.jc_invoke.specs.RoundRooms.{IsRoomFor, IsRoomOf}
-use Rattle.jc_invoke.specs.Processing.{HasRunEach, IsTicketRun, KeepsRoom, TakesKey}
+use Rattle.jc_invoke.specs.RoundRooms.{IsRoomFor, IsNextRoom}
+use Rattle.jc_invoke.specs.Processing.{HasRunEach, IsTicketRun, KeepsRunsRoom, TakesKey}
 use Rattle.jc_invoke.proofs.Runs.{claims_push, new_claim, runs_push}
 
 pub record RoomLeft (through : Bool) (all place : ℕ) (room : RoundRoom) : Type 0 where
@@ -42,10 +42,10 @@ pub record RoomLeft (through : Bool) (all place : ℕ) (room : RoundRoom) : Type
 
 -- 1. Room.
 
-pub keeps_itself : (room : RoundRoom) → KeepsRoom room room
+pub keeps_itself : (room : RoundRoom) → KeepsRunsRoom room room
 keeps_itself room = record { through_is = refl; runs_room = refl; quiet = λ off. (refl, refl) }
 
-pub keeps_both : (a b c : RoundRoom) → KeepsRoom a b → KeepsRoom b c → KeepsRoom a c
+pub keeps_both : (a b c : RoundRoom) → KeepsRunsRoom a b → KeepsRunsRoom b c → KeepsRunsRoom a c
 keeps_both a b c one two = record {
   through_is = two.through_is ∙ one.through_is;
   runs_room = two.runs_room ∙ one.runs_room;
@@ -57,12 +57,12 @@ pub only_through : (through : Bool) (effect result : Option Change) (change : Ch
 only_through true effect result change is some off = cc
 only_through false effect result change is some off = cc
 
-pub keeps_noted : (room room' : RoundRoom) → room'.through ≡ room.through → vec_capacity room'.runs ≡ vec_capacity room.runs → (room.through ≡ false → ⊥) → KeepsRoom room room'
+pub keeps_noted : (room room' : RoundRoom) → room'.through ≡ room.through → vec_capacity room'.runs ≡ vec_capacity room.runs → (room.through ≡ false → ⊥) → KeepsRunsRoom room room'
 keeps_noted room room' through runs never = record { through_is = through; runs_room = runs; quiet = λ off. absurd (never off) }
 
 pub room_of : (rest : Option Batches) (batches : Batches) (answers : Answers) (room : RoundRoom) → rest ≡ Some batches
-    → ((keys : ℕ) → keys ≤ done_room answers → batches.writes ≡ no_writes false keys → batches.deletes ≡ no_writes true keys → IsRoomFor keys false room) → IsRoomOf rest answers (Some room)
-room_of rest batches answers room is next = subst (λ r. IsRoomOf r answers (Some room)) (sym is) next
+    → ((keys : ℕ) → keys ≤ done_room answers → batches.writes ≡ no_writes false keys → batches.deletes ≡ no_writes true keys → IsRoomFor keys false room) → IsNextRoom rest answers (Some room)
+room_of rest batches answers room is next = subst (λ r. IsNextRoom r answers (Some room)) (sym is) next
 
 -- 2. Tickets.
 

@@ -4,7 +4,7 @@
 --     HasNoted       it has noted that of this run
 --     IsToBeRun      a ticket whose processor is to be run: nobody was asked
 --     KeepsTickets   the tickets stand for the same reservations, with as much room for them
---     KeepsRoom      there is as much room for runs, and in a cache that doesn't write through the batches are as they were
+--     KeepsRunsRoom  there is as much room for runs, and in a cache that doesn't write through the batches are as they were
 --     IsTicketRun    the processor was run for a ticket, and this is in the room after it
 --     MayRunEach     the processor may be run for each of these tickets, and then the writer be asked: nobody was asked, and the room is empty
 --     HasRunEach     the processor was run for each of these tickets, and this is in the room after it
@@ -65,7 +65,7 @@ pub record HasNoted (run : RunState) (room room' : RoundRoom) : Type 0 where
   pub writes_room : room.writes.room ≤ room'.writes.room + 1
   pub deletes_room : room.deletes.room ≤ room'.deletes.room + 1
 
-pub record KeepsRoom (room room' : RoundRoom) : Type 0 where
+pub record KeepsRunsRoom (room room' : RoundRoom) : Type 0 where
   pub through_is : room'.through ≡ room.through
   pub runs_room : vec_capacity room'.runs ≡ vec_capacity room.runs
   pub quiet : room.through ≡ false → (room'.writes ≡ room.writes) × (room'.deletes ≡ room.deletes)

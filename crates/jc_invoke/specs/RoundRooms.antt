@@ -1,7 +1,7 @@
 -- What a round takes in memory before its first phase.
 --     IsRoomFor     room for so many keys, and nothing in it yet, in a cache that writes through or doesn't
---     IsLeft        what a round with this room leaves for the next one: without write-through its batches, with nothing in them
---     IsRoomOf      the room of the next round, of what a round has left, once its answers were taken: there is some without write-through
+--     LeavesBatches what a round with this room leaves for the next one: without write-through its batches, with nothing in them
+--     IsNextRoom    the room of the next round, of what a round has left, once its answers were taken: there is some without write-through
 --     IsMemoryFor   the memory of a whole call for these keys, in a cache of this shape: none of them was started
 use Rattle.std.specs.Prelude.{◌≡◌, ◌≤◌, ℕ, List, [], length, Bool, true, false, Option, None, Some, vec_capacity}
 use Rattle.indexmap.specs.IndexMap.{spare}
@@ -24,15 +24,15 @@ pub record IsRoomFor (keys : ℕ) (through : Bool) (room : RoundRoom) : Type 0 w
   pub writes_are : room.writes ≡ no_writes false keys
   pub deletes_are : room.deletes ≡ no_writes true keys
 
-abbrev pub IsLeft : RoundRoom → Option Batches → Type 0
-IsLeft room None = room.through ≡ true
-IsLeft room (Some rest) = (room.through ≡ false) × (rest.writes ≡ room.writes) × (rest.deletes ≡ room.deletes)
+abbrev pub LeavesBatches : RoundRoom → Option Batches → Type 0
+LeavesBatches room None = room.through ≡ true
+LeavesBatches room (Some rest) = (room.through ≡ false) × (rest.writes ≡ room.writes) × (rest.deletes ≡ room.deletes)
 
-abbrev pub IsRoomOf : Option Batches → Answers → Option RoundRoom → Type 0
-IsRoomOf None answers None = Unit {0}
-IsRoomOf None answers (Some room) = ⊥
-IsRoomOf (Some rest) answers None = ⊥
-IsRoomOf (Some rest) answers (Some room) = (keys : ℕ) → keys ≤ done_room answers → rest.writes ≡ no_writes false keys → rest.deletes ≡ no_writes true keys → IsRoomFor keys false room
+abbrev pub IsNextRoom : Option Batches → Answers → Option RoundRoom → Type 0
+IsNextRoom None answers None = Unit {0}
+IsNextRoom None answers (Some room) = ⊥
+IsNextRoom (Some rest) answers None = ⊥
+IsNextRoom (Some rest) answers (Some room) = (keys : ℕ) → keys ≤ done_room answers → rest.writes ≡ no_writes false keys → rest.deletes ≡ no_writes true keys → IsRoomFor keys false room
 
 pub record IsMemoryFor (targets : List (Bytes × Op)) (config : Config) (memory : Memory) : Type 0 where
   pub no_results : memory.results.entries ≡ []

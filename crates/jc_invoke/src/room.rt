@@ -29,7 +29,7 @@ impl RoundRoom {
     ghost use Rattle.jc_types.specs.declared.config.Config.{Config};
     ghost use Rattle.jc_rounds.specs.Answers.{AreAnswers};
     ghost use Rattle.jc_rounds.specs.Rounds.{ProcessAll, ProcessRound};
-    ghost use Rattle.jc_invoke.specs.RoundRooms.{IsRoomFor, IsRoomOf};
+    ghost use Rattle.jc_invoke.specs.RoundRooms.{IsRoomFor, IsNextRoom};
 
     /// Room for so many keys, in a cache that writes through or doesn't. An `Err` says that an allocation failed.
     pub(crate) fn new(alloc: Global, through: bool, keys: usize) -> Result<RoundRoom, AllocError>
@@ -61,7 +61,7 @@ impl RoundRoom {
     /// for the writer leaves none.
     pub(crate) fn again(answers: Answers, rest: Option<Batches>) -> Option<RoundRoom>
         requires { (config : Config) × (round : ProcessRound) × AreAnswers config (ProcessAll round) answers [] }
-        ensures { IsRoomOf rest answers result }
+        ensures { IsNextRoom rest answers result }
     {
         match rest {
             Some(Batches { writes, deletes }) => Some(RoundRoom {

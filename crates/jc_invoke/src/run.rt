@@ -2,8 +2,8 @@
 ghost use Rattle.std.specs.Prelude.{◌≡◌, vec_capacity};
 ghost use Rattle.jc_cache.specs.Sessions.{HasAsked, HoldsNothing};
 ghost use Rattle.jc_rounds.specs.Answers.{done_room};
-ghost use Rattle.jc_invoke.specs.RoundRooms.{IsLeft};
-ghost use Rattle.jc_invoke.specs.Processing.{HasNoted, HasRunEach, IsRoundAsked, IsTicketRun, IsToBeRun, KeepsRoom, KeepsTickets, MayNote, MayRunEach, TakesKey};
+ghost use Rattle.jc_invoke.specs.RoundRooms.{LeavesBatches};
+ghost use Rattle.jc_invoke.specs.Processing.{HasNoted, HasRunEach, IsRoundAsked, IsTicketRun, IsToBeRun, KeepsRunsRoom, KeepsTickets, MayNote, MayRunEach, TakesKey};
 
 use crate::room::{Batches, RoundRoom};
 use jc_cache::Session;
@@ -47,7 +47,7 @@ impl RoundRoom {
         ensures asked { HasAsked session.old session.new (IsRoundAsked loads load_state writes_all deletes_all write_state
             processes process_state processing.old.args.now self.through session.old.agent tickets.old.items processing.old.processor.now
             session.new.agent result.0 processing.new.processor.now) }
-        ensures left { IsLeft self result.1 }
+        ensures left { LeavesBatches self result.1 }
         ensures room { done_room result.0 ≡ vec_capacity self.runs }
         ensures tickets { KeepsTickets tickets.old tickets.new }
         ensures same { (processing.new.processor.ghost_name ≡ processing.old.processor.ghost_name)
@@ -87,7 +87,7 @@ impl RoundRoom {
         ensures run { HasAsked session.old session.new (HasRunEach loads load_state processes process_state
             processing.old.args.now self.old.through session.old.agent tickets.old.items processing.old.processor.now
             session.new.agent self.new processing.new.processor.now) }
-        ensures room { KeepsRoom self.old self.new }
+        ensures room { KeepsRunsRoom self.old self.new }
         ensures tickets { KeepsTickets tickets.old tickets.new }
         ensures same { (processing.new.processor.ghost_name ≡ processing.old.processor.ghost_name)
             × (processing.new.args ≡ processing.old.args) }
@@ -110,7 +110,7 @@ impl RoundRoom {
         ensures run { HasAsked session.old session.new (IsTicketRun loads load_state processes process_state
             processing.old.args.now session.old.agent ticket.old self.old processing.old.processor.now
             session.new.agent ticket.new self.new processing.new.processor.now) }
-        ensures room { KeepsRoom self.old self.new }
+        ensures room { KeepsRunsRoom self.old self.new }
         ensures same { (processing.new.processor.ghost_name ≡ processing.old.processor.ghost_name)
             × (processing.new.args ≡ processing.old.args) }
     {
@@ -125,7 +125,7 @@ impl RoundRoom {
         ensures noted { HasNoted (record { reservation = ticket.old.reservation; load = done.now.load; process = done.now.process })
             self.old self.new }
         ensures runs { self.new.runs ≡ self.old.runs }
-        ensures room { KeepsRoom self.old self.new }
+        ensures room { KeepsRunsRoom self.old self.new }
         ensures reservation { ticket.new.reservation ≡ ticket.old.reservation }
     {
         match change_after(self.through, done) {

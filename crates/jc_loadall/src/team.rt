@@ -40,25 +40,12 @@ pub(crate) fn load_or_refuse<
         fault.cause fault.failed.entries fault.found.entries tools.new) }
 {
     if keys.len() > BULK_KEYS_MAX {
-        return Err(refused_whole(alloc, Refusal::TooManyKeys));
+        return Err(BulkFault::of_whole_call(alloc, Refusal::TooManyKeys));
     }
     match load_by_team(alloc, rt, load, tools, keys) {
         Ok(None) => Ok(()),
         Ok(Some(fault)) => Err(fault),
-        Err(AllocError) => Err(refused_whole(alloc, Refusal::OutOfMemory)),
-    }
-}
-
-/// What a call returns that is refused whole, and so names no key.
-fn refused_whole(alloc: Global, cause: Refusal) -> BulkFault
-    ensures cause { result.cause ≡ cause }
-    ensures failed { result.failed.entries ≡ [] }
-    ensures found { result.found.entries ≡ [] }
-{
-    BulkFault {
-        cause,
-        failed: IndexMap::new(alloc),
-        found: IndexMap::new(alloc),
+        Err(AllocError) => Err(BulkFault::of_whole_call(alloc, Refusal::OutOfMemory)),
     }
 }
 

@@ -1,4 +1,4 @@
--- Keys by their places: those that wait, and those that are refused since there was no memory for a later round.
+-- Keys by their places: those that wait, and those that are refused since an allocation for a later round failed.
 --     many_waiting, one_waiting    so many keys that wait, and one more
 --     refused_so_far               the keys before a place are refused, and now the next one is
 use Rattle.std.proofs.Common.{◌≡◌, ◌<◌, ◌+◌, ◌++◌, ℕ, zero, suc, List, [], ◌∷◌, length, map, set, take, drop, get_or, refl, ap, ◌∙◌, arith}

@@ -219,7 +219,7 @@ abbrev pub hint_of : Fault → List (List ℕ) → List ℕ
 hint_of BadNumber words = codes " (0 to 999999999, without leading zeros)"
 hint_of BadCaller words = codes " (s1 to s32)"
 hint_of BadKey words = codes " (1 to 32 letters, digits, _ or .)"
-hint_of BadValue words = codes " (1 to 64 letters, digits, _ or .; or ~ for the empty value; a pair is KEY=VALUE)"
+hint_of BadValue words = codes " (1 to 256 letters, digits, _ or .; or ~ for the empty value; a pair is KEY=VALUE)"
 hint_of NotOpen words = codes " (a script begins with open)"
 hint_of (BadConfig Stripes) words = codes " (1 to 64)"
 hint_of (BadConfig Capacity) words = codes " (1 to 4096)"

@@ -107,7 +107,7 @@ fn hint(fault: Fault, words: &[&[u8]]) -> &'static str
         Fault::BadCaller => " (s1 to s32)",
         Fault::BadKey => " (1 to 32 letters, digits, _ or .)",
         Fault::BadValue => {
-            " (1 to 64 letters, digits, _ or .; or ~ for the empty value; a pair is KEY=VALUE)"
+            " (1 to 256 letters, digits, _ or .; or ~ for the empty value; a pair is KEY=VALUE)"
         }
         Fault::NotOpen => " (a script begins with open)",
         Fault::BadConfig(Field::Stripes) => " (1 to 64)",

@@ -1,9 +1,8 @@
-use Rattle.std.proofs.Common.{◌∙◌, ap, length, subst, sym}
-use Rattle.std.proofs.lemmas.List.{length-map}
+use Rattle.std.proofs.Common.{map, subst, sym}
 use Rattle.jc_cache.specs.Caches.{OwnerState}
 use Rattle.jc_cache.specs.Closing.{AreClosed}
-use Rattle.jc_cache.specs.Clients.{IsServeRefusal}
-use Rattle.jc_cache.proofs.Served.{all_given, as_many, err_is, not_enlisted, not_ended}
+use Rattle.jc_cache.specs.Clients.{IsServeRefusal, WorksEach, client_state}
+use Rattle.jc_cache.proofs.Served.{all_given, err_is, have_worked, not_enlisted, not_ended}
 use Rattle.jc_cache.proofs.serving.serve.Goals as goal
 
 pub returns-in_err-sessions-clause-refused : goal.returns-in_err-sessions-clause-refused
@@ -15,7 +14,8 @@ returns-in-Ok-end-clause-served g c = record {
   opened = c.in_ok-owner.owner;
   opens = c.in_ok-owner.ensures.ok;
   closed = subst (λ (owner : OwnerState). AreClosed owner c.in-Ok-end.closed.stripes.items) (all_given c.args.config.now c.in_ok-owner.owner c.enlist_all.new.self c.args.outside.items _ c.in_ok-owner.ensures.ok c.in_ok-sessions.ensures.ok) c.in-Ok-end.ensures.ok.closed;
-  each = c.in-Ok-work_all.ensures.each ∙ sym (length-map c.in-Ok.clients.items (λ client. client.session)) ∙ ap length c.in-Ok.ensures.sessions ∙ as_many c.in_ok-owner.owner c.enlist_all.new.self c.args.outside.items _ c.in_ok-sessions.ensures.ok;
+  each = have_worked _ c.args.config.now c.in_ok-owner.owner c.enlist_all.new.self c.args.outside.items _ _ c.in_ok-owner.ensures.ok c.in_ok-sessions.ensures.ok
+      (subst (λ sessions. WorksEach _ (map client_state sessions) c.in-Ok-work_all.returned.items) c.in-Ok.ensures.sessions c.in-Ok-work_all.ensures.each);
 }
 
 pub returns-in-Err-clause-refused : goal.returns-in-Err-clause-refused

@@ -333,11 +333,11 @@ begin 1 s1 put a! 1 => line 1, column 16: bad key 'a!' (1 to 32 letters, digits,
 foreign - - => line 1, column 9: bad key '-' (1 to 32 letters, digits, _ or .)
 begin 1 s1 getall a=1 => line 1, column 19: bad key 'a=1' (1 to 32 letters, digits, _ or .)
 begin 1 s1 putall a=1 b!=2 => line 1, column 23: bad key 'b!=2' (1 to 32 letters, digits, _ or .)
-begin 1 s1 replaceif a 1 ! => line 1, column 26: bad value '!' (1 to 64 letters, digits, _ or .; or ~ for the empty value; a pair is KEY=VALUE)
-begin 1 s1 putall a=1 b=! => line 1, column 23: bad value 'b=!' (1 to 64 letters, digits, _ or .; or ~ for the empty value; a pair is KEY=VALUE)
-say 1 a=1 b => line 1, column 11: bad value 'b' (1 to 64 letters, digits, _ or .; or ~ for the empty value; a pair is KEY=VALUE)
-process 1 loadsay=- set=- => line 1, column 21: bad value 'set=-' (1 to 64 letters, digits, _ or .; or ~ for the empty value; a pair is KEY=VALUE)
-foreign a ! => line 1, column 11: bad value '!' (1 to 64 letters, digits, _ or .; or ~ for the empty value; a pair is KEY=VALUE)
+begin 1 s1 replaceif a 1 ! => line 1, column 26: bad value '!' (1 to 256 letters, digits, _ or .; or ~ for the empty value; a pair is KEY=VALUE)
+begin 1 s1 putall a=1 b=! => line 1, column 23: bad value 'b=!' (1 to 256 letters, digits, _ or .; or ~ for the empty value; a pair is KEY=VALUE)
+say 1 a=1 b => line 1, column 11: bad value 'b' (1 to 256 letters, digits, _ or .; or ~ for the empty value; a pair is KEY=VALUE)
+process 1 loadsay=- set=- => line 1, column 21: bad value 'set=-' (1 to 256 letters, digits, _ or .; or ~ for the empty value; a pair is KEY=VALUE)
+foreign a ! => line 1, column 11: bad value '!' (1 to 256 letters, digits, _ or .; or ~ for the empty value; a pair is KEY=VALUE)
 begin 1 s1 putall a=1 b=2 a=3 => line 1, column 27: repeated key 'a=3'
 begin 1 s1 getall s1 getall a s1 => line 1, column 31: repeated key 's1'
 begin 1 s1 loadall keep a keep a => line 1, column 32: repeated key 'a'

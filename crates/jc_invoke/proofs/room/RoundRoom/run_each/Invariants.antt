@@ -1,7 +1,7 @@
 use Rattle.std.proofs.Common.{◌≡◌, length, take, drop}
 use Rattle.std.specs.List.{AllByRecursion}
 use Rattle.jc_cache.specs.Sessions.{HasAsked}
-use Rattle.jc_invoke.specs.Processing.{HasRunEach, IsToBeRun, KeepsRoom, KeepsTickets}
+use Rattle.jc_invoke.specs.Processing.{HasRunEach, IsToBeRun, KeepsRunsRoom, KeepsTickets}
 use Rattle.jc_invoke.proofs.RunEach.{RoomLeft}
 use Rattle.jc_invoke.proofs.room.RoundRoom.run_each.Given as goal
 
@@ -11,7 +11,7 @@ invariant-loop-place g l = record {
   kept : KeepsTickets l.fn.tickets l.tickets;
   fresh : AllByRecursion IsToBeRun (drop l.place l.tickets.items);
   left : RoomLeft l.fn.self.through (length l.fn.tickets.items) l.place l.self;
-  keeps : KeepsRoom l.fn.self l.self;
+  keeps : KeepsRunsRoom l.fn.self l.self;
   run : HasAsked l.fn.session l.session (HasRunEach (λ p. (goal.CacheLoader-dyn g p).loads p.1) (λ p. (goal.CacheLoader-dyn g p).load_state p.1)
       (λ b. (goal.EntryProcessor-dyn g (b.vtable, b.value)).processes b.value) (λ b. (goal.EntryProcessor-dyn g (b.vtable, b.value)).process_state b.value)
       l.fn.processing.args.now l.fn.self.through l.fn.session.agent (take l.place l.fn.tickets.items) l.fn.processing.processor.now
