@@ -44,7 +44,7 @@ pub fn work_all<R: Threads + Wait + Sync, X: Send + Drop, S: Service<R, X> + Syn
         rt,
         clients,
         &|client: Client<'_>| -> X
-            ensures { HasWorked (S.works service.now) (client_state client.entry.session) result }
+            ensures { HasWorked (S.works service.entry.now) (client_state client.entry.session) result }
         { work_by(rt, service, client) },
     )
 }

@@ -1,7 +1,11 @@
-use jc_outside::{CacheLoader, CacheWriter};
-use jc_sqlite::code::CLOSED;
-use jc_sqlite::{Database, DatabaseLoader, DatabaseWriter, OpenCause, OpenError, OpenOptions};
-use jc_types::{Key, Value};
+use jc_outside::{Answers, CacheLoader, CacheWriter};
+use jc_sqlite::code::{CLOSED, TOO_BIG};
+use jc_sqlite::{
+    Database, DatabaseLoader, DatabaseWriter, OpenCause, OpenError, OpenOptions, code_of,
+};
+use jc_types::{Key, VALUE_MAX, Value};
+use sqlite::types::Type;
+use sqlite::{Connection, Error, ErrorCode, File, FileStore, params};
 use std::alloc::Global;
 use std::fs;
 use std::process::Abort;
@@ -111,4 +115,77 @@ fn put_away(host: &HostRuntime, rt: &impl Abort, path: &str) {
 fn put_back(host: &HostRuntime, rt: &impl Abort, path: &str) {
     fs::remove_dir(host, path).expect(rt, "the folder is removed");
     fs::rename(host, AWAY, path).expect(rt, "it is moved back");
+}
+
+/// Failures, each with SQLite's own code for it.
+const CODES: [(Error, u32); 14] = [
+    (Error::SqliteFailure(ErrorCode::DatabaseBusy), 5),
+    (Error::SqliteFailure(ErrorCode::OutOfMemory), 7),
+    (Error::SqliteFailure(ErrorCode::OperationInterrupted), 9),
+    (Error::SqliteFailure(ErrorCode::SystemIoFailure), 10),
+    (Error::SqliteFailure(ErrorCode::DatabaseCorrupt), 11),
+    (Error::SqliteFailure(ErrorCode::DiskFull), 13),
+    (Error::SqliteFailure(ErrorCode::CannotOpen), 14),
+    (Error::SqliteFailure(ErrorCode::TooBig), 18),
+    (Error::SqliteFailure(ErrorCode::TypeMismatch), 20),
+    (Error::SqliteFailure(ErrorCode::Closed), 21),
+    (Error::SqliteFailure(ErrorCode::NotADatabase), 26),
+    (Error::InvalidColumnType(0, Type::Null), 20),
+    (Error::QueryReturnedNoRows, 1),
+    (Error::SqliteFailure(ErrorCode::BadText), 1),
+];
+
+#[test]
+fn codes_are_those_of_sqlite(rt: HostRuntime) {
+    for (error, wanted) in &CODES {
+        assert_eq!(rt; code_of(*error), *wanted);
+    }
+}
+
+/// A connection of another program to a file.
+fn connect(host: &HostRuntime, rt: &impl Abort, path: &str) -> Connection<FileStore<File>> {
+    Connection::open(host, path).expect(rt, "a connection")
+}
+
+/// A table that is made otherwise is refused.
+#[test]
+fn another_table_is_refused(rt: HostRuntime) {
+    let path = fresh(&rt, "jc_sqlite_other.db", "jc_sqlite_other.db-wal");
+    let mut connection = connect(&rt, &rt, path);
+    let made = connection.execute_batch("CREATE TABLE entry (key TEXT, value TEXT)");
+    assert_eq!(rt; made, Ok(()));
+    drop(connection);
+    assert_eq!(rt;
+        cause(&rt, Database::open(&rt, path), path),
+        OpenCause::OtherTable
+    );
+}
+
+/// A value that another program wrote and that has a byte too many fails its load, and that of many keys, by its key.
+#[test]
+fn a_value_that_is_too_long_is_told_by_its_key(rt: HostRuntime) -> Result<(), Fail> {
+    let path = fresh(&rt, "jc_sqlite_long.db", "jc_sqlite_long.db-wal");
+    drop(Database::open(&rt, path).expect(&rt, "a database"));
+    let long = [7u8; VALUE_MAX + 1];
+    let mut connection = connect(&rt, &rt, path);
+    let written = connection.execute(
+        "INSERT INTO entry VALUES (?1, ?2)",
+        params![b"ann".as_slice(), long.as_slice()],
+    );
+    assert_eq!(rt; written, Ok(1));
+    drop(connection);
+    let database = Database::open(&rt, path).expect(&rt, "a database");
+    let mut loader = DatabaseLoader::new(rt, &database).expect(&rt, "memory");
+    let ann = key(&rt);
+    assert_eq!(rt; loader.load(&ann), Err(TOO_BIG));
+    let bob = Key::new(b"bob").expect(&rt, "a key");
+    assert_eq!(rt; loader.load(&bob), Ok(None));
+    let mut answers = Answers::new(rt.alloc(), &[bob, ann]).expect(&rt, "memory");
+    assert_eq!(rt; loader.load_all(&[bob, ann], &mut answers), Err(TOO_BIG));
+    let Some(failure) = database.last_error(&rt) else {
+        panic!(rt; "nothing was kept");
+    };
+    let text = format!(in rt.alloc(); "{failure}")?;
+    assert_eq!(rt; text.as_str(), "at the key \"ann\": string or blob too big");
+    Ok(())
 }

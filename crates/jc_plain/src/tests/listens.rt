@@ -52,15 +52,3 @@ fn each_telling_is_passed_on_once(rt: HostRuntime) {
     is(&rt, "failed", (heard.completions, heard.exceptions), (1, 1));
     is(&rt, "cause", heard.last, Some(Refusal::LoaderFailed(7)));
 }
-
-#[test]
-fn a_box_is_told_as_well(rt: HostRuntime) {
-    let counts = Counts {
-        completions: 0,
-        exceptions: 0,
-        last: None,
-    };
-    let mut listening =
-        boxed!(rt, Box<dyn CompletionListener + Send + Drop>, Listening { listener: counts });
-    listening.on_completion();
-}

@@ -1,7 +1,7 @@
-use Rattle.std.proofs.Common.{map, subst, sym}
+use Rattle.std.proofs.Common.{subst, sym}
 use Rattle.jc_cache.specs.Caches.{OwnerState}
 use Rattle.jc_cache.specs.Closing.{AreClosed}
-use Rattle.jc_cache.specs.Clients.{IsServeRefusal, WorksEach, client_state}
+use Rattle.jc_cache.specs.Clients.{IsServeRefusal}
 use Rattle.jc_cache.proofs.Served.{all_given, err_is, have_worked, not_enlisted, not_ended}
 use Rattle.jc_cache.proofs.serving.serve.Goals as goal
 
@@ -14,8 +14,7 @@ returns-in-Ok-end-clause-served g c = record {
   opened = c.in_ok-owner.owner;
   opens = c.in_ok-owner.ensures.ok;
   closed = subst (λ (owner : OwnerState). AreClosed owner c.in-Ok-end.closed.stripes.items) (all_given c.args.config.now c.in_ok-owner.owner c.enlist_all.new.self c.args.outside.items _ c.in_ok-owner.ensures.ok c.in_ok-sessions.ensures.ok) c.in-Ok-end.ensures.ok.closed;
-  each = have_worked _ c.args.config.now c.in_ok-owner.owner c.enlist_all.new.self c.args.outside.items _ _ c.in_ok-owner.ensures.ok c.in_ok-sessions.ensures.ok
-      (subst (λ sessions. WorksEach _ (map client_state sessions) c.in-Ok-work_all.returned.items) c.in-Ok.ensures.sessions c.in-Ok-work_all.ensures.each);
+  each = have_worked _ c.args.config.now c.in_ok-owner.owner c.enlist_all.new.self c.args.outside.items _ _ _ c.in_ok-owner.ensures.ok c.in_ok-sessions.ensures.ok c.in-Ok.ensures.sessions c.in-Ok-work_all.ensures.each;
 }
 
 pub returns-in-Err-clause-refused : goal.returns-in-Err-clause-refused
