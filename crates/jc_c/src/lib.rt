@@ -15,14 +15,20 @@ ghost use Rattle.jc_stripe.specs.State.{IsIdle};
 ghost use Rattle.jc_stripe.specs.Tests.{is_clear};
 ghost use Rattle.jc_types.specs.declared.limits.TheConstants.{LAST_NUMBER};
 ghost use Rattle.jc_stripe.specs.DeskPhases.{HitsAtDesk, WithdrawsAtDesk};
+ghost use Rattle.jc_c.specs.declared.codes.TheConstants.{JC_OK, JC_MISUSE};
 ghost use Rattle.jc_c.specs.Layouts.{inline_value, inline_entries, config_of};
 ghost use Rattle.jc_c.specs.Exports.{BeginsForC, CommitsLoadForC, CommitsWriteForC, CommitsProcessForC, PicksUpForC, HitsForC, counts_written};
 
+pub mod codes;
 mod handle;
 mod layouts;
 mod replies;
 mod requests;
 
+use codes::{
+    JC_BAD_ARGUMENT, JC_IN_USE, JC_MISUSE, JC_NO_MEMORY, JC_NONE, JC_NOT_ASKED, JC_OK,
+    JC_WRONG_HANDLE,
+};
 pub use handle::Handle;
 use jc_model::{LoadAnswer, ProcessAnswer, Reply, WriteAnswer};
 use jc_parcel::Loose;
@@ -36,39 +42,24 @@ use requests::{effect_of, load_of, op_of, write_of};
 use std::alloc::Global;
 use std::marker::Send;
 
-/// The call was made.
-pub const OK: u32 = 0;
-/// The handle is not open, or is open already.
-pub const WRONG_HANDLE: u32 = 1;
-/// There is no memory.
-pub const NO_MEMORY: u32 = 2;
-/// An argument is none: a key or a value is too long, the operation isn't known, the shape is out of its limits.
-pub const BAD_ARGUMENT: u32 = 3;
-/// No such ticket or join is out, or the call may not begin here.
-pub const MISUSE: u32 = 4;
-/// A reservation or a join is out.
-pub const IN_USE: u32 = 5;
-/// There is no entry, or no such event.
-pub const NONE: u32 = 6;
-
 /// A value of this type may go from thread to thread.
 fn may_go<T: Send>() {}
 
 /// The entries that C gives, or a code.
 fn contents_of(alloc: Global, entries: &[InlineEntry]) -> Result<Vec<(Key, Value)>, u32>
     ensures ok { IfOk result (λ list. list.items ≡ inline_entries entries.now) }
-    ensures err { IfErr result (λ code. 0 < code) }
+    ensures err { IfErr result (λ code. JC_OK < code) }
 {
     let mut contents = Vec::new(alloc);
     for entry in entries {
         let Some(key) = entry.key.key() else {
-            return Err(BAD_ARGUMENT);
+            return Err(JC_BAD_ARGUMENT);
         };
         let Some(value) = entry.value.value() else {
-            return Err(BAD_ARGUMENT);
+            return Err(JC_BAD_ARGUMENT);
         };
         if contents.push((key, value)).is_err() {
-            return Err(NO_MEMORY);
+            return Err(JC_NO_MEMORY);
         }
     }
     Ok(contents)
@@ -83,13 +74,13 @@ pub extern "C" fn jc_open(
     number: usize,
     entries: &[InlineEntry],
 ) -> u32
-    ensures opened { result ≡ 0 → h.new.desk.stripe ≡ live_on (opened_stripe (config_of shape.now) Played number (inline_entries entries.now)) }
-    ensures reached { result ≡ 0 → IsReached h.new.desk.stripe }
-    ensures is_open { result ≡ 0 → h.new.is_open ≡ true }
-    ensures refused { (result ≡ 0) ⊎ (h.new ≡ h.old) }
+    ensures opened { result ≡ JC_OK → h.new.desk.stripe ≡ live_on (opened_stripe (config_of shape.now) Played number (inline_entries entries.now)) }
+    ensures reached { result ≡ JC_OK → IsReached h.new.desk.stripe }
+    ensures is_open { result ≡ JC_OK → h.new.is_open ≡ true }
+    ensures refused { (result ≡ JC_OK) ⊎ (h.new ≡ h.old) }
 {
     if h.is_open() {
-        return WRONG_HANDLE;
+        return JC_WRONG_HANDLE;
     }
     let config = Config {
         stripes: shape.stripes,
@@ -104,32 +95,32 @@ pub extern "C" fn jc_open(
     };
     let desk = match Desk::open(alloc, &config, number, shape.keeps_events, &contents) {
         Ok(desk) => desk,
-        Err(OpenFault::Memory) => return NO_MEMORY,
-        Err(OpenFault::CacheShape) | Err(OpenFault::Contents) => return BAD_ARGUMENT,
+        Err(OpenFault::Memory) => return JC_NO_MEMORY,
+        Err(OpenFault::Shape) | Err(OpenFault::Contents) => return JC_BAD_ARGUMENT,
     };
     let Ok(kept) = Box::new(alloc, desk) else {
-        return NO_MEMORY;
+        return JC_NO_MEMORY;
     };
     may_go::<Desk>();
     h.put(Loose::of(kept));
-    OK
+    JC_OK
 }
 
 /// Closes a desk at which nothing is out.
 #[unsafe(no_mangle)]
 pub extern "C" fn jc_close(h: &mut Handle, alloc: Global) -> u32
-    ensures shut { result ≡ 0 → (h.new.is_open ≡ false) × IsIdle h.old.desk.stripe }
-    ensures refused { (result ≡ 0) ⊎ ((h.new.is_open ≡ h.old.is_open) × (h.new.desk ≡ h.old.desk)) }
+    ensures shut { result ≡ JC_OK → (h.new.is_open ≡ false) × IsIdle h.old.desk.stripe }
+    ensures refused { (result ≡ JC_OK) ⊎ ((h.new.is_open ≡ h.old.is_open) × (h.new.desk ≡ h.old.desk)) }
 {
     if !h.is_open() {
-        return WRONG_HANDLE;
+        return JC_WRONG_HANDLE;
     }
     let desk = h.take(alloc).into_box();
     if desk.is_idle() {
-        return OK;
+        return JC_OK;
     }
     h.put(Loose::of(desk));
-    IN_USE
+    JC_IN_USE
 }
 
 /// The first phase of a call.
@@ -144,19 +135,19 @@ pub extern "C" fn jc_begin(
     other: &[u8],
     out: &mut PhaseOut,
 ) -> u32
-    ensures began { result ≡ 0 → BeginsForC h.old.desk session op key.now value.now other.now out.new h.new.desk }
-    ensures misuse { result ≡ 4 → (h.old.desk.next ≡ LAST_NUMBER) ⊎ (is_clear h.old.desk.stripe (record { session = session; call = h.old.desk.next }) key.now ≡ false) }
-    ensures refused { (result ≡ 0) ⊎ (h.new.desk ≡ h.old.desk) }
+    ensures began { result ≡ JC_OK → BeginsForC h.old.desk session op key.now value.now other.now out.new h.new.desk }
+    ensures misuse { result ≡ JC_MISUSE → (h.old.desk.next ≡ LAST_NUMBER) ⊎ (is_clear h.old.desk.stripe (record { session = session; call = h.old.desk.next }) key.now ≡ false) }
+    ensures refused { (result ≡ JC_OK) ⊎ (h.new.desk ≡ h.old.desk) }
     ensures is_open { h.new.is_open ≡ h.old.is_open }
 {
     let Ok(key) = Key::new(key) else {
-        return BAD_ARGUMENT;
+        return JC_BAD_ARGUMENT;
     };
     let Some(op) = op_of(op, value, other) else {
-        return BAD_ARGUMENT;
+        return JC_BAD_ARGUMENT;
     };
     if !h.is_open() {
-        return WRONG_HANDLE;
+        return JC_WRONG_HANDLE;
     }
     let mut reply = Reply::Unit;
     let mut moves = ValueMoves::new();
@@ -176,14 +167,14 @@ pub extern "C" fn jc_hit(
     key: &[u8],
     out: &mut InlineValue,
 ) -> u32
-    ensures hit { result ≡ 0 → HitsForC h.old.desk session key.now out.new h.new.desk }
+    ensures hit { result ≡ JC_OK → HitsForC h.old.desk session key.now out.new h.new.desk }
     ensures is_open { h.new.is_open ≡ h.old.is_open }
 {
     let Ok(key) = Key::new(key) else {
-        return BAD_ARGUMENT;
+        return JC_BAD_ARGUMENT;
     };
     if !h.is_open() {
-        return WRONG_HANDLE;
+        return JC_WRONG_HANDLE;
     }
     let mut value = Value::default();
     let mut desk = h.take(alloc).into_box();
@@ -192,9 +183,9 @@ pub extern "C" fn jc_hit(
     match hit {
         Some(_) => {
             show_value(&value, out);
-            OK
+            JC_OK
         }
-        None => NONE,
+        None => JC_NONE,
     }
 }
 
@@ -209,18 +200,18 @@ pub extern "C" fn jc_commit_load(
     value: &[u8],
     out: &mut PhaseOut,
 ) -> u32
-    ensures ends { result ≡ 0 → CommitsLoadForC h.old.desk number answer code value.now out.new h.new.desk }
-    ensures refused { (result ≡ 0) ⊎ (h.new.desk ≡ h.old.desk) }
+    ensures ends { result ≡ JC_OK → CommitsLoadForC h.old.desk number answer code value.now out.new h.new.desk }
+    ensures refused { (result ≡ JC_OK) ⊎ (h.new.desk ≡ h.old.desk) }
     ensures is_open { h.new.is_open ≡ h.old.is_open }
 {
     let Ok(value) = Value::new(value) else {
-        return BAD_ARGUMENT;
+        return JC_BAD_ARGUMENT;
     };
     let Some(answer) = load_of(answer, code, &value) else {
-        return BAD_ARGUMENT;
+        return JC_BAD_ARGUMENT;
     };
     if !h.is_open() {
-        return WRONG_HANDLE;
+        return JC_WRONG_HANDLE;
     }
     let mut reply = Reply::Unit;
     let mut moves = ValueMoves::new();
@@ -228,10 +219,10 @@ pub extern "C" fn jc_commit_load(
     let done = desk.commit_load(number, answer, &mut reply, &mut moves);
     h.put(Loose::of(desk));
     let Some(done) = done else {
-        return MISUSE;
+        return JC_MISUSE;
     };
     show_done(done.place, done.shared, &reply, &moves, out);
-    OK
+    JC_OK
 }
 
 /// The last phase of a call whose writer was asked.
@@ -244,15 +235,15 @@ pub extern "C" fn jc_commit_write(
     code: u32,
     out: &mut PhaseOut,
 ) -> u32
-    ensures ends { result ≡ 0 → CommitsWriteForC h.old.desk number answer code out.new h.new.desk }
-    ensures refused { (result ≡ 0) ⊎ (h.new.desk ≡ h.old.desk) }
+    ensures ends { result ≡ JC_OK → CommitsWriteForC h.old.desk number answer code out.new h.new.desk }
+    ensures refused { (result ≡ JC_OK) ⊎ (h.new.desk ≡ h.old.desk) }
     ensures is_open { h.new.is_open ≡ h.old.is_open }
 {
     let Some(answer) = write_of(answer, code) else {
-        return BAD_ARGUMENT;
+        return JC_BAD_ARGUMENT;
     };
     if !h.is_open() {
-        return WRONG_HANDLE;
+        return JC_WRONG_HANDLE;
     }
     let mut reply = Reply::Unit;
     let mut moves = ValueMoves::new();
@@ -260,10 +251,10 @@ pub extern "C" fn jc_commit_write(
     let done = desk.commit_write(number, answer, &mut reply, &mut moves);
     h.put(Loose::of(desk));
     let Some(done) = done else {
-        return MISUSE;
+        return JC_MISUSE;
     };
     show_done(done.place, done.shared, &reply, &moves, out);
-    OK
+    JC_OK
 }
 
 /// The last phase of a call whose processor ran.
@@ -275,34 +266,34 @@ pub extern "C" fn jc_commit_process(
     processed: &ProcessorAnswers,
     out: &mut PhaseOut,
 ) -> u32
-    ensures ends { result ≡ 0 → CommitsProcessForC h.old.desk number processed.now out.new h.new.desk }
-    ensures refused { (result ≡ 0) ⊎ (h.new.desk ≡ h.old.desk) }
+    ensures ends { result ≡ JC_OK → CommitsProcessForC h.old.desk number processed.now out.new h.new.desk }
+    ensures refused { (result ≡ JC_OK) ⊎ (h.new.desk ≡ h.old.desk) }
     ensures is_open { h.new.is_open ≡ h.old.is_open }
 {
     let Some(loaded) = processed.loaded.value() else {
-        return BAD_ARGUMENT;
+        return JC_BAD_ARGUMENT;
     };
-    let load = if processed.load == 0 {
+    let load = if processed.load == JC_NOT_ASKED {
         LoadAnswer::NotAsked
     } else {
         match load_of(processed.load, processed.load_code, &loaded) {
             Some(load) => load,
-            None => return BAD_ARGUMENT,
+            None => return JC_BAD_ARGUMENT,
         }
     };
-    let write = if processed.write == 0 {
+    let write = if processed.write == JC_NOT_ASKED {
         WriteAnswer::NotAsked
     } else {
         match write_of(processed.write, processed.write_code) {
             Some(write) => write,
-            None => return BAD_ARGUMENT,
+            None => return JC_BAD_ARGUMENT,
         }
     };
     let Some(process) = effect_of(processed) else {
-        return BAD_ARGUMENT;
+        return JC_BAD_ARGUMENT;
     };
     if !h.is_open() {
-        return WRONG_HANDLE;
+        return JC_WRONG_HANDLE;
     }
     let mut reply = Reply::Unit;
     let mut moves = ValueMoves::new();
@@ -310,26 +301,26 @@ pub extern "C" fn jc_commit_process(
     let done = desk.commit_process(number, load, process, write, &mut reply, &mut moves);
     h.put(Loose::of(desk));
     let Some(done) = done else {
-        return MISUSE;
+        return JC_MISUSE;
     };
     show_done(done.place, done.shared, &reply, &moves, out);
-    OK
+    JC_OK
 }
 
 /// Gives a reservation back.
 #[unsafe(no_mangle)]
 pub extern "C" fn jc_withdraw(h: &mut Handle, alloc: Global, number: u64) -> u32
-    ensures given_back { result ≡ 0 → WithdrawsAtDesk h.old.desk number h.new.desk }
-    ensures refused { (result ≡ 0) ⊎ (h.new.desk ≡ h.old.desk) }
+    ensures given_back { result ≡ JC_OK → WithdrawsAtDesk h.old.desk number h.new.desk }
+    ensures refused { (result ≡ JC_OK) ⊎ (h.new.desk ≡ h.old.desk) }
     ensures is_open { h.new.is_open ≡ h.old.is_open }
 {
     if !h.is_open() {
-        return WRONG_HANDLE;
+        return JC_WRONG_HANDLE;
     }
     let mut desk = h.take(alloc).into_box();
     let done = desk.withdraw(number);
     h.put(Loose::of(desk));
-    if done { OK } else { MISUSE }
+    if done { JC_OK } else { JC_MISUSE }
 }
 
 /// Picks up the answer of a load that was joined.
@@ -343,15 +334,15 @@ pub extern "C" fn jc_pick_up(
     load: u64,
     out: &mut PhaseOut,
 ) -> u32
-    ensures picked_up { result ≡ 0 → PicksUpForC h.old.desk (record { caller = record { session = session; call = call }; key = key.now; load = load }) out.new h.new.desk }
-    ensures refused { (result ≡ 0) ⊎ (h.new.desk ≡ h.old.desk) }
+    ensures picked_up { result ≡ JC_OK → PicksUpForC h.old.desk (record { caller = record { session = session; call = call }; key = key.now; load = load }) out.new h.new.desk }
+    ensures refused { (result ≡ JC_OK) ⊎ (h.new.desk ≡ h.old.desk) }
     ensures is_open { h.new.is_open ≡ h.old.is_open }
 {
     let Ok(key) = Key::new(key) else {
-        return BAD_ARGUMENT;
+        return JC_BAD_ARGUMENT;
     };
     if !h.is_open() {
-        return WRONG_HANDLE;
+        return JC_WRONG_HANDLE;
     }
     let mut reply = Reply::Unit;
     let mut desk = h.take(alloc).into_box();
@@ -363,22 +354,22 @@ pub extern "C" fn jc_pick_up(
 /// The key's value. No call is made.
 #[unsafe(no_mangle)]
 pub extern "C" fn jc_peek(h: &mut Handle, alloc: Global, key: &[u8], out: &mut InlineValue) -> u32
-    ensures peeked { result ≡ 0 → entry_at h.old.desk.stripe.cache key.now ≡ Some (inline_value out.new) }
+    ensures peeked { result ≡ JC_OK → entry_at h.old.desk.stripe.cache key.now ≡ Some (inline_value out.new) }
     ensures same { (h.new.is_open ≡ h.old.is_open) × (h.new.desk ≡ h.old.desk) }
 {
     let Ok(key) = Key::new(key) else {
-        return BAD_ARGUMENT;
+        return JC_BAD_ARGUMENT;
     };
     if !h.is_open() {
-        return WRONG_HANDLE;
+        return JC_WRONG_HANDLE;
     }
     let desk = h.take(alloc).into_box();
     let found = match desk.entry(&key) {
         Some(value) => {
             show_value(value, out);
-            OK
+            JC_OK
         }
-        None => NONE,
+        None => JC_NONE,
     };
     h.put(Loose::of(desk));
     found
@@ -387,11 +378,11 @@ pub extern "C" fn jc_peek(h: &mut Handle, alloc: Global, key: &[u8], out: &mut I
 /// What the events of all generations count.
 #[unsafe(no_mangle)]
 pub extern "C" fn jc_statistics_of(h: &mut Handle, alloc: Global, out: &mut CountsOut) -> u32
-    ensures counted { result ≡ 0 → out.new ≡ counts_written (statistics_of (all_occurrences h.old.desk.stripe)) }
+    ensures counted { result ≡ JC_OK → out.new ≡ counts_written (statistics_of (all_occurrences h.old.desk.stripe)) }
     ensures same { (h.new.is_open ≡ h.old.is_open) × (h.new.desk ≡ h.old.desk) }
 {
     if !h.is_open() {
-        return WRONG_HANDLE;
+        return JC_WRONG_HANDLE;
     }
     let desk = h.take(alloc).into_box();
     let counts = desk.statistics();
@@ -401,7 +392,7 @@ pub extern "C" fn jc_statistics_of(h: &mut Handle, alloc: Global, out: &mut Coun
     out.puts = counts.puts;
     out.removals = counts.removals;
     out.evictions = counts.evictions;
-    OK
+    JC_OK
 }
 
 /// Writes what is cached, the most recently used first, as far as there is room, and how many entries there are.
@@ -415,14 +406,14 @@ pub extern "C" fn jc_entries(
     ensures same { (h.new.is_open ≡ h.old.is_open) × (h.new.desk ≡ h.old.desk) }
 {
     if !h.is_open() {
-        return WRONG_HANDLE;
+        return JC_WRONG_HANDLE;
     }
     let mut entries: Vec<(Key, Value)> = Vec::new(alloc);
     let desk = h.take(alloc).into_box();
     let listed = desk.entries(&mut entries);
     h.put(Loose::of(desk));
     if listed.is_err() {
-        return NO_MEMORY;
+        return JC_NO_MEMORY;
     }
     *count = entries.len();
     let shown = if entries.len() < out.len() {
@@ -434,7 +425,7 @@ pub extern "C" fn jc_entries(
         out[place].key.set(&entries[place].0);
         show_value(&entries[place].1, &mut out[place].value);
     }
-    OK
+    JC_OK
 }
 
 /// How many events the present generation has; 0 if the handle isn't open.
@@ -455,15 +446,15 @@ pub extern "C" fn jc_events_len(h: &mut Handle, alloc: Global) -> usize
 /// CommitsForC the present generation.
 #[unsafe(no_mangle)]
 pub extern "C" fn jc_end_generation(h: &mut Handle, alloc: Global) -> u32
-    ensures ended { result ≡ 0 → Renews h.old.desk.stripe h.new.desk.stripe }
-    ensures refused { (result ≡ 0) ⊎ (h.new.desk ≡ h.old.desk) }
+    ensures ended { result ≡ JC_OK → Renews h.old.desk.stripe h.new.desk.stripe }
+    ensures refused { (result ≡ JC_OK) ⊎ (h.new.desk ≡ h.old.desk) }
     ensures is_open { h.new.is_open ≡ h.old.is_open }
 {
     if !h.is_open() {
-        return WRONG_HANDLE;
+        return JC_WRONG_HANDLE;
     }
     let mut desk = h.take(alloc).into_box();
     let ended = desk.end_generation();
     h.put(Loose::of(desk));
-    if ended { OK } else { IN_USE }
+    if ended { JC_OK } else { JC_IN_USE }
 }

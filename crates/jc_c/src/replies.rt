@@ -6,7 +6,13 @@ ghost use Rattle.jc_c.specs.declared.codes.TheConstants.{JC_OK, JC_MISUSE, JC_OW
 ghost use Rattle.jc_c.specs.Layouts.{inline_value};
 ghost use Rattle.jc_c.specs.Replies.{ShowsFault, ShowsReply, ShowsMoves, own_number, ShowsDone, ShowsFirst, refusal_number, ShowsFirstAnswer, ShowsPickUp};
 
-use crate::codes::{JC_AGAIN, JC_ASK_LOADER, JC_BUSY, JC_DONE, JC_EVICTED, JC_FULL, JC_HAVE_DELETED, JC_HAVE_WRITTEN, JC_HISTORY_FULL, JC_JOINED, JC_KEPT, JC_LEFT, JC_LOADER_FAILED, JC_MISUSE, JC_NO, JC_NOT_YET, JC_NULL, JC_OK, JC_OTHER, JC_OTHER_FAULT, JC_OWN_EVICTED_FULL, JC_OWN_EVICTED_MEMORY, JC_PROCESSOR_FAILED, JC_REFUSED, JC_RUN_PROCESSOR, JC_TOO_MANY_IN_FLIGHT, JC_TOO_MANY_JOINERS, JC_UNIT, JC_VALUE, JC_WRITER_FAILED, JC_YES};
+use crate::codes::{
+    JC_AGAIN, JC_ASK_LOADER, JC_BUSY, JC_DONE, JC_EVICTED, JC_FULL, JC_HAVE_DELETED,
+    JC_HAVE_WRITTEN, JC_HISTORY_FULL, JC_JOINED, JC_KEPT, JC_LEFT, JC_LOADER_FAILED, JC_MISUSE,
+    JC_NO, JC_NOT_YET, JC_NULL, JC_OK, JC_OTHER, JC_OTHER_FAULT, JC_OWN_EVICTED_FULL,
+    JC_OWN_EVICTED_MEMORY, JC_PROCESSOR_FAILED, JC_REFUSED, JC_RUN_PROCESSOR,
+    JC_TOO_MANY_IN_FLIGHT, JC_TOO_MANY_JOINERS, JC_UNIT, JC_VALUE, JC_WRITER_FAILED, JC_YES,
+};
 use crate::layouts::{InlineKey, InlineValue, PhaseOut};
 use jc_model::{Cause, Change, Reply};
 use jc_stripe::{First, FirstAnswer, PickUpAnswer, ValueMoves};
@@ -228,7 +234,7 @@ pub(crate) fn show_asked(
 /// What a joiner was told.
 pub(crate) fn show_picked(picked: &PickUpAnswer, reply: &Reply, out: &mut PhaseOut) -> u32
     ensures shown { result ≡ JC_OK → ShowsPickUp picked.now reply.now out.new }
-    ensures misuse { (result ≡ JC_OK) ⊎ ((result ≡ JC_MISUSE) × (picked.now ≡ up.Misuse)) }
+    ensures misuse { (result ≡ JC_OK) ⊎ ((result ≡ JC_MISUSE) × (picked.now ≡ pick_up_answer.Misuse)) }
 {
     out.moves = 0;
     match picked {

@@ -2,7 +2,12 @@
 ghost use Rattle.std.specs.Prelude.{◌≡◌, ◌⊎◌, IfSome};
 ghost use Rattle.jc_c.specs.Layouts.{IsOp, IsLoadAnswer, IsWriteAnswer, IsProcessAnswer};
 
-use crate::codes::{JC_CLEAR_KEY, JC_CONTAINS_KEY, JC_FAILED, JC_FOUND, JC_GET, JC_GET_AND_PUT, JC_GET_AND_REMOVE, JC_GET_AND_REPLACE, JC_INVOKE, JC_KEEP, JC_LOAD, JC_NOTHING, JC_PROCESS_FAILED, JC_PUT, JC_PUT_IF_ABSENT, JC_RELOAD, JC_REMOVE, JC_REMOVE_IF, JC_REPLACE, JC_REPLACE_IF, JC_SET, JC_TAKE_OUT, JC_WRITTEN};
+use crate::codes::{
+    JC_CLEAR_KEY, JC_CONTAINS_KEY, JC_FAILED, JC_FOUND, JC_GET, JC_GET_AND_PUT, JC_GET_AND_REMOVE,
+    JC_GET_AND_REPLACE, JC_INVOKE, JC_KEEP, JC_LOAD, JC_NOTHING, JC_PROCESS_FAILED, JC_PUT,
+    JC_PUT_IF_ABSENT, JC_RELOAD, JC_REMOVE, JC_REMOVE_IF, JC_REPLACE, JC_REPLACE_IF, JC_SET,
+    JC_TAKE_OUT, JC_WRITTEN,
+};
 use crate::layouts::ProcessorAnswers;
 use jc_model::{Effect, LoadAnswer, Op, ProcessAnswer, WriteAnswer};
 use jc_types::Value;
