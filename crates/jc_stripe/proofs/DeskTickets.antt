@@ -1,5 +1,5 @@
 -- A ticket by its number: its reservation is out, and without it the others are left in their order.
---     has_number     a reservation holds_value this number
+--     has_number     a reservation has this number
 --     found_ticket   the reservation at the place of a number is the first with it
 --     out_at         it is out
 --     left_at        without it those of the other keys are left
@@ -9,12 +9,12 @@ use Rattle.std.proofs.lemmas.Grind.{common_steps}
 use Rattle.std.proofs.lemmas.List.{get_or-map, length-map}
 use Rattle.std.specs.Cmp.Lexicographic.{pointwise, same_text}
 use Rattle.std.specs.List.{AllPairs, position_or_len}
-use Rattle.jc_types.proofs.CallerLemmas.{find_at_place, remove_at_place, position_map, map-remove}
+use Rattle.jc_types.proofs.CallerLemmas.{find_at_place, find_nowhere, remove_at_place, position_map, map-remove}
 use Rattle.jc_model.specs.Cache.{Bytes}
 use Rattle.jc_stripe.specs.declared.ticket.Reservation.{Reservation}
 use Rattle.jc_stripe.specs.State.{State, is_key, without_key, IsOut}
 use Rattle.jc_stripe.specs.Reached.{IsReached}
-use Rattle.jc_stripe.specs.DeskPhases.{HasTicket}
+use Rattle.jc_stripe.specs.DeskPhases.{ticket_of, asks_first}
 
 abbrev pub has_number : ℕ → Reservation → Bool
 has_number number r = r.number == number
@@ -51,18 +51,31 @@ left_at rs i x once within is =
     remove_at_place (is_key x.key) rs i (key_place rs i x once within is)
     (λ j k d lt l here. ap (λ q. is_key q (get_or rs k d)) (same_text x.key (get_or rs j d).key (sym here)) ∙ once j k d lt l)
 
-pub ticket_at : (state : State) (number i : ℕ) (x : Reservation) → position (has_number number) state.reservations ≡ Some i → x ≡ get_or state.reservations i x → HasTicket state number x
+pub ticket_at : (state : State) (number i : ℕ) (x : Reservation) → position (has_number number) state.reservations ≡ Some i → x ≡ get_or state.reservations i x → ticket_of state number ≡ Some x
 ticket_at state number i x at is = find_at_place (has_number number) state.reservations i x at is
 
 pub place_within : (rs : List Reservation) (number i : ℕ) → position (has_number number) rs ≡ Some i → i < length rs
 place_within rs number i at = grind (arith, common_steps)
+
+-- what a number means that is nowhere among the tickets, or at a place of theirs
+module _ {B : Type 0} (val : B → Reservation) (state : State) (items : List B) (number : ℕ) (are : map val items ≡ state.reservations) where
+  pub ticket_nowhere : position (λ x. (val x).number == number) items ≡ None → ticket_of state number ≡ None
+  ticket_nowhere at = find_nowhere (has_number number) state.reservations (ap (position (has_number number)) (sym are) ∙ position_map (has_number number) val items ∙ at)
+
+  pub ticket_placed : (i : ℕ) (b : B) → position (λ x. (val x).number == number) items ≡ Some i → b ≡ slice_index_or items i b → ticket_of state number ≡ Some (val b)
+  ticket_placed i b at is =
+      let pos : position (has_number number) state.reservations ≡ Some i = ap (position (has_number number)) (sym are) ∙ position_map (has_number number) val items ∙ at in
+      let within : i < length state.reservations = place_within state.reservations number i pos in
+      let long : length items ≡ length state.reservations = sym (length-map items val) ∙ ap length are in
+      ticket_at state number i (val b) pos
+      (ap val is ∙ sym (get_or-map val items i b (val b) (omega (arith, long, within))) ∙ ap (λ xs. get_or xs i (val b)) are)
 
 -- what is taken at the place of a number
 pub record Taken (state : State) (number place : ℕ) (x : Reservation) (rest : List Reservation) : Type 0 where
   pub within : place < length state.reservations
   pub here : x ≡ get_or state.reservations place x
   pub out : IsOut state x
-  pub ticket : HasTicket state number x
+  pub ticket : ticket_of state number ≡ Some x
   pub left : rest ≡ without_key x.key state.reservations
 
 pub taken : {B : Type 0} (val : B → Reservation) (state : State) (items rest : List B) (number i : ℕ) (b : B) → IsReached state → map val items ≡ state.reservations

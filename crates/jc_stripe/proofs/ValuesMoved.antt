@@ -62,7 +62,7 @@ pub victim_next : (old new : State) (caller : Caller) (key v : Bytes) (op : Op) 
     → done.victim ≡ Some v → IsNext old key v
 victim_next old new caller key v op out callers done steps h = overflow_next old key v op out (overflows old key op out) refl (sym steps.victim_is ∙ h)
 
--- 2. A commit frees its own key, which holds_value no entry.
+-- 2. A commit frees its own key, which has no entry.
 
 own_out : (b : Bool) (r : Reservation) (rs : List Reservation) (key x : Bytes) → is_key key r ≡ b → pointwise ◌==◌ key x ≡ false
     → list_any (λ o. pointwise ◌==◌ o x) (map (λ s. s.key) (filter (λ s. not (is_key key s)) rs)) ≡ list_any (λ o. pointwise ◌==◌ o x) (map (λ s. s.key) rs)

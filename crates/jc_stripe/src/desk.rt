@@ -6,7 +6,7 @@
 //! - The tickets are the stripe's reservations, in their order: so what a number means is one equation of the stripe's state.
 //! - A desk's outside answers are its driver's word: its stripe is of origin `Played`.
 //! - A full generation ends before a first phase, so no driver meets a full history; one that wants the events is told `Full` first.
-ghost use Rattle.std.specs.Prelude.{◌≡◌, ◌↔◌, ◌==◌, ◌≤◌, ◌<◌, true, false, Some, Ok, ◌++◌, length, slice_get, IsTrue, IfOk, IfSome, IfNone, OnOk, OnErr};
+ghost use Rattle.std.specs.Prelude.{◌≡◌, ◌==◌, ◌≤◌, ◌<◌, true, not, Some, Ok, ◌++◌, length, slice_get, is_some, IsTrue, IfOk, IfErr, IfSome, IfNone, OnOk, OnErr};
 ghost use Rattle.std.specs.Bool.{OnTrue, OnFalse};
 ghost use Rattle.std.specs.List.{list_all};
 ghost use Rattle.std.specs.Option.{option_copied};
@@ -16,14 +16,13 @@ ghost use Rattle.jc_model.specs.Cache.{entry_at};
 ghost use Rattle.jc_model.specs.Listed.{has_distinct_keys};
 ghost use Rattle.jc_model.specs.Legal.{Legal};
 ghost use Rattle.jc_model.specs.Statistics.{statistics_of};
-ghost use Rattle.jc_outside.specs.declared.done.Origin.TheVariants.{Played};
-ghost use Rattle.jc_stripe.specs.State.{IsIdle};
 ghost use Rattle.jc_stripe.specs.OrderOfUse.{by_use};
 ghost use Rattle.jc_stripe.specs.Occurrences.{all_occurrences};
 ghost use Rattle.jc_stripe.specs.Reached.{IsReached};
-ghost use Rattle.jc_stripe.specs.Renewal.{Renews, can_renew, live_on};
-ghost use Rattle.jc_stripe.specs.Reopening.{opened_stripe};
-ghost use Rattle.jc_stripe.specs.DeskPhases.{BeginsAtDesk, HitsAtDesk};
+ghost use Rattle.jc_stripe.specs.Generations.{after_renewal};
+ghost use Rattle.jc_stripe.specs.Renewal.{can_renew};
+ghost use Rattle.jc_stripe.specs.DeskState.{opened_desk, is_open_shape, are_contents, may_call_next, nothing_is_out, OpenFails};
+ghost use Rattle.jc_stripe.specs.DeskPhases.{BeginsAtDesk, is_first_misuse, HitsAtDesk, hits_next, StaysOrRenewsFull};
 
 mod answers;
 mod last_phases;
@@ -41,7 +40,7 @@ use jc_outside::Origin;
 use jc_types::{Caller, Config, Key, LAST_NUMBER, RESERVATIONS_MAX, Value};
 pub use moves::ValueMoves;
 use noting::{look_after, look_before};
-use opening::{is_apart, is_opening_of};
+use opening::{are_contents, is_open_shape};
 use std::alloc::{AllocError, Global};
 use std::marker::Model;
 
@@ -77,7 +76,7 @@ impl Desk {
     /// A desk over a stripe that opens with these entries, the first one the most recently used. With `keeps_events` a full generation
     /// ends only by [`end_generation`](Desk::end_generation), so that its events can be taken before.
     ///
-    /// An `Err` says why none was opened.
+    /// An `Err` says why none was opened. `Memory` comes only with a shape and contents that fit.
     pub fn open(
         alloc: Global,
         config: &Config,
@@ -85,15 +84,14 @@ impl Desk {
         keeps_events: bool,
         contents: &[(Key, Value)],
     ) -> Result<Desk, OpenFault>
-        ensures { IfOk result (λ d. d ≡ record { stripe = live_on (opened_stripe config.now Played number contents.now); next = 0; keeps_events = keeps_events }) }
+        ensures opened { IfOk result (λ d. d ≡ opened_desk config.now number keeps_events contents.now) }
+        ensures fits { IfOk result (λ d. (is_open_shape config.now number ≡ true) × (are_contents config.now number contents.now ≡ true)) }
+        ensures err { IfErr result (λ fault. OpenFails fault config.now number contents.now) }
     {
-        if config.check().is_err() || config.stripes <= number {
+        if !is_open_shape(config, number) {
             return Err(OpenFault::Shape);
         }
-        if config.capacity < contents.len()
-            || !is_apart(contents)
-            || !is_opening_of(config.stripes, number, contents)
-        {
+        if !are_contents(config, number, contents) {
             return Err(OpenFault::Contents);
         }
         match Desk::open_over(alloc, config, number, keeps_events, contents) {
@@ -114,7 +112,7 @@ impl Desk {
         requires few { length contents.now ≤ config.now.capacity }
         requires once { has_distinct_keys contents.now ≡ true }
         requires own { list_all (λ entry. stripe_of entry.0 config.now.stripes == number) contents.now ≡ true }
-        ensures { IfOk result (λ d. d ≡ record { stripe = live_on (opened_stripe config.now Played number contents.now); next = 0; keeps_events = keeps_events }) }
+        ensures { IfOk result (λ d. d ≡ opened_desk config.now number keeps_events contents.now) }
     {
         let tickets = Vec::with_capacity(alloc, RESERVATIONS_MAX)?;
         let entries = Entries::of(alloc, config.capacity, contents)?;
@@ -139,7 +137,8 @@ impl Desk {
         reply: &mut Reply,
         moves: &mut ValueMoves,
     ) -> (u64, FirstAnswer)
-        ensures { BeginsAtDesk self.old session result.0 key.now op.now reply.new moves.new result.1 self.new }
+        ensures misuse { is_first_misuse result.1 ≡ not (may_call_next self.old session key.now) }
+        ensures begins { BeginsAtDesk self.old session result.0 key.now op.now reply.new moves.new result.1 self.new }
     {
         let call = self.next_call;
         let caller = Caller { session, call };
@@ -176,11 +175,13 @@ impl Desk {
         (call, asked)
     }
 
-    /// A `get` that finds its entry, as a session's next call: its value is written, and its number given. None says that nothing was
-    /// done: the entry is missing, the generation is full, or the call may not begin.
+    /// A `get` that finds its entry, as a session's next call: its value is written, and its number given. None says that no call was
+    /// made: the call may not begin, its key has no entry, or the generation is full and its events are to be taken, or an answer that is
+    /// parked keeps it from ending. A full generation may have ended then.
     pub fn hit(&mut self, session: u32, key: &Key, value: &mut Value) -> Option<u64>
+        ensures found { is_some result ≡ hits_next self.old session key.now }
         ensures some { IfSome result (λ call. HitsAtDesk self.old session key.now value.new call self.new) }
-        ensures none { IfNone result (value.new ≡ value.old) }
+        ensures none { IfNone result ((value.new ≡ value.old) × StaysOrRenewsFull self.old self.new) }
     {
         let call = self.next_call;
         let caller = Caller { session, call };
@@ -244,8 +245,9 @@ impl Desk {
     /// Ends the present generation if it may end, and says whether it did. It may end if it has an event, and no answer is parked for a
     /// joiner. Else nothing changes.
     pub fn end_generation(&mut self) -> bool
-        ensures done { OnTrue result (Renews self.old.stripe self.new.stripe) }
-        ensures none { OnFalse result ((self.new ≡ self.old) × (can_renew self.old.stripe ≡ false)) }
+        ensures may { result ≡ can_renew self.old.stripe }
+        ensures done { OnTrue result (self.new ≡ record self.old { stripe = after_renewal self.old.stripe }) }
+        ensures none { OnFalse result (self.new ≡ self.old) }
     {
         if !self.stripe.can_renew() {
             return false;
@@ -256,7 +258,7 @@ impl Desk {
 
     /// Whether no ticket and no join is out. A join is out until it is picked up.
     pub fn is_idle(&self) -> bool
-        ensures { IsTrue result ↔ IsIdle self.now.stripe }
+        ensures { result ≡ nothing_is_out self.now.stripe }
     {
         self.stripe.is_idle()
     }

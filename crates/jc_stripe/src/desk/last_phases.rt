@@ -1,10 +1,10 @@
 //! The last phases of calls at a desk. What isn't out is answered with nothing done.
-ghost use Rattle.std.specs.Prelude.{◌≡◌, ◌==◌, ◌&&◌, position, is_some, IsTrue, IfSome, IfNone};
+ghost use Rattle.std.specs.Prelude.{◌≡◌, ◌==◌, position, is_some, not, IfSome, IfNone};
 ghost use Rattle.std.specs.Bool.{OnTrue, OnFalse};
 ghost use Rattle.jc_model.specs.Group.{load_only, write_only};
 ghost use Rattle.jc_mutentry.specs.Done.{effect_change};
 ghost use Rattle.jc_stripe.specs.Tickets.{asks_loader, asks_writer};
-ghost use Rattle.jc_stripe.specs.DeskPhases.{CommitsAtDesk, WithdrawsAtDesk, PicksUpAtDesk, FitsProcessor};
+ghost use Rattle.jc_stripe.specs.DeskPhases.{CommitsAtDesk, WithdrawsAtDesk, PicksUpAtDesk, is_pick_up_misuse, is_join_out, ticket_of, takes_load, takes_write, takes_process, fits_processor, wants_writer};
 
 use super::Desk;
 use super::answers::{CommitDone, PickUpAnswer};
@@ -38,7 +38,7 @@ fn is_writer(first: &First) -> bool
 
 /// Whether a processor is asked, which ran, and its loader answered only if it may be asked.
 fn fits_processor(first: &First, load: &LoadAnswer, process: &ProcessAnswer) -> bool
-    ensures { IsTrue result → FitsProcessor first.now load.now process.now }
+    ensures { result ≡ fits_processor load.now process.now first.now }
 {
     match first {
         First::Processor { entry: _, may_load } => {
@@ -50,7 +50,7 @@ fn fits_processor(first: &First, load: &LoadAnswer, process: &ProcessAnswer) -> 
 
 /// Whether the writer is to be asked after a processor.
 fn wants_writer(config: &Config, load: &LoadAnswer, process: &ProcessAnswer) -> bool
-    ensures { result ≡ (config.now.write_through && is_some (effect_change load.now process.now)) }
+    ensures { result ≡ wants_writer config.now load.now process.now }
 {
     config.write_through && has_change(load, process)
 }
@@ -78,6 +78,7 @@ impl Desk {
         reply: &mut Reply,
         moves: &mut ValueMoves,
     ) -> Option<CommitDone>
+        ensures taken { is_some result ≡ takes_load self.old.stripe number answer }
         ensures some { IfSome result (λ said. CommitsAtDesk self.old number (load_only answer) reply.new moves.new said self.new) }
         ensures none { IfNone result (self.new ≡ self.old) }
     {
@@ -108,6 +109,7 @@ impl Desk {
         reply: &mut Reply,
         moves: &mut ValueMoves,
     ) -> Option<CommitDone>
+        ensures taken { is_some result ≡ takes_write self.old.stripe number answer }
         ensures some { IfSome result (λ said. CommitsAtDesk self.old number (write_only answer) reply.new moves.new said self.new) }
         ensures none { IfNone result (self.new ≡ self.old) }
     {
@@ -142,6 +144,7 @@ impl Desk {
         reply: &mut Reply,
         moves: &mut ValueMoves,
     ) -> Option<CommitDone>
+        ensures taken { is_some result ≡ takes_process self.old.stripe number (record { load = load; write = write; process = process }) }
         ensures some { IfSome result (λ said. CommitsAtDesk self.old number (record { load = load; write = write; process = process }) reply.new moves.new said self.new) }
         ensures none { IfNone result (self.new ≡ self.old) }
     {
@@ -174,6 +177,7 @@ impl Desk {
 
     /// Gives a reservation back whose loader, writer or processor was not asked.
     pub fn withdraw(&mut self, number: u64) -> bool
+        ensures out { result ≡ is_some (ticket_of self.old.stripe number) }
         ensures done { OnTrue result (WithdrawsAtDesk self.old number self.new) }
         ensures none { OnFalse result (self.new ≡ self.old) }
     {
@@ -194,10 +198,11 @@ impl Desk {
         load: u64,
         told: &mut Reply,
     ) -> PickUpAnswer
-        ensures { PicksUpAtDesk self.old (record { caller = caller; key = key.now; load = load }) told.new result self.new }
+        ensures misuse { is_pick_up_misuse result ≡ not (is_join_out self.old.stripe (record { caller = caller; key = key.now; load = load })) }
+        ensures picks_up { PicksUpAtDesk self.old (record { caller = caller; key = key.now; load = load }) told.new result self.new }
     {
         let join = Join::new(caller, key, load);
-        if self.next_call <= caller.call || !self.stripe.holds_join(&join) {
+        if !self.stripe.holds_join(&join) {
             join.spend();
             return PickUpAnswer::Misuse;
         }

@@ -1,4 +1,4 @@
-use Rattle.std.proofs.Common.{Bool, not}
+use Rattle.std.proofs.Common.{Bool, not, ◌&&◌}
 use Rattle.std.specs.Bool.{beq}
 use Rattle.jc_model.specs.declared.event.WriteAnswer.{WriteAnswer}
 use Rattle.jc_model.specs.declared.event.WriteAnswer.TheVariants as write
@@ -30,9 +30,12 @@ use Rattle.jc_stripe.proofs.WholeCalls.{caller_numbers}
 use Rattle.jc_stripe.specs.DeskState.{DeskState, IsDesk}
 use Rattle.jc_stripe.specs.DeskPhases.{WithdrawsAtDesk, HitsAtDesk, BeginsAtDesk, CommitsAtDesk, RenewsAndBegins}
 use Rattle.jc_stripe.proofs.DeskNumbers.{may_behind, begun_done, begun_same, committed, picked, left_same}
-use Rattle.jc_stripe.proofs.DeskTickets.{Taken, taken}
-use Rattle.jc_stripe.proofs.DeskStates.{renewed_clear, renewed_desk, desk_same, desk_reserves, desk_ends}
+use Rattle.jc_stripe.proofs.DeskTickets.{Taken, taken, ticket_nowhere, ticket_placed}
+use Rattle.jc_stripe.proofs.DeskStates.{renewed_clear, renewed_desk, desk_ends, resolved_joined, never_both}
 use Rattle.jc_stripe.proofs.ValuesMoved.{IsNext, victim_next, commit_next, moved, others_stay}
+use Rattle.std.proofs.lemmas.Bool.{and_from}
+use Rattle.jc_types.specs.declared.config.Config.{Config}
+use Rattle.jc_stripe.specs.DeskPhases.{ticket_of, asks_first, fits_processor, wants_writer, takes_process}
 use Rattle.jc_stripe.proofs.desk.Desk.commit_process.Goals as goal
 
 beq_same : (a b : Bool) → not (beq a b) ≡ false → a ≡ b
@@ -91,6 +94,7 @@ invariant_of-self c =
       desk_ends old new _ (map (λ b. b.value) c.remove.new.self.items) c.self.inside.next_call r.key c.self.invariant.1 rs
           (t.left ∙ ap (λ (x : Reservation). without_key x.key old.reservations) (sym same) ∙ sym rs)
           (ap (λ (s : State). s.origin) steps.after) (ap (λ (s : State). s.lives) steps.after)
+          (resolved_joined old new r.number c.commit_process-step.result.place c.self.inside.next_call (ap (λ (s : State). s.joiners) steps.after) c.self.invariant.1.joined_below)
           (committed own_left one_uniform old new r _ _ c.self.inside.next_call low c.events_len.ensures.reached c.self.invariant.1.before c.commit_process-step.ensures.commits c.commit_process-step.ensures.phase),
     )
 
@@ -117,5 +121,49 @@ returns-clause-some c =
           (ap (λ (x : Reservation). x.key) (c.reservation.ensures ∙ ap (λ (x : TicketClaim). x.reservation) c.new-ticket.ensures)) c.look_before.ensures.left c.look_before.ensures.victim
           c.look_after.ensures.kept c.look_after.ensures.left c.look_after.ensures.victim c.look_after.ensures.own (λ v h. commit_next old new r v _ done c.events_len.ensures.reached commits h)
           (others_stay _ new r.caller r.key r.op _ _ done commits.1);
-      next = refl;
+      rest = refl;
     })
+
+not_true : (b : Bool) → not b ≡ true → b ≡ false
+not_true true h = sym h
+not_true false h = refl
+
+not_false : (b : Bool) → not b ≡ false → b ≡ true
+not_false true h = refl
+not_false false h = sym h
+
+pub returns-in_err-place-clause-taken : goal.returns-in_err-place-clause-taken
+returns-in_err-place-clause-taken c =
+    let none = ticket_nowhere (λ b. b.value) c.self.inside.stripe c.self.inside.tickets.items c.args.number c.self.invariant.1.tickets_are
+    (ap (position (λ b. b.value.number == c.args.number)) (sym c.deref.ensures.value) ∙ sym c.place_of.ensures ∙ c.in_err-place.was) in
+    ap is_some c.from_residual.ensures ∙ sym (ap (λ o. asks_first (fits_processor c.args.load c.args.process) o && (beq (wants_writer c.self.inside.stripe.config c.args.load c.args.process) (is_write_given c.args.write))) none)
+    ∙ ap (λ (d : DeskState). takes_process d.stripe c.args.number (record { load = c.args.load; write = c.args.write; process = c.args.process })) c.self.view_is
+
+pub returns-then-not-fits_processor-clause-taken : goal.returns-then-not-fits_processor-clause-taken
+returns-then-not-fits_processor-clause-taken c =
+    let t = ticket_placed (λ b. b.value) c.self.inside.stripe c.self.inside.tickets.items c.args.number c.self.invariant.1.tickets_are c.in_ok-place.place c.index.result.now
+    (ap (position (λ b. b.value.number == c.args.number)) (sym c.deref.ensures.value) ∙ sym c.place_of.ensures ∙ c.in_ok-place.was) c.index.ensures in
+    let other : asks_first (fits_processor c.args.load c.args.process) (ticket_of c.self.inside.stripe c.args.number) ≡ false =
+    ap (asks_first (fits_processor c.args.load c.args.process)) t ∙ ap (λ (r : Reservation). fits_processor c.args.load c.args.process r.first) (sym c.deref-2.ensures) ∙ sym c.if-not-fits_processor.ensures in
+    sym (ap (λ b. b && (beq (wants_writer c.self.inside.stripe.config c.args.load c.args.process) (is_write_given c.args.write))) other)
+    ∙ ap (λ (d : DeskState). takes_process d.stripe c.args.number (record { load = c.args.load; write = c.args.write; process = c.args.process })) c.self.view_is
+
+pub returns-then-wants-is_given-clause-taken : goal.returns-then-wants-is_given-clause-taken
+returns-then-wants-is_given-clause-taken c =
+    let unlike : (beq (wants_writer c.self.inside.stripe.config c.args.load c.args.process) (is_write_given c.args.write)) ≡ false =
+    ap (λ (q : Config). beq (wants_writer q c.args.load c.args.process) (is_write_given c.args.write)) (sym c.config.ensures)
+    ∙ (λ i. beq (sym c.wants_writer-wants.ensures i) (sym c.is_given.ensures i)) ∙ not_true (beq c.wants_writer-wants.result c.is_given.result) c.if-wants-is_given.true in
+    sym (never_both (asks_first (fits_processor c.args.load c.args.process) (ticket_of c.self.inside.stripe c.args.number)) (beq (wants_writer c.self.inside.stripe.config c.args.load c.args.process) (is_write_given c.args.write)) unlike)
+    ∙ ap (λ (d : DeskState). takes_process d.stripe c.args.number (record { load = c.args.load; write = c.args.write; process = c.args.process })) c.self.view_is
+
+pub returns-clause-taken : goal.returns-clause-taken
+returns-clause-taken c =
+    let t = ticket_placed (λ b. b.value) c.self.inside.stripe c.self.inside.tickets.items c.args.number c.self.invariant.1.tickets_are c.in_ok-place.place c.index.result.now
+    (ap (position (λ b. b.value.number == c.args.number)) (sym c.deref.ensures.value) ∙ sym c.place_of.ensures ∙ c.in_ok-place.was) c.index.ensures in
+    let same : asks_first (fits_processor c.args.load c.args.process) (ticket_of c.self.inside.stripe c.args.number) ≡ true =
+    ap (asks_first (fits_processor c.args.load c.args.process)) t ∙ ap (λ (r : Reservation). fits_processor c.args.load c.args.process r.first) (sym c.deref-2.ensures) ∙ sym c.if-not-fits_processor.ensures in
+    let alike : (beq (wants_writer c.self.inside.stripe.config c.args.load c.args.process) (is_write_given c.args.write)) ≡ true =
+    ap (λ (q : Config). beq (wants_writer q c.args.load c.args.process) (is_write_given c.args.write)) (sym c.config.ensures)
+    ∙ (λ i. beq (sym c.wants_writer-wants.ensures i) (sym c.is_given.ensures i)) ∙ not_false (beq c.wants_writer-wants.result c.is_given.result) c.if-wants-is_given.false in
+    sym (and_from (asks_first (fits_processor c.args.load c.args.process) (ticket_of c.self.inside.stripe c.args.number)) (beq (wants_writer c.self.inside.stripe.config c.args.load c.args.process) (is_write_given c.args.write)) same alike)
+    ∙ ap (λ (d : DeskState). takes_process d.stripe c.args.number (record { load = c.args.load; write = c.args.write; process = c.args.process })) c.self.view_is

@@ -24,7 +24,7 @@ use Rattle.jc_stripe.specs.DeskState.{DeskState, IsDesk}
 use Rattle.jc_stripe.specs.DeskPhases.{WithdrawsAtDesk, HitsAtDesk, BeginsAtDesk, CommitsAtDesk, RenewsAndBegins}
 use Rattle.jc_stripe.proofs.DeskNumbers.{may_behind, begun_done, begun_same, committed, picked, left_same}
 use Rattle.jc_stripe.proofs.DeskTickets.{Taken, taken}
-use Rattle.jc_stripe.proofs.DeskStates.{renewed_clear, renewed_desk, desk_same, desk_reserves, desk_ends}
+use Rattle.jc_stripe.proofs.DeskStates.{renewed_clear, renewed_desk, desk_same, desk_reserves, desk_ends, same_joined}
 use Rattle.jc_stripe.proofs.ValuesMoved.{IsNext, victim_next, commit_next, moved, others_stay}
 use Rattle.jc_stripe.proofs.desk.Desk.hit.Goals as goal
 
@@ -44,6 +44,7 @@ invariant_of-self-2 c =
       c.self.invariant.0,
       desk_same m new _ c.self.inside.next_call (c.self.inside.next_call + 1) (omega arith) (renewed_desk c.self.inside.stripe c.renew_if_full.new.self _ _ c.renew_if_full.ensures c.self.invariant.1) (ap (λ (s : State). s.reservations) steps.after) (ap (λ (s : State). s.origin) steps.after)
           (ap (λ (s : State). s.lives) steps.after)
+          (same_joined m new c.self.inside.next_call (c.self.inside.next_call + 1) (omega arith) (ap (λ (s : State). s.joiners) steps.after) (renewed_desk c.self.inside.stripe c.renew_if_full.new.self _ _ c.renew_if_full.ensures c.self.invariant.1).joined_below)
           (begun_done caller_numbers own_numbers own_left one_uniform m new (record { session = c.args.session; call = c.self.inside.next_call }) c.args.key.now Get (hit_done (length m.history) c.hit_into.new.value) c.events_len-2.ensures.reached (renewed_desk c.self.inside.stripe c.renew_if_full.new.self _ _ c.renew_if_full.ensures c.self.invariant.1).before (renewed_clear c.self.inside.stripe c.renew_if_full.new.self (record { session = c.args.session; call = c.self.inside.next_call }) c.args.key.now c.renew_if_full.ensures ∙ sym c.if-not-is_clear.ensures) begins phase),
     )
 
@@ -54,5 +55,5 @@ returns-clause-some c =
       renews = c.renew_if_full.ensures;
       call_is = refl;
       begins = c.if-not-hit_into.ensures.some;
-      next = refl;
+      rest = refl;
     })

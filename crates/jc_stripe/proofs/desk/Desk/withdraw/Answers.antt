@@ -23,9 +23,10 @@ use Rattle.jc_stripe.proofs.WholeCalls.{caller_numbers}
 use Rattle.jc_stripe.specs.DeskState.{DeskState, IsDesk}
 use Rattle.jc_stripe.specs.DeskPhases.{WithdrawsAtDesk, HitsAtDesk, BeginsAtDesk, CommitsAtDesk, RenewsAndBegins}
 use Rattle.jc_stripe.proofs.DeskNumbers.{may_behind, begun_done, begun_same, committed, picked, left_same}
-use Rattle.jc_stripe.proofs.DeskTickets.{Taken, taken}
-use Rattle.jc_stripe.proofs.DeskStates.{renewed_clear, renewed_desk, desk_same, desk_reserves, desk_ends}
+use Rattle.jc_stripe.proofs.DeskTickets.{Taken, taken, ticket_nowhere}
+use Rattle.jc_stripe.proofs.DeskStates.{renewed_clear, renewed_desk, desk_ends, dissolved_joined}
 use Rattle.jc_stripe.proofs.ValuesMoved.{IsNext, victim_next, commit_next, moved, others_stay}
+use Rattle.jc_stripe.specs.DeskPhases.{ticket_of}
 use Rattle.jc_stripe.proofs.desk.Desk.withdraw.Goals as goal
 
 pub withdraw-requires-clause-out : goal.withdraw-requires-clause-out
@@ -46,6 +47,7 @@ invariant_of-self c =
       desk_ends old new _ (map (λ b. b.value) c.remove.new.self.items) c.self.inside.next_call r.key c.self.invariant.1 rs
           (t.left ∙ ap (λ (x : TicketClaim). without_key x.reservation.key old.reservations) (sym c.new-ticket.ensures) ∙ sym rs)
           (ap (λ (s : State). s.origin) c.withdraw.ensures.withdraws.1) (ap (λ (s : State). s.lives) c.withdraw.ensures.withdraws.1)
+          (dissolved_joined old new r.number c.self.inside.next_call (ap (λ (s : State). s.joiners) c.withdraw.ensures.withdraws.1) c.self.invariant.1.joined_below)
           (left_same one_uniform old new r.caller.session c.self.inside.next_call c.events_len.ensures.reached c.self.invariant.1.before c.withdraw.ensures.phase
           (own_left.withdraws old new r.caller.session r c.withdraw.ensures.withdraws)),
     )
@@ -58,5 +60,17 @@ returns-clause-done c =
       reservation = c.remove.result.value;
       ticket = t.ticket;
       withdraws = subst (λ (x : TicketClaim). IsOut c.self.inside.stripe x.reservation × (c.withdraw.new.self ≡ after_withdrawal c.self.inside.stripe x.reservation)) c.new-ticket.ensures c.withdraw.ensures.withdraws;
-      next = refl;
+      rest = refl;
     })
+
+pub returns-in_default-clause-out : goal.returns-in_default-clause-out
+returns-in_default-clause-out c =
+    sym (ap is_some (ticket_nowhere (λ b. b.value) c.self.inside.stripe c.self.inside.tickets.items c.args.number c.self.invariant.1.tickets_are
+    (ap (position (λ b. b.value.number == c.args.number)) (sym c.deref.ensures.value) ∙ sym c.place_of.ensures ∙ c.in_default.is)))
+    ∙ ap (λ (d : DeskState). is_some (ticket_of d.stripe c.args.number)) c.self.view_is
+
+pub returns-clause-out : goal.returns-clause-out
+returns-clause-out c =
+    let t = taken (λ b. b.value) c.self.inside.stripe c.self.inside.tickets.items c.remove.new.self.items c.args.number c.in-Some.place c.remove.result c.events_len.ensures.reached c.self.invariant.1.tickets_are
+    (ap (position (λ b. b.value.number == c.args.number)) (sym c.deref.ensures.value) ∙ sym c.place_of.ensures ∙ c.in-Some.is) c.remove.ensures.value c.remove.ensures.items in
+    sym (ap is_some t.ticket) ∙ ap (λ (d : DeskState). is_some (ticket_of d.stripe c.args.number)) c.self.view_is
