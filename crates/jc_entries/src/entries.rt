@@ -5,6 +5,7 @@
 ghost use Rattle.std.specs.Prelude.{◌≡◌, ◌+◌, ◌<◌, ◌≤◌, [], ◌∷◌, ◌++◌, length, true, not, is_some, option_map, IsOk, IfOk, OnOk};
 ghost use Rattle.std.specs.Prelude.{OnErr, vec_len, vec_capacity};
 ghost use Rattle.std.specs.Map.{keys_of};
+ghost use Rattle.std.specs.Option.{option_copied};
 ghost use Rattle.std.specs.FinMap as finite;
 ghost use Rattle.jc_model.specs.Cache.{key_cmp};
 ghost use Rattle.jc_model.specs.Listed.{others, has_distinct_keys};
@@ -102,6 +103,14 @@ impl Entries {
         ensures { result ≡ finite.find key_cmp key.now self.now.list }
     {
         self.cache.peek(key).copied()
+    }
+
+    /// The same, lent.
+    #[inline(always)]
+    pub fn peek_lent(&self, key: &Key) -> Option<&Value>
+        ensures { option_copied result ≡ finite.find key_cmp key.now self.now.list }
+    {
+        self.cache.peek(key)
     }
 
     /// The same, written to `value`: it is copied once.
@@ -251,7 +260,7 @@ impl Entries {
     }
 
     /// The key that is evicted if there is no room: the least recently used one that isn't pinned.
-    fn lru_victim(&self, pinned: &[Key]) -> Option<Key>
+    pub fn lru_victim(&self, pinned: &[Key]) -> Option<Key>
         ensures { result ≡ lru_victim self.now.list pinned.now }
     {
         let mut rest = self.cache.iter();

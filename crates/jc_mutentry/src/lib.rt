@@ -18,6 +18,6 @@ pub use ask::AskProcess;
 pub use done::ProcDone;
 pub use entry::MutableEntry;
 pub use entry_core::{EntryCore, GetOutcome};
-pub use played::played_process;
+pub use played::{played_process, said_process};
 pub use processor::EntryProcessor;
 pub use run::run_processor;

@@ -3,7 +3,7 @@ ghost use Rattle.std.specs.Prelude.{◌≡◌, ◌++◌, ◌+◌, ◌≤◌, ◌
 ghost use Rattle.jc_model.specs.declared.processor.EntryCall.{EntryCall};
 ghost use Rattle.jc_model.specs.declared.processor.EntryCall.TheVariants.{GetValue};
 ghost use Rattle.jc_model.specs.declared.processor.EntryAnswer.{EntryAnswer};
-ghost use Rattle.jc_model.specs.Table.{is_load_given};
+ghost use Rattle.jc_model.specs.Table.{is_load_given, is_process_given, load_fits, wanted_if};
 ghost use Rattle.jc_model.specs.Processor.{answer_value};
 ghost use Rattle.jc_outside.specs.declared.done.Origin.TheVariants.{Played};
 ghost use Rattle.jc_mutentry.specs.Entries.{new_entry, Makes};
@@ -14,7 +14,7 @@ use crate::ask::AskProcess;
 use crate::done::ProcDone;
 use crate::entry_core::{EntryCore, GetOutcome};
 use crate::run::process_answer;
-use jc_model::{EntryAnswer, EntryCall, LoadAnswer};
+use jc_model::{EntryAnswer, EntryCall, LoadAnswer, ProcessAnswer};
 use jc_outside::Origin;
 use jc_types::Value;
 
@@ -52,6 +52,17 @@ pub fn played_process<A: AskProcess>(
         answered,
         process_answer(effect, returned),
     )
+}
+
+/// What a processor did that ran elsewhere: its driver says so.
+///
+/// Conditions: the processor ran, and the loader was asked only if the ask says that it may be.
+pub fn said_process<A: AskProcess>(ask: A, load: LoadAnswer, process: ProcessAnswer) -> ProcDone<A>
+    requires given { is_process_given process ≡ true }
+    requires fits { load_fits (wanted_if (A.may_load ask)) (is_load_given load) ≡ true }
+    ensures { result ≡ record { ask = ask; origin = Played; load = load; process = process } }
+{
+    ProcDone::new(ask, Origin::Played, load, process)
 }
 
 /// Makes the calls, each unless the load has failed, and gives the last value that one was answered.

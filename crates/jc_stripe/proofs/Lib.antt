@@ -38,3 +38,7 @@ pub mod Kept
 pub mod Opened
 pub mod Walks
 pub mod WholeSteps
+pub mod DeskNumbers
+pub mod DeskTickets
+pub mod DeskStates
+pub mod ValuesMoved

@@ -19,3 +19,6 @@ pub mod Tests
 pub mod Keys
 pub mod Hitting
 pub mod Reopening
+pub mod DeskState
+pub mod ValuesMoved
+pub mod DeskPhases

@@ -7,8 +7,10 @@
 --     by_use             the entries behind a history
 --     pinned             the keys that are reserved: their entries can't be evicted
 --     least_used         the victim if there is no room: the least recently used that isn't pinned, if there is one
-use Rattle.std.specs.Prelude.{List, [], ◌∷◌, map, Bool, true, false, ◌&&◌, Option, None, Some, is_none, is_some, if◌then◌else◌}
+--     next_victim        the victim of an insertion: none if there is room
+use Rattle.std.specs.Prelude.{List, [], ◌∷◌, map, Bool, true, false, ◌&&◌, nat_lt, Option, None, Some, is_none, is_some, if◌then◌else◌}
 use Rattle.std.specs.FinMap as finite
+use Rattle.std.specs.FinMap.{len}
 use Rattle.jc_model.specs.declared.event.Op.{Op}
 use Rattle.jc_model.specs.declared.event.Op.TheVariants.{Get, ContainsKey, Put, GetAndPut, PutIfAbsent, Remove, RemoveIf, GetAndRemove, Replace, ReplaceIf, GetAndReplace, Clear, LoadAll, Invoke}
 use Rattle.jc_model.specs.declared.event.Out.{Out}
@@ -68,3 +70,6 @@ pinned reservations = map (λ r. r.key) reservations
 
 abbrev pub least_used : State → Option Bytes
 least_used state = lru_victim (by_use state.opening state.history) (pinned state.reservations)
+
+abbrev pub next_victim : State → Option Bytes
+next_victim state = if nat_lt (len state.cache) state.config.capacity then None else least_used state

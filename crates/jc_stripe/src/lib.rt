@@ -30,6 +30,7 @@
 mod appending;
 mod begun;
 mod call_rules;
+mod desk;
 mod life;
 mod log;
 pub mod phase_laws;
@@ -39,6 +40,7 @@ mod ticket;
 mod ticket_boxes;
 
 pub use begun::{Appended, Begun, Eviction, Picked, Started, StepDone};
+pub use desk::{CommitDone, Desk, FirstAnswer, OpenFault, PickUpAnswer, ValueMoves};
 pub use jc_mutentry::{AskProcess, ProcDone};
 pub use jc_outside::{LoadDone, Origin, WriteDone, played_load, played_write};
 pub use reopening::{Reopened, keeps_or_drops, reopen};

@@ -131,6 +131,7 @@ impl Stripe {
         requires begins { MayBegin self.old caller key.now }
         ensures none { OnFalse result ((self.new ≡ self.old) × (value.new ≡ value.old)) }
         ensures missing { OnFalse result ((has_room self.old caller.call HIT_PLACES ≡ false) ⊎ (entry_at self.old.cache key.now ≡ None)) }
+        ensures room { OnTrue result (has_room self.old caller.call HIT_PLACES ≡ true) }
         ensures some { OnTrue result (Begins self.old caller key.now Get
             (Done (hit_done (length self.old.history) value.new)) self.new) }
     {

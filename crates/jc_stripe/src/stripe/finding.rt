@@ -1,5 +1,6 @@
 //! What a first phase finds at its key, and whether it is refused: the conditions in the order in which they count.
 ghost use Rattle.std.specs.Prelude.{◌≡◌, length, nat_le};
+ghost use Rattle.std.specs.Option.{option_copied};
 ghost use Rattle.jc_types.specs.declared.limits.TheConstants.{RESERVATIONS_MAX, JOINERS_MAX};
 ghost use Rattle.jc_model.specs.declared.event.Op.{Op};
 ghost use Rattle.jc_model.specs.Cache.{Bytes, entry_at};
@@ -39,6 +40,13 @@ impl Stripe {
             needs_free_key,
             is_busy: is_reserved && needs_free_key,
         }
+    }
+
+    /// The key's value, or none. No call is made, and the order of use stays.
+    pub fn entry(&self, key: &Key) -> Option<&Value>
+        ensures { option_copied result ≡ entry_at self.now.cache key.now }
+    {
+        self.entries.peek_lent(key)
     }
 
     /// Writes the key's value, or none, to `entry`.

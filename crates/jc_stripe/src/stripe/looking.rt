@@ -1,10 +1,12 @@
 //! A look at the keys of a stripe.
-ghost use Rattle.std.specs.Prelude.{◌≡◌, ◌≤◌, ◌+◌, IsTrue, take, drop, length, vec_len, vec_capacity};
+ghost use Rattle.std.specs.Prelude.{◌≡◌, ◌≤◌, ◌+◌, IsTrue, take, drop, length, count_by, vec_len, vec_capacity};
+ghost use Rattle.jc_types.specs.declared.limits.TheConstants.{JOINERS_MAX};
+ghost use Rattle.jc_inflight.specs.Joining.{waits_for};
 ghost use Rattle.std.specs.List.Sorted.{IsPermutation, IsSorted};
 ghost use Rattle.std.specs.FinMap as map;
 ghost use Rattle.jc_model.specs.Cache.{key_cmp};
 ghost use Rattle.jc_model.specs.Listed.{has_distinct_keys};
-ghost use Rattle.jc_stripe.specs.OrderOfUse.{by_use};
+ghost use Rattle.jc_stripe.specs.OrderOfUse.{by_use, next_victim};
 ghost use Rattle.jc_stripe.specs.Keys.{Looks};
 ghost use Rattle.jc_stripe.specs.Reopening.{shares_key};
 
@@ -27,6 +29,24 @@ impl Stripe {
         let _bounded = self.entries.capacity();
         self.entries.keys(out);
         sort_from(out, start);
+    }
+
+    /// The key whose entry is evicted if a call inserts an entry now: none if there is room, or if each key is reserved.
+    pub fn next_victim(&self) -> Option<Key>
+        ensures { result ≡ next_victim self.now }
+    {
+        if self.entries.len() < self.entries.capacity() {
+            return None;
+        }
+        self.entries.lru_victim(self.reservations.keys())
+    }
+
+    /// How many calls wait for a load.
+    pub fn waiting(&self, load: u64) -> u32
+        ensures count { result ≡ count_by (waits_for load) self.now.joiners }
+        ensures few { result ≤ JOINERS_MAX }
+    {
+        self.joiners.waiting(load)
     }
 
     /// Whether a key is cached both here and in the other stripe. It takes no memory.

@@ -1,0 +1,11 @@
+-- What an open handle owns: the box of its desk.
+use Rattle.std.specs.Prelude.{Bool, true, false}
+use base.Fml.{Fml, ftrue}
+use denote.RawPtr.{Ptr}
+use Rattle.std_alloc.specs.Box.Ownership.{box_owns}
+use Rattle.libc.specs.Heap.{chunk}
+use Rattle.jc_stripe.specs.contracts.desk.Desk.{the_row}
+
+abbrev pub handle_owns : Bool → Ptr → the_row.Denot → Fml
+handle_owns false p d = ftrue
+handle_owns true p d = box_owns (λ τ q. chunk τ q) the_row p d

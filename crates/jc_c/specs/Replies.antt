@@ -1,0 +1,123 @@
+-- What is written for C.
+--     ShowsFault          a fault, by its number and its code
+--     ShowsReply          a reply, by its number, its code and its value
+--     ShowsValue          a value, if there is one
+--     ShowsVictim         a victim with the value that it had, if there is one
+--     own_number          why the step's own entry was evicted, by its flag
+--     ShowsMoves          which values came and went: the sum of their flags, and the values
+--     ShowsDone           a step that was done, by its place, its reply, its moves, and how many share it
+--     ShowsFirst          whom to ask, and what for
+--     refusal_number      a refusal, by its number
+--     ShowsFirstAnswer    what a first phase gave
+--     ShowsPickUp         what a joiner was told
+use Rattle.std.specs.Prelude.{◌≡◌, ◌+◌, ℕ, Bool, true, false, Option, None, Some, is_some, if◌then◌else◌}
+use Rattle.jc_types.specs.declared.refusal.Refusal.{Refusal}
+use Rattle.jc_types.specs.declared.refusal.Refusal.TheVariants as refusal
+use Rattle.jc_model.specs.declared.event.Cause.{Cause}
+use Rattle.jc_model.specs.declared.event.Cause.TheVariants as cause
+use Rattle.jc_model.specs.declared.event.Change.{Change}
+use Rattle.jc_model.specs.declared.event.Change.TheVariants as change
+use Rattle.jc_model.specs.declared.event.Reply.{Reply}
+use Rattle.jc_model.specs.declared.event.Reply.TheVariants as reply
+use Rattle.jc_model.specs.Cache.{Bytes}
+use Rattle.jc_stripe.specs.declared.ticket.First.{First}
+use Rattle.jc_stripe.specs.declared.ticket.First.TheVariants as first
+use Rattle.jc_stripe.specs.declared.desk.answers.FirstAnswer.{FirstAnswer}
+use Rattle.jc_stripe.specs.declared.desk.answers.FirstAnswer.TheVariants as first_answer
+use Rattle.jc_stripe.specs.declared.desk.answers.PickUpAnswer.{PickUpAnswer}
+use Rattle.jc_stripe.specs.declared.desk.answers.PickUpAnswer.TheVariants as pick_up_answer
+use Rattle.jc_stripe.specs.ValuesMoved.{MovesMade}
+use Rattle.jc_c.specs.declared.codes.TheConstants.{JC_AGAIN, JC_ASK_LOADER, JC_BUSY, JC_DONE, JC_EVICTED, JC_FULL, JC_HAVE_DELETED, JC_HAVE_WRITTEN, JC_HISTORY_FULL, JC_JOINED, JC_KEPT, JC_LEFT, JC_LOADER_FAILED, JC_NO, JC_NOT_YET, JC_NULL, JC_OTHER, JC_OTHER_FAULT, JC_OWN_EVICTED_FULL, JC_OWN_EVICTED_MEMORY, JC_PROCESSOR_FAILED, JC_REFUSED, JC_RUN_PROCESSOR, JC_TOO_MANY_IN_FLIGHT, JC_TOO_MANY_JOINERS, JC_UNIT, JC_VALUE, JC_WRITER_FAILED, JC_YES}
+use Rattle.jc_c.specs.declared.layouts.InlineValue.{InlineValue}
+use Rattle.jc_c.specs.declared.layouts.InlineKey.{InlineKey}
+use Rattle.jc_c.specs.declared.layouts.PhaseOut.{PhaseOut}
+use Rattle.jc_c.specs.Layouts.{inline_value, inline_key}
+
+abbrev pub ShowsFault : Refusal → ℕ → ℕ → Type 0
+ShowsFault (refusal.LoaderFailed code) number shown = (number ≡ JC_LOADER_FAILED) × (shown ≡ code)
+ShowsFault (refusal.WriterFailed code) number shown = (number ≡ JC_WRITER_FAILED) × (shown ≡ code)
+ShowsFault (refusal.ProcessorFailed code) number shown = (number ≡ JC_PROCESSOR_FAILED) × (shown ≡ code)
+ShowsFault refusal.HistoryFull number shown = number ≡ JC_OTHER_FAULT
+ShowsFault refusal.Busy number shown = number ≡ JC_OTHER_FAULT
+ShowsFault refusal.TooManyInFlight number shown = number ≡ JC_OTHER_FAULT
+ShowsFault refusal.TooManyJoiners number shown = number ≡ JC_OTHER_FAULT
+ShowsFault refusal.OutOfMemory number shown = number ≡ JC_OTHER_FAULT
+ShowsFault refusal.TooManyKeys number shown = number ≡ JC_OTHER_FAULT
+ShowsFault (refusal.BadConfig field) number shown = number ≡ JC_OTHER_FAULT
+ShowsFault refusal.NoLoader number shown = number ≡ JC_OTHER_FAULT
+ShowsFault refusal.NoWriter number shown = number ≡ JC_OTHER_FAULT
+ShowsFault refusal.TooManySessions number shown = number ≡ JC_OTHER_FAULT
+ShowsFault refusal.StillReserved number shown = number ≡ JC_OTHER_FAULT
+ShowsFault refusal.RepeatedKey number shown = number ≡ JC_OTHER_FAULT
+
+abbrev pub ShowsReply : Reply → ℕ → ℕ → InlineValue → Type 0
+ShowsReply reply.Unit number code value = number ≡ JC_UNIT
+ShowsReply (reply.Flag false) number code value = number ≡ JC_NO
+ShowsReply (reply.Flag true) number code value = number ≡ JC_YES
+ShowsReply (reply.Value None) number code value = number ≡ JC_NULL
+ShowsReply (reply.Value (Some v)) number code value = (number ≡ JC_VALUE) × (inline_value value ≡ v)
+ShowsReply (reply.Fault fault) number code value = ShowsFault fault number code
+
+abbrev pub ShowsValue : Option Bytes → InlineValue → Type 0
+ShowsValue None r = Unit {0}
+ShowsValue (Some value) r = inline_value r ≡ value
+
+abbrev pub ShowsVictim : Option (Bytes × Bytes) → InlineKey → InlineValue → Type 0
+ShowsVictim None victim evicted = Unit {0}
+ShowsVictim (Some gone) victim evicted = (inline_key victim ≡ gone.0) × (inline_value evicted ≡ gone.1)
+
+abbrev pub own_number : Option Cause → ℕ
+own_number None = 0
+own_number (Some cause.Full) = JC_OWN_EVICTED_FULL
+own_number (Some cause.Memory) = JC_OWN_EVICTED_MEMORY
+
+pub record ShowsMoves (moves : MovesMade) (flags : ℕ) (left : InlineValue) (victim : InlineKey) (evicted : InlineValue) : Type 0 where
+  pub flags_are : flags ≡ (if moves.kept then JC_KEPT else 0) + (if is_some moves.left then JC_LEFT else 0) + (if is_some moves.victim then JC_EVICTED else 0) + own_number moves.own
+  pub left_is : ShowsValue moves.left left
+  pub victim_is : ShowsVictim moves.victim victim evicted
+
+pub record ShowsDone (place shared : ℕ) (reply : Reply) (moves : MovesMade) (out : PhaseOut) : Type 0 where
+  pub next_is : out.next ≡ JC_DONE
+  pub place_is : out.place ≡ place
+  pub shared_is : out.shared ≡ shared
+  pub reply_is : ShowsReply reply out.reply out.code out.value
+  pub moves_are : ShowsMoves moves out.moves out.left out.victim out.evicted
+
+abbrev pub ShowsFirst : First → ℕ → ℕ → ℕ → InlineValue → Type 0
+ShowsFirst first.Nobody next number code value = next ≡ JC_DONE
+ShowsFirst first.Loader next number code value = next ≡ JC_ASK_LOADER
+ShowsFirst (first.Writer (change.Write v)) next number code value = (next ≡ JC_HAVE_WRITTEN) × (inline_value value ≡ v)
+ShowsFirst (first.Writer change.Delete) next number code value = next ≡ JC_HAVE_DELETED
+ShowsFirst (first.Processor None may_load) next number code value = (next ≡ JC_RUN_PROCESSOR) × (number ≡ JC_NULL) × (code ≡ (if may_load then 1 else 0))
+ShowsFirst (first.Processor (Some v) may_load) next number code value = (next ≡ JC_RUN_PROCESSOR) × (number ≡ JC_VALUE) × (code ≡ (if may_load then 1 else 0)) × (inline_value value ≡ v)
+
+abbrev pub refusal_number : Refusal → ℕ
+refusal_number refusal.HistoryFull = JC_HISTORY_FULL
+refusal_number refusal.Busy = JC_BUSY
+refusal_number refusal.TooManyInFlight = JC_TOO_MANY_IN_FLIGHT
+refusal_number refusal.TooManyJoiners = JC_TOO_MANY_JOINERS
+refusal_number (refusal.LoaderFailed code) = JC_OTHER
+refusal_number (refusal.WriterFailed code) = JC_OTHER
+refusal_number (refusal.ProcessorFailed code) = JC_OTHER
+refusal_number refusal.OutOfMemory = JC_OTHER
+refusal_number refusal.TooManyKeys = JC_OTHER
+refusal_number (refusal.BadConfig field) = JC_OTHER
+refusal_number refusal.NoLoader = JC_OTHER
+refusal_number refusal.NoWriter = JC_OTHER
+refusal_number refusal.TooManySessions = JC_OTHER
+refusal_number refusal.StillReserved = JC_OTHER
+refusal_number refusal.RepeatedKey = JC_OTHER
+
+abbrev pub ShowsFirstAnswer : FirstAnswer → Reply → MovesMade → PhaseOut → Type 0
+ShowsFirstAnswer (first_answer.Done place) reply moves out = ShowsDone place 0 reply moves out
+ShowsFirstAnswer (first_answer.Asks number first) reply moves out = (out.number ≡ number) × (out.moves ≡ 0) × ShowsFirst first out.next out.reply out.code out.value
+ShowsFirstAnswer (first_answer.Joined load) reply moves out = (out.next ≡ JC_JOINED) × (out.number ≡ load) × (out.moves ≡ 0)
+ShowsFirstAnswer (first_answer.Refused refusal) reply moves out = (out.next ≡ JC_REFUSED) × (out.reply ≡ refusal_number refusal) × (out.moves ≡ 0)
+ShowsFirstAnswer first_answer.Full reply moves out = (out.next ≡ JC_FULL) × (out.moves ≡ 0)
+ShowsFirstAnswer first_answer.Misuse reply moves out = ⊥
+
+abbrev pub ShowsPickUp : PickUpAnswer → Reply → PhaseOut → Type 0
+ShowsPickUp (pick_up_answer.Answer place shared_with) reply out = (out.next ≡ JC_DONE) × (out.place ≡ place) × ShowsReply reply out.reply out.code out.value
+ShowsPickUp pick_up_answer.Again reply out = out.next ≡ JC_AGAIN
+ShowsPickUp pick_up_answer.NotYet reply out = out.next ≡ JC_NOT_YET
+ShowsPickUp pick_up_answer.Misuse reply out = ⊥

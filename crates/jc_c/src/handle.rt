@@ -1,0 +1,53 @@
+//! A handle of a desk.
+ghost use Rattle.std.specs.Prelude.{◌≡◌, true, false};
+ghost use Rattle.jc_stripe.specs.DeskState.{DeskState};
+ghost use Rattle.jc_stripe.specs.contracts.desk.Desk.{the_row as desk_row};
+ghost use Rattle.jc_c.specs.Handles.{handle_owns};
+
+use jc_parcel::Loose;
+use jc_stripe::Desk;
+use std::alloc::Global;
+use std::marker::Model;
+
+/// A handle of a desk. One that is not open has only zeros.
+#[repr(C)]
+#[derive(Drop)]
+pub struct Handle {
+    at: *mut u8,
+    is_open: bool,
+    ghost desk: { DeskState } by { desk_row.coded },
+}
+
+impl Model for Handle {
+    ghost also_owns = { λ h. handle_owns h.is_open h.at h.desk };
+}
+
+impl Handle {
+    /// Whether it is open.
+    pub(crate) fn is_open(&mut self) -> bool
+        ensures { (result ≡ self.old.is_open) × (self.new ≡ self.old) }
+    {
+        self.is_open
+    }
+
+    /// Opens it over a desk.
+    pub(crate) fn put(&mut self, desk: Loose<Desk, Global>)
+        ensures { (self.new.is_open ≡ true) × (self.new.desk ≡ desk.value) }
+    {
+        let Loose { at, alloc: _ } = desk;
+        self.at = at as *mut u8;
+        self.is_open = true;
+    }
+
+    /// Shuts it, and hands its desk out.
+    pub(crate) fn take(&mut self, alloc: Global) -> Loose<Desk, Global>
+        requires { self.old.is_open ≡ true }
+        ensures { (self.new.is_open ≡ false) × (result.value ≡ self.old.desk) }
+    {
+        self.is_open = false;
+        Loose {
+            at: self.at as *mut Desk,
+            alloc,
+        }
+    }
+}

@@ -1,0 +1,254 @@
+//! What is told to C.
+ghost use Rattle.std.specs.Prelude.{◌≡◌, ◌≤◌, ◌⊎◌};
+ghost use Rattle.jc_stripe.specs.declared.desk.answers.FirstAnswer.TheVariants as first_answer;
+ghost use Rattle.jc_stripe.specs.declared.desk.answers.PickUpAnswer.TheVariants as pick_up_answer;
+ghost use Rattle.jc_c.specs.declared.codes.TheConstants.{JC_OK, JC_MISUSE, JC_OWN_EVICTED_MEMORY};
+ghost use Rattle.jc_c.specs.Layouts.{inline_value};
+ghost use Rattle.jc_c.specs.Replies.{ShowsFault, ShowsReply, ShowsMoves, own_number, ShowsDone, ShowsFirst, refusal_number, ShowsFirstAnswer, ShowsPickUp};
+
+use crate::codes::{
+    JC_AGAIN, JC_ASK_LOADER, JC_BUSY, JC_DONE, JC_EVICTED, JC_FULL, JC_HAVE_DELETED,
+    JC_HAVE_WRITTEN, JC_HISTORY_FULL, JC_JOINED, JC_KEPT, JC_LEFT, JC_LOADER_FAILED, JC_MISUSE,
+    JC_NO, JC_NOT_YET, JC_NULL, JC_OK, JC_OTHER, JC_OTHER_FAULT, JC_OWN_EVICTED_FULL,
+    JC_OWN_EVICTED_MEMORY, JC_PROCESSOR_FAILED, JC_REFUSED, JC_RUN_PROCESSOR,
+    JC_TOO_MANY_IN_FLIGHT, JC_TOO_MANY_JOINERS, JC_UNIT, JC_VALUE, JC_WRITER_FAILED, JC_YES,
+};
+use crate::layouts::{InlineKey, InlineValue, PhaseOut};
+use jc_model::{Cause, Change, Reply};
+use jc_stripe::{First, FirstAnswer, PickUpAnswer, ValueMoves};
+use jc_types::{Refusal, Value};
+
+/// A value.
+pub(crate) fn show_value(value: &Value, out: &mut InlineValue)
+    ensures { inline_value out.new ≡ value.now }
+{
+    let bytes = value.bytes();
+    out.bytes[..bytes.len()].copy_from_slice(bytes);
+    out.len = bytes.len() as u32;
+}
+
+/// A fault.
+fn show_fault(fault: &Refusal, number: &mut u32, code: &mut u32)
+    ensures { ShowsFault fault.now number.new code.new }
+{
+    match fault {
+        Refusal::LoaderFailed(failed) => {
+            *number = JC_LOADER_FAILED;
+            *code = *failed;
+        }
+        Refusal::WriterFailed(failed) => {
+            *number = JC_WRITER_FAILED;
+            *code = *failed;
+        }
+        Refusal::ProcessorFailed(failed) => {
+            *number = JC_PROCESSOR_FAILED;
+            *code = *failed;
+        }
+        Refusal::HistoryFull
+        | Refusal::Busy
+        | Refusal::TooManyInFlight
+        | Refusal::TooManyJoiners
+        | Refusal::OutOfMemory
+        | Refusal::TooManyKeys
+        | Refusal::BadConfig(_)
+        | Refusal::NoLoader
+        | Refusal::NoWriter
+        | Refusal::TooManySessions
+        | Refusal::StillReserved
+        | Refusal::RepeatedKey => *number = JC_OTHER_FAULT,
+    }
+}
+
+/// A reply.
+fn show_reply(reply: &Reply, number: &mut u32, code: &mut u32, out: &mut InlineValue)
+    ensures { ShowsReply reply.now number.new code.new out.new }
+{
+    match reply {
+        Reply::Unit => *number = JC_UNIT,
+        Reply::Flag(false) => *number = JC_NO,
+        Reply::Flag(true) => *number = JC_YES,
+        Reply::Value(None) => *number = JC_NULL,
+        Reply::Value(Some(value)) => {
+            *number = JC_VALUE;
+            show_value(value, out);
+        }
+        Reply::Fault(fault) => show_fault(fault, number, code),
+    }
+}
+
+/// Why the step's own key was evicted, by its number.
+fn number_of_own(own: Option<Cause>) -> u32
+    ensures number { result ≡ own_number own }
+    ensures few { result ≤ JC_OWN_EVICTED_MEMORY }
+{
+    match own {
+        None => 0,
+        Some(Cause::Full) => JC_OWN_EVICTED_FULL,
+        Some(Cause::Memory) => JC_OWN_EVICTED_MEMORY,
+    }
+}
+
+/// What came and went.
+fn show_moves(
+    moves: &ValueMoves,
+    flags: &mut u32,
+    left: &mut InlineValue,
+    victim: &mut InlineKey,
+    evicted: &mut InlineValue,
+)
+    ensures { ShowsMoves moves.now flags.new left.new victim.new evicted.new }
+{
+    let mut sum = 0;
+    if moves.is_kept() {
+        sum = JC_KEPT;
+    }
+    if let Some(value) = moves.left() {
+        show_value(value, left);
+        sum += JC_LEFT;
+    }
+    if let Some((key, value)) = moves.victim() {
+        victim.set(key);
+        show_value(value, evicted);
+        sum += JC_EVICTED;
+    }
+    *flags = sum + number_of_own(moves.own());
+}
+
+/// A step that was done.
+pub(crate) fn show_done(
+    place: u32,
+    shared: u32,
+    reply: &Reply,
+    moves: &ValueMoves,
+    out: &mut PhaseOut,
+)
+    ensures shown { ShowsDone place shared reply.now moves.now out.new }
+    ensures call { out.new.call ≡ out.old.call }
+{
+    out.next = JC_DONE;
+    out.place = place;
+    out.shared = shared;
+    show_reply(reply, &mut out.reply, &mut out.code, &mut out.value);
+    show_moves(
+        moves,
+        &mut out.moves,
+        &mut out.left,
+        &mut out.victim,
+        &mut out.evicted,
+    );
+}
+
+/// Whom to ask.
+fn show_first(
+    first: &First,
+    next: &mut u32,
+    number: &mut u32,
+    code: &mut u32,
+    out: &mut InlineValue,
+)
+    ensures { ShowsFirst first.now next.new number.new code.new out.new }
+{
+    match first {
+        First::Nobody => *next = JC_DONE,
+        First::Loader => *next = JC_ASK_LOADER,
+        First::Writer(Change::Write(value)) => {
+            *next = JC_HAVE_WRITTEN;
+            show_value(value, out);
+        }
+        First::Writer(Change::Delete) => *next = JC_HAVE_DELETED,
+        First::Processor { entry, may_load } => {
+            *next = JC_RUN_PROCESSOR;
+            *code = if *may_load { 1 } else { 0 };
+            match entry {
+                Some(value) => {
+                    *number = JC_VALUE;
+                    show_value(value, out);
+                }
+                None => *number = JC_NULL,
+            }
+        }
+    }
+}
+
+/// Why nothing was done.
+fn number_of(refusal: &Refusal) -> u32
+    ensures { result ≡ refusal_number refusal.now }
+{
+    match refusal {
+        Refusal::HistoryFull => JC_HISTORY_FULL,
+        Refusal::Busy => JC_BUSY,
+        Refusal::TooManyInFlight => JC_TOO_MANY_IN_FLIGHT,
+        Refusal::TooManyJoiners => JC_TOO_MANY_JOINERS,
+        Refusal::LoaderFailed(_)
+        | Refusal::WriterFailed(_)
+        | Refusal::ProcessorFailed(_)
+        | Refusal::OutOfMemory
+        | Refusal::TooManyKeys
+        | Refusal::BadConfig(_)
+        | Refusal::NoLoader
+        | Refusal::NoWriter
+        | Refusal::TooManySessions
+        | Refusal::StillReserved
+        | Refusal::RepeatedKey => JC_OTHER,
+    }
+}
+
+/// What a first phase gave.
+pub(crate) fn show_asked(
+    asked: &FirstAnswer,
+    reply: &Reply,
+    moves: &ValueMoves,
+    out: &mut PhaseOut,
+) -> u32
+    ensures shown { result ≡ JC_OK → ShowsFirstAnswer asked.now reply.now moves.now out.new }
+    ensures call { out.new.call ≡ out.old.call }
+    ensures misuse { (result ≡ JC_OK) ⊎ ((result ≡ JC_MISUSE) × (asked.now ≡ first_answer.Misuse)) }
+{
+    out.moves = 0;
+    match asked {
+        FirstAnswer::Done(place) => show_done(*place, 0, reply, moves, out),
+        FirstAnswer::Asks { number, first } => {
+            out.number = *number;
+            show_first(
+                first,
+                &mut out.next,
+                &mut out.reply,
+                &mut out.code,
+                &mut out.value,
+            );
+        }
+        FirstAnswer::Joined(load) => {
+            out.number = *load;
+            out.next = JC_JOINED;
+        }
+        FirstAnswer::Refused(refusal) => {
+            out.next = JC_REFUSED;
+            out.reply = number_of(refusal);
+        }
+        FirstAnswer::Full => out.next = JC_FULL,
+        FirstAnswer::Misuse => return JC_MISUSE,
+    }
+    JC_OK
+}
+
+/// What a joiner was told.
+pub(crate) fn show_picked(picked: &PickUpAnswer, reply: &Reply, out: &mut PhaseOut) -> u32
+    ensures shown { result ≡ JC_OK → ShowsPickUp picked.now reply.now out.new }
+    ensures misuse { (result ≡ JC_OK) ⊎ ((result ≡ JC_MISUSE) × (picked.now ≡ pick_up_answer.Misuse)) }
+{
+    out.moves = 0;
+    match picked {
+        PickUpAnswer::Answer {
+            place,
+            shared_with: _,
+        } => {
+            out.next = JC_DONE;
+            out.place = *place;
+            show_reply(reply, &mut out.reply, &mut out.code, &mut out.value);
+        }
+        PickUpAnswer::Again => out.next = JC_AGAIN,
+        PickUpAnswer::NotYet => out.next = JC_NOT_YET,
+        PickUpAnswer::Misuse => return JC_MISUSE,
+    }
+    JC_OK
+}

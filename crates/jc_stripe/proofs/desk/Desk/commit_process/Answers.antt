@@ -1,0 +1,169 @@
+use Rattle.std.proofs.Common.{Bool, not, ◌&&◌}
+use Rattle.std.specs.Bool.{beq}
+use Rattle.jc_model.specs.declared.event.WriteAnswer.{WriteAnswer}
+use Rattle.jc_model.specs.declared.event.WriteAnswer.TheVariants as write
+use Rattle.jc_model.specs.Table.{is_write_given}
+use Rattle.jc_stripe.specs.Effects.{report_answer, process_out}
+use Rattle.jc_stripe.proofs.desk.Desk.commit_process.Goals.{then-wants, else-wants}
+use Rattle.std.proofs.Common.{◌≡◌, ◌==◌, ◌<◌, ◌≤◌, ◌+◌, ◌++◌, ◌∷◌, [], ◌⊎◌, inl, inr, ℕ, List, map, position, length, true, false, cond, is_some, Some, None, ap, sym, refl, ◌∙◌, subst, arith}
+use Rattle.std.proofs.lemmas.List.{length-map, map_push}
+use Rattle.std.proofs.lemmas.List.Sums.{length-filter}
+use Rattle.jc_types.specs.declared.limits.TheConstants.{RESERVATIONS_MAX}
+use Rattle.jc_model.specs.declared.event.Out.{Out}
+use Rattle.jc_model.specs.declared.event.Op.TheVariants.{Get}
+use Rattle.jc_model.specs.Cache.{Bytes}
+use Rattle.jc_model.specs.Group.{load_only, write_only, nothing_said}
+use Rattle.jc_inflight.specs.Joining.{callers_of, waits_for}
+use Rattle.jc_stripe.specs.State.{State, IsOut, is_key, without_key, with_reservation}
+use Rattle.jc_stripe.specs.Tickets.{TicketClaim, JoinClaim}
+use Rattle.jc_stripe.specs.Phases.{after_withdrawal, Commits, with_reply, hit_done, MayBegin}
+use Rattle.jc_stripe.specs.Tests.{is_clear}
+use Rattle.jc_stripe.specs.OnePhase.{IsPhaseOf}
+use Rattle.jc_stripe.specs.Reached.{IsReached}
+use Rattle.jc_stripe.specs.declared.ticket.Reservation.{Reservation}
+use Rattle.jc_stripe.specs.declared.begun.StepDone.{StepDone}
+use Rattle.jc_stripe.specs.declared.begun.Begun.TheVariants as begun
+use Rattle.jc_stripe.proofs.Uniform.{one_uniform}
+use Rattle.jc_stripe.proofs.Own.{own_left}
+use Rattle.jc_stripe.proofs.OwnNumbers.{own_numbers}
+use Rattle.jc_stripe.proofs.WholeCalls.{caller_numbers}
+use Rattle.jc_stripe.specs.DeskState.{DeskState, IsDesk}
+use Rattle.jc_stripe.specs.DeskPhases.{WithdrawsAtDesk, HitsAtDesk, BeginsAtDesk, CommitsAtDesk, RenewsAndBegins}
+use Rattle.jc_stripe.proofs.DeskNumbers.{may_behind, begun_done, begun_same, committed, picked, left_same}
+use Rattle.jc_stripe.proofs.DeskTickets.{Taken, taken, ticket_nowhere, ticket_placed}
+use Rattle.jc_stripe.proofs.DeskStates.{renewed_clear, renewed_desk, desk_ends, resolved_joined, never_both}
+use Rattle.jc_stripe.proofs.ValuesMoved.{IsNext, victim_next, commit_next, moved, others_stay}
+use Rattle.std.proofs.lemmas.Bool.{and_from}
+use Rattle.jc_types.specs.declared.config.Config.{Config}
+use Rattle.jc_stripe.specs.DeskPhases.{ticket_of, asks_first, fits_processor, wants_writer, takes_process}
+use Rattle.jc_stripe.proofs.desk.Desk.commit_process.Goals as goal
+
+beq_same : (a b : Bool) → not (beq a b) ≡ false → a ≡ b
+beq_same true true h = refl
+beq_same true false h = cc
+beq_same false true h = cc
+beq_same false false h = refl
+
+not_given : (answer : WriteAnswer) → is_write_given answer ≡ false → write.NotAsked ≡ answer
+not_given write.NotAsked h = refl
+not_given write.Done h = cc
+not_given (write.Failed code) h = cc
+
+resolved_before : (c : goal.After-commit_process-arg-2-1) → c.if-wants.ticket.reservation ≡ c.remove.result.value
+resolved_before c =
+    (elim c.if-wants.branch [
+      | then-wants w ↦ ap (λ (x : TicketClaim). x.reservation) w.ticket-is ∙ ap (λ (x : TicketClaim). x.reservation) w.ask_writer.ensures.writer_asked
+      | else-wants w ↦ ap (λ (x : TicketClaim). x.reservation) w.ticket-is
+    ])
+    ∙ ap (λ (x : TicketClaim). x.reservation) c.ask.ensures.asked ∙ ap (λ (x : TicketClaim). x.reservation) c.new-ticket.ensures
+
+resolved : (c : goal.After-look_after) → c.if-wants.ticket.reservation ≡ c.remove.result.value
+resolved c =
+    (elim c.if-wants.branch [
+      | then-wants w ↦ ap (λ (x : TicketClaim). x.reservation) w.ticket-is ∙ ap (λ (x : TicketClaim). x.reservation) w.ask_writer.ensures.writer_asked
+      | else-wants w ↦ ap (λ (x : TicketClaim). x.reservation) w.ticket-is
+    ])
+    ∙ ap (λ (x : TicketClaim). x.reservation) c.ask.ensures.asked ∙ ap (λ (x : TicketClaim). x.reservation) c.new-ticket.ensures
+
+told : (c : goal.After-look_after) → process_out c.said_process-done.result c.if-wants.report ≡ record { load = c.args.load; write = c.args.write; process = c.args.process }
+told c =
+    let report : report_answer c.if-wants.report ≡ c.args.write = elim c.if-wants.branch [
+      | then-wants w ↦ ap report_answer w.report-is ∙ ap (λ d. d.answer) w.played_write.ensures
+      | else-wants w ↦ ap report_answer w.report-is ∙ not_given c.args.write (sym c.is_given.ensures ∙ sym (beq_same c.wants_writer-wants.result c.is_given.result c.if-wants-is_given.false) ∙ w.if-wants.false)
+    ] in
+    λ i. record { load = (c.said_process-done.ensures i).load; write = report i; process = (c.said_process-done.ensures i).process }
+
+pub commit_process-step-requires-clause-out : goal.commit_process-step-requires-clause-out
+commit_process-step-requires-clause-out c =
+    let t = taken (λ b. b.value) c.self.inside.stripe c.self.inside.tickets.items c.remove.new.self.items c.args.number c.in_ok-place.place c.remove.result c.events_len.ensures.reached c.self.invariant.1.tickets_are
+    (ap (position (λ b. b.value.number == c.args.number)) (sym c.deref.ensures.value) ∙ sym c.place_of.ensures ∙ c.in_ok-place.was) c.remove.ensures.value c.remove.ensures.items in
+    subst (λ (r : Reservation). IsOut c.self.inside.stripe r) (sym (resolved_before c)) t.out
+
+pub invariant_of-self : goal.invariant_of-self
+invariant_of-self c =
+    let t = taken (λ b. b.value) c.self.inside.stripe c.self.inside.tickets.items c.remove.new.self.items c.args.number c.in_ok-place.place c.remove.result c.events_len.ensures.reached c.self.invariant.1.tickets_are
+    (ap (position (λ b. b.value.number == c.args.number)) (sym c.deref.ensures.value) ∙ sym c.place_of.ensures ∙ c.in_ok-place.was) c.remove.ensures.value c.remove.ensures.items in
+    let old = c.self.inside.stripe in
+    let new = c.commit_process-step.new.self in
+    let r = c.if-wants.ticket.reservation in
+    let same : r ≡ c.remove.result.value = (resolved c) in
+    let steps = c.commit_process-step.ensures.commits.1 in
+    let rs : new.reservations ≡ without_key r.key old.reservations = ap (λ (s : State). s.reservations) steps.after in
+    let low : r.caller.call < c.self.inside.next_call = subst (λ (x : Reservation). x.caller.call < c.self.inside.next_call) (sym (same ∙ t.here)) (c.self.invariant.1.below c.in_ok-place.place c.remove.result.value t.within) in (
+      subst (λ (n : ℕ). RESERVATIONS_MAX ≤ n) (sym c.remove.ensures.capacity) c.self.invariant.0,
+      desk_ends old new _ (map (λ b. b.value) c.remove.new.self.items) c.self.inside.next_call r.key c.self.invariant.1 rs
+          (t.left ∙ ap (λ (x : Reservation). without_key x.key old.reservations) (sym same) ∙ sym rs)
+          (ap (λ (s : State). s.origin) steps.after) (ap (λ (s : State). s.lives) steps.after)
+          (resolved_joined old new r.number c.commit_process-step.result.place c.self.inside.next_call (ap (λ (s : State). s.joiners) steps.after) c.self.invariant.1.joined_below)
+          (committed own_left one_uniform old new r _ _ c.self.inside.next_call low c.events_len.ensures.reached c.self.invariant.1.before c.commit_process-step.ensures.commits c.commit_process-step.ensures.phase),
+    )
+
+pub returns-clause-some : goal.returns-clause-some
+returns-clause-some c =
+    let t = taken (λ b. b.value) c.self.inside.stripe c.self.inside.tickets.items c.remove.new.self.items c.args.number c.in_ok-place.place c.remove.result c.events_len.ensures.reached c.self.invariant.1.tickets_are
+    (ap (position (λ b. b.value.number == c.args.number)) (sym c.deref.ensures.value) ∙ sym c.place_of.ensures ∙ c.in_ok-place.was) c.remove.ensures.value c.remove.ensures.items in
+    let old = c.self.inside.stripe in
+    let new = c.commit_process-step.new.self in
+    let r = c.remove.result.value in
+    let done : StepDone = with_reply c.commit_process-step.result c.commit_process-step.new.reply in
+    let commits : Commits old r (record { load = c.args.load; write = c.args.write; process = c.args.process }) done new =
+    subst (λ (x : Reservation). Commits old x (record { load = c.args.load; write = c.args.write; process = c.args.process }) done new) (resolved c)
+    (subst (λ (o : Out). Commits old c.if-wants.ticket.reservation o done new) (told c) c.commit_process-step.ensures.commits) in
+    subst (λ (d : DeskState). CommitsAtDesk d c.args.number (record { load = c.args.load; write = c.args.write; process = c.args.process }) c.commit_process-step.new.reply c.look_after.new.moves (record { place = c.commit_process-step.result.place; shared = c.waiting-shared.result }) (record { stripe = new; next = c.self.inside.next_call; keeps_events = c.self.inside.keeps_events })) c.self.view_is (record {
+      reservation = r;
+      ticket = t.ticket;
+      done = done;
+      commits = commits;
+      reply_is = refl;
+      place = refl;
+      shared = c.waiting-shared.ensures.count ∙ sym (length-filter (waits_for c.args.number) old.joiners) ∙ sym (length-map _ (λ j. j.caller));
+      moves_are = moved old new c.reservation.result.now.key r.key c.commit_process-step.result.victim c.commit_process-step.result.evicted c.look_before.new.moves c.look_after.new.moves
+          (ap (λ (x : Reservation). x.key) (c.reservation.ensures ∙ ap (λ (x : TicketClaim). x.reservation) c.new-ticket.ensures)) c.look_before.ensures.left c.look_before.ensures.victim
+          c.look_after.ensures.kept c.look_after.ensures.left c.look_after.ensures.victim c.look_after.ensures.own (λ v h. commit_next old new r v _ done c.events_len.ensures.reached commits h)
+          (others_stay _ new r.caller r.key r.op _ _ done commits.1);
+      rest = refl;
+    })
+
+not_true : (b : Bool) → not b ≡ true → b ≡ false
+not_true true h = sym h
+not_true false h = refl
+
+not_false : (b : Bool) → not b ≡ false → b ≡ true
+not_false true h = refl
+not_false false h = sym h
+
+pub returns-in_err-place-clause-taken : goal.returns-in_err-place-clause-taken
+returns-in_err-place-clause-taken c =
+    let none = ticket_nowhere (λ b. b.value) c.self.inside.stripe c.self.inside.tickets.items c.args.number c.self.invariant.1.tickets_are
+    (ap (position (λ b. b.value.number == c.args.number)) (sym c.deref.ensures.value) ∙ sym c.place_of.ensures ∙ c.in_err-place.was) in
+    ap is_some c.from_residual.ensures ∙ sym (ap (λ o. asks_first (fits_processor c.args.load c.args.process) o && (beq (wants_writer c.self.inside.stripe.config c.args.load c.args.process) (is_write_given c.args.write))) none)
+    ∙ ap (λ (d : DeskState). takes_process d.stripe c.args.number (record { load = c.args.load; write = c.args.write; process = c.args.process })) c.self.view_is
+
+pub returns-then-not-fits_processor-clause-taken : goal.returns-then-not-fits_processor-clause-taken
+returns-then-not-fits_processor-clause-taken c =
+    let t = ticket_placed (λ b. b.value) c.self.inside.stripe c.self.inside.tickets.items c.args.number c.self.invariant.1.tickets_are c.in_ok-place.place c.index.result.now
+    (ap (position (λ b. b.value.number == c.args.number)) (sym c.deref.ensures.value) ∙ sym c.place_of.ensures ∙ c.in_ok-place.was) c.index.ensures in
+    let other : asks_first (fits_processor c.args.load c.args.process) (ticket_of c.self.inside.stripe c.args.number) ≡ false =
+    ap (asks_first (fits_processor c.args.load c.args.process)) t ∙ ap (λ (r : Reservation). fits_processor c.args.load c.args.process r.first) (sym c.deref-2.ensures) ∙ sym c.if-not-fits_processor.ensures in
+    sym (ap (λ b. b && (beq (wants_writer c.self.inside.stripe.config c.args.load c.args.process) (is_write_given c.args.write))) other)
+    ∙ ap (λ (d : DeskState). takes_process d.stripe c.args.number (record { load = c.args.load; write = c.args.write; process = c.args.process })) c.self.view_is
+
+pub returns-then-wants-is_given-clause-taken : goal.returns-then-wants-is_given-clause-taken
+returns-then-wants-is_given-clause-taken c =
+    let unlike : (beq (wants_writer c.self.inside.stripe.config c.args.load c.args.process) (is_write_given c.args.write)) ≡ false =
+    ap (λ (q : Config). beq (wants_writer q c.args.load c.args.process) (is_write_given c.args.write)) (sym c.config.ensures)
+    ∙ (λ i. beq (sym c.wants_writer-wants.ensures i) (sym c.is_given.ensures i)) ∙ not_true (beq c.wants_writer-wants.result c.is_given.result) c.if-wants-is_given.true in
+    sym (never_both (asks_first (fits_processor c.args.load c.args.process) (ticket_of c.self.inside.stripe c.args.number)) (beq (wants_writer c.self.inside.stripe.config c.args.load c.args.process) (is_write_given c.args.write)) unlike)
+    ∙ ap (λ (d : DeskState). takes_process d.stripe c.args.number (record { load = c.args.load; write = c.args.write; process = c.args.process })) c.self.view_is
+
+pub returns-clause-taken : goal.returns-clause-taken
+returns-clause-taken c =
+    let t = ticket_placed (λ b. b.value) c.self.inside.stripe c.self.inside.tickets.items c.args.number c.self.invariant.1.tickets_are c.in_ok-place.place c.index.result.now
+    (ap (position (λ b. b.value.number == c.args.number)) (sym c.deref.ensures.value) ∙ sym c.place_of.ensures ∙ c.in_ok-place.was) c.index.ensures in
+    let same : asks_first (fits_processor c.args.load c.args.process) (ticket_of c.self.inside.stripe c.args.number) ≡ true =
+    ap (asks_first (fits_processor c.args.load c.args.process)) t ∙ ap (λ (r : Reservation). fits_processor c.args.load c.args.process r.first) (sym c.deref-2.ensures) ∙ sym c.if-not-fits_processor.ensures in
+    let alike : (beq (wants_writer c.self.inside.stripe.config c.args.load c.args.process) (is_write_given c.args.write)) ≡ true =
+    ap (λ (q : Config). beq (wants_writer q c.args.load c.args.process) (is_write_given c.args.write)) (sym c.config.ensures)
+    ∙ (λ i. beq (sym c.wants_writer-wants.ensures i) (sym c.is_given.ensures i)) ∙ not_false (beq c.wants_writer-wants.result c.is_given.result) c.if-wants-is_given.false in
+    sym (and_from (asks_first (fits_processor c.args.load c.args.process) (ticket_of c.self.inside.stripe c.args.number)) (beq (wants_writer c.self.inside.stripe.config c.args.load c.args.process) (is_write_given c.args.write)) same alike)
+    ∙ ap (λ (d : DeskState). takes_process d.stripe c.args.number (record { load = c.args.load; write = c.args.write; process = c.args.process })) c.self.view_is

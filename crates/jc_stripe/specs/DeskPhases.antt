@@ -1,0 +1,170 @@
+-- What the calls of a desk do to its stripe, and which of them it takes.
+--     BeginsWithMoves    a first phase gives this, with this reply and these moves if the call is done
+--     RenewsAndBegins    the first phase of the desk's next call, before which a full generation has ended; the call might be made, and no
+--                        events were to be taken first
+--     BeginsAtDesk       the same; or nothing was done: the call might be made, and the events of a full generation are to be taken; or the
+--                        call might not be made
+--     is_first_misuse    a first phase was answered that the call may not begin
+--     HitsAtDesk         a get that found its entry, as the desk's next call
+--     hits_next          a get finds its entry, as the desk's next call
+--     StaysOrRenewsFull  the desk stays as it was, or its generation has ended, if it was full and might end
+--     ticket_of          the reservation with this number that is out, if there is one
+--     asks_first         a reservation is there, and asks this one first
+--     takes_load         a reservation with this number is out that asks the loader, and the loader answered
+--     takes_write        the same of the writer
+--     fits_processor     a processor is asked, which ran, and its loader answered only if it may be asked
+--     wants_writer       the writer is to be asked after a processor: with write-through, if the processor has a change for it
+--     takes_process      a reservation with this number is out that asks a processor, these answers fit it, and the writer answered
+--                        exactly if it was to be asked
+--     has_joined_load    a joiner is there, of this load
+--     is_join_out        a join is out: its call is among the joiners of its key, and joined this load
+--     CommitsAtDesk      the last phase of the reservation with this number
+--     WithdrawsAtDesk    the reservation with this number is given back
+--     PicksUpAtDesk      a joiner asks for its answer; or no such join is out, and nothing was done
+--     is_pick_up_misuse  it was answered that no such join is out
+use Rattle.std.specs.Prelude.{◌≡◌, ◌==◌, ◌&&◌, ◌⊎◌, ◌+◌, ℕ, Bool, true, false, not, Option, None, Some, is_some, find, length}
+use Rattle.std.specs.Bool.{beq}
+use Rattle.jc_types.specs.declared.caller.Caller.{Caller}
+use Rattle.jc_types.specs.declared.config.Config.{Config}
+use Rattle.jc_types.specs.declared.limits.TheConstants.{HIT_PLACES}
+use Rattle.jc_model.specs.declared.event.Op.{Op}
+use Rattle.jc_model.specs.declared.event.Op.TheVariants.{Get}
+use Rattle.jc_model.specs.declared.event.Out.{Out}
+use Rattle.jc_model.specs.declared.event.Reply.{Reply}
+use Rattle.jc_model.specs.declared.event.LoadAnswer.{LoadAnswer}
+use Rattle.jc_model.specs.declared.event.WriteAnswer.{WriteAnswer}
+use Rattle.jc_model.specs.declared.event.ProcessAnswer.{ProcessAnswer}
+use Rattle.jc_model.specs.Cache.{Bytes, entry_at}
+use Rattle.jc_model.specs.Table.{is_process_given, is_load_given, is_write_given, load_fits, wanted_if}
+use Rattle.jc_inflight.specs.declared.joiner.Joiner.{Joiner}
+use Rattle.jc_inflight.specs.Joining.{belongs_to, callers_of}
+use Rattle.jc_stripe.specs.declared.ticket.First.{First}
+use Rattle.jc_stripe.specs.declared.ticket.Reservation.{Reservation}
+use Rattle.jc_stripe.specs.declared.begun.StepDone.{StepDone}
+use Rattle.jc_stripe.specs.declared.begun.Begun.TheVariants as begun
+use Rattle.jc_stripe.specs.declared.begun.Picked.TheVariants as picked
+use Rattle.jc_stripe.specs.declared.desk.answers.FirstAnswer.{FirstAnswer}
+use Rattle.jc_stripe.specs.declared.desk.answers.FirstAnswer.TheVariants as first_answer
+use Rattle.jc_stripe.specs.declared.desk.answers.CommitDone.{CommitDone}
+use Rattle.jc_stripe.specs.declared.desk.answers.PickUpAnswer.{PickUpAnswer}
+use Rattle.jc_stripe.specs.declared.desk.answers.PickUpAnswer.TheVariants as pick_up_answer
+use Rattle.jc_mutentry.specs.Done.{effect_change}
+use Rattle.jc_stripe.specs.State.{State}
+use Rattle.jc_stripe.specs.Tickets.{JoinClaim, TicketClaim, asks_loader, asks_writer, asks_processor, is_loadable}
+use Rattle.jc_stripe.specs.Phases.{Begins, Commits, Withdraws, PicksUp, hit_done}
+use Rattle.jc_stripe.specs.Refusals.{has_room}
+use Rattle.jc_stripe.specs.Renewal.{RenewsIfFull}
+use Rattle.jc_stripe.specs.ValuesMoved.{MovesMade, MovesValues}
+use Rattle.jc_stripe.specs.DeskState.{DeskState, may_call_next, awaits_end, renewed_if_full}
+
+-- 1. First phases.
+
+abbrev pub BeginsWithMoves : State → Caller → Bytes → Op → Reply → MovesMade → FirstAnswer → State → Type 0
+BeginsWithMoves old caller key op reply moves (first_answer.Done place) new =
+    (done : StepDone) × Begins old caller key op (begun.Done done) new × (done.reply ≡ reply) × (done.place ≡ place) × MovesValues old key done.victim done.evicted moves new
+BeginsWithMoves old caller key op reply moves (first_answer.Asks number first) new =
+    (ticket : TicketClaim) × Begins old caller key op (begun.Asks ticket) new × (ticket.reservation.number ≡ number) × (ticket.reservation.first ≡ first)
+BeginsWithMoves old caller key op reply moves (first_answer.Joined load) new = Begins old caller key op (begun.Joined (record { caller = caller; key = key; load = load })) new
+BeginsWithMoves old caller key op reply moves (first_answer.Refused refusal) new = Begins old caller key op (begun.Refused refusal) new
+BeginsWithMoves old caller key op reply moves first_answer.Full new = ⊥
+BeginsWithMoves old caller key op reply moves first_answer.Misuse new = ⊥
+
+pub record RenewsAndBegins (old : DeskState) (session call : ℕ) (key : Bytes) (op : Op) (reply : Reply) (moves : MovesMade) (answer : FirstAnswer) (new : DeskState) : Type 0 where
+  pub may : may_call_next old session key ≡ true
+  pub free : awaits_end old ≡ false
+  pub between : State
+  pub renews : RenewsIfFull old.stripe between
+  pub call_is : call ≡ old.next
+  pub begins : BeginsWithMoves between (record { session = session; call = call }) key op reply moves answer new.stripe
+  pub rest : new ≡ record old { stripe = new.stripe; next = old.next + 1 }
+
+abbrev pub BeginsAtDesk : DeskState → ℕ → ℕ → Bytes → Op → Reply → MovesMade → FirstAnswer → DeskState → Type 0
+BeginsAtDesk old session call key op reply moves first_answer.Full new =
+    (new ≡ old) × (call ≡ old.next) × (may_call_next old session key ≡ true) × (awaits_end old ≡ true)
+BeginsAtDesk old session call key op reply moves first_answer.Misuse new = (new ≡ old) × (call ≡ old.next) × (may_call_next old session key ≡ false)
+BeginsAtDesk old session call key op reply moves answer new = RenewsAndBegins old session call key op reply moves answer new
+
+abbrev pub is_first_misuse : FirstAnswer → Bool
+is_first_misuse (first_answer.Done place) = false
+is_first_misuse (first_answer.Asks number first) = false
+is_first_misuse (first_answer.Joined load) = false
+is_first_misuse (first_answer.Refused refusal) = false
+is_first_misuse first_answer.Full = false
+is_first_misuse first_answer.Misuse = true
+
+pub record HitsAtDesk (old : DeskState) (session : ℕ) (key value : Bytes) (call : ℕ) (new : DeskState) : Type 0 where
+  pub between : State
+  pub renews : RenewsIfFull old.stripe between
+  pub call_is : call ≡ old.next
+  pub begins : Begins between (record { session = session; call = call }) key Get (begun.Done (hit_done (length between.history) value)) new.stripe
+  pub rest : new ≡ record old { stripe = new.stripe; next = old.next + 1 }
+
+abbrev pub hits_next : DeskState → ℕ → Bytes → Bool
+hits_next desk session key =
+    may_call_next desk session key && not (awaits_end desk) && has_room (renewed_if_full desk.stripe) desk.next HIT_PLACES && is_some (entry_at desk.stripe.cache key)
+
+abbrev pub StaysOrRenewsFull : DeskState → DeskState → Type 0
+StaysOrRenewsFull old new = (new ≡ old) ⊎ (new ≡ record old { stripe = renewed_if_full old.stripe })
+
+-- 2. Which answers a desk takes.
+
+abbrev pub ticket_of : State → ℕ → Option Reservation
+ticket_of state number = find (λ r. r.number == number) state.reservations
+
+abbrev pub asks_first : (First → Bool) → Option Reservation → Bool
+asks_first asks None = false
+asks_first asks (Some r) = asks r.first
+
+abbrev pub takes_load : State → ℕ → LoadAnswer → Bool
+takes_load state number answer = is_load_given answer && asks_first asks_loader (ticket_of state number)
+
+abbrev pub takes_write : State → ℕ → WriteAnswer → Bool
+takes_write state number answer = is_write_given answer && asks_first asks_writer (ticket_of state number)
+
+abbrev pub fits_processor : LoadAnswer → ProcessAnswer → First → Bool
+fits_processor load process first = asks_processor first && is_process_given process && load_fits (wanted_if (is_loadable first)) (is_load_given load)
+
+abbrev pub wants_writer : Config → LoadAnswer → ProcessAnswer → Bool
+wants_writer config load process = config.write_through && is_some (effect_change load process)
+
+abbrev pub takes_process : State → ℕ → Out → Bool
+takes_process state number out =
+    asks_first (fits_processor out.load out.process) (ticket_of state number) && beq (wants_writer state.config out.load out.process) (is_write_given out.write)
+
+abbrev pub has_joined_load : Option Joiner → ℕ → Bool
+has_joined_load None load = false
+has_joined_load (Some j) load = j.load == load
+
+abbrev pub is_join_out : State → JoinClaim → Bool
+is_join_out state join = has_joined_load (find (belongs_to join.caller join.key) state.joiners) join.load
+
+-- 3. Last phases.
+
+pub record CommitsAtDesk (old : DeskState) (number : ℕ) (out : Out) (reply : Reply) (moves : MovesMade) (commit : CommitDone) (new : DeskState) : Type 0 where
+  pub reservation : Reservation
+  pub ticket : ticket_of old.stripe number ≡ Some reservation
+  pub done : StepDone
+  pub commits : Commits old.stripe reservation out done new.stripe
+  pub reply_is : done.reply ≡ reply
+  pub place : done.place ≡ commit.place
+  pub shared : commit.shared ≡ length (callers_of number old.stripe.joiners)
+  pub moves_are : MovesValues old.stripe reservation.key done.victim done.evicted moves new.stripe
+  pub rest : new ≡ record old { stripe = new.stripe }
+
+pub record WithdrawsAtDesk (old : DeskState) (number : ℕ) (new : DeskState) : Type 0 where
+  pub reservation : Reservation
+  pub ticket : ticket_of old.stripe number ≡ Some reservation
+  pub withdraws : Withdraws old.stripe reservation new.stripe
+  pub rest : new ≡ record old { stripe = new.stripe }
+
+abbrev pub PicksUpAtDesk : DeskState → JoinClaim → Reply → PickUpAnswer → DeskState → Type 0
+PicksUpAtDesk old join reply (pick_up_answer.Answer place shared_with) new = PicksUp old.stripe join (picked.Answer reply place shared_with) new.stripe × (new ≡ record old { stripe = new.stripe })
+PicksUpAtDesk old join reply pick_up_answer.Again new = PicksUp old.stripe join picked.Again new.stripe × (new ≡ record old { stripe = new.stripe })
+PicksUpAtDesk old join reply pick_up_answer.NotYet new = PicksUp old.stripe join (picked.NotYet join) new.stripe × (new ≡ record old { stripe = new.stripe })
+PicksUpAtDesk old join reply pick_up_answer.Misuse new = (new ≡ old) × (is_join_out old.stripe join ≡ false)
+
+abbrev pub is_pick_up_misuse : PickUpAnswer → Bool
+is_pick_up_misuse (pick_up_answer.Answer place shared_with) = false
+is_pick_up_misuse pick_up_answer.Again = false
+is_pick_up_misuse pick_up_answer.NotYet = false
+is_pick_up_misuse pick_up_answer.Misuse = true

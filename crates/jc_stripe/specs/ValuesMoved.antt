@@ -1,0 +1,52 @@
+-- Which values came into a stripe with a step, and which left it.
+--     MovesMade            what a driver is told of them: whether the key's entry has a new value, the value that it lost, the entry that was
+--                          evicted for the step, and why the step's own entry was evicted after it, if it was
+--     nothing_moved        no value came, and none left
+--     holds_value          an entry has this value
+--     is_new_value         a key's entry has a value that it hadn't before
+--     value_lost           the value that it had before, and hasn't any more
+--     victim_entry         a victim with the value that it had
+--     KeepsOtherEntries    the entries of all keys but the step's own and the victim's are as they were
+--     MovesValues          what a step at a key moved, of which this was the victim
+use Rattle.std.specs.Prelude.{◌≡◌, ◌==◌, Bool, true, false, not, Option, None, Some, option_map, if◌then◌else◌}
+use Rattle.std.specs.Cmp.Lexicographic.{pointwise}
+use Rattle.jc_model.specs.Cache.{Bytes, entry_at}
+use Rattle.jc_model.specs.declared.event.Cause.{Cause}
+use Rattle.jc_stripe.specs.declared.begun.Eviction.{Eviction}
+use Rattle.jc_stripe.specs.State.{State}
+
+pub record MovesMade : Type 0 where
+  pub kept : Bool
+  pub left : Option Bytes
+  pub victim : Option (Bytes × Bytes)
+  pub own : Option Cause
+
+abbrev pub nothing_moved : MovesMade
+nothing_moved = record { kept = false; left = None; victim = None; own = None }
+
+abbrev pub holds_value : Option Bytes → Bytes → Bool
+holds_value None value = false
+holds_value (Some held) value = pointwise ◌==◌ held value
+
+abbrev pub is_new_value : Option Bytes → Option Bytes → Bool
+is_new_value before None = false
+is_new_value before (Some value) = not (holds_value before value)
+
+abbrev pub value_lost : Option Bytes → Option Bytes → Option Bytes
+value_lost None after = None
+value_lost (Some value) after = if holds_value after value then None else Some value
+
+abbrev pub victim_entry : State → Option Bytes → Option (Bytes × Bytes)
+victim_entry state None = None
+victim_entry state (Some key) = option_map (λ value. (key, value)) (entry_at state.cache key)
+
+abbrev pub KeepsOtherEntries : State → Bytes → Option Bytes → State → Type 0
+KeepsOtherEntries old key victim new =
+    (other : Bytes) → pointwise ◌==◌ key other ≡ false → (victim ≡ Some other → ⊥) → entry_at new.cache other ≡ entry_at old.cache other
+
+pub record MovesValues (old : State) (key : Bytes) (victim : Option Bytes) (evicted : Option Eviction) (moves : MovesMade) (new : State) : Type 0 where
+  pub kept : moves.kept ≡ is_new_value (entry_at old.cache key) (entry_at new.cache key)
+  pub left : moves.left ≡ value_lost (entry_at old.cache key) (entry_at new.cache key)
+  pub victim_is : moves.victim ≡ victim_entry old victim
+  pub own_is : moves.own ≡ option_map (λ e. e.cause) evicted
+  pub others : KeepsOtherEntries old key victim new

@@ -1,0 +1,63 @@
+//! What a desk answers.
+use crate::ticket::First;
+use jc_types::Refusal;
+
+/// Why a desk was not opened. Nothing is kept of what it was given.
+#[derive(Clone, Copy, Debug, PartialEq, Eq)]
+pub enum OpenFault {
+    /// The shape is out of its limits, or there is no stripe with this number.
+    Shape,
+    /// The contents have a key twice, a key of another stripe, or more entries than the stripe may keep.
+    Contents,
+    /// An allocation failed.
+    Memory,
+}
+
+/// What a first phase at a desk gives.
+#[derive(Clone, Copy, Debug)]
+pub enum FirstAnswer {
+    /// The call is done: the place of its step in the present generation.
+    Done(u32),
+    /// The key is reserved.
+    Asks {
+        /// The reservation's number.
+        number: u64,
+        /// Whom to ask.
+        first: First,
+    },
+    /// The call has joined the load with this number.
+    Joined(u64),
+    /// The call is refused; nothing was done.
+    Refused(Refusal),
+    /// The generation is full, and its events are to be taken; nothing was done.
+    Full,
+    /// The call may not begin here; nothing was done.
+    Misuse,
+}
+
+/// What a last phase at a desk gives.
+#[derive(Clone, Copy, Debug)]
+pub struct CommitDone {
+    /// The place of the step in the present generation.
+    pub place: u32,
+    /// How many calls that had joined the load have an answer to pick up.
+    pub shared: u32,
+}
+
+/// What a joiner is told at a desk.
+#[derive(Clone, Copy, Debug)]
+pub enum PickUpAnswer {
+    /// The load was committed.
+    Answer {
+        /// The place of the joiner's own step.
+        place: u32,
+        /// The place of the step that loaded.
+        shared_with: u32,
+    },
+    /// The load was withdrawn: the call is to be retried.
+    Again,
+    /// The load isn't over; the join is still out.
+    NotYet,
+    /// No such join is out; nothing was done.
+    Misuse,
+}
