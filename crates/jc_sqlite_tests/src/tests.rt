@@ -1,12 +1,13 @@
 use jc_outside::{Answers, CacheLoader, CacheWriter};
 use jc_sqlite::code::{CLOSED, TOO_BIG};
 use jc_sqlite::{
-    Database, DatabaseLoader, DatabaseWriter, OpenCause, OpenError, OpenOptions, code_of,
+    Database, DatabaseLoader, DatabaseWriter, Failure, OpenCause, OpenError, OpenOptions, code_of,
 };
 use jc_types::{Key, VALUE_MAX, Value};
 use sqlite::types::Type;
-use sqlite::{Connection, Error, ErrorCode, File, FileStore, params};
+use sqlite::{Connection, Error, ErrorCode, params};
 use std::alloc::Global;
+use std::fmt::Debug;
 use std::fs;
 use std::process::Abort;
 use std::sync::Wait;
@@ -135,57 +136,91 @@ const CODES: [(Error, u32); 14] = [
     (Error::SqliteFailure(ErrorCode::BadText), 1),
 ];
 
+/// Ends the test if what is found isn't what is wanted.
+fn is<T: Copy + Debug + PartialEq>(rt: &impl Abort, found: T, wanted: T) {
+    assert_eq!(rt; found, wanted);
+}
+
 #[test]
 fn codes_are_those_of_sqlite(rt: HostRuntime) {
     for (error, wanted) in &CODES {
-        assert_eq!(rt; code_of(*error), *wanted);
+        is(&rt, code_of(*error), *wanted);
     }
 }
 
-/// A connection of another program to a file.
-fn connect(host: &HostRuntime, rt: &impl Abort, path: &str) -> Connection<FileStore<File>> {
-    Connection::open(host, path).expect(rt, "a connection")
+/// Has another program's connection make a table of another shape, and says whether it could.
+fn makes_other_table(host: &HostRuntime, path: &str) -> bool {
+    match Connection::open(host, path) {
+        Ok(mut connection) => connection
+            .execute_batch("CREATE TABLE entry (key TEXT, value TEXT)")
+            .is_ok(),
+        Err(_) => false,
+    }
 }
 
 /// A table that is made otherwise is refused.
 #[test]
 fn another_table_is_refused(rt: HostRuntime) {
     let path = fresh(&rt, "jc_sqlite_other.db", "jc_sqlite_other.db-wal");
-    let mut connection = connect(&rt, &rt, path);
-    let made = connection.execute_batch("CREATE TABLE entry (key TEXT, value TEXT)");
-    assert_eq!(rt; made, Ok(()));
-    drop(connection);
-    assert_eq!(rt;
+    is(&rt, makes_other_table(&rt, path), true);
+    is(
+        &rt,
         cause(&rt, Database::open(&rt, path), path),
-        OpenCause::OtherTable
+        OpenCause::OtherTable,
     );
 }
 
-/// A value that another program wrote and that has a byte too many fails its load, and that of many keys, by its key.
+/// The key of a value that another program writes, with a byte more than a cache's value has.
+const LONG: &[u8] = b"ann";
+
+/// Has another program's connection write that value, and says whether it could.
+fn writes_long(host: &HostRuntime, path: &str) -> bool {
+    let long = [7u8; VALUE_MAX + 1];
+    match Connection::open(host, path) {
+        Ok(mut connection) => connection
+            .execute(
+                "INSERT INTO entry VALUES (?1, ?2)",
+                params![LONG, long.as_slice()],
+            )
+            .is_ok(),
+        Err(_) => false,
+    }
+}
+
+/// A value that is too long fails its load, and that of many keys, by its key. Other keys are loaded.
 #[test]
-fn a_value_that_is_too_long_is_told_by_its_key(rt: HostRuntime) -> Result<(), Fail> {
+fn a_value_that_is_too_long_is_told_by_its_key(rt: HostRuntime) {
     let path = fresh(&rt, "jc_sqlite_long.db", "jc_sqlite_long.db-wal");
     drop(Database::open(&rt, path).expect(&rt, "a database"));
-    let long = [7u8; VALUE_MAX + 1];
-    let mut connection = connect(&rt, &rt, path);
-    let written = connection.execute(
-        "INSERT INTO entry VALUES (?1, ?2)",
-        params![b"ann".as_slice(), long.as_slice()],
-    );
-    assert_eq!(rt; written, Ok(1));
-    drop(connection);
+    is(&rt, writes_long(&rt, path), true);
     let database = Database::open(&rt, path).expect(&rt, "a database");
-    let mut loader = DatabaseLoader::new(rt, &database).expect(&rt, "memory");
-    let ann = key(&rt);
-    assert_eq!(rt; loader.load(&ann), Err(TOO_BIG));
-    let bob = Key::new(b"bob").expect(&rt, "a key");
-    assert_eq!(rt; loader.load(&bob), Ok(None));
-    let mut answers = Answers::new(rt.alloc(), &[bob, ann]).expect(&rt, "memory");
-    assert_eq!(rt; loader.load_all(&[bob, ann], &mut answers), Err(TOO_BIG));
-    let Some(failure) = database.last_error(&rt) else {
+    let loader = DatabaseLoader::new(rt, &database).expect(&rt, "memory");
+    loads_but_long(&rt, rt.alloc(), loader);
+    tells(&rt, rt.alloc(), database.last_error(&rt));
+}
+
+fn loads_but_long<R: Wait + Drop>(rt: &impl Abort, alloc: Global, loader: DatabaseLoader<R>) {
+    let mut loader = loader;
+    let (long, other) = (key(rt), Key::new(b"bob").expect(rt, "a key"));
+    let mut answers = Answers::new(alloc, &[other, long]).expect(rt, "memory");
+    is(rt, loader.load(&long), Err(TOO_BIG));
+    is(rt, loader.load(&other), Ok(None));
+    is(
+        rt,
+        loader.load_all(&[other, long], &mut answers),
+        Err(TOO_BIG),
+    );
+}
+
+/// The failure that was kept names the key.
+fn tells(rt: &impl Abort, alloc: Global, kept: Option<Failure>) {
+    let Some(failure) = kept else {
         panic!(rt; "nothing was kept");
     };
-    let text = format!(in rt.alloc(); "{failure}")?;
-    assert_eq!(rt; text.as_str(), "at the key \"ann\": string or blob too big");
-    Ok(())
+    let text = format!(in alloc; "{failure}").expect(rt, "memory");
+    is(
+        rt,
+        text.as_str(),
+        "at the key \"ann\": string or blob too big",
+    );
 }

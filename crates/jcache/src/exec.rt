@@ -11,7 +11,6 @@ ghost use Rattle.jcache.specs.Reports.{IsReportOf};
 use crate::commands::{Task, read_task};
 use crate::plan::{INCREMENTS_MAX, Plan};
 use crate::report::Report;
-use crate::threads::CountFault;
 use clap::Error;
 use clap::error::ErrorKind;
 use jc_script::run::run;
@@ -28,7 +27,7 @@ const LINE_FAULT: u8 = 1;
 const USAGE: u8 = 2;
 /// Standard input or output failed, or the input is too long.
 const STREAMS: u8 = 3;
-/// An allocation failed, or a thread couldn't be started.
+/// An allocation failed.
 const MEMORY: u8 = 4;
 /// What was counted on threads isn't what the plan says.
 const MISCOUNTED: u8 = 5;
@@ -215,10 +214,10 @@ fn complain_of_plan<E: Write>(plan: &Plan, err: &mut E) {
 }
 
 /// What is reported on a plan.
-fn report_on<F: FnOnce(&Plan) -> Result<Report, CountFault>>(
+fn report_on<F: FnOnce(&Plan) -> Result<Report, AllocError>>(
     count: F,
     plan: &Plan,
-) -> Result<Report, CountFault>
+) -> Result<Report, AllocError>
     requires callable { (plan : _) → F.pre count plan }
     requires reports { (plan : _) (r : _) → F.post count plan r → IfOk r (IsReportOf plan.now) }
     ensures { IfOk result (λ report. IsReportOf plan.now report) }
@@ -227,7 +226,7 @@ fn report_on<F: FnOnce(&Plan) -> Result<Report, CountFault>>(
 }
 
 /// Has threads count, and answers the status.
-fn count_and_show<F: FnOnce(&Plan) -> Result<Report, CountFault>, W: Write, E: Write>(
+fn count_and_show<F: FnOnce(&Plan) -> Result<Report, AllocError>, W: Write, E: Write>(
     alloc: Global,
     count: F,
     plan: &Plan,
@@ -245,16 +244,12 @@ fn count_and_show<F: FnOnce(&Plan) -> Result<Report, CountFault>, W: Write, E: W
     }
     match report_on(count, plan) {
         Ok(report) => show_report(alloc, &report, out, err),
-        Err(CountFault::OutOfMemory) => end_without_memory(err),
-        Err(CountFault::NoThread) => {
-            complain(err, "jcache: out of memory: a thread can't be started\n");
-            MEMORY
-        }
+        Err(AllocError) => end_without_memory(err),
     }
 }
 
 /// Carries a task out, and answers the status.
-fn carry_out<F: FnOnce(&Plan) -> Result<Report, CountFault>, R: Read, W: Write, E: Write>(
+fn carry_out<F: FnOnce(&Plan) -> Result<Report, AllocError>, R: Read, W: Write, E: Write>(
     alloc: Global,
     count: F,
     task: &Task,
@@ -279,7 +274,7 @@ fn carry_out<F: FnOnce(&Plan) -> Result<Report, CountFault>, R: Read, W: Write, 
 }
 
 /// Does what these words ask for, and answers the status.
-fn do_words<F: FnOnce(&Plan) -> Result<Report, CountFault>, R: Read, W: Write, E: Write>(
+fn do_words<F: FnOnce(&Plan) -> Result<Report, AllocError>, R: Read, W: Write, E: Write>(
     alloc: Global,
     count: F,
     words: &[String],
@@ -313,14 +308,14 @@ fn do_words<F: FnOnce(&Plan) -> Result<Report, CountFault>, R: Read, W: Write, E
 /// Does what the words of a command line ask for, and answers the status: 0 if the script was played to its end, if threads
 /// counted right, or if a text was asked for and shown, as by `--help` and `--version`; 1 if the transcript ends with a line's
 /// fault, of which `err` gets the column and the word; 2 if the words are none of this program's, ask for too much work or aren't
-/// UTF-8, which is written to `err`; 3 if the input or output failed, or the input is too long; 4 if an allocation failed, or a thread
-/// couldn't be started; 5 if the report that was written shows a wrong number, or that the history isn't legal.
+/// UTF-8, which is written to `err`; 3 if the input or output failed, or the input is too long; 4 if an allocation failed; 5 if the
+/// report that was written shows a wrong number, or that the history isn't legal.
 ///
 /// `count` has threads count by a plan. It is called once if the words ask for it and it isn't too much work, else never, so what
 /// threads need is made only then. While it is at work, this waits. Nothing else waits.
 ///
 /// Conditions: `count` may be called, and what it reports is on the plan that it was given.
-pub fn exec<F: FnOnce(&Plan) -> Result<Report, CountFault>, R: Read, W: Write, E: Write>(
+pub fn exec<F: FnOnce(&Plan) -> Result<Report, AllocError>, R: Read, W: Write, E: Write>(
     alloc: Global,
     count: F,
     words: io::Result<Vec<String>>,

@@ -23,10 +23,11 @@ use jc_script::Noted;
 use jc_store::{Increment, SharedStore, Store};
 use plan::Plan;
 use report::Report;
+use std::alloc::AllocError;
 use std::env::{self, Env};
 use std::io;
 use std::process::ExitCode;
-use threads::{CountFault, Crew, OUTFITS, Outfit, count_on_threads};
+use threads::{Crew, OUTFITS, Outfit, count_on_threads};
 
 /// The words of the command line, the program's name first.
 fn words<R: Env + AllocGlobal>(rt: &R) -> io::Result<Vec<String>> {
@@ -35,7 +36,7 @@ fn words<R: Env + AllocGlobal>(rt: &R) -> io::Result<Vec<String>> {
 
 fn main(rt: HostRuntime) -> ExitCode {
     let alloc = rt.alloc();
-    let count = move |plan: &Plan| -> Result<Report, CountFault>
+    let count = move |plan: &Plan| -> Result<Report, AllocError>
         ensures { IfOk result (IsReportOf plan.entry.now) }
     {
         let store = SharedStore::new(alloc, Store::new(alloc))?;

@@ -5,11 +5,11 @@ ghost use Rattle.jcache.specs.Reports.{IsReportOf};
 use crate::exec::exec;
 use crate::plan::Plan;
 use crate::report::Report;
-use crate::threads::{CountFault, Crew, Outfit, count_on_threads};
+use crate::threads::{Crew, Outfit, count_on_threads};
 use jc_cache::{CacheLoader, CacheWriter, EntryProcessor, Value};
 use jc_script::Noted;
 use jc_store::{Increment, SharedStore, Store};
-use std::alloc::Global;
+use std::alloc::{AllocError, Global};
 use std::io;
 use std::process::Abort;
 
@@ -32,7 +32,7 @@ fn words(rt: &impl Abort, alloc: Global, text: &str) -> Vec<String> {
 }
 
 /// Has these words done, with this script on standard input.
-fn ends<F: FnOnce(&Plan) -> Result<Report, CountFault>>(
+fn ends<F: FnOnce(&Plan) -> Result<Report, AllocError>>(
     rt: &impl Abort,
     alloc: Global,
     count: F,
@@ -59,9 +59,9 @@ fn ends<F: FnOnce(&Plan) -> Result<Report, CountFault>>(
 
 /// The same, of words that don't have threads count.
 fn ends_alone(rt: &impl Abort, alloc: Global, text: &str, script: &[u8], wanted: Wanted<'_>) {
-    let count = |plan: &Plan| -> Result<Report, CountFault>
+    let count = |plan: &Plan| -> Result<Report, AllocError>
         ensures { IfOk result (IsReportOf plan.entry.now) }
-    { Err(CountFault::OutOfMemory) };
+    { Err(AllocError) };
     ends(rt, alloc, count, text, script, wanted);
 }
 
@@ -149,9 +149,9 @@ impl io::Write for Broken {
 fn says_why_a_read_failed(rt: HostRuntime) {
     let alloc = rt.alloc();
     let (mut out, mut err) = (Vec::new(alloc), Vec::new(alloc));
-    let count = |plan: &Plan| -> Result<Report, CountFault>
+    let count = |plan: &Plan| -> Result<Report, AllocError>
         ensures { IfOk result (IsReportOf plan.entry.now) }
-    { Err(CountFault::OutOfMemory) };
+    { Err(AllocError) };
     let status = exec(
         alloc,
         count,
@@ -169,9 +169,9 @@ fn says_why_a_read_failed(rt: HostRuntime) {
 /// Shows the version on a standard output that fails so.
 fn write_fails(rt: &impl Abort, alloc: Global, why: io::ErrorKind, said: &str) {
     let mut err = Vec::new(alloc);
-    let count = |plan: &Plan| -> Result<Report, CountFault>
+    let count = |plan: &Plan| -> Result<Report, AllocError>
         ensures { IfOk result (IsReportOf plan.entry.now) }
-    { Err(CountFault::OutOfMemory) };
+    { Err(AllocError) };
     let status = exec(
         alloc,
         count,
@@ -198,9 +198,9 @@ fn says_nothing_to_a_closed_pipe(rt: HostRuntime) {
 /// The command line without its words.
 fn has_no_words(rt: &impl Abort, alloc: Global, why: io::ErrorKind, status: u8, said: &str) {
     let (mut out, mut err) = (Vec::new(alloc), Vec::new(alloc));
-    let count = |plan: &Plan| -> Result<Report, CountFault>
+    let count = |plan: &Plan| -> Result<Report, AllocError>
         ensures { IfOk result (IsReportOf plan.entry.now) }
-    { Err(CountFault::OutOfMemory) };
+    { Err(AllocError) };
     let found = exec(
         alloc,
         count,
@@ -242,22 +242,9 @@ fn ends_where_threads_have_no_memory(rt: HostRuntime) {
 }
 
 #[test]
-fn ends_where_a_thread_can_not_be_started(rt: HostRuntime) {
-    let count = |plan: &Plan| -> Result<Report, CountFault>
-        ensures { IfOk result (IsReportOf plan.entry.now) }
-    { Err(CountFault::NoThread) };
-    let wanted = Wanted {
-        status: 4,
-        out: "",
-        err: "jcache: out of memory: a thread can't be started\n",
-    };
-    ends(&rt, rt.alloc(), count, FOUR, b"", wanted);
-}
-
-#[test]
 fn counts_on_threads(rt: HostRuntime) {
     let alloc = rt.alloc();
-    let count = move |plan: &Plan| -> Result<Report, CountFault>
+    let count = move |plan: &Plan| -> Result<Report, AllocError>
         ensures { IfOk result (IsReportOf plan.entry.now) }
     {
         let store = SharedStore::new(alloc, Store::new(alloc))?;
@@ -283,14 +270,14 @@ fn counts_on_threads(rt: HostRuntime) {
 }
 
 /// A report on a plan with one worker, in which the cache counts one more than the store.
-fn false_report(alloc: Global, plan: &Plan) -> Result<Report, CountFault>
+fn false_report(alloc: Global, plan: &Plan) -> Result<Report, AllocError>
     ensures { IfOk result (IsReportOf plan.now) }
 {
     let (Ok(counter), Ok(store)) = (Value::new(b"2"), Value::new(b"1")) else {
-        return Err(CountFault::OutOfMemory);
+        return Err(AllocError);
     };
     if plan.workers != 1 || plan.rounds < 1 {
-        return Err(CountFault::OutOfMemory);
+        return Err(AllocError);
     }
     let mut own = Vec::new(alloc);
     own.push(1)?;
@@ -306,7 +293,7 @@ fn false_report(alloc: Global, plan: &Plan) -> Result<Report, CountFault>
 #[test]
 fn tells_a_wrong_count(rt: HostRuntime) {
     let alloc = rt.alloc();
-    let count = move |plan: &Plan| -> Result<Report, CountFault>
+    let count = move |plan: &Plan| -> Result<Report, AllocError>
         ensures { IfOk result (IsReportOf plan.entry.now) }
     { false_report(alloc, plan) };
     let wanted = Wanted {

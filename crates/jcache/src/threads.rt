@@ -4,7 +4,6 @@
 //! counter, in the store of record, or in the history.
 ghost use Rattle.std.specs.Prelude.{◌≡◌, ◌+◌, ◌≤◌, OnOk, IfOk, All, length};
 ghost use Rattle.jc_cache.specs.Sessions.{MayCall};
-ghost use Rattle.jcache.specs.declared.threads.CountFault.TheVariants as faults;
 ghost use Rattle.jcache.specs.Reports.{AreCounts, IsReportOf};
 ghost use Rattle.jcache.specs.Teams.{HasCounted};
 
@@ -15,10 +14,9 @@ use jc_cache::{
     Value,
 };
 use jc_store::SharedStore;
-use std::alloc::{AllocError, AllocFailed, Global};
+use std::alloc::{AllocError, Global};
 use std::sync::Wait;
-use std::thread::{self, Promise, PromisedHandle, Scope, Threads};
-use thiserror::Error;
+use std::thread::{self, Threads};
 
 /// The key that all threads increment.
 const COUNTER: &[u8] = b"counter";
@@ -84,48 +82,21 @@ pub struct Crew {
 /// How many outfits a crew has: one for each of the most threads, and one for the session that reads the counter in the end.
 pub const OUTFITS: u32 = WORKERS_MAX + 1;
 
-/// Why threads have not counted.
-#[derive(Clone, Copy, Debug, PartialEq, Eq, Error)]
-pub enum CountFault {
-    /// An allocation failed, or there is no session left.
-    #[error("an allocation failed")]
-    OutOfMemory,
-    /// The system starts no further thread.
-    #[error("a thread can't be started")]
-    NoThread,
-}
-
-impl From<AllocError> for CountFault {
-    ghost from_gives = { λ _ e. e ≡ faults.OutOfMemory };
-
-    fn from(_error: AllocError) -> CountFault {
-        CountFault::OutOfMemory
-    }
-}
-
-impl<T: Drop> From<AllocFailed<T>> for CountFault {
-    ghost from_gives = { λ _ e. e ≡ faults.OutOfMemory };
-
-    fn from(_failed: AllocFailed<T>) -> CountFault {
-        CountFault::OutOfMemory
-    }
-}
-
-/// Counts on threads, as the plan says, each worker on a thread of its own, and reports what was found.
+/// Counts on threads, as the plan says, each worker on a thread of its own if one can be started, and reports what was found.
 ///
-/// It waits until all threads have ended. If one can't be started, no further one is, and the fault comes once those that were
-/// started have ended. `OutOfMemory` also says that the crew has too few outfits.
+/// It waits until all threads have ended. An `Err` says that an allocation failed, that there is no session left, or that the crew has too
+/// few outfits.
 pub fn count_on_threads<R: Threads + Wait + Sync>(
     rt: &R,
     alloc: Global,
     crew: Crew,
     plan: &Plan,
-) -> Result<Report, CountFault>
+) -> Result<Report, AllocError>
     ensures { IfOk result (λ report. IsReportOf plan.now report) }
 {
     let Crew { store, outfits } = crew;
     let Ok(mut owner) = owner_for(alloc, plan) else {
-        return Err(CountFault::OutOfMemory);
+        return Err(AllocError);
     };
     let team = hire(alloc, &mut owner, outfits, plan.workers)?;
     count(rt, alloc, owner, &store, team, plan)
@@ -186,7 +157,7 @@ fn count<R: Threads + Wait + Sync>(
     store: &SharedStore,
     team: Vec<Worker>,
     plan: &Plan,
-) -> Result<Report, CountFault>
+) -> Result<Report, AllocError>
     requires ready { All (λ w. HasCounted owner.cache 0 w.session) team.items }
     requires len { length team.items ≡ plan.now.workers + 1 }
     ensures { IfOk result (λ report. IsReportOf plan.now report) }
@@ -198,7 +169,7 @@ fn count<R: Threads + Wait + Sync>(
     let Some(last) = team.pop() else {
         unreachable!()
     };
-    let own = work_side_by_side(rt, alloc, owner.cache(), team, &key, plan.rounds)?;
+    let own = work_side_by_side(rt, owner.cache(), team, &key, plan.rounds)?;
     let counter = counter(rt, owner.cache(), last, &key);
     let legal = end(alloc, owner)?;
     Ok(Report {
@@ -210,98 +181,26 @@ fn count<R: Threads + Wait + Sync>(
     })
 }
 
-/// Each of the team works on a thread of its own: how many steps each session has made then, in their order. It waits until all that
-/// were started have ended.
+/// Each of the team works, on a thread of its own if one can be started: how many steps each session has made then, in their order. It
+/// waits until all have ended.
 fn work_side_by_side<R: Threads + Wait + Sync>(
     rt: &R,
-    alloc: Global,
     cache: &Cache,
     team: Vec<Worker>,
     key: &Key,
     rounds: u32,
-) -> Result<Vec<u64>, CountFault>
+) -> Result<Vec<u64>, AllocError>
     requires { All (λ w. HasCounted cache.now 0 w.session) team.items }
     ensures { IfOk result (λ own. AreCounts (length team.items) rounds own.items) }
 {
-    thread::scope(
-        thread::scope_env(),
+    thread::map_vec(
         rt,
-        |scope| -> Result<Vec<u64>, CountFault>
-            requires { All (λ w. HasCounted cache.now 0 w.session) team.items }
-            ensures { IfOk result (λ own. AreCounts (length team.items) rounds own.items) }
-        {
-            let handles = start_all(rt, alloc, scope, cache, team, key, rounds)?;
-            Ok(join_all(rt, alloc, handles, rounds)?)
-        },
+        team,
+        &|worker: Worker| -> u64
+            requires { HasCounted cache.now 0 worker.session }
+            ensures { result ≤ rounds }
+        { work(rt, cache, worker, key, rounds) },
     )
-}
-
-/// What a thread promises of the number that it returns: it is at most this one.
-#[derive(Clone, Copy)]
-struct AtMost(u32);
-
-impl Promise<u64> for AtMost {
-    ghost kept_by = { λ most own. own ≤ most.0 };
-}
-
-/// Starts a thread for each of the team. An `Err` leaves those that were started at work.
-fn start_all<'s, 'c: 's, E, R: Threads + Wait + Sync>(
-    rt: &'c R,
-    alloc: Global,
-    scope: &Scope<'s, E>,
-    cache: &'c Cache,
-    team: Vec<Worker>,
-    key: &'c Key,
-    rounds: u32,
-) -> Result<Vec<PromisedHandle<u64, AtMost>>, CountFault>
-    requires { All (λ w. HasCounted cache.now 0 w.session) team.items }
-    ensures promised { IfOk result (λ handles. All (λ h. h.promise.0 ≡ rounds) handles.items) }
-    ensures len { IfOk result (λ handles. length handles.items ≡ length team.items) }
-{
-    let mut handles = Vec::with_capacity(alloc, team.len())?;
-    for worker in team {
-        handles.push_reserved(start(rt, scope, cache, worker, key, rounds)?);
-    }
-    Ok(handles)
-}
-
-/// Starts a thread on which a worker works.
-fn start<'s, 'c: 's, E, R: Threads + Wait + Sync>(
-    rt: &'c R,
-    scope: &Scope<'s, E>,
-    cache: &'c Cache,
-    worker: Worker,
-    key: &'c Key,
-    rounds: u32,
-) -> Result<PromisedHandle<u64, AtMost>, CountFault>
-    requires { HasCounted cache.now 0 worker.session }
-    ensures { IfOk result (λ handle. handle.promise.0 ≡ rounds) }
-{
-    let task = move || -> u64
-        requires { HasCounted cache.now 0 worker.session }
-        ensures { result ≤ rounds }
-    { work(rt, cache, worker, key, rounds) };
-    match scope.spawn_with(AtMost(rounds), task) {
-        Ok(handle) => Ok(handle),
-        Err(_) => Err(CountFault::NoThread),
-    }
-}
-
-/// What the threads return, in their order. It waits until all have ended.
-fn join_all<R: Threads>(
-    rt: &R,
-    alloc: Global,
-    handles: Vec<PromisedHandle<u64, AtMost>>,
-    rounds: u32,
-) -> Result<Vec<u64>, AllocError>
-    requires { All (λ h. h.promise.0 ≡ rounds) handles.items }
-    ensures { IfOk result (λ own. AreCounts (length handles.items) rounds own.items) }
-{
-    let mut own = Vec::with_capacity(alloc, handles.len())?;
-    for handle in handles {
-        own.push_reserved(handle.join(rt));
-    }
-    Ok(own)
 }
 
 /// What one thread does: so many increments. It returns how many steps its session has made.

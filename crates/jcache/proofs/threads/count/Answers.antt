@@ -1,4 +1,4 @@
-use Rattle.std.proofs.Common.{◌∙◌, refl, sym, subst}
+use Rattle.std.proofs.Common.{◌∙◌, refl, rules, sym, subst}
 use Rattle.jc_cache.specs.Caches.{CacheState}
 use Rattle.jc_cache.specs.Sessions.{MayCall}
 use Rattle.jcache.proofs.Teams.{are_left, ready_less}
@@ -6,7 +6,7 @@ use Rattle.jcache.proofs.threads.count.Goals as goal
 
 pub work_side_by_side-requires : goal.work_side_by_side-requires
 work_side_by_side-requires g c =
-    (ready_less c.args.owner.cache c.cache.result.now _ _ _ c.cache.ensures c.in-Some.ensures.items c.requires.ready).0
+    (search rules, (ready_less c.args.owner.cache c.cache.result.now _ _ _ c.cache.ensures c.in-Some.ensures.items c.requires.ready).0)
 
 pub counter-counter-requires : goal.counter-counter-requires
 counter-counter-requires g c =
