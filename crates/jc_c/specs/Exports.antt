@@ -1,17 +1,16 @@
 -- What each export answers, does to its desk, and writes.
---     code_of                  the code of a call: the handle isn't open; an argument doesn't fit; the desk doesn't take the call, and says so
+--     export_code                  the code of a call: the handle isn't open; an argument doesn't fit; the desk doesn't take the call, and says so
 --                              by this code; or the call is made
 --     BeginsForC               the first phase of the operation that its number and its values name
 --     CommitsForC              the last phase of the reservation with this number, with these outside answers
 --     HitsForC                 a get that found its entry
---     join_of                  the join of this call, at this key, of this load
+--     join_named                  the join of this call, at this key, of this load
 --     PicksUpForC              a joiner was told
 --     counts_written           what was counted
 --     opens_fit                what a desk is to open with fits
 --     ListsEntries             these entries are written in their order, as far as there is room, and what is behind them stays
 use Rattle.std.specs.Prelude.{◌≡◌, ◌&&◌, ℕ, List, map, take, drop, length, Bool, if◌then◌else◌}
 use Rattle.std.specs.List.{list_all}
-use Rattle.jc_model.specs.declared.event.Op.{Op}
 use Rattle.jc_model.specs.declared.event.Out.{Out}
 use Rattle.jc_model.specs.declared.event.Reply.{Reply}
 use Rattle.jc_model.specs.declared.statistics.Statistics.{Statistics}
@@ -30,21 +29,19 @@ use Rattle.jc_c.specs.declared.layouts.InlineEntry.{InlineEntry}
 use Rattle.jc_c.specs.declared.layouts.InlineValue.{InlineValue}
 use Rattle.jc_c.specs.declared.layouts.CountsOut.{CountsOut}
 use Rattle.jc_c.specs.Layouts.{inline_value, inline_entry, inline_entries, config_of}
-use Rattle.jc_c.specs.Requests.{IsOp, entry_fits}
+use Rattle.jc_c.specs.Requests.{op_of_number, entry_fits}
 use Rattle.jc_c.specs.Replies.{ShowsFirstAnswer, ShowsDone, ShowsPickUp}
 
-abbrev pub code_of : Bool → Bool → Bool → ℕ → ℕ
-code_of is_open fits takes other = if is_open then (if fits then (if takes then JC_OK else other) else JC_BAD_ARGUMENT) else JC_WRONG_HANDLE
+abbrev pub export_code : Bool → Bool → Bool → ℕ → ℕ
+export_code is_open fits takes other = if is_open then (if fits then (if takes then JC_OK else other) else JC_BAD_ARGUMENT) else JC_WRONG_HANDLE
 
 -- 1. Phases.
 
 pub record BeginsForC (old : DeskState) (session number : ℕ) (key value other : Bytes) (out : PhaseOut) (new : DeskState) : Type 0 where
-  pub op : Op
   pub reply : Reply
   pub moves : MovesMade
   pub answer : FirstAnswer
-  pub op_is : IsOp number value other op
-  pub begins : BeginsAtDesk old session out.call key op reply moves answer new
+  pub begins : BeginsAtDesk old session out.call key (op_of_number number value other) reply moves answer new
   pub shown : ShowsFirstAnswer answer reply moves out
 
 pub record HitsForC (old : DeskState) (session : ℕ) (key : Bytes) (out : InlineValue) (new : DeskState) : Type 0 where
@@ -58,8 +55,8 @@ pub record CommitsForC (old : DeskState) (number : ℕ) (answers : Out) (out : P
   pub commits : CommitsAtDesk old number answers reply moves commit new
   pub shown : ShowsDone commit.place commit.shared reply moves out
 
-abbrev pub join_of : ℕ → ℕ → Bytes → ℕ → JoinClaim
-join_of session call key load = record { caller = record { session = session; call = call }; key = key; load = load }
+abbrev pub join_named : ℕ → ℕ → Bytes → ℕ → JoinClaim
+join_named session call key load = record { caller = record { session = session; call = call }; key = key; load = load }
 
 pub record PicksUpForC (old : DeskState) (join : JoinClaim) (out : PhaseOut) (new : DeskState) : Type 0 where
   pub reply : Reply

@@ -4,19 +4,21 @@
 --     takes_no_value      an operation, by its number, that has no value of its own
 --     takes_value         an operation, by its number, that has one
 --     op_fits             the number is that of an operation, and the values that it has fit
---     op_number           an operation's number
---     op_values           an operation's values are those that were passed
---     IsOp                an operation, by its number and its values
---     load_answer         what a loader answered, by its number, its code and its value
+--     op_of_number        the operation with this number and these values, of those that it has
+--     load_of_number         what a loader answered, by its number, its code and its value
 --     load_number_fits    a number of a loader's answer, if it was asked
---     write_answer        what a writer answered, by its number and its code
+--     write_of_number        what a writer answered, by its number and its code
 --     write_number_fits   a number of a writer's answer, if it was asked
 --     effect_of_number    what a processor did to the entry, by its number and its value
---     outcome_in          what a processor returned, if it did
+--     read_outcome          what a processor returned, if it did
 --     process_answer_of   what a processor did, by its number, its code, and the value that it set and the one that it returned
 --     effect_number_fits  a number of what a processor did
---     processed_fits      what is said of a processor's call fits: its numbers, and its values, the outcome if there is one
+--     read_process          what a processor did
+--     process_fits        what is said of it fits: its number, and its values, the outcome if there is one
+--     answers_beside      what the loader and the writer answered, beside a processor that did this
+--     others_fit          what is said of these fits: their numbers, and the loaded value
 --     processor_out       what the loader, the processor and the writer answered
+--     processed_fits      all this fits
 --     entry_fits          these bytes may be an entry
 use Rattle.std.specs.Prelude.{◌≡◌, ◌==◌, ◌&&◌, ◌||◌, ℕ, List, length, Bool, true, false, not, nat_le, nat_lt, Option, None, Some, if◌then◌else◌}
 use Rattle.jc_types.specs.declared.limits.TheConstants.{KEY_MAX, VALUE_MAX}
@@ -57,55 +59,26 @@ takes_value n = (n == JC_PUT) || (n == JC_GET_AND_PUT) || (n == JC_PUT_IF_ABSENT
 abbrev pub op_fits : ℕ → Bytes → Bytes → Bool
 op_fits n value other = takes_no_value n || (takes_value n && value_fits value) || ((n == JC_REPLACE_IF) && value_fits value && value_fits other)
 
-abbrev pub op_number : Op → ℕ
-op_number op.Get = JC_GET
-op_number op.ContainsKey = JC_CONTAINS_KEY
-op_number (op.Put value) = JC_PUT
-op_number (op.GetAndPut value) = JC_GET_AND_PUT
-op_number (op.PutIfAbsent value) = JC_PUT_IF_ABSENT
-op_number op.Remove = JC_REMOVE
-op_number (op.RemoveIf old) = JC_REMOVE_IF
-op_number op.GetAndRemove = JC_GET_AND_REMOVE
-op_number (op.Replace value) = JC_REPLACE
-op_number (op.ReplaceIf old new) = JC_REPLACE_IF
-op_number (op.GetAndReplace value) = JC_GET_AND_REPLACE
-op_number op.Clear = JC_CLEAR_KEY
-op_number (op.LoadAll false) = JC_LOAD
-op_number (op.LoadAll true) = JC_RELOAD
-op_number op.Invoke = JC_INVOKE
-
--- an operation's values are those that were passed
-abbrev pub op_values : Op → Bytes → Bytes → Type 0
-op_values op.Get value other = Unit {0}
-op_values op.ContainsKey value other = Unit {0}
-op_values (op.Put v) value other = v ≡ value
-op_values (op.GetAndPut v) value other = v ≡ value
-op_values (op.PutIfAbsent v) value other = v ≡ value
-op_values op.Remove value other = Unit {0}
-op_values (op.RemoveIf old) value other = old ≡ value
-op_values op.GetAndRemove value other = Unit {0}
-op_values (op.Replace v) value other = v ≡ value
-op_values (op.ReplaceIf old new) value other = (old ≡ value) × (new ≡ other)
-op_values (op.GetAndReplace v) value other = v ≡ value
-op_values op.Clear value other = Unit {0}
-op_values (op.LoadAll replace) value other = Unit {0}
-op_values op.Invoke value other = Unit {0}
-
-pub record IsOp (number : ℕ) (value other : Bytes) (called : Op) : Type 0 where
-  pub number_is : op_number called ≡ number
-  pub values : op_values called value other
+abbrev pub op_of_number : ℕ → Bytes → Bytes → Op
+op_of_number n value other =
+    if n == JC_GET then op.Get else (if n == JC_CONTAINS_KEY then op.ContainsKey else (if n == JC_PUT then op.Put value
+    else (if n == JC_GET_AND_PUT then op.GetAndPut value else (if n == JC_PUT_IF_ABSENT then op.PutIfAbsent value
+    else (if n == JC_REMOVE then op.Remove else (if n == JC_REMOVE_IF then op.RemoveIf value else (if n == JC_GET_AND_REMOVE then op.GetAndRemove
+    else (if n == JC_REPLACE then op.Replace value else (if n == JC_REPLACE_IF then op.ReplaceIf value other
+    else (if n == JC_GET_AND_REPLACE then op.GetAndReplace value else (if n == JC_CLEAR_KEY then op.Clear
+    else (if n == JC_LOAD then op.LoadAll false else (if n == JC_RELOAD then op.LoadAll true else op.Invoke)))))))))))))
 
 -- 3. What the loader, the writer and the processor answered.
 
-abbrev pub load_answer : ℕ → ℕ → Bytes → LoadAnswer
-load_answer n code value =
+abbrev pub load_of_number : ℕ → ℕ → Bytes → LoadAnswer
+load_of_number n code value =
     if n == JC_FOUND then load.Found value else (if n == JC_NOTHING then load.Nothing else (if n == JC_FAILED then load.Failed code else load.NotAsked))
 
 abbrev pub load_number_fits : ℕ → Bool
 load_number_fits n = (n == JC_FOUND) || (n == JC_NOTHING) || (n == JC_FAILED)
 
-abbrev pub write_answer : ℕ → ℕ → WriteAnswer
-write_answer n code = if n == JC_WRITTEN then write.Done else (if n == JC_FAILED then write.Failed code else write.NotAsked)
+abbrev pub write_of_number : ℕ → ℕ → WriteAnswer
+write_of_number n code = if n == JC_WRITTEN then write.Done else (if n == JC_FAILED then write.Failed code else write.NotAsked)
 
 abbrev pub write_number_fits : ℕ → Bool
 write_number_fits n = (n == JC_WRITTEN) || (n == JC_FAILED)
@@ -113,9 +86,9 @@ write_number_fits n = (n == JC_WRITTEN) || (n == JC_FAILED)
 abbrev pub effect_of_number : ℕ → Bytes → Effect
 effect_of_number n set = if n == JC_SET then effect.Set set else (if n == JC_TAKE_OUT then effect.Remove else effect.Keep)
 
-abbrev pub outcome_in : Bool → Bytes → Option Bytes
-outcome_in false outcome = None
-outcome_in true outcome = Some outcome
+abbrev pub read_outcome : Bool → Bytes → Option Bytes
+read_outcome false outcome = None
+read_outcome true outcome = Some outcome
 
 abbrev pub process_answer_of : ℕ → ℕ → Bytes → Option Bytes → ProcessAnswer
 process_answer_of n code set outcome = if n == JC_PROCESS_FAILED then process.Failed code else process.Ended (effect_of_number n set) outcome
@@ -123,19 +96,23 @@ process_answer_of n code set outcome = if n == JC_PROCESS_FAILED then process.Fa
 abbrev pub effect_number_fits : ℕ → Bool
 effect_number_fits n = (n == JC_KEEP) || (n == JC_SET) || (n == JC_TAKE_OUT) || (n == JC_PROCESS_FAILED)
 
-abbrev pub processed_fits : ProcessorAnswers → Bool
-processed_fits p =
-    ((p.load == JC_NOT_ASKED) || load_number_fits p.load) && is_inline_value p.loaded
-    && ((p.write == JC_NOT_ASKED) || write_number_fits p.write)
-    && effect_number_fits p.effect && is_inline_value p.set && (not p.has_outcome || is_inline_value p.outcome)
+abbrev pub read_process : ProcessorAnswers → ProcessAnswer
+read_process p = process_answer_of p.effect p.code (inline_value p.set) (read_outcome p.has_outcome (inline_value p.outcome))
+
+abbrev pub process_fits : ProcessorAnswers → Bool
+process_fits p = is_inline_value p.set && (not p.has_outcome || is_inline_value p.outcome) && effect_number_fits p.effect
+
+abbrev pub answers_beside : ProcessorAnswers → ProcessAnswer → Out
+answers_beside p process = record { load = load_of_number p.load p.load_code (inline_value p.loaded); write = write_of_number p.write p.write_code; process = process }
+
+abbrev pub others_fit : ProcessorAnswers → Bool
+others_fit p = is_inline_value p.loaded && ((p.load == JC_NOT_ASKED) || load_number_fits p.load) && ((p.write == JC_NOT_ASKED) || write_number_fits p.write)
 
 abbrev pub processor_out : ProcessorAnswers → Out
-processor_out p =
-    record {
-      load = load_answer p.load p.load_code (inline_value p.loaded);
-      write = write_answer p.write p.write_code;
-      process = process_answer_of p.effect p.code (inline_value p.set) (outcome_in p.has_outcome (inline_value p.outcome));
-    }
+processor_out p = answers_beside p (read_process p)
+
+abbrev pub processed_fits : ProcessorAnswers → Bool
+processed_fits p = process_fits p && others_fit p
 
 -- 4. Entries.
 

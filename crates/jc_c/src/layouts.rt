@@ -4,7 +4,7 @@ ghost use Rattle.jc_c.specs.Layouts.{inline_value, is_inline_value, inline_key, 
 ghost use Rattle.jc_c.specs.Requests.{entry_fits};
 
 use crate::replies::show_value;
-use crate::requests::{key_of, value_of};
+use crate::requests::{read_key, read_value};
 use jc_types::{KEY_MAX, Key, VALUE_MAX, Value};
 
 /// `jc_shape`: the shape of the cache that a desk's stripe is of.
@@ -127,6 +127,41 @@ pub struct CountsOut {
     pub evictions: u64,
 }
 
+/// `jc_flat_event`: an event of a history. Of an eviction only `kind`, `key` and `cause` count; of a step those values that its operation,
+/// its answers and its reply have.
+#[repr(C)]
+#[derive(Drop)]
+pub struct FlatEvent {
+    /// Whether it is a step or an eviction (`jc_event_kind`).
+    pub kind: u32,
+    /// The session of the step's call.
+    pub session: u32,
+    /// The call's number.
+    pub call: u64,
+    /// What was called (`jc_op`).
+    pub op: u32,
+    /// Whether the step shares the load of another one.
+    pub is_shared: bool,
+    /// The place of that one.
+    pub shared_with: u32,
+    /// The step's reply (`jc_reply`).
+    pub reply: u32,
+    /// The code of a reply that is a fault.
+    pub reply_code: u32,
+    /// Why the entry was evicted (`jc_cause`).
+    pub cause: u32,
+    /// The key of the step, or of the entry that was evicted.
+    pub key: InlineKey,
+    /// The operation's value, or the one that it expects.
+    pub value: InlineValue,
+    /// The new value of a `JC_REPLACE_IF`.
+    pub other: InlineValue,
+    /// The value of the reply.
+    pub replied: InlineValue,
+    /// What was answered outside; `effect` is `JC_NOT_RUN` if no processor ran.
+    pub outside: ProcessorAnswers,
+}
+
 impl InlineValue {
     /// The value, unless more bytes are to count than it may have.
     pub(crate) fn value(&self) -> Option<Value>
@@ -137,7 +172,7 @@ impl InlineValue {
         if VALUE_MAX < len {
             return None;
         }
-        value_of(&self.bytes[..len])
+        read_value(&self.bytes[..len])
     }
 }
 
@@ -151,7 +186,7 @@ impl InlineKey {
         if KEY_MAX < len {
             return None;
         }
-        key_of(&self.bytes[..len])
+        read_key(&self.bytes[..len])
     }
 
     /// Writes a key.

@@ -10,6 +10,7 @@
 #![tactic(auto)]
 
 pub mod codes;
+mod events;
 mod handle;
 mod layouts;
 mod looking;
@@ -18,9 +19,11 @@ mod phases;
 mod replies;
 mod requests;
 
+pub use events::{jc_event, jc_legal};
 pub use handle::Handle;
 pub use layouts::{
-    CacheShape, CountsOut, InlineEntry, InlineKey, InlineValue, PhaseOut, ProcessorAnswers,
+    CacheShape, CountsOut, FlatEvent, InlineEntry, InlineKey, InlineValue, PhaseOut,
+    ProcessorAnswers,
 };
 pub use looking::{jc_end_generation, jc_entries, jc_events_len, jc_peek, jc_statistics_of};
 pub use opening::{jc_close, jc_open};

@@ -8,13 +8,13 @@ ghost use Rattle.jc_stripe.specs.Renewal.{Renews, can_renew};
 ghost use Rattle.jc_c.specs.declared.codes.TheConstants.{JC_OK, JC_WRONG_HANDLE, JC_NO_MEMORY, JC_NONE, JC_IN_USE};
 ghost use Rattle.jc_c.specs.Layouts.{inline_value};
 ghost use Rattle.jc_c.specs.Requests.{key_fits};
-ghost use Rattle.jc_c.specs.Exports.{code_of, counts_written, ListsEntries};
+ghost use Rattle.jc_c.specs.Exports.{export_code, counts_written, ListsEntries};
 
 use crate::codes::{JC_BAD_ARGUMENT, JC_IN_USE, JC_NO_MEMORY, JC_NONE, JC_OK, JC_WRONG_HANDLE};
 use crate::handle::Handle;
 use crate::layouts::{CountsOut, InlineEntry, InlineValue};
 use crate::replies::show_value;
-use crate::requests::key_of;
+use crate::requests::read_key;
 use jc_parcel::Loose;
 use jc_types::{Key, Value};
 use std::alloc::Global;
@@ -22,14 +22,14 @@ use std::alloc::Global;
 /// The key's value. No call is made, and the order of use stays. `JC_NONE` says that it has no entry.
 #[unsafe(no_mangle)]
 pub extern "C" fn jc_peek(h: &mut Handle, alloc: Global, key: &[u8], out: &mut InlineValue) -> u32
-    ensures code { result ≡ code_of h.old.is_open (key_fits key.now) (is_some (entry_at h.old.desk.stripe.cache key.now)) JC_NONE }
+    ensures code { result ≡ export_code h.old.is_open (key_fits key.now) (is_some (entry_at h.old.desk.stripe.cache key.now)) JC_NONE }
     ensures peeked { result ≡ JC_OK → entry_at h.old.desk.stripe.cache key.now ≡ Some (inline_value out.new) }
     ensures same { (h.new.is_open ≡ h.old.is_open) × (h.new.desk ≡ h.old.desk) }
 {
     if !h.is_open() {
         return JC_WRONG_HANDLE;
     }
-    let Some(key) = key_of(key) else {
+    let Some(key) = read_key(key) else {
         return JC_BAD_ARGUMENT;
     };
     let desk = h.take(alloc).into_box();
@@ -47,7 +47,7 @@ pub extern "C" fn jc_peek(h: &mut Handle, alloc: Global, key: &[u8], out: &mut I
 /// What the events of all generations count (JSR 107, `CacheStatisticsMXBean`). It reads no event.
 #[unsafe(no_mangle)]
 pub extern "C" fn jc_statistics_of(h: &mut Handle, alloc: Global, out: &mut CountsOut) -> u32
-    ensures code { result ≡ code_of h.old.is_open true true JC_OK }
+    ensures code { result ≡ export_code h.old.is_open true true JC_OK }
     ensures counted { result ≡ JC_OK → out.new ≡ counts_written (statistics_of (all_occurrences h.old.desk.stripe)) }
     ensures same { (h.new.is_open ≡ h.old.is_open) × (h.new.desk ≡ h.old.desk) }
 {
@@ -66,7 +66,7 @@ pub extern "C" fn jc_statistics_of(h: &mut Handle, alloc: Global, out: &mut Coun
 }
 
 /// Writes the entries in their order, as far as there is room.
-fn write_entries(entries: &[(Key, Value)], out: &mut [InlineEntry])
+fn list_entries(entries: &[(Key, Value)], out: &mut [InlineEntry])
     ensures { ListsEntries entries.now out.old out.new }
 {
     let shown = entries.len().min(out.len());
@@ -101,7 +101,7 @@ pub extern "C" fn jc_entries(
         return JC_NO_MEMORY;
     }
     *count = entries.len();
-    write_entries(&entries, out);
+    list_entries(&entries, out);
     JC_OK
 }
 
@@ -123,7 +123,7 @@ pub extern "C" fn jc_events_len(h: &mut Handle, alloc: Global) -> usize
 /// Ends the present generation. `JC_IN_USE` says that it has no event, or that an answer is parked for a joiner; then nothing was done.
 #[unsafe(no_mangle)]
 pub extern "C" fn jc_end_generation(h: &mut Handle, alloc: Global) -> u32
-    ensures code { result ≡ code_of h.old.is_open true (can_renew h.old.desk.stripe) JC_IN_USE }
+    ensures code { result ≡ export_code h.old.is_open true (can_renew h.old.desk.stripe) JC_IN_USE }
     ensures ended { result ≡ JC_OK → Renews h.old.desk.stripe h.new.desk.stripe }
     ensures refused { (result ≡ JC_OK) ⊎ (h.new.desk ≡ h.old.desk) }
     ensures is_open { h.new.is_open ≡ h.old.is_open }

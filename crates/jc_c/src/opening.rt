@@ -6,7 +6,7 @@ ghost use Rattle.jc_stripe.specs.DeskState.{opened_desk, nothing_is_out};
 ghost use Rattle.jc_c.specs.declared.codes.TheConstants.{JC_OK, JC_WRONG_HANDLE, JC_NO_MEMORY, JC_BAD_ARGUMENT, JC_IN_USE};
 ghost use Rattle.jc_c.specs.Layouts.{inline_entries, config_of};
 ghost use Rattle.jc_c.specs.Requests.{entry_fits};
-ghost use Rattle.jc_c.specs.Exports.{code_of, opens_fit};
+ghost use Rattle.jc_c.specs.Exports.{export_code, opens_fit};
 
 use crate::codes::{JC_BAD_ARGUMENT, JC_IN_USE, JC_NO_MEMORY, JC_OK, JC_WRONG_HANDLE};
 use crate::handle::Handle;
@@ -28,14 +28,17 @@ fn entry_fits(entry: &InlineEntry) -> bool
 }
 
 /// Whether each may be an entry.
-fn entries_fit(entries: &[InlineEntry]) -> bool
+pub(crate) fn entries_fit(entries: &[InlineEntry]) -> bool
     ensures { result ≡ list_all entry_fits entries.now }
 {
     entries.iter().all(|entry| entry_fits(entry))
 }
 
 /// The entries that C gives. An `Err` says that an allocation failed.
-fn contents_of(alloc: Global, entries: &[InlineEntry]) -> Result<Vec<(Key, Value)>, AllocError>
+pub(crate) fn contents_of(
+    alloc: Global,
+    entries: &[InlineEntry],
+) -> Result<Vec<(Key, Value)>, AllocError>
     requires { list_all entry_fits entries.now ≡ true }
     ensures { IfOk result (λ list. list.items ≡ inline_entries entries.now) }
 {
@@ -47,7 +50,7 @@ fn contents_of(alloc: Global, entries: &[InlineEntry]) -> Result<Vec<(Key, Value
 }
 
 /// The shape of a cache.
-fn config_of(shape: &CacheShape) -> Config
+pub(crate) fn config_of(shape: &CacheShape) -> Config
     ensures { result ≡ config_of shape.now }
 {
     Config {
@@ -104,7 +107,7 @@ pub extern "C" fn jc_open(
 /// Frees the desk. `JC_IN_USE` says that a ticket or a join is out; then it stays open.
 #[unsafe(no_mangle)]
 pub extern "C" fn jc_close(h: &mut Handle, alloc: Global) -> u32
-    ensures code { result ≡ code_of h.old.is_open true (nothing_is_out h.old.desk.stripe) JC_IN_USE }
+    ensures code { result ≡ export_code h.old.is_open true (nothing_is_out h.old.desk.stripe) JC_IN_USE }
     ensures shut { result ≡ JC_OK → h.new.is_open ≡ false }
     ensures refused { (result ≡ JC_OK) ⊎ ((h.new.is_open ≡ h.old.is_open) × (h.new.desk ≡ h.old.desk)) }
 {

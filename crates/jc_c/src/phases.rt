@@ -4,14 +4,14 @@ ghost use Rattle.jc_model.specs.Group.{load_only, write_only};
 ghost use Rattle.jc_stripe.specs.DeskState.{may_call_next};
 ghost use Rattle.jc_stripe.specs.DeskPhases.{WithdrawsAtDesk, StaysOrRenewsFull, hits_next, takes_load, takes_write, takes_process, ticket_of, is_join_out};
 ghost use Rattle.jc_c.specs.declared.codes.TheConstants.{JC_OK, JC_MISUSE, JC_NONE};
-ghost use Rattle.jc_c.specs.Requests.{key_fits, value_fits, op_fits, load_answer, load_number_fits, write_answer, write_number_fits, processor_out, processed_fits};
-ghost use Rattle.jc_c.specs.Exports.{code_of, join_of, BeginsForC, CommitsForC, PicksUpForC, HitsForC};
+ghost use Rattle.jc_c.specs.Requests.{key_fits, value_fits, op_fits, load_of_number, load_number_fits, write_of_number, write_number_fits, processor_out, processed_fits};
+ghost use Rattle.jc_c.specs.Exports.{export_code, join_named, BeginsForC, CommitsForC, PicksUpForC, HitsForC};
 
 use crate::codes::{JC_BAD_ARGUMENT, JC_MISUSE, JC_NONE, JC_OK, JC_WRONG_HANDLE};
 use crate::handle::Handle;
 use crate::layouts::{InlineValue, PhaseOut, ProcessorAnswers};
 use crate::replies::{show_asked, show_done, show_picked, show_value};
-use crate::requests::{answers_of, key_of, load_of, op_of, value_of, write_of};
+use crate::requests::{read_answers, read_key, read_load, read_op, read_value, read_write};
 use jc_model::Reply;
 use jc_parcel::Loose;
 use jc_stripe::ValueMoves;
@@ -31,7 +31,7 @@ pub extern "C" fn jc_begin(
     other: &[u8],
     out: &mut PhaseOut,
 ) -> u32
-    ensures code { result ≡ code_of h.old.is_open (key_fits key.now && op_fits op value.now other.now)
+    ensures code { result ≡ export_code h.old.is_open (key_fits key.now && op_fits op value.now other.now)
         (may_call_next h.old.desk session key.now) JC_MISUSE }
     ensures begins { result ≡ JC_OK → BeginsForC h.old.desk session op key.now value.now other.now out.new h.new.desk }
     ensures refused { (result ≡ JC_OK) ⊎ (h.new.desk ≡ h.old.desk) }
@@ -40,10 +40,10 @@ pub extern "C" fn jc_begin(
     if !h.is_open() {
         return JC_WRONG_HANDLE;
     }
-    let Some(key) = key_of(key) else {
+    let Some(key) = read_key(key) else {
         return JC_BAD_ARGUMENT;
     };
-    let Some(op) = op_of(op, value, other) else {
+    let Some(op) = read_op(op, value, other) else {
         return JC_BAD_ARGUMENT;
     };
     let mut reply = Reply::Unit;
@@ -65,7 +65,7 @@ pub extern "C" fn jc_hit(
     key: &[u8],
     out: &mut InlineValue,
 ) -> u32
-    ensures code { result ≡ code_of h.old.is_open (key_fits key.now) (hits_next h.old.desk session key.now) JC_NONE }
+    ensures code { result ≡ export_code h.old.is_open (key_fits key.now) (hits_next h.old.desk session key.now) JC_NONE }
     ensures hit { result ≡ JC_OK → HitsForC h.old.desk session key.now out.new h.new.desk }
     ensures none { (result ≡ JC_OK) ⊎ ((out.new ≡ out.old) × StaysOrRenewsFull h.old.desk h.new.desk) }
     ensures is_open { h.new.is_open ≡ h.old.is_open }
@@ -73,7 +73,7 @@ pub extern "C" fn jc_hit(
     if !h.is_open() {
         return JC_WRONG_HANDLE;
     }
-    let Some(key) = key_of(key) else {
+    let Some(key) = read_key(key) else {
         return JC_BAD_ARGUMENT;
     };
     let mut value = Value::default();
@@ -101,19 +101,19 @@ pub extern "C" fn jc_commit_load(
     value: &[u8],
     out: &mut PhaseOut,
 ) -> u32
-    ensures code { result ≡ code_of h.old.is_open (value_fits value.now && load_number_fits answer)
-        (takes_load h.old.desk.stripe number (load_answer answer code value.now)) JC_MISUSE }
-    ensures commits { result ≡ JC_OK → CommitsForC h.old.desk number (load_only (load_answer answer code value.now)) out.new h.new.desk }
+    ensures code { result ≡ export_code h.old.is_open (value_fits value.now && load_number_fits answer)
+        (takes_load h.old.desk.stripe number (load_of_number answer code value.now)) JC_MISUSE }
+    ensures commits { result ≡ JC_OK → CommitsForC h.old.desk number (load_only (load_of_number answer code value.now)) out.new h.new.desk }
     ensures refused { (result ≡ JC_OK) ⊎ (h.new.desk ≡ h.old.desk) }
     ensures is_open { h.new.is_open ≡ h.old.is_open }
 {
     if !h.is_open() {
         return JC_WRONG_HANDLE;
     }
-    let Some(value) = value_of(value) else {
+    let Some(value) = read_value(value) else {
         return JC_BAD_ARGUMENT;
     };
-    let Some(answer) = load_of(answer, code, &value) else {
+    let Some(answer) = read_load(answer, code, &value) else {
         return JC_BAD_ARGUMENT;
     };
     let mut reply = Reply::Unit;
@@ -139,16 +139,16 @@ pub extern "C" fn jc_commit_write(
     code: u32,
     out: &mut PhaseOut,
 ) -> u32
-    ensures code { result ≡ code_of h.old.is_open (write_number_fits answer)
-        (takes_write h.old.desk.stripe number (write_answer answer code)) JC_MISUSE }
-    ensures commits { result ≡ JC_OK → CommitsForC h.old.desk number (write_only (write_answer answer code)) out.new h.new.desk }
+    ensures code { result ≡ export_code h.old.is_open (write_number_fits answer)
+        (takes_write h.old.desk.stripe number (write_of_number answer code)) JC_MISUSE }
+    ensures commits { result ≡ JC_OK → CommitsForC h.old.desk number (write_only (write_of_number answer code)) out.new h.new.desk }
     ensures refused { (result ≡ JC_OK) ⊎ (h.new.desk ≡ h.old.desk) }
     ensures is_open { h.new.is_open ≡ h.old.is_open }
 {
     if !h.is_open() {
         return JC_WRONG_HANDLE;
     }
-    let Some(answer) = write_of(answer, code) else {
+    let Some(answer) = read_write(answer, code) else {
         return JC_BAD_ARGUMENT;
     };
     let mut reply = Reply::Unit;
@@ -174,7 +174,7 @@ pub extern "C" fn jc_commit_process(
     processed: &ProcessorAnswers,
     out: &mut PhaseOut,
 ) -> u32
-    ensures code { result ≡ code_of h.old.is_open (processed_fits processed.now)
+    ensures code { result ≡ export_code h.old.is_open (processed_fits processed.now)
         (takes_process h.old.desk.stripe number (processor_out processed.now)) JC_MISUSE }
     ensures commits { result ≡ JC_OK → CommitsForC h.old.desk number (processor_out processed.now) out.new h.new.desk }
     ensures refused { (result ≡ JC_OK) ⊎ (h.new.desk ≡ h.old.desk) }
@@ -183,7 +183,7 @@ pub extern "C" fn jc_commit_process(
     if !h.is_open() {
         return JC_WRONG_HANDLE;
     }
-    let Some(said) = answers_of(processed) else {
+    let Some(said) = read_answers(processed) else {
         return JC_BAD_ARGUMENT;
     };
     let mut reply = Reply::Unit;
@@ -208,7 +208,7 @@ pub extern "C" fn jc_commit_process(
 /// Gives a ticket back whose loader, writer or processor was not asked. `JC_MISUSE` says that no ticket with this number is out.
 #[unsafe(no_mangle)]
 pub extern "C" fn jc_withdraw(h: &mut Handle, alloc: Global, number: u64) -> u32
-    ensures code { result ≡ code_of h.old.is_open true (is_some (ticket_of h.old.desk.stripe number)) JC_MISUSE }
+    ensures code { result ≡ export_code h.old.is_open true (is_some (ticket_of h.old.desk.stripe number)) JC_MISUSE }
     ensures withdraws { result ≡ JC_OK → WithdrawsAtDesk h.old.desk number h.new.desk }
     ensures refused { (result ≡ JC_OK) ⊎ (h.new.desk ≡ h.old.desk) }
     ensures is_open { h.new.is_open ≡ h.old.is_open }
@@ -233,16 +233,16 @@ pub extern "C" fn jc_pick_up(
     load: u64,
     out: &mut PhaseOut,
 ) -> u32
-    ensures code { result ≡ code_of h.old.is_open (key_fits key.now)
-        (is_join_out h.old.desk.stripe (join_of session call key.now load)) JC_MISUSE }
-    ensures picks_up { result ≡ JC_OK → PicksUpForC h.old.desk (join_of session call key.now load) out.new h.new.desk }
+    ensures code { result ≡ export_code h.old.is_open (key_fits key.now)
+        (is_join_out h.old.desk.stripe (join_named session call key.now load)) JC_MISUSE }
+    ensures picks_up { result ≡ JC_OK → PicksUpForC h.old.desk (join_named session call key.now load) out.new h.new.desk }
     ensures refused { (result ≡ JC_OK) ⊎ (h.new.desk ≡ h.old.desk) }
     ensures is_open { h.new.is_open ≡ h.old.is_open }
 {
     if !h.is_open() {
         return JC_WRONG_HANDLE;
     }
-    let Some(key) = key_of(key) else {
+    let Some(key) = read_key(key) else {
         return JC_BAD_ARGUMENT;
     };
     let mut reply = Reply::Unit;

@@ -59,7 +59,7 @@ fn show_fault(fault: &Refusal, number: &mut u32, code: &mut u32)
 }
 
 /// A reply.
-fn show_reply(reply: &Reply, number: &mut u32, code: &mut u32, out: &mut InlineValue)
+pub(crate) fn show_reply(reply: &Reply, number: &mut u32, code: &mut u32, out: &mut InlineValue)
     ensures { ShowsReply reply.now number.new code.new out.new }
 {
     match reply {

@@ -1,6 +1,6 @@
 use Rattle.std.proofs.Common.{◌≡◌, map, take, drop, length}
 use Rattle.jc_c.specs.Layouts.{inline_entry}
-use Rattle.jc_c.proofs.looking.write_entries.Given as goal
+use Rattle.jc_c.proofs.looking.list_entries.Given as goal
 
 abbrev pub invariant-loop-place : goal.invariant-loop-place
 invariant-loop-place l = record {
