@@ -1,15 +1,15 @@
 -- Events of a history, as flat structs.
---     read_cause            why an entry was evicted, by its number
---     process_if_run       what a processor did, if one ran
---     read_outside           what was answered outside for a step
---     shared_in           the place of the step whose load is shared, if it is
---     ShowsEvent          an event, by the fields of a struct that count of it
---     read_reply            a reply, by its number, its code and its value
---     read_step             the step at this key that a struct says
---     read_event            the event that a struct says
---     outside_fits        what is said of the outside answers of a step fits
---     step_fits           what is said of a step fits
---     event_fits          what is said of an event fits
+--     read_cause        why an entry was evicted, by its number
+--     process_if_run    what a processor did, if one ran
+--     read_outside      what was answered outside for a step
+--     shared_in         the place of the step whose load is shared, if it is
+--     ShowsEvent        an event, by the fields of a struct that count of it
+--     read_reply        a reply, by its number, its code and its value
+--     read_step         the step at this key that a struct says
+--     read_event        the event that a struct says
+--     outside_fits      what is said of the outside answers of a step fits
+--     step_fits         what is said of a step fits
+--     event_fits        what is said of an event fits
 use Rattle.std.specs.Prelude.{◌≡◌, ◌==◌, ◌&&◌, ◌||◌, ℕ, Bool, true, false, nat_le, Option, None, Some, if◌then◌else◌}
 use Rattle.jc_types.specs.declared.refusal.Refusal.TheVariants as refusal
 use Rattle.jc_model.specs.declared.event.Cause.{Cause}

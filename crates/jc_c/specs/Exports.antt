@@ -1,14 +1,14 @@
 -- What each export answers, does to its desk, and writes.
---     export_code                  the code of a call: the handle isn't open; an argument doesn't fit; the desk doesn't take the call, and says so
---                              by this code; or the call is made
---     BeginsForC               the first phase of the operation that its number and its values name
---     CommitsForC              the last phase of the reservation with this number, with these outside answers
---     HitsForC                 a get that found its entry
---     join_named                  the join of this call, at this key, of this load
---     PicksUpForC              a joiner was told
---     counts_written           what was counted
---     opens_fit                what a desk is to open with fits
---     ListsEntries             these entries are written in their order, as far as there is room, and what is behind them stays
+--     export_code       the code of a call: the handle isn't open; an argument doesn't fit; the desk doesn't take the call, and says so by
+--                       this code; or the call is made
+--     BeginsForC        the first phase of the operation that its number and its values name
+--     CommitsForC       the last phase of the reservation with this number, with these outside answers
+--     HitsForC          a get that found its entry
+--     join_named        the join of this call, at this key, of this load
+--     PicksUpForC       a joiner was told
+--     counts_written    what was counted
+--     opens_fit         what a desk is to open with fits
+--     ListsEntries      these entries are written in their order, as far as there is room, and what is behind them stays
 use Rattle.std.specs.Prelude.{◌≡◌, ◌&&◌, ℕ, List, map, take, drop, length, Bool, if◌then◌else◌}
 use Rattle.std.specs.List.{list_all}
 use Rattle.jc_model.specs.declared.event.Out.{Out}

@@ -1,25 +1,25 @@
 -- What C says, as words of a stripe, and whether it fits.
---     key_fits            these bytes may be a key
---     value_fits          these bytes may be a value
---     takes_no_value      an operation, by its number, that has no value of its own
---     takes_value         an operation, by its number, that has one
---     op_fits             the number is that of an operation, and the values that it has fit
---     op_of_number        the operation with this number and these values, of those that it has
---     load_of_number         what a loader answered, by its number, its code and its value
---     load_number_fits    a number of a loader's answer, if it was asked
---     write_of_number        what a writer answered, by its number and its code
---     write_number_fits   a number of a writer's answer, if it was asked
---     effect_of_number    what a processor did to the entry, by its number and its value
+--     key_fits              these bytes may be a key
+--     value_fits            these bytes may be a value
+--     takes_no_value        an operation, by its number, that has no value of its own
+--     takes_value           an operation, by its number, that has one
+--     op_fits               the number is that of an operation, and the values that it has fit
+--     op_of_number          the operation with this number and these values, of those that it has
+--     load_of_number        what a loader answered, by its number, its code and its value
+--     load_number_fits      a number of a loader's answer, if it was asked
+--     write_of_number       what a writer answered, by its number and its code
+--     write_number_fits     a number of a writer's answer, if it was asked
+--     effect_of_number      what a processor did to the entry, by its number and its value
 --     read_outcome          what a processor returned, if it did
---     process_answer_of   what a processor did, by its number, its code, and the value that it set and the one that it returned
---     effect_number_fits  a number of what a processor did
+--     process_answer_of     what a processor did, by its number, its code, and the value that it set and the one that it returned
+--     effect_number_fits    a number of what a processor did
 --     read_process          what a processor did
---     process_fits        what is said of it fits: its number, and its values, the outcome if there is one
---     answers_beside      what the loader and the writer answered, beside a processor that did this
---     others_fit          what is said of these fits: their numbers, and the loaded value
---     processor_out       what the loader, the processor and the writer answered
---     processed_fits      all this fits
---     entry_fits          these bytes may be an entry
+--     process_fits          what is said of it fits: its number, and its values, the outcome if there is one
+--     answers_beside        what the loader and the writer answered, beside a processor that did this
+--     others_fit            what is said of these fits: their numbers, and the loaded value
+--     processor_out         what the loader, the processor and the writer answered
+--     processed_fits        all this fits
+--     entry_fits            these bytes may be an entry
 use Rattle.std.specs.Prelude.{◌≡◌, ◌==◌, ◌&&◌, ◌||◌, ℕ, List, length, Bool, true, false, not, nat_le, nat_lt, Option, None, Some, if◌then◌else◌}
 use Rattle.jc_types.specs.declared.limits.TheConstants.{KEY_MAX, VALUE_MAX}
 use Rattle.jc_model.specs.declared.event.Op.{Op}
