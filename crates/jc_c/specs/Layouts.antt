@@ -6,7 +6,7 @@
 --     inline_entry       an inline entry
 --     inline_entries     inline entries, in their order
 --     config_of          the shape of a cache
-use Rattle.std.specs.Prelude.{ℕ, ◌&&◌, List, map, take, Bool, nat_le, nat_lt}
+use Rattle.std.specs.Prelude.{◌&&◌, List, map, take, Bool, nat_le, nat_lt}
 use Rattle.jc_types.specs.declared.config.Config.{Config}
 use Rattle.jc_types.specs.declared.limits.TheConstants.{KEY_MAX, VALUE_MAX}
 use Rattle.jc_model.specs.Cache.{Bytes}

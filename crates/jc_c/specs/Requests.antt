@@ -20,7 +20,7 @@
 --     processor_out         what the loader, the processor and the writer answered
 --     processed_fits        all this fits
 --     entry_fits            these bytes may be an entry
-use Rattle.std.specs.Prelude.{◌≡◌, ◌==◌, ◌&&◌, ◌||◌, ℕ, List, length, Bool, true, false, not, nat_le, nat_lt, Option, None, Some, if◌then◌else◌}
+use Rattle.std.specs.Prelude.{◌==◌, ◌&&◌, ◌||◌, ℕ, length, Bool, true, false, not, nat_le, nat_lt, Option, None, Some, if◌then◌else◌}
 use Rattle.jc_types.specs.declared.limits.TheConstants.{KEY_MAX, VALUE_MAX}
 use Rattle.jc_model.specs.declared.event.Op.{Op}
 use Rattle.jc_model.specs.declared.event.Op.TheVariants as op

@@ -1,4 +1,4 @@
-use Rattle.std.proofs.Common.{◌≡◌, ap, ◌∙◌}
+use Rattle.std.proofs.Common.{ap, ◌∙◌}
 use Rattle.jc_model.specs.Cache.{Bytes}
 use Rattle.jc_c.specs.Requests.{op_of_number}
 use Rattle.jc_c.proofs.requests.read_op.Goals as goal
