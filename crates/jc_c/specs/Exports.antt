@@ -1,76 +1,78 @@
--- What each export does to its desk, and what it tells.
+-- What each export answers, does to its desk, and writes.
+--     export_code       the code of a call: the handle isn't open; an argument doesn't fit; the desk doesn't take the call, and says so by
+--                       this code; or the call is made
 --     BeginsForC        the first phase of the operation that its number and its values name
---     Committed    the last phase of the reservation with this number
---     PicksUpForC     a joiner was told
-use Rattle.std.specs.Prelude.{◌≡◌, ℕ, Option, None, Some}
-use Rattle.jc_types.specs.declared.caller.Caller.{Caller}
-use Rattle.jc_model.specs.declared.event.Op.{Op}
+--     CommitsForC       the last phase of the reservation with this number, with these outside answers
+--     HitsForC          a get that found its entry
+--     join_named        the join of this call, at this key, of this load
+--     PicksUpForC       a joiner was told
+--     counts_written    what was counted
+--     opens_fit         what a desk is to open with fits
+--     ListsEntries      these entries are written in their order, as far as there is room, and what is behind them stays
+use Rattle.std.specs.Prelude.{◌≡◌, ◌&&◌, ℕ, List, map, take, drop, length, Bool, if◌then◌else◌}
+use Rattle.std.specs.List.{list_all}
 use Rattle.jc_model.specs.declared.event.Out.{Out}
-use Rattle.jc_model.specs.declared.event.LoadAnswer.{LoadAnswer}
-use Rattle.jc_model.specs.declared.event.WriteAnswer.{WriteAnswer}
-use Rattle.jc_model.specs.declared.event.ProcessAnswer.{ProcessAnswer}
 use Rattle.jc_model.specs.declared.event.Reply.{Reply}
+use Rattle.jc_model.specs.declared.statistics.Statistics.{Statistics}
 use Rattle.jc_model.specs.Cache.{Bytes}
-use Rattle.jc_model.specs.Group.{load_only, write_only}
 use Rattle.jc_stripe.specs.Tickets.{JoinClaim}
 use Rattle.jc_stripe.specs.declared.desk.answers.FirstAnswer.{FirstAnswer}
 use Rattle.jc_stripe.specs.declared.desk.answers.CommitDone.{CommitDone}
 use Rattle.jc_stripe.specs.declared.desk.answers.PickUpAnswer.{PickUpAnswer}
 use Rattle.jc_stripe.specs.ValuesMoved.{MovesMade}
-use Rattle.jc_stripe.specs.DeskState.{DeskState}
+use Rattle.jc_stripe.specs.DeskState.{DeskState, is_open_shape, are_contents}
 use Rattle.jc_stripe.specs.DeskPhases.{BeginsAtDesk, HitsAtDesk, CommitsAtDesk, PicksUpAtDesk}
-use Rattle.jc_model.specs.declared.statistics.Statistics.{Statistics}
+use Rattle.jc_c.specs.declared.codes.TheConstants.{JC_OK, JC_WRONG_HANDLE, JC_BAD_ARGUMENT}
 use Rattle.jc_c.specs.declared.layouts.PhaseOut.{PhaseOut}
+use Rattle.jc_c.specs.declared.layouts.CacheShape.{CacheShape}
+use Rattle.jc_c.specs.declared.layouts.InlineEntry.{InlineEntry}
 use Rattle.jc_c.specs.declared.layouts.InlineValue.{InlineValue}
-use Rattle.jc_c.specs.declared.layouts.ProcessorAnswers.{ProcessorAnswers}
 use Rattle.jc_c.specs.declared.layouts.CountsOut.{CountsOut}
-use Rattle.jc_c.specs.Layouts.{inline_value, IsOp, IsLoadAnswer, IsWriteAnswer, IsProcessAnswer}
+use Rattle.jc_c.specs.Layouts.{inline_value, inline_entry, inline_entries, config_of}
+use Rattle.jc_c.specs.Requests.{op_of_number, entry_fits}
 use Rattle.jc_c.specs.Replies.{ShowsFirstAnswer, ShowsDone, ShowsPickUp}
 
+abbrev pub export_code : Bool → Bool → Bool → ℕ → ℕ
+export_code is_open fits takes other = if is_open then (if fits then (if takes then JC_OK else other) else JC_BAD_ARGUMENT) else JC_WRONG_HANDLE
+
+-- 1. Phases.
+
 pub record BeginsForC (old : DeskState) (session number : ℕ) (key value other : Bytes) (out : PhaseOut) (new : DeskState) : Type 0 where
-  pub op : Op
   pub reply : Reply
   pub moves : MovesMade
-  pub asked : FirstAnswer
-  pub op_is : IsOp number value other op
-  pub says : BeginsAtDesk old session out.call key op reply moves asked new
-  pub shown : ShowsFirstAnswer asked reply moves out
-
-pub record CommitsForC (old : DeskState) (number : ℕ) (said : Out) (out : PhaseOut) (new : DeskState) : Type 0 where
-  pub reply : Reply
-  pub moves : MovesMade
-  pub done : CommitDone
-  pub commits : CommitsAtDesk old number said reply moves done new
-  pub shown : ShowsDone done.place done.shared reply moves out
-
-pub record CommitsLoadForC (old : DeskState) (number kind code : ℕ) (value : Bytes) (out : PhaseOut) (new : DeskState) : Type 0 where
-  pub answer : LoadAnswer
-  pub answer_is : IsLoadAnswer kind code value answer
-  pub ends : CommitsForC old number (load_only answer) out new
-
-pub record CommitsWriteForC (old : DeskState) (number kind code : ℕ) (out : PhaseOut) (new : DeskState) : Type 0 where
-  pub answer : WriteAnswer
-  pub answer_is : IsWriteAnswer kind code answer
-  pub ends : CommitsForC old number (write_only answer) out new
-
-pub record CommitsProcessForC (old : DeskState) (number : ℕ) (p : ProcessorAnswers) (out : PhaseOut) (new : DeskState) : Type 0 where
-  pub load : LoadAnswer
-  pub write : WriteAnswer
-  pub process : ProcessAnswer
-  pub load_is : IsLoadAnswer p.load p.load_code (inline_value p.loaded) load
-  pub write_is : IsWriteAnswer p.write p.write_code write
-  pub process_is : IsProcessAnswer p process
-  pub ends : CommitsForC old number (record { load = load; write = write; process = process }) out new
+  pub answer : FirstAnswer
+  pub begins : BeginsAtDesk old session out.call key (op_of_number number value other) reply moves answer new
+  pub shown : ShowsFirstAnswer answer reply moves out
 
 pub record HitsForC (old : DeskState) (session : ℕ) (key : Bytes) (out : InlineValue) (new : DeskState) : Type 0 where
   pub call : ℕ
   pub hits : HitsAtDesk old session key (inline_value out) call new
 
-abbrev pub counts_written : Statistics → CountsOut
-counts_written counts = record { hits = counts.hits; misses = counts.misses; puts = counts.puts; removals = counts.removals; evictions = counts.evictions }
+pub record CommitsForC (old : DeskState) (number : ℕ) (answers : Out) (out : PhaseOut) (new : DeskState) : Type 0 where
+  pub reply : Reply
+  pub moves : MovesMade
+  pub commit : CommitDone
+  pub commits : CommitsAtDesk old number answers reply moves commit new
+  pub shown : ShowsDone commit.place commit.shared reply moves out
+
+abbrev pub join_named : ℕ → ℕ → Bytes → ℕ → JoinClaim
+join_named session call key load = record { caller = record { session = session; call = call }; key = key; load = load }
 
 pub record PicksUpForC (old : DeskState) (join : JoinClaim) (out : PhaseOut) (new : DeskState) : Type 0 where
   pub reply : Reply
-  pub picked : PickUpAnswer
-  pub picks_up : PicksUpAtDesk old join reply picked new
-  pub shown : ShowsPickUp picked reply out
+  pub answer : PickUpAnswer
+  pub picks_up : PicksUpAtDesk old join reply answer new
+  pub shown : ShowsPickUp answer reply out
+
+-- 2. What a desk has.
+
+abbrev pub counts_written : Statistics → CountsOut
+counts_written counts = record { hits = counts.hits; misses = counts.misses; puts = counts.puts; removals = counts.removals; evictions = counts.evictions }
+
+abbrev pub opens_fit : CacheShape → ℕ → List InlineEntry → Bool
+opens_fit shape number entries =
+    list_all entry_fits entries && is_open_shape (config_of shape) number && are_contents (config_of shape) number (inline_entries entries)
+
+pub record ListsEntries (entries : List (Bytes × Bytes)) (old new : List InlineEntry) : Type 0 where
+  pub written : map inline_entry (take (length entries) new) ≡ take (length new) entries
+  pub stays : drop (length entries) new ≡ drop (length entries) old

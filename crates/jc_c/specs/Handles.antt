@@ -1,4 +1,5 @@
--- What an open handle owns: the box of its desk.
+-- What a handle owns.
+--     handle_owns    an open one the box of its desk, at its pointer; one that isn't open nothing
 use Rattle.std.specs.Prelude.{Bool, true, false}
 use base.Fml.{Fml, ftrue}
 use denote.RawPtr.{Ptr}

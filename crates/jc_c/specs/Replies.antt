@@ -10,12 +10,11 @@
 --     refusal_number      a refusal, by its number
 --     ShowsFirstAnswer    what a first phase gave
 --     ShowsPickUp         what a joiner was told
-use Rattle.std.specs.Prelude.{◌≡◌, ◌+◌, ℕ, Bool, true, false, Option, None, Some, is_some, if◌then◌else◌}
+use Rattle.std.specs.Prelude.{◌≡◌, ◌+◌, ℕ, true, false, Option, None, Some, is_some, if◌then◌else◌}
 use Rattle.jc_types.specs.declared.refusal.Refusal.{Refusal}
 use Rattle.jc_types.specs.declared.refusal.Refusal.TheVariants as refusal
 use Rattle.jc_model.specs.declared.event.Cause.{Cause}
 use Rattle.jc_model.specs.declared.event.Cause.TheVariants as cause
-use Rattle.jc_model.specs.declared.event.Change.{Change}
 use Rattle.jc_model.specs.declared.event.Change.TheVariants as change
 use Rattle.jc_model.specs.declared.event.Reply.{Reply}
 use Rattle.jc_model.specs.declared.event.Reply.TheVariants as reply

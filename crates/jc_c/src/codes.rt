@@ -127,3 +127,15 @@ pub const JC_SET: u32 = 1;
 pub const JC_TAKE_OUT: u32 = 2;
 /// The processor failed, with a code.
 pub const JC_PROCESS_FAILED: u32 = 3;
+/// No processor ran: of an event alone.
+pub const JC_NOT_RUN: u32 = 4;
+
+/// An event that is a step.
+pub const JC_STEP: u32 = 0;
+/// An event that is an eviction.
+pub const JC_EVICTION: u32 = 1;
+
+/// The stripe held as many entries as it may.
+pub const JC_FOR_ROOM: u32 = 0;
+/// An allocation for the entry failed.
+pub const JC_FOR_MEMORY: u32 = 1;

@@ -9,7 +9,7 @@ use jc_stripe::Desk;
 use std::alloc::Global;
 use std::marker::Model;
 
-/// A handle of a desk. One that is not open has only zeros.
+/// `jc_desk`: a handle of a desk, which C keeps. It begins as all zeros. While it is open it owns the desk's box, and isn't copied.
 #[repr(C)]
 #[derive(Drop)]
 pub struct Handle {

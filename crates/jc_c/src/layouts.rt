@@ -1,119 +1,192 @@
 //! What crosses to C.
-ghost use Rattle.std.specs.Prelude.{◌≡◌, IfSome};
-ghost use Rattle.jc_c.specs.Layouts.{inline_value, inline_key};
+ghost use Rattle.std.specs.Prelude.{◌≡◌, true, is_some, IfSome};
+ghost use Rattle.jc_c.specs.Layouts.{inline_value, is_inline_value, inline_key, is_inline_key, inline_entry};
+ghost use Rattle.jc_c.specs.Requests.{entry_fits};
 
+use crate::replies::show_value;
+use crate::requests::{read_key, read_value};
 use jc_types::{KEY_MAX, Key, VALUE_MAX, Value};
 
-/// The shape of a cache.
+/// `jc_shape`: the shape of the cache that a desk's stripe is of.
 #[repr(C)]
 #[derive(Drop)]
 pub struct CacheShape {
+    /// How many stripes the cache has.
     pub stripes: usize,
+    /// How many entries the stripe keeps.
     pub capacity: usize,
+    /// How many events a generation has room for.
     pub history: usize,
+    /// Whether a `get` of a missing key asks the loader.
     pub read_through: bool,
+    /// Whether a mutation is written first.
     pub write_through: bool,
+    /// Whether a full generation waits until its events are taken.
     pub keeps_events: bool,
 }
 
-/// A value inline.
+/// `jc_value`: a value. Only as many bytes as `len` says count, and only they are written.
 #[repr(C)]
 #[derive(Drop)]
 pub struct InlineValue {
+    /// How many of the bytes count.
     pub len: u32,
+    /// The bytes.
     pub bytes: [u8; VALUE_MAX],
 }
 
-/// A key inline.
+/// `jc_key`: a key. Only as many bytes as `len` says count, and only they are written.
 #[repr(C)]
 #[derive(Drop)]
 pub struct InlineKey {
+    /// How many of the bytes count.
     pub len: u32,
+    /// The bytes.
     pub bytes: [u8; KEY_MAX],
 }
 
-/// An entry.
+/// `jc_entry`: a key with its value.
 #[repr(C)]
 #[derive(Drop)]
 pub struct InlineEntry {
+    /// The key.
     pub key: InlineKey,
+    /// The value.
     pub value: InlineValue,
 }
 
-/// What a phase says.
+/// `jc_out`: what a phase says. Only the fields that `next` and `reply` speak of are written; the others stay as they were.
 #[repr(C)]
 #[derive(Drop)]
 pub struct PhaseOut {
+    /// What the host does next (`jc_next`).
     pub next: u32,
+    /// The reply (`jc_reply`), or the refusal (`jc_refusal`).
     pub reply: u32,
+    /// The code of a failed loader, writer or processor; of a processor to run, whether its key may be loaded.
     pub code: u32,
+    /// The place of the step in the present generation.
     pub place: u32,
+    /// How many joiners have the answer parked.
     pub shared: u32,
+    /// Which values came and went: a sum of `jc_moves`.
     pub moves: u32,
+    /// The ticket, or the load that was joined.
     pub number: u64,
+    /// The call's number.
     pub call: u64,
+    /// The value of the reply, or the one to write, or the entry to process.
     pub value: InlineValue,
+    /// The value that the key's entry lost.
     pub left: InlineValue,
+    /// The key whose entry was evicted for the step.
     pub victim: InlineKey,
+    /// The value that it had.
     pub evicted: InlineValue,
 }
 
-/// What a processor did.
+/// `jc_processed`: what a processor did, and what its loader and its writer answered.
 #[repr(C)]
 #[derive(Drop)]
 pub struct ProcessorAnswers {
+    /// What the loader answered (`jc_answer`).
     pub load: u32,
+    /// Its code, if it failed.
     pub load_code: u32,
+    /// What the processor did to the entry (`jc_effect`).
     pub effect: u32,
+    /// The code of a processor that failed.
     pub code: u32,
+    /// What the writer answered (`jc_answer`).
     pub write: u32,
+    /// Its code, if it failed.
     pub write_code: u32,
+    /// Whether the processor returned a value.
     pub has_outcome: bool,
+    /// The value that was loaded.
     pub loaded: InlineValue,
+    /// The value that the processor set.
     pub set: InlineValue,
+    /// The value that it returned.
     pub outcome: InlineValue,
 }
 
-/// What was counted.
+/// `jc_statistics`: what was counted (JSR 107, `CacheStatisticsMXBean`).
 #[repr(C)]
 #[derive(Drop)]
 pub struct CountsOut {
+    /// `CacheHits`.
     pub hits: u64,
+    /// `CacheMisses`.
     pub misses: u64,
+    /// `CachePuts`.
     pub puts: u64,
+    /// `CacheRemovals`.
     pub removals: u64,
+    /// `CacheEvictions`.
     pub evictions: u64,
 }
 
+/// `jc_flat_event`: an event of a history. Of an eviction only `kind`, `key` and `cause` count; of a step those values that its operation,
+/// its answers and its reply have.
+#[repr(C)]
+#[derive(Drop)]
+pub struct FlatEvent {
+    /// Whether it is a step or an eviction (`jc_event_kind`).
+    pub kind: u32,
+    /// The session of the step's call.
+    pub session: u32,
+    /// The call's number.
+    pub call: u64,
+    /// What was called (`jc_op`).
+    pub op: u32,
+    /// Whether the step shares the load of another one.
+    pub is_shared: bool,
+    /// The place of that one.
+    pub shared_with: u32,
+    /// The step's reply (`jc_reply`).
+    pub reply: u32,
+    /// The code of a reply that is a fault.
+    pub reply_code: u32,
+    /// Why the entry was evicted (`jc_cause`).
+    pub cause: u32,
+    /// The key of the step, or of the entry that was evicted.
+    pub key: InlineKey,
+    /// The operation's value, or the one that it expects.
+    pub value: InlineValue,
+    /// The new value of a `JC_REPLACE_IF`.
+    pub other: InlineValue,
+    /// The value of the reply.
+    pub replied: InlineValue,
+    /// What was answered outside; `effect` is `JC_NOT_RUN` if no processor ran.
+    pub outside: ProcessorAnswers,
+}
+
 impl InlineValue {
-    /// The value, unless it is too long.
+    /// The value, unless more bytes are to count than it may have.
     pub(crate) fn value(&self) -> Option<Value>
-        ensures { IfSome result (λ value. value ≡ inline_value self.now) }
+        ensures fits { is_some result ≡ is_inline_value self.now }
+        ensures value { IfSome result (λ value. value ≡ inline_value self.now) }
     {
         let len = self.len as usize;
         if VALUE_MAX < len {
             return None;
         }
-        match Value::new(&self.bytes[..len]) {
-            Ok(value) => Some(value),
-            Err(_) => None,
-        }
+        read_value(&self.bytes[..len])
     }
 }
 
 impl InlineKey {
-    /// The key, unless it is empty or too long.
+    /// The key, unless it is empty, or more bytes are to count than it may have.
     pub(crate) fn key(&self) -> Option<Key>
-        ensures { IfSome result (λ key. key ≡ inline_key self.now) }
+        ensures fits { is_some result ≡ is_inline_key self.now }
+        ensures key { IfSome result (λ key. key ≡ inline_key self.now) }
     {
         let len = self.len as usize;
         if KEY_MAX < len {
             return None;
         }
-        match Key::new(&self.bytes[..len]) {
-            Ok(key) => Some(key),
-            Err(_) => None,
-        }
+        read_key(&self.bytes[..len])
     }
 
     /// Writes a key.
@@ -123,5 +196,28 @@ impl InlineKey {
         let bytes = key.bytes();
         self.bytes[..bytes.len()].copy_from_slice(bytes);
         self.len = bytes.len() as u32;
+    }
+}
+
+impl InlineEntry {
+    /// The entry.
+    ///
+    /// Condition: its key and its value fit.
+    pub(crate) fn entry(&self) -> (Key, Value)
+        requires { entry_fits self.now ≡ true }
+        ensures { result ≡ inline_entry self.now }
+    {
+        match (self.key.key(), self.value.value()) {
+            (Some(key), Some(value)) => (key, value),
+            _ => unreachable!(),
+        }
+    }
+
+    /// Writes an entry.
+    pub(crate) fn set(&mut self, entry: &(Key, Value))
+        ensures { inline_entry self.new ≡ entry.now }
+    {
+        self.key.set(&entry.0);
+        show_value(&entry.1, &mut self.value);
     }
 }

@@ -1,7 +1,6 @@
 //! What is told to C.
-ghost use Rattle.std.specs.Prelude.{◌≡◌, ◌≤◌, ◌⊎◌};
-ghost use Rattle.jc_stripe.specs.declared.desk.answers.FirstAnswer.TheVariants as first_answer;
-ghost use Rattle.jc_stripe.specs.declared.desk.answers.PickUpAnswer.TheVariants as pick_up_answer;
+ghost use Rattle.std.specs.Prelude.{◌≡◌, ◌≤◌, if◌then◌else◌};
+ghost use Rattle.jc_stripe.specs.DeskPhases.{is_first_misuse, is_pick_up_misuse};
 ghost use Rattle.jc_c.specs.declared.codes.TheConstants.{JC_OK, JC_MISUSE, JC_OWN_EVICTED_MEMORY};
 ghost use Rattle.jc_c.specs.Layouts.{inline_value};
 ghost use Rattle.jc_c.specs.Replies.{ShowsFault, ShowsReply, ShowsMoves, own_number, ShowsDone, ShowsFirst, refusal_number, ShowsFirstAnswer, ShowsPickUp};
@@ -60,7 +59,7 @@ fn show_fault(fault: &Refusal, number: &mut u32, code: &mut u32)
 }
 
 /// A reply.
-fn show_reply(reply: &Reply, number: &mut u32, code: &mut u32, out: &mut InlineValue)
+pub(crate) fn show_reply(reply: &Reply, number: &mut u32, code: &mut u32, out: &mut InlineValue)
     ensures { ShowsReply reply.now number.new code.new out.new }
 {
     match reply {
@@ -202,7 +201,7 @@ pub(crate) fn show_asked(
 ) -> u32
     ensures shown { result ≡ JC_OK → ShowsFirstAnswer asked.now reply.now moves.now out.new }
     ensures call { out.new.call ≡ out.old.call }
-    ensures misuse { (result ≡ JC_OK) ⊎ ((result ≡ JC_MISUSE) × (asked.now ≡ first_answer.Misuse)) }
+    ensures code { result ≡ (if is_first_misuse asked.now then JC_MISUSE else JC_OK) }
 {
     out.moves = 0;
     match asked {
@@ -234,7 +233,7 @@ pub(crate) fn show_asked(
 /// What a joiner was told.
 pub(crate) fn show_picked(picked: &PickUpAnswer, reply: &Reply, out: &mut PhaseOut) -> u32
     ensures shown { result ≡ JC_OK → ShowsPickUp picked.now reply.now out.new }
-    ensures misuse { (result ≡ JC_OK) ⊎ ((result ≡ JC_MISUSE) × (picked.now ≡ pick_up_answer.Misuse)) }
+    ensures code { result ≡ (if is_pick_up_misuse picked.now then JC_MISUSE else JC_OK) }
 {
     out.moves = 0;
     match picked {

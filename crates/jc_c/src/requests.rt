@@ -1,20 +1,35 @@
-//! What C says, as words of the stripe.
-ghost use Rattle.std.specs.Prelude.{◌≡◌, ◌⊎◌, IfSome};
-ghost use Rattle.jc_c.specs.Layouts.{IsOp, IsLoadAnswer, IsWriteAnswer, IsProcessAnswer};
+//! What C says, as words of a stripe.
+ghost use Rattle.std.specs.Prelude.{◌≡◌, ◌==◌, ◌||◌, not, is_some, IfSome};
+ghost use Rattle.jc_c.specs.declared.codes.TheConstants.{JC_NOT_ASKED};
+ghost use Rattle.jc_model.specs.Cache.{Bytes};
+ghost use Rattle.jc_c.specs.Layouts.{inline_value, is_inline_value};
+ghost use Rattle.jc_c.specs.Requests.{key_fits, value_fits, takes_no_value, takes_value, op_fits, op_of_number, load_of_number, load_number_fits, write_of_number, write_number_fits, effect_number_fits, process_answer_of, read_outcome, read_process, process_fits, answers_beside, others_fit, processor_out, processed_fits};
 
 use crate::codes::{
     JC_CLEAR_KEY, JC_CONTAINS_KEY, JC_FAILED, JC_FOUND, JC_GET, JC_GET_AND_PUT, JC_GET_AND_REMOVE,
-    JC_GET_AND_REPLACE, JC_INVOKE, JC_KEEP, JC_LOAD, JC_NOTHING, JC_PROCESS_FAILED, JC_PUT,
-    JC_PUT_IF_ABSENT, JC_RELOAD, JC_REMOVE, JC_REMOVE_IF, JC_REPLACE, JC_REPLACE_IF, JC_SET,
-    JC_TAKE_OUT, JC_WRITTEN,
+    JC_GET_AND_REPLACE, JC_INVOKE, JC_KEEP, JC_LOAD, JC_NOT_ASKED, JC_NOTHING, JC_PROCESS_FAILED,
+    JC_PUT, JC_PUT_IF_ABSENT, JC_RELOAD, JC_REMOVE, JC_REMOVE_IF, JC_REPLACE, JC_REPLACE_IF,
+    JC_SET, JC_TAKE_OUT, JC_WRITTEN,
 };
 use crate::layouts::ProcessorAnswers;
-use jc_model::{Effect, LoadAnswer, Op, ProcessAnswer, WriteAnswer};
-use jc_types::Value;
+use jc_model::{Effect, LoadAnswer, Op, Out, ProcessAnswer, WriteAnswer};
+use jc_types::{Key, Value};
 
-/// The value of these bytes, unless they are too many.
-fn value_of(bytes: &[u8]) -> Option<Value>
-    ensures { IfSome result (λ value. value ≡ bytes.now) }
+/// The key of these bytes, unless there is none, or there are too many.
+pub(crate) fn read_key(bytes: &[u8]) -> Option<Key>
+    ensures fits { is_some result ≡ key_fits bytes.now }
+    ensures key { IfSome result (λ key. key ≡ bytes.now) }
+{
+    match Key::new(bytes) {
+        Ok(key) => Some(key),
+        Err(_) => None,
+    }
+}
+
+/// The value of these bytes, unless there are too many.
+pub(crate) fn read_value(bytes: &[u8]) -> Option<Value>
+    ensures fits { is_some result ≡ value_fits bytes.now }
+    ensures value { IfSome result (λ value. value ≡ bytes.now) }
 {
     match Value::new(bytes) {
         Ok(value) => Some(value),
@@ -22,25 +37,16 @@ fn value_of(bytes: &[u8]) -> Option<Value>
     }
 }
 
-/// What is called, by its number. Values that the operation hasn't aren't looked at.
-pub(crate) fn op_of(op: u32, value: &[u8], other: &[u8]) -> Option<Op>
-    ensures { IfSome result (λ called. IsOp op value.now other.now called) }
+/// What is called that has no value of its own, by its number.
+fn op_without_value(op: u32) -> Option<Op>
+    ensures fits { is_some result ≡ takes_no_value op }
+    ensures op { IfSome result (λ called. (value : Bytes) (other : Bytes) → called ≡ op_of_number op value other) }
 {
     match op {
         JC_GET => Some(Op::Get),
         JC_CONTAINS_KEY => Some(Op::ContainsKey),
-        JC_PUT => Some(Op::Put(value_of(value)?)),
-        JC_GET_AND_PUT => Some(Op::GetAndPut(value_of(value)?)),
-        JC_PUT_IF_ABSENT => Some(Op::PutIfAbsent(value_of(value)?)),
         JC_REMOVE => Some(Op::Remove),
-        JC_REMOVE_IF => Some(Op::RemoveIf(value_of(value)?)),
         JC_GET_AND_REMOVE => Some(Op::GetAndRemove),
-        JC_REPLACE => Some(Op::Replace(value_of(value)?)),
-        JC_REPLACE_IF => Some(Op::ReplaceIf {
-            old: value_of(value)?,
-            new: value_of(other)?,
-        }),
-        JC_GET_AND_REPLACE => Some(Op::GetAndReplace(value_of(value)?)),
         JC_CLEAR_KEY => Some(Op::Clear),
         JC_LOAD => Some(Op::LoadAll { replace: false }),
         JC_RELOAD => Some(Op::LoadAll { replace: true }),
@@ -49,9 +55,45 @@ pub(crate) fn op_of(op: u32, value: &[u8], other: &[u8]) -> Option<Op>
     }
 }
 
-/// What the loader answered, by its number.
-pub(crate) fn load_of(answer: u32, code: u32, value: &Value) -> Option<LoadAnswer>
-    ensures { IfSome result (λ given. IsLoadAnswer answer code value.now given) }
+/// What is called that has one value, by its number.
+fn op_with_value(op: u32, value: &Value) -> Option<Op>
+    ensures fits { is_some result ≡ takes_value op }
+    ensures op { IfSome result (λ called. (other : Bytes) → called ≡ op_of_number op value.now other) }
+{
+    match op {
+        JC_PUT => Some(Op::Put(*value)),
+        JC_GET_AND_PUT => Some(Op::GetAndPut(*value)),
+        JC_PUT_IF_ABSENT => Some(Op::PutIfAbsent(*value)),
+        JC_REMOVE_IF => Some(Op::RemoveIf(*value)),
+        JC_REPLACE => Some(Op::Replace(*value)),
+        JC_GET_AND_REPLACE => Some(Op::GetAndReplace(*value)),
+        _ => None,
+    }
+}
+
+/// What is called, by its number. Values that the operation hasn't aren't looked at.
+pub(crate) fn read_op(op: u32, value: &[u8], other: &[u8]) -> Option<Op>
+    ensures fits { is_some result ≡ op_fits op value.now other.now }
+    ensures op { IfSome result (λ called. called ≡ op_of_number op value.now other.now) }
+{
+    if let Some(called) = op_without_value(op) {
+        return Some(called);
+    }
+    let old = read_value(value)?;
+    if let Some(called) = op_with_value(op, &old) {
+        return Some(called);
+    }
+    if op != JC_REPLACE_IF {
+        return None;
+    }
+    let new = read_value(other)?;
+    Some(Op::ReplaceIf { old, new })
+}
+
+/// What the loader answered, by its number, if it was asked.
+pub(crate) fn read_load(answer: u32, code: u32, value: &Value) -> Option<LoadAnswer>
+    ensures fits { is_some result ≡ load_number_fits answer }
+    ensures answer { IfSome result (λ given. given ≡ load_of_number answer code value.now) }
 {
     match answer {
         JC_FOUND => Some(LoadAnswer::Found(*value)),
@@ -61,9 +103,10 @@ pub(crate) fn load_of(answer: u32, code: u32, value: &Value) -> Option<LoadAnswe
     }
 }
 
-/// What the writer answered, by its number.
-pub(crate) fn write_of(answer: u32, code: u32) -> Option<WriteAnswer>
-    ensures { IfSome result (λ given. IsWriteAnswer answer code given) }
+/// What the writer answered, by its number, if it was asked.
+pub(crate) fn read_write(answer: u32, code: u32) -> Option<WriteAnswer>
+    ensures fits { is_some result ≡ write_number_fits answer }
+    ensures answer { IfSome result (λ given. given ≡ write_of_number answer code) }
 {
     match answer {
         JC_WRITTEN => Some(WriteAnswer::Done),
@@ -72,17 +115,34 @@ pub(crate) fn write_of(answer: u32, code: u32) -> Option<WriteAnswer>
     }
 }
 
-/// What the processor did.
-pub(crate) fn effect_of(processed: &ProcessorAnswers) -> Option<ProcessAnswer>
-    ensures { IfSome result (λ given. IsProcessAnswer processed.now given) }
+/// What the loader answered, or that it wasn't asked.
+fn load_if_asked(answer: u32, code: u32, value: &Value) -> Option<LoadAnswer>
+    ensures fits { is_some result ≡ ((answer == JC_NOT_ASKED) || load_number_fits answer) }
+    ensures answer { IfSome result (λ given. given ≡ load_of_number answer code value.now) }
 {
-    let set = processed.set.value()?;
-    let outcome = if processed.has_outcome {
-        Some(processed.outcome.value()?)
-    } else {
-        None
-    };
-    match processed.effect {
+    if answer == JC_NOT_ASKED {
+        return Some(LoadAnswer::NotAsked);
+    }
+    read_load(answer, code, value)
+}
+
+/// What the writer answered, or that it wasn't asked.
+fn write_if_asked(answer: u32, code: u32) -> Option<WriteAnswer>
+    ensures fits { is_some result ≡ ((answer == JC_NOT_ASKED) || write_number_fits answer) }
+    ensures answer { IfSome result (λ given. given ≡ write_of_number answer code) }
+{
+    if answer == JC_NOT_ASKED {
+        return Some(WriteAnswer::NotAsked);
+    }
+    read_write(answer, code)
+}
+
+/// What the processor did to the entry, by its number and the value that it set, and what it returned.
+fn read_effect(number: u32, code: u32, set: Value, outcome: Option<Value>) -> Option<ProcessAnswer>
+    ensures fits { is_some result ≡ effect_number_fits number }
+    ensures answer { IfSome result (λ given. given ≡ process_answer_of number code set outcome) }
+{
+    match number {
         JC_KEEP => Some(ProcessAnswer::Ended {
             effect: Effect::Keep,
             outcome,
@@ -95,7 +155,53 @@ pub(crate) fn effect_of(processed: &ProcessorAnswers) -> Option<ProcessAnswer>
             effect: Effect::Remove,
             outcome,
         }),
-        JC_PROCESS_FAILED => Some(ProcessAnswer::Failed(processed.code)),
+        JC_PROCESS_FAILED => Some(ProcessAnswer::Failed(code)),
         _ => None,
     }
+}
+
+/// What the processor returned, if it did.
+fn read_outcome(processed: &ProcessorAnswers) -> Option<Option<Value>>
+    ensures fits { is_some result ≡ (not processed.now.has_outcome || is_inline_value processed.now.outcome) }
+    ensures outcome { IfSome result (λ outcome. outcome ≡ read_outcome processed.now.has_outcome (inline_value processed.now.outcome)) }
+{
+    if !processed.has_outcome {
+        return Some(None);
+    }
+    Some(Some(processed.outcome.value()?))
+}
+
+/// What the processor did.
+pub(crate) fn read_process(processed: &ProcessorAnswers) -> Option<ProcessAnswer>
+    ensures fits { is_some result ≡ process_fits processed.now }
+    ensures answer { IfSome result (λ given. given ≡ read_process processed.now) }
+{
+    let set = processed.set.value()?;
+    let outcome = read_outcome(processed)?;
+    read_effect(processed.effect, processed.code, set, outcome)
+}
+
+/// What the loader and the writer answered, beside a processor that did this.
+pub(crate) fn answers_beside(processed: &ProcessorAnswers, process: ProcessAnswer) -> Option<Out>
+    ensures fits { is_some result ≡ others_fit processed.now }
+    ensures answers { IfSome result (λ out. out ≡ answers_beside processed.now process) }
+{
+    let loaded = processed.loaded.value()?;
+    let load = load_if_asked(processed.load, processed.load_code, &loaded)?;
+    let write = write_if_asked(processed.write, processed.write_code)?;
+    Some(Out {
+        load,
+        write,
+        process,
+    })
+}
+
+/// What the loader, the processor and the writer answered.
+pub(crate) fn read_answers(processed: &ProcessorAnswers) -> Option<Out>
+    ensures fits { is_some result ≡ processed_fits processed.now }
+    ensures answers { IfSome result (λ out. out ≡ processor_out processed.now) }
+{
+    let _types: Option<(Effect, Value)> = None;
+    let process = read_process(processed)?;
+    answers_beside(processed, process)
 }

@@ -1,4 +1,4 @@
-//! A box as its pointer.
+//! A box as its pointer, for a program in another language that keeps it meanwhile.
 #![tactic(auto)]
 
 ghost use Rattle.std.specs.Prelude.{◌≡◌};
@@ -7,7 +7,8 @@ ghost use Rattle.std_alloc.specs.Box.Ownership.{box_owns};
 use std::alloc::Allocator;
 use std::marker::Model;
 
-/// A box as its pointer, with its allocator.
+/// A box as its pointer, with its allocator. It can't be dropped: it ends by being made a box again, or taken apart by whoever keeps its
+/// pointer.
 pub struct Loose<T, A: Allocator> {
     /// Where the value is.
     pub at: *mut T,

@@ -1,8 +1,8 @@
 -- `put` opens the handle over a loose box.
-use Rattle.jc_c.proofs.Steps.{List, [], ◌∷◌, ◌≡◌, refl, sym, ap, ◌∙◌, full_share, id⊢, ftrue, flft, named, Val, vunit, tables, ‵, raw, prop, ◌⊛◌, ◌$◌, ◌∵◌, !, qed, done, move, keep, drop, split, join, fsplit, fsplit3, fjoin, feq_i, feq_l, rewrite, regoal, suffices, frame, group, enter, of_opd, unit_lit, load, stop, fld, assigns, returns, alloc_all, pass_all, free_all, look_at, get, through, sets, shows, Ptr, RawPtr, block_ptr, in_a_block, MutRef, mut_vals, mut_Tells, plain, nothing, opens, closes, peeks, bool, yes, Stays, walk_of, says, stay_ref, stay_dropped, Goes-ref, Goes-dropped, ends_at}
+use Rattle.jc_c.proofs.Steps.{List, [], ◌∷◌, ◌≡◌, refl, full_share, ftrue, flft, named, Val, vunit, tables, ‵, prop, ◌⊛◌, ◌$◌, ◌∵◌, !, qed, done, move, keep, drop, split, join, fsplit, fsplit3, fjoin, feq_i, feq_l, rewrite, regoal, suffices, frame, group, enter, of_opd, unit_lit, stop, fld, assigns, returns, alloc_all, pass_all, free_all, look_at, get, through, sets, shows, Ptr, RawPtr, block_ptr, in_a_block, MutRef, mut_vals, mut_Tells, plain, nothing, opens, closes, peeks, bool, yes, Stays, walk_of, says, stay_ref, stay_dropped, Goes-ref, Goes-dropped, ends_at}
 use Rattle.std.proofs.Common.{◌++◌, subst}
 use Rattle.std.proofs.raw_atomic.Walks.{proved_at}
-use Rattle.std.specs.Prelude.{Bool, true, false}
+use Rattle.std.specs.Prelude.{true}
 use prog.Wp.{WpFn}
 use mir.Val.{vptr, vbool, vstruct, vcons, vnil, of_list}
 use mir.Raw.{raw as bare}
@@ -11,7 +11,7 @@ use types.Logic.{sem}
 use types.Kit.{fpack, fpick}
 use types.Run.{true_lit}
 use types.ByLocal.{get_in}
-use types.Part.{whole, sub, look_in, store_in}
+use types.Part.{whole, sub, store_in}
 use denote.Laws.{Is}
 use denote.RattleType.{RattleType, Valss}
 use denote.RawPtr.{null_ptr, ptr_val}

@@ -1,5 +1,5 @@
 -- `take` shuts the handle, and its box is loose again.
-use Rattle.jc_c.proofs.Steps.{List, [], ◌∷◌, ◌≡◌, refl, sym, ap, ◌∙◌, proved, full_share, id⊢, ftrue, flft, named, Val, tables, ‵, raw, ◌⊛◌, ◌$◌, ◌∵◌, !, qed, done, move, keep, drop, use1, split, join, fsplit, fsplit3, fjoin, feq_i, rewrite, suffices, frame, group, enter, of_opd, load, stop, fld, no_more, and_then, assigns, returns, alloc_all, pass_all, free_all, look_at, get, through, sets, shows, Ptr, RawPtr, block_ptr, in_a_block, MutRef, mut_vals, mut_Tells, plain, nothing, opens, closes, peeks, heard, bool, yes, fact, Stays, walk_of, says, stay_ref, stay_dropped, Goes-ref, Goes-dropped, ends_at}
+use Rattle.jc_c.proofs.Steps.{List, [], ◌∷◌, ◌≡◌, refl, ap, ◌∙◌, proved, full_share, ftrue, flft, named, Val, ‵, raw, ◌⊛◌, ◌$◌, ◌∵◌, !, qed, done, move, keep, drop, split, join, fsplit, fsplit3, fjoin, feq_i, rewrite, suffices, frame, group, enter, of_opd, load, stop, fld, no_more, and_then, assigns, returns, alloc_all, pass_all, free_all, look_at, get, through, sets, shows, Ptr, RawPtr, block_ptr, in_a_block, MutRef, mut_vals, mut_Tells, plain, nothing, opens, closes, peeks, heard, bool, yes, fact, Stays, walk_of, says, stay_ref, stay_dropped, Goes-ref, Goes-dropped, ends_at}
 use Rattle.std.specs.Prelude.{Bool, true, false}
 use mir.Val.{vptr, vbool, vstruct, vcons, vnil}
 use mir.Raw.{raw as bare}

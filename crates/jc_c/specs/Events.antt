@@ -1,0 +1,78 @@
+-- Events of a history, as flat structs.
+--     read_cause        why an entry was evicted, by its number
+--     process_if_run    what a processor did, if one ran
+--     read_outside      what was answered outside for a step
+--     shared_in         the place of the step whose load is shared, if it is
+--     ShowsEvent        an event, by the fields of a struct that count of it
+--     read_reply        a reply, by its number, its code and its value
+--     read_step         the step at this key that a struct says
+--     read_event        the event that a struct says
+--     outside_fits      what is said of the outside answers of a step fits
+--     step_fits         what is said of a step fits
+--     event_fits        what is said of an event fits
+use Rattle.std.specs.Prelude.{◌≡◌, ◌==◌, ◌&&◌, ◌||◌, ℕ, Bool, true, false, nat_le, Option, None, Some, if◌then◌else◌}
+use Rattle.jc_types.specs.declared.refusal.Refusal.TheVariants as refusal
+use Rattle.jc_model.specs.declared.event.Cause.{Cause}
+use Rattle.jc_model.specs.declared.event.Cause.TheVariants as cause
+use Rattle.jc_model.specs.declared.event.Out.{Out}
+use Rattle.jc_model.specs.declared.event.ProcessAnswer.{ProcessAnswer}
+use Rattle.jc_model.specs.declared.event.ProcessAnswer.TheVariants as process
+use Rattle.jc_model.specs.declared.event.Reply.{Reply}
+use Rattle.jc_model.specs.declared.event.Reply.TheVariants as reply
+use Rattle.jc_model.specs.declared.event.Event.{Event}
+use Rattle.jc_model.specs.declared.event.Event.TheVariants.{Step, Evict}
+use Rattle.jc_model.specs.Cache.{Bytes}
+use Rattle.jc_c.specs.declared.codes.TheConstants.{JC_EVICTION, JC_FOR_MEMORY, JC_FOR_ROOM, JC_LOADER_FAILED, JC_NO, JC_NOT_RUN, JC_NULL, JC_PROCESSOR_FAILED, JC_STEP, JC_UNIT, JC_VALUE, JC_WRITER_FAILED, JC_YES}
+use Rattle.jc_c.specs.declared.layouts.FlatEvent.{FlatEvent}
+use Rattle.jc_c.specs.declared.layouts.ProcessorAnswers.{ProcessorAnswers}
+use Rattle.jc_c.specs.Layouts.{inline_value, inline_key, is_inline_value, is_inline_key}
+use Rattle.jc_c.specs.Requests.{op_of_number, op_fits, answers_beside, read_process, process_fits, others_fit}
+use Rattle.jc_c.specs.Replies.{ShowsReply}
+
+-- 1. An event that is written.
+
+abbrev pub read_cause : ℕ → Cause
+read_cause n = if n == JC_FOR_ROOM then cause.Full else cause.Memory
+
+abbrev pub process_if_run : ProcessorAnswers → ProcessAnswer
+process_if_run p = if p.effect == JC_NOT_RUN then process.NotAsked else read_process p
+
+abbrev pub read_outside : ProcessorAnswers → Out
+read_outside p = answers_beside p (process_if_run p)
+
+abbrev pub shared_in : FlatEvent → Option ℕ
+shared_in f = if f.is_shared then Some f.shared_with else None
+
+abbrev pub ShowsEvent : Event → FlatEvent → Type 0
+ShowsEvent (Step caller op key out shared reply) f =
+    (f.kind ≡ JC_STEP) × (f.session ≡ caller.session) × (f.call ≡ caller.call) × (op_of_number f.op (inline_value f.value) (inline_value f.other) ≡ op)
+    × (inline_key f.key ≡ key) × (read_outside f.outside ≡ out) × (shared_in f ≡ shared) × ShowsReply reply f.reply f.reply_code f.replied
+ShowsEvent (Evict key cause) f = (f.kind ≡ JC_EVICTION) × (inline_key f.key ≡ key) × (read_cause f.cause ≡ cause)
+
+-- 2. An event that is read.
+
+abbrev pub read_reply : ℕ → ℕ → Bytes → Reply
+read_reply n code value =
+    if n == JC_UNIT then reply.Unit else (if n == JC_NO then reply.Flag false else (if n == JC_YES then reply.Flag true
+    else (if n == JC_NULL then reply.Value None else (if n == JC_VALUE then reply.Value (Some value)
+    else (if n == JC_LOADER_FAILED then reply.Fault (refusal.LoaderFailed code) else (if n == JC_WRITER_FAILED then reply.Fault (refusal.WriterFailed code)
+    else reply.Fault (refusal.ProcessorFailed code)))))))
+
+abbrev pub read_step : FlatEvent → Bytes → Event
+read_step f key =
+    Step (record { session = f.session; call = f.call }) (op_of_number f.op (inline_value f.value) (inline_value f.other)) key (read_outside f.outside) (shared_in f)
+    (read_reply f.reply f.reply_code (inline_value f.replied))
+
+abbrev pub read_event : FlatEvent → Event
+read_event f = if f.kind == JC_EVICTION then Evict (inline_key f.key) (read_cause f.cause) else read_step f (inline_key f.key)
+
+abbrev pub outside_fits : ProcessorAnswers → Bool
+outside_fits p = ((p.effect == JC_NOT_RUN) || process_fits p) && others_fit p
+
+abbrev pub step_fits : FlatEvent → Bool
+step_fits f =
+    is_inline_value f.value && is_inline_value f.other && op_fits f.op (inline_value f.value) (inline_value f.other) && outside_fits f.outside && is_inline_value f.replied
+    && nat_le f.reply JC_PROCESSOR_FAILED
+
+abbrev pub event_fits : FlatEvent → Bool
+event_fits f = is_inline_key f.key && (if f.kind == JC_EVICTION then nat_le f.cause JC_FOR_MEMORY else ((f.kind == JC_STEP) && step_fits f))

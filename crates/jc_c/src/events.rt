@@ -1,0 +1,375 @@
+//! The events of a history, for C.
+ghost use Rattle.std.specs.Prelude.{◌≡◌, ◌==◌, ◌&&◌, ◌||◌, ◌↔◌, ◌⊎◌, ◌<◌, ℕ, true, false, length, map, nat_le, nat_lt, slice_get, is_some, IsTrue, IfOk, IfSome, Option, Some, None, if◌then◌else◌};
+ghost use Rattle.std.specs.List.{list_all};
+ghost use Rattle.jc_model.specs.Cache.{Bytes};
+ghost use Rattle.jc_model.specs.declared.event.Event.{Event};
+ghost use Rattle.jc_model.specs.declared.event.ProcessAnswer.TheVariants.{Ended};
+ghost use Rattle.jc_model.specs.Legal.{Legal};
+ghost use Rattle.jc_c.specs.declared.codes.TheConstants.{JC_OK, JC_NONE, JC_NO_MEMORY, JC_BAD_ARGUMENT, JC_NOT_RUN, JC_FOR_MEMORY, JC_PROCESSOR_FAILED};
+ghost use Rattle.jc_c.specs.Layouts.{inline_value, inline_entries, config_of};
+ghost use Rattle.jc_c.specs.Requests.{op_of_number, load_of_number, write_of_number, process_answer_of, read_outcome, entry_fits};
+ghost use Rattle.jc_c.specs.Events.{read_cause, process_if_run, read_outside, shared_in, read_reply, step_fits, read_step, outside_fits, event_fits, read_event, ShowsEvent};
+ghost use Rattle.jc_c.specs.Exports.{export_code};
+
+use crate::codes::{
+    JC_BAD_ARGUMENT, JC_CLEAR_KEY, JC_CONTAINS_KEY, JC_EVICTION, JC_FAILED, JC_FOR_MEMORY,
+    JC_FOR_ROOM, JC_FOUND, JC_GET, JC_GET_AND_PUT, JC_GET_AND_REMOVE, JC_GET_AND_REPLACE,
+    JC_INVOKE, JC_KEEP, JC_LOAD, JC_LOADER_FAILED, JC_NO, JC_NO_MEMORY, JC_NONE, JC_NOT_ASKED,
+    JC_NOT_RUN, JC_NOTHING, JC_NULL, JC_OK, JC_PROCESS_FAILED, JC_PROCESSOR_FAILED, JC_PUT,
+    JC_PUT_IF_ABSENT, JC_RELOAD, JC_REMOVE, JC_REMOVE_IF, JC_REPLACE, JC_REPLACE_IF, JC_SET,
+    JC_STEP, JC_TAKE_OUT, JC_UNIT, JC_VALUE, JC_WRITER_FAILED, JC_WRITTEN, JC_WRONG_HANDLE, JC_YES,
+};
+use crate::handle::Handle;
+use crate::layouts::{CacheShape, FlatEvent, InlineEntry, InlineValue, ProcessorAnswers};
+use crate::opening::{config_of, contents_of, entries_fit};
+use crate::replies::{show_reply, show_value};
+use crate::requests::{answers_beside, read_op, read_process};
+use jc_model::{
+    Cause, Effect, Event, LoadAnswer, Op, Out, ProcessAnswer, Reply, WriteAnswer, legal,
+};
+use jc_parcel::Loose;
+use jc_types::{Caller, Field, Key, Refusal, Value};
+use std::alloc::{AllocError, Global};
+
+/// An operation: its number, and the values that it has.
+fn show_op(op: &Op, number: &mut u32, value: &mut InlineValue, other: &mut InlineValue)
+    ensures { op_of_number number.new (inline_value value.new) (inline_value other.new) ≡ op.now }
+{
+    match op {
+        Op::Get => *number = JC_GET,
+        Op::ContainsKey => *number = JC_CONTAINS_KEY,
+        Op::Put(put) => show_with(put, JC_PUT, number, value),
+        Op::GetAndPut(put) => show_with(put, JC_GET_AND_PUT, number, value),
+        Op::PutIfAbsent(put) => show_with(put, JC_PUT_IF_ABSENT, number, value),
+        Op::Remove => *number = JC_REMOVE,
+        Op::RemoveIf(old) => show_with(old, JC_REMOVE_IF, number, value),
+        Op::GetAndRemove => *number = JC_GET_AND_REMOVE,
+        Op::Replace(new) => show_with(new, JC_REPLACE, number, value),
+        Op::ReplaceIf { old, new } => {
+            show_with(old, JC_REPLACE_IF, number, value);
+            show_value(new, other);
+        }
+        Op::GetAndReplace(new) => show_with(new, JC_GET_AND_REPLACE, number, value),
+        Op::Clear => *number = JC_CLEAR_KEY,
+        Op::LoadAll { replace: false } => *number = JC_LOAD,
+        Op::LoadAll { replace: true } => *number = JC_RELOAD,
+        Op::Invoke => *number = JC_INVOKE,
+    }
+}
+
+/// A number, and a value beside it.
+fn show_with(value: &Value, is: u32, number: &mut u32, room: &mut InlineValue)
+    ensures { (number.new ≡ is) × (inline_value room.new ≡ value.now) }
+{
+    *number = is;
+    show_value(value, room);
+}
+
+/// What a loader answered.
+fn show_load(load: &LoadAnswer, number: &mut u32, code: &mut u32, room: &mut InlineValue)
+    ensures { load_of_number number.new code.new (inline_value room.new) ≡ load.now }
+{
+    match load {
+        LoadAnswer::NotAsked => *number = JC_NOT_ASKED,
+        LoadAnswer::Found(value) => show_with(value, JC_FOUND, number, room),
+        LoadAnswer::Nothing => *number = JC_NOTHING,
+        LoadAnswer::Failed(failed) => {
+            *number = JC_FAILED;
+            *code = *failed;
+        }
+    }
+}
+
+/// What a writer answered.
+fn show_write(write: &WriteAnswer, number: &mut u32, code: &mut u32)
+    ensures { write_of_number number.new code.new ≡ write.now }
+{
+    match write {
+        WriteAnswer::NotAsked => *number = JC_NOT_ASKED,
+        WriteAnswer::Done => *number = JC_WRITTEN,
+        WriteAnswer::Failed(failed) => {
+            *number = JC_FAILED;
+            *code = *failed;
+        }
+    }
+}
+
+/// What a processor did to its entry.
+fn show_effect(effect: &Effect, number: &mut u32, room: &mut InlineValue)
+    ensures number { (number.new == JC_NOT_RUN) ≡ false }
+    ensures effect { (code : ℕ) (outcome : Option Bytes) → process_answer_of number.new code (inline_value room.new) outcome ≡ Ended effect.now outcome }
+{
+    match effect {
+        Effect::Keep => *number = JC_KEEP,
+        Effect::Set(value) => show_with(value, JC_SET, number, room),
+        Effect::Remove => *number = JC_TAKE_OUT,
+    }
+}
+
+/// What a processor returned, if it did.
+fn show_outcome(outcome: &Option<Value>, has: &mut bool, room: &mut InlineValue)
+    ensures { read_outcome has.new (inline_value room.new) ≡ outcome.now }
+{
+    match outcome {
+        None => *has = false,
+        Some(value) => {
+            *has = true;
+            show_value(value, room);
+        }
+    }
+}
+
+/// What a processor did, if one ran.
+fn show_process(process: &ProcessAnswer, out: &mut ProcessorAnswers)
+    ensures process { process_if_run out.new ≡ process.now }
+    ensures load { (out.new.load ≡ out.old.load) × (out.new.load_code ≡ out.old.load_code) × (out.new.loaded ≡ out.old.loaded) }
+    ensures write { (out.new.write ≡ out.old.write) × (out.new.write_code ≡ out.old.write_code) }
+{
+    match process {
+        ProcessAnswer::NotAsked => out.effect = JC_NOT_RUN,
+        ProcessAnswer::Ended { effect, outcome } => {
+            show_effect(effect, &mut out.effect, &mut out.set);
+            show_outcome(outcome, &mut out.has_outcome, &mut out.outcome);
+        }
+        ProcessAnswer::Failed(failed) => {
+            out.effect = JC_PROCESS_FAILED;
+            out.code = *failed;
+        }
+    }
+}
+
+/// What was answered outside.
+fn show_outside(answers: &Out, out: &mut ProcessorAnswers)
+    ensures { read_outside out.new ≡ answers.now }
+{
+    show_load(
+        &answers.load,
+        &mut out.load,
+        &mut out.load_code,
+        &mut out.loaded,
+    );
+    show_write(&answers.write, &mut out.write, &mut out.write_code);
+    show_process(&answers.process, out);
+}
+
+/// An event.
+fn show_event(event: &Event, out: &mut FlatEvent)
+    ensures { ShowsEvent event.now out.new }
+{
+    match event {
+        Event::Step {
+            caller,
+            op,
+            key,
+            out: answers,
+            shared_with,
+            reply,
+        } => {
+            out.kind = JC_STEP;
+            out.session = caller.session;
+            out.call = caller.call;
+            show_op(op, &mut out.op, &mut out.value, &mut out.other);
+            out.key.set(key);
+            show_outside(answers, &mut out.outside);
+            show_shared(*shared_with, &mut out.is_shared, &mut out.shared_with);
+            show_reply(reply, &mut out.reply, &mut out.reply_code, &mut out.replied);
+        }
+        Event::Evict { key, cause } => {
+            out.kind = JC_EVICTION;
+            out.key.set(key);
+            out.cause = match cause {
+                Cause::Full => JC_FOR_ROOM,
+                Cause::Memory => JC_FOR_MEMORY,
+            };
+        }
+    }
+}
+
+/// The place of the step whose load is shared, if it is.
+fn show_shared(shared: Option<u32>, is_shared: &mut bool, place: &mut u32)
+    ensures { (if is_shared.new then Some place.new else None) ≡ shared }
+{
+    match shared {
+        None => *is_shared = false,
+        Some(step) => {
+            *is_shared = true;
+            *place = step;
+        }
+    }
+}
+
+/// Writes the event at a place of the present generation, from 0. `JC_NONE` says that it has no such place.
+#[unsafe(no_mangle)]
+pub extern "C" fn jc_event(h: &mut Handle, alloc: Global, place: usize, out: &mut FlatEvent) -> u32
+    ensures code { result ≡ export_code h.old.is_open true (nat_lt place (length h.old.desk.stripe.history)) JC_NONE }
+    ensures shown { result ≡ JC_OK → (event : Event) × (slice_get h.old.desk.stripe.history place ≡ Some event) × ShowsEvent event out.new }
+    ensures none { (result ≡ JC_OK) ⊎ (out.new ≡ out.old) }
+    ensures same { (h.new.is_open ≡ h.old.is_open) × (h.new.desk ≡ h.old.desk) }
+{
+    if !h.is_open() {
+        return JC_WRONG_HANDLE;
+    }
+    let desk = h.take(alloc).into_box();
+    if desk.events_len() <= place {
+        h.put(Loose::of(desk));
+        return JC_NONE;
+    }
+    let event = desk.event(place);
+    h.put(Loose::of(desk));
+    show_event(&event, out);
+    JC_OK
+}
+
+/// Why an entry was evicted.
+fn read_cause(number: u32) -> Cause
+    ensures { result ≡ read_cause number }
+{
+    if number == JC_FOR_ROOM {
+        Cause::Full
+    } else {
+        Cause::Memory
+    }
+}
+
+/// A reply, by its number.
+fn read_reply(number: u32, code: u32, value: Value) -> Option<Reply>
+    ensures fits { is_some result ≡ nat_le number JC_PROCESSOR_FAILED }
+    ensures reply { IfSome result (λ reply. reply ≡ read_reply number code value) }
+{
+    match number {
+        JC_UNIT => Some(Reply::Unit),
+        JC_NO => Some(Reply::Flag(false)),
+        JC_YES => Some(Reply::Flag(true)),
+        JC_NULL => Some(Reply::Value(None)),
+        JC_VALUE => Some(Reply::Value(Some(value))),
+        JC_LOADER_FAILED => Some(Reply::Fault(Refusal::LoaderFailed(code))),
+        JC_WRITER_FAILED => Some(Reply::Fault(Refusal::WriterFailed(code))),
+        JC_PROCESSOR_FAILED => Some(Reply::Fault(Refusal::ProcessorFailed(code))),
+        _ => None,
+    }
+}
+
+/// What was answered outside for a step.
+fn read_outside(outside: &ProcessorAnswers) -> Option<Out>
+    ensures fits { is_some result ≡ outside_fits outside.now }
+    ensures answers { IfSome result (λ out. out ≡ read_outside outside.now) }
+{
+    let _types: Option<(Effect, Value)> = None;
+    if outside.effect == JC_NOT_RUN {
+        return answers_beside(outside, ProcessAnswer::NotAsked);
+    }
+    let process = read_process(outside)?;
+    answers_beside(outside, process)
+}
+
+/// A step at this key.
+fn read_step(flat: &FlatEvent, key: Key) -> Option<Event>
+    ensures fits { is_some result ≡ step_fits flat.now }
+    ensures step { IfSome result (λ event. event ≡ read_step flat.now key) }
+{
+    let value = flat.value.value()?;
+    let other = flat.other.value()?;
+    let op = read_op(flat.op, value.bytes(), other.bytes())?;
+    let out = read_outside(&flat.outside)?;
+    let replied = flat.replied.value()?;
+    let reply = read_reply(flat.reply, flat.reply_code, replied)?;
+    Some(Event::Step {
+        caller: Caller {
+            session: flat.session,
+            call: flat.call,
+        },
+        op,
+        key,
+        out,
+        shared_with: shared_in(flat),
+        reply,
+    })
+}
+
+/// The place of the step whose load is shared, if it is.
+fn shared_in(flat: &FlatEvent) -> Option<u32>
+    ensures { result ≡ shared_in flat.now }
+{
+    if flat.is_shared {
+        Some(flat.shared_with)
+    } else {
+        None
+    }
+}
+
+/// An event.
+fn read_event(flat: &FlatEvent) -> Option<Event>
+    ensures fits { is_some result ≡ event_fits flat.now }
+    ensures event { IfSome result (λ event. event ≡ read_event flat.now) }
+{
+    let key = flat.key.key()?;
+    if flat.kind == JC_EVICTION {
+        if flat.cause > JC_FOR_MEMORY {
+            return None;
+        }
+        return Some(Event::Evict {
+            key,
+            cause: read_cause(flat.cause),
+        });
+    }
+    if flat.kind != JC_STEP {
+        return None;
+    }
+    read_step(flat, key)
+}
+
+/// Whether each may be an event.
+fn flat_events_fit(events: &[FlatEvent]) -> bool
+    ensures { result ≡ list_all event_fits events.now }
+{
+    events.iter().all(|flat| read_event(flat).is_some())
+}
+
+/// The events that C gives. An `Err` says that an allocation failed.
+fn read_events(alloc: Global, events: &[FlatEvent]) -> Result<Vec<Event>, AllocError>
+    requires { list_all event_fits events.now ≡ true }
+    ensures { IfOk result (λ list. list.items ≡ map read_event events.now) }
+{
+    let _answers: Option<(Out, LoadAnswer, WriteAnswer, ProcessAnswer, Effect, Value)> = None;
+    let _types: Option<(Caller, Op, Key, Reply, Refusal, Field, Cause)> = None;
+    let mut list = Vec::with_capacity(alloc, events.len())?;
+    for flat in events {
+        match read_event(flat) {
+            Some(event) => list.push_reserved(event),
+            None => unreachable!(),
+        }
+    }
+    Ok(list)
+}
+
+/// Writes whether these events are a legal history of one stripe of a cache of this shape, which began with these entries. It needs no
+/// desk. `JC_BAD_ARGUMENT` says that an entry or an event says nothing that there is.
+#[unsafe(no_mangle)]
+pub extern "C" fn jc_legal(
+    alloc: Global,
+    shape: &CacheShape,
+    opening: &[InlineEntry],
+    events: &[FlatEvent],
+    is_legal: &mut bool,
+) -> u32
+    ensures told { result ≡ JC_OK → (IsTrue is_legal.new ↔ Legal (config_of shape.now) (inline_entries opening.now) (map read_event events.now)) }
+    ensures bad { (result ≡ JC_BAD_ARGUMENT) ↔ ((list_all entry_fits opening.now && list_all event_fits events.now) ≡ false) }
+    ensures codes { (result ≡ JC_OK) ⊎ (result ≡ JC_BAD_ARGUMENT) ⊎ (result ≡ JC_NO_MEMORY) }
+{
+    if !entries_fit(opening) || !flat_events_fit(events) {
+        return JC_BAD_ARGUMENT;
+    }
+    let Ok(contents) = contents_of(alloc, opening) else {
+        return JC_NO_MEMORY;
+    };
+    let Ok(history) = read_events(alloc, events) else {
+        return JC_NO_MEMORY;
+    };
+    match legal(alloc, &config_of(shape), &contents, &history) {
+        Ok(told) => {
+            *is_legal = told;
+            JC_OK
+        }
+        Err(AllocError) => JC_NO_MEMORY,
+    }
+}

@@ -1,0 +1,253 @@
+//! The phases of calls, for C.
+ghost use Rattle.std.specs.Prelude.{◌≡◌, ◌&&◌, ◌⊎◌, true, is_some};
+ghost use Rattle.jc_model.specs.Group.{load_only, write_only};
+ghost use Rattle.jc_stripe.specs.DeskState.{may_call_next};
+ghost use Rattle.jc_stripe.specs.DeskPhases.{WithdrawsAtDesk, StaysOrRenewsFull, hits_next, takes_load, takes_write, takes_process, ticket_of, is_join_out};
+ghost use Rattle.jc_c.specs.declared.codes.TheConstants.{JC_OK, JC_MISUSE, JC_NONE};
+ghost use Rattle.jc_c.specs.Requests.{key_fits, value_fits, op_fits, load_of_number, load_number_fits, write_of_number, write_number_fits, processor_out, processed_fits};
+ghost use Rattle.jc_c.specs.Exports.{export_code, join_named, BeginsForC, CommitsForC, PicksUpForC, HitsForC};
+
+use crate::codes::{JC_BAD_ARGUMENT, JC_MISUSE, JC_NONE, JC_OK, JC_WRONG_HANDLE};
+use crate::handle::Handle;
+use crate::layouts::{InlineValue, PhaseOut, ProcessorAnswers};
+use crate::replies::{show_asked, show_done, show_picked, show_value};
+use crate::requests::{read_answers, read_key, read_load, read_op, read_value, read_write};
+use jc_model::Reply;
+use jc_parcel::Loose;
+use jc_stripe::ValueMoves;
+use jc_types::{Caller, Value};
+use std::alloc::Global;
+
+/// The first phase of the session's next call. `JC_MISUSE` says that the call may not begin: its key is of another stripe, the session has
+/// another call out here, or the numbers are at their end. Then nothing was done.
+#[unsafe(no_mangle)]
+pub extern "C" fn jc_begin(
+    h: &mut Handle,
+    alloc: Global,
+    session: u32,
+    op: u32,
+    key: &[u8],
+    value: &[u8],
+    other: &[u8],
+    out: &mut PhaseOut,
+) -> u32
+    ensures code { result ≡ export_code h.old.is_open (key_fits key.now && op_fits op value.now other.now)
+        (may_call_next h.old.desk session key.now) JC_MISUSE }
+    ensures begins { result ≡ JC_OK → BeginsForC h.old.desk session op key.now value.now other.now out.new h.new.desk }
+    ensures refused { (result ≡ JC_OK) ⊎ (h.new.desk ≡ h.old.desk) }
+    ensures is_open { h.new.is_open ≡ h.old.is_open }
+{
+    if !h.is_open() {
+        return JC_WRONG_HANDLE;
+    }
+    let Some(key) = read_key(key) else {
+        return JC_BAD_ARGUMENT;
+    };
+    let Some(op) = read_op(op, value, other) else {
+        return JC_BAD_ARGUMENT;
+    };
+    let mut reply = Reply::Unit;
+    let mut moves = ValueMoves::new();
+    let mut desk = h.take(alloc).into_box();
+    let (call, asked) = desk.begin(session, &key, &op, &mut reply, &mut moves);
+    h.put(Loose::of(desk));
+    out.call = call;
+    show_asked(&asked, &reply, &moves, out)
+}
+
+/// A `get` that finds its entry, and nothing else: its value is written. `JC_NONE` says that no call was made: there is no entry, the
+/// generation is full, or the call may not begin. A full generation may have ended then.
+#[unsafe(no_mangle)]
+pub extern "C" fn jc_hit(
+    h: &mut Handle,
+    alloc: Global,
+    session: u32,
+    key: &[u8],
+    out: &mut InlineValue,
+) -> u32
+    ensures code { result ≡ export_code h.old.is_open (key_fits key.now) (hits_next h.old.desk session key.now) JC_NONE }
+    ensures hit { result ≡ JC_OK → HitsForC h.old.desk session key.now out.new h.new.desk }
+    ensures none { (result ≡ JC_OK) ⊎ ((out.new ≡ out.old) × StaysOrRenewsFull h.old.desk h.new.desk) }
+    ensures is_open { h.new.is_open ≡ h.old.is_open }
+{
+    if !h.is_open() {
+        return JC_WRONG_HANDLE;
+    }
+    let Some(key) = read_key(key) else {
+        return JC_BAD_ARGUMENT;
+    };
+    let mut value = Value::default();
+    let mut desk = h.take(alloc).into_box();
+    let hit = desk.hit(session, &key, &mut value);
+    h.put(Loose::of(desk));
+    match hit {
+        Some(_) => {
+            show_value(&value, out);
+            JC_OK
+        }
+        None => JC_NONE,
+    }
+}
+
+/// The last phase of a call whose loader was asked. `JC_MISUSE` says that no ticket with this number is out that asks the loader; then
+/// nothing was done.
+#[unsafe(no_mangle)]
+pub extern "C" fn jc_commit_load(
+    h: &mut Handle,
+    alloc: Global,
+    number: u64,
+    answer: u32,
+    code: u32,
+    value: &[u8],
+    out: &mut PhaseOut,
+) -> u32
+    ensures code { result ≡ export_code h.old.is_open (value_fits value.now && load_number_fits answer)
+        (takes_load h.old.desk.stripe number (load_of_number answer code value.now)) JC_MISUSE }
+    ensures commits { result ≡ JC_OK → CommitsForC h.old.desk number (load_only (load_of_number answer code value.now)) out.new h.new.desk }
+    ensures refused { (result ≡ JC_OK) ⊎ (h.new.desk ≡ h.old.desk) }
+    ensures is_open { h.new.is_open ≡ h.old.is_open }
+{
+    if !h.is_open() {
+        return JC_WRONG_HANDLE;
+    }
+    let Some(value) = read_value(value) else {
+        return JC_BAD_ARGUMENT;
+    };
+    let Some(answer) = read_load(answer, code, &value) else {
+        return JC_BAD_ARGUMENT;
+    };
+    let mut reply = Reply::Unit;
+    let mut moves = ValueMoves::new();
+    let mut desk = h.take(alloc).into_box();
+    let done = desk.commit_load(number, answer, &mut reply, &mut moves);
+    h.put(Loose::of(desk));
+    let Some(done) = done else {
+        return JC_MISUSE;
+    };
+    show_done(done.place, done.shared, &reply, &moves, out);
+    JC_OK
+}
+
+/// The last phase of a call whose writer was asked. `JC_MISUSE` says that no ticket with this number is out that asks the writer; then
+/// nothing was done.
+#[unsafe(no_mangle)]
+pub extern "C" fn jc_commit_write(
+    h: &mut Handle,
+    alloc: Global,
+    number: u64,
+    answer: u32,
+    code: u32,
+    out: &mut PhaseOut,
+) -> u32
+    ensures code { result ≡ export_code h.old.is_open (write_number_fits answer)
+        (takes_write h.old.desk.stripe number (write_of_number answer code)) JC_MISUSE }
+    ensures commits { result ≡ JC_OK → CommitsForC h.old.desk number (write_only (write_of_number answer code)) out.new h.new.desk }
+    ensures refused { (result ≡ JC_OK) ⊎ (h.new.desk ≡ h.old.desk) }
+    ensures is_open { h.new.is_open ≡ h.old.is_open }
+{
+    if !h.is_open() {
+        return JC_WRONG_HANDLE;
+    }
+    let Some(answer) = read_write(answer, code) else {
+        return JC_BAD_ARGUMENT;
+    };
+    let mut reply = Reply::Unit;
+    let mut moves = ValueMoves::new();
+    let mut desk = h.take(alloc).into_box();
+    let done = desk.commit_write(number, answer, &mut reply, &mut moves);
+    h.put(Loose::of(desk));
+    let Some(done) = done else {
+        return JC_MISUSE;
+    };
+    show_done(done.place, done.shared, &reply, &moves, out);
+    JC_OK
+}
+
+/// The last phase of a call whose processor ran. `JC_MISUSE` says that no ticket with this number is out that asks a processor, that its
+/// loader answered and may not be asked, or that its writer answered and was not to be asked, or the other way round; then nothing was
+/// done.
+#[unsafe(no_mangle)]
+pub extern "C" fn jc_commit_process(
+    h: &mut Handle,
+    alloc: Global,
+    number: u64,
+    processed: &ProcessorAnswers,
+    out: &mut PhaseOut,
+) -> u32
+    ensures code { result ≡ export_code h.old.is_open (processed_fits processed.now)
+        (takes_process h.old.desk.stripe number (processor_out processed.now)) JC_MISUSE }
+    ensures commits { result ≡ JC_OK → CommitsForC h.old.desk number (processor_out processed.now) out.new h.new.desk }
+    ensures refused { (result ≡ JC_OK) ⊎ (h.new.desk ≡ h.old.desk) }
+    ensures is_open { h.new.is_open ≡ h.old.is_open }
+{
+    if !h.is_open() {
+        return JC_WRONG_HANDLE;
+    }
+    let Some(said) = read_answers(processed) else {
+        return JC_BAD_ARGUMENT;
+    };
+    let mut reply = Reply::Unit;
+    let mut moves = ValueMoves::new();
+    let mut desk = h.take(alloc).into_box();
+    let done = desk.commit_process(
+        number,
+        said.load,
+        said.process,
+        said.write,
+        &mut reply,
+        &mut moves,
+    );
+    h.put(Loose::of(desk));
+    let Some(done) = done else {
+        return JC_MISUSE;
+    };
+    show_done(done.place, done.shared, &reply, &moves, out);
+    JC_OK
+}
+
+/// Gives a ticket back whose loader, writer or processor was not asked. `JC_MISUSE` says that no ticket with this number is out.
+#[unsafe(no_mangle)]
+pub extern "C" fn jc_withdraw(h: &mut Handle, alloc: Global, number: u64) -> u32
+    ensures code { result ≡ export_code h.old.is_open true (is_some (ticket_of h.old.desk.stripe number)) JC_MISUSE }
+    ensures withdraws { result ≡ JC_OK → WithdrawsAtDesk h.old.desk number h.new.desk }
+    ensures refused { (result ≡ JC_OK) ⊎ (h.new.desk ≡ h.old.desk) }
+    ensures is_open { h.new.is_open ≡ h.old.is_open }
+{
+    if !h.is_open() {
+        return JC_WRONG_HANDLE;
+    }
+    let mut desk = h.take(alloc).into_box();
+    let done = desk.withdraw(number);
+    h.put(Loose::of(desk));
+    if done { JC_OK } else { JC_MISUSE }
+}
+
+/// Picks up the answer of a load that was joined. `JC_MISUSE` says that no such join is out; then nothing was done.
+#[unsafe(no_mangle)]
+pub extern "C" fn jc_pick_up(
+    h: &mut Handle,
+    alloc: Global,
+    session: u32,
+    call: u64,
+    key: &[u8],
+    load: u64,
+    out: &mut PhaseOut,
+) -> u32
+    ensures code { result ≡ export_code h.old.is_open (key_fits key.now)
+        (is_join_out h.old.desk.stripe (join_named session call key.now load)) JC_MISUSE }
+    ensures picks_up { result ≡ JC_OK → PicksUpForC h.old.desk (join_named session call key.now load) out.new h.new.desk }
+    ensures refused { (result ≡ JC_OK) ⊎ (h.new.desk ≡ h.old.desk) }
+    ensures is_open { h.new.is_open ≡ h.old.is_open }
+{
+    if !h.is_open() {
+        return JC_WRONG_HANDLE;
+    }
+    let Some(key) = read_key(key) else {
+        return JC_BAD_ARGUMENT;
+    };
+    let mut reply = Reply::Unit;
+    let mut desk = h.take(alloc).into_box();
+    let picked = desk.pick_up(Caller { session, call }, &key, load, &mut reply);
+    h.put(Loose::of(desk));
+    show_picked(&picked, &reply, out)
+}
