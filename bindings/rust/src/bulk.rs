@@ -3,18 +3,17 @@
 //! A round makes the first phase of each key that has no reply. Then the loader or the writer is asked once, for all keys that the
 //! round has reserved, and these are committed; then the round waits for the loads that it has joined. A key that is busy is put off
 //! to the next round. A round waits for a busy key only if it has reserved and joined nothing.
-use crate::call::{AskedLoad, AskedWrite, Begun, Busy, Change, Join, Ticket};
 use crate::cache::{Cache, CacheError};
+use crate::call::{AskedLoad, AskedWrite, Begun, Busy, Change, Join, Ticket};
 use crate::error::{BulkError, Error};
+use crate::op::{Op, Reply};
 use crate::outside::{Loader, Unwritten, Writer, outside};
-use crate::stripe::{Op, Reply};
 use std::collections::HashMap;
 use std::hash::Hash;
 use std::sync::Arc;
 
 /// The error of a cache's calls of many keys.
-type Bulk<K, V, L, W> =
-    BulkError<Arc<K>, <L as Loader<K, V>>::Error, <W as Writer<K, V>>::Error>;
+type Bulk<K, V, L, W> = BulkError<Arc<K>, <L as Loader<K, V>>::Error, <W as Writer<K, V>>::Error>;
 
 struct Item<K, V> {
     key: Arc<K>,
@@ -131,18 +130,17 @@ where
 
     /// Uncaches all keys that are cached now. The store keeps them, and the writer isn't asked.
     pub fn clear(&self) -> Result<(), CacheError<K, V, L, W>> {
-        let items = self.keys()?.into_iter().map(|key| self.item(key, Op::Clear));
+        let items = self
+            .keys()?
+            .into_iter()
+            .map(|key| self.item(key, Op::Clear));
         match self.rounds(items.collect()) {
             Ok(_) => Ok(()),
             Err(stopped) => Err(stopped.error),
         }
     }
 
-    fn items(
-        &self,
-        keys: impl IntoIterator<Item = K>,
-        op: impl Fn() -> Op<V>,
-    ) -> Vec<Item<K, V>> {
+    fn items(&self, keys: impl IntoIterator<Item = K>, op: impl Fn() -> Op<V>) -> Vec<Item<K, V>> {
         let keys = keys.into_iter();
         keys.map(|key| self.item(Arc::new(key), op())).collect()
     }

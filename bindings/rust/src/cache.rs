@@ -1,8 +1,9 @@
 //! The cache.
 use crate::call::{self, Begun, Change};
 use crate::core::{self, Shape, Statistics};
+use crate::op::{Expected, Op, Reply};
 use crate::outside::{Loader, NoLoader, NoWriter, Writer, outside};
-use crate::stripe::{Expected, Op, Reply, Stripe};
+use crate::stripe::Stripe;
 use crate::{BuildError, Error};
 use std::borrow::Borrow;
 use std::hash::{BuildHasher, Hash, RandomState};

@@ -7,7 +7,11 @@
 //! Who has a ticket or an asked call should await nothing but its store: whoever waits for the key waits for that.
 use crate::Error;
 use crate::core::{self, Written};
-use crate::stripe::{Answer, Blocked, Effect, Fault, First, Loaded, Op, Out, Reply, Stop, Stripe};
+use crate::op::{Op, Reply};
+pub use crate::processing::Processing;
+use crate::processing::{Process, Reserved};
+use crate::side::{Answer, Blocked, FAILED, Fault, First, Loaded, Out, Stop};
+use crate::stripe::Stripe;
 use crate::table::Failure;
 use std::future::Future;
 use std::marker::PhantomData;
@@ -42,27 +46,19 @@ impl<A: Reserved> Ticket<A> {
     }
 }
 
-mod sealed {
-    /// A call that has reserved its key.
-    pub trait Reserved {
-        fn set_asked(&mut self);
-    }
-}
-use sealed::Reserved;
-
 /// A reservation, and what becomes of it when it is dropped.
-struct Held<'c, K, V, L> {
-    stripe: &'c Stripe<K, V, L>,
-    out: Out<K, V, L>,
+pub(crate) struct Held<'c, K, V, L> {
+    pub stripe: &'c Stripe<K, V, L>,
+    pub out: Out<K, V, L>,
     /// What is committed if the call is dropped after it has asked.
     if_dropped: fn(&mut Process<V, L>) -> Answer<V, L>,
-    process: Process<V, L>,
-    is_asked: bool,
+    pub process: Process<V, L>,
+    pub is_asked: bool,
     is_over: bool,
 }
 
 impl<K, V, L> Held<'_, K, V, L> {
-    fn commit(&mut self, answer: &Answer<V, L>) -> Result<Reply<V>, Fault> {
+    pub(crate) fn commit(&mut self, answer: &Answer<V, L>) -> Result<Reply<V>, Fault> {
         self.is_over = true;
         self.stripe.commit(&self.out, answer)
     }
@@ -87,11 +83,11 @@ fn failed_load<V, L>(_process: &mut Process<V, L>) -> Answer<V, L> {
 }
 
 fn failed_write<V, L>(_process: &mut Process<V, L>) -> Answer<V, L> {
-    Answer::Write(Written::Failed(crate::stripe::FAILED))
+    Answer::Write(Written::Failed(FAILED))
 }
 
 /// The first phase's answer, as calls of this module.
-pub(crate) fn begun<'c, K, V, L, W>(
+fn begun<'c, K, V, L, W>(
     stripe: &'c Stripe<K, V, L>,
     first: First<K, V, L>,
 ) -> Begun<'c, K, V, L, W> {
@@ -128,7 +124,7 @@ pub(crate) fn begun<'c, K, V, L, W>(
             let mut held = held(out, Process::failed);
             held.process.entry = entry;
             held.process.may_load = may_load;
-            Begun::Process(Ticket(Processing { held, writer }))
+            Begun::Process(Ticket(Processing::new(held)))
         }
         First::Joined(out, join) => Begun::Joined(Join {
             stripe,
@@ -185,6 +181,7 @@ impl<L, W> From<Failure<L>> for Error<L, W> {
         match failure {
             Failure::Error(error) => Error::Loader(error),
             Failure::Panicked => Error::LoaderPanicked,
+            Failure::Limits => Error::Limits,
         }
     }
 }
@@ -240,202 +237,11 @@ impl<K, V, L, W> AskedWrite<'_, K, V, L, W> {
     }
 }
 
-fn written(is_written: bool) -> Written {
+pub(crate) fn written(is_written: bool) -> Written {
     if is_written {
         Written::Done
     } else {
-        Written::Failed(crate::stripe::FAILED)
-    }
-}
-
-/// What a processor has seen and done so far.
-struct Process<V, L> {
-    entry: Option<Arc<V>>,
-    may_load: bool,
-    /// Whether the loader is being asked, and has not answered.
-    is_loading: bool,
-    load: Option<Loaded<V, L>>,
-    effect: Effect<V>,
-    /// Whether the writer is being asked, and has not answered.
-    is_writing: bool,
-}
-
-impl<V, L> Default for Process<V, L> {
-    fn default() -> Self {
-        Process {
-            entry: None,
-            may_load: false,
-            is_loading: false,
-            load: None,
-            effect: Effect::Keep,
-            is_writing: false,
-        }
-    }
-}
-
-impl<V, L> Process<V, L> {
-    fn has_failed_load(&self) -> bool {
-        matches!(self.load, Some(Err(_)))
-    }
-
-    fn change(&self) -> Option<Change<'_, V>> {
-        match &self.effect {
-            _ if self.has_failed_load() => None,
-            Effect::Set(value) => Some(Change::Write(value)),
-            Effect::Remove => Some(Change::Delete),
-            Effect::Keep | Effect::Failed => None,
-        }
-    }
-
-    /// What is told of a processor that panicked, or whose loader or writer did.
-    fn failed(&mut self) -> Answer<V, L> {
-        if self.is_loading {
-            self.load = Some(Err(Failure::Panicked));
-        }
-        if !self.is_writing {
-            self.effect = Effect::Failed;
-        }
-        self.answer(self.is_writing.then(|| written(false)))
-    }
-
-    fn answer(&mut self, write: Option<Written>) -> Answer<V, L> {
-        Answer::Process {
-            load: self.load.take(),
-            effect: std::mem::replace(&mut self.effect, Effect::Keep),
-            write,
-        }
-    }
-}
-
-/// A call whose processor runs on its entry.
-///
-/// The entry's value is asked of the loader if [`must_load`](Processing::must_load) says so: [`start_load`](Processing::start_load),
-/// then [`loaded`](Processing::loaded). When the processor has ended, [`change`](Processing::change) says what the writer is to do:
-/// [`start_write`](Processing::start_write), then [`commit`](Processing::commit).
-pub struct Processing<'c, K, V, L, W> {
-    held: Held<'c, K, V, L>,
-    writer: PhantomData<fn() -> W>,
-}
-
-impl<K, V, L, W> Reserved for Processing<'_, K, V, L, W> {
-    fn set_asked(&mut self) {
-        self.held.is_asked = true;
-    }
-}
-
-impl<K, V, L, W> Processing<'_, K, V, L, W> {
-    /// The entry's key.
-    pub fn key(&self) -> &K {
-        &self.held.out.key
-    }
-
-    /// Whether a look at the value has to ask the loader first: with read-through, if the entry is missing and nothing has set or
-    /// removed it.
-    pub fn must_load(&self) -> bool {
-        let process = &self.held.process;
-        process.may_load && process.load.is_none() && matches!(process.effect, Effect::Keep)
-    }
-
-    /// The loader is being asked.
-    pub fn start_load(&mut self) {
-        self.held.process.is_loading = true;
-    }
-
-    /// What the loader answered. If it failed the call will fail, whatever the processor does.
-    pub fn loaded(&mut self, loaded: Result<Option<V>, L>) {
-        assert!(self.must_load(), "the loader was not to be asked");
-        let process = &mut self.held.process;
-        process.is_loading = false;
-        process.load = Some(match loaded {
-            Ok(found) => {
-                process.entry = found.map(Arc::new);
-                Ok(process.entry.clone())
-            }
-            Err(error) => Err(Failure::Error(Arc::new(error))),
-        });
-    }
-
-    /// Whether there is a value, as far as it is known: nobody is asked.
-    pub fn exists(&self) -> bool {
-        self.held.process.entry.is_some()
-    }
-
-    /// The value, as it is after what the processor has done so far.
-    pub fn value(&self) -> Result<Option<&Arc<V>>, Error<L, W>> {
-        match &self.held.process.load {
-            Some(Err(failure)) => Err(failure.clone().into()),
-            _ => Ok(self.held.process.entry.as_ref()),
-        }
-    }
-
-    /// Sets the value.
-    pub fn set(&mut self, value: impl Into<Arc<V>>) {
-        let process = &mut self.held.process;
-        if !process.has_failed_load() {
-            let value = value.into();
-            process.entry = Some(value.clone());
-            process.effect = Effect::Set(value);
-        }
-    }
-
-    /// Removes the entry.
-    pub fn remove(&mut self) {
-        let process = &mut self.held.process;
-        if !process.has_failed_load() {
-            process.entry = None;
-            process.effect = Effect::Remove;
-        }
-    }
-
-    /// What the writer is to do, with write-through: the net effect. None: it isn't asked.
-    pub fn change(&self) -> Option<Change<'_, V>> {
-        if self.held.stripe.has_write_through {
-            self.held.process.change()
-        } else {
-            None
-        }
-    }
-
-    /// The writer is being asked.
-    pub fn start_write(&mut self) {
-        self.held.process.is_writing = true;
-    }
-
-    /// Ends the call with what the writer answered, if it was asked.
-    pub fn commit(mut self, write: Option<Result<(), W>>) -> Result<(), Error<L, W>> {
-        let told = write.as_ref().map(|result| written(result.is_ok()));
-        let failure = self.load_failure();
-        let answer = self.held.process.answer(told);
-        match self.held.commit(&answer) {
-            Ok(_) => Ok(()),
-            Err(Fault::Loader) => Err(failure.expect("the loader failed").into()),
-            Err(_) => match write {
-                Some(Err(error)) => Err(Error::Writer(error)),
-                _ => unreachable!("the writer failed"),
-            },
-        }
-    }
-
-    /// Ends the call with a failure of the processor: nothing of it counts.
-    pub fn fail(self, error: impl Into<Box<dyn std::error::Error + Send + Sync>>) -> Error<L, W> {
-        self.end_failed()
-            .unwrap_or_else(|| Error::processor(error))
-    }
-
-    /// The same. It returns the failure of a load, which comes before the processor's.
-    pub(crate) fn end_failed(mut self) -> Option<Error<L, W>> {
-        let failure = self.load_failure();
-        self.held.process.effect = Effect::Failed;
-        let answer = self.held.process.answer(None);
-        let _ = self.held.commit(&answer);
-        failure.map(Failure::into)
-    }
-
-    fn load_failure(&self) -> Option<Failure<L>> {
-        match &self.held.process.load {
-            Some(Err(failure)) => Some(failure.clone()),
-            _ => None,
-        }
+        Written::Failed(FAILED)
     }
 }
 

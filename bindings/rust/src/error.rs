@@ -20,6 +20,8 @@ pub enum Error<L, W> {
     /// The call would wait for its own thread: it was made inside a loader, a writer or a processor, at a key that this thread has
     /// reserved, at one whose call waits for this thread, or in a stripe that has no room for a call more.
     WouldDeadlock,
+    /// Of a [`BytesCache`](crate::BytesCache): a key has 1 to 32 bytes, and a value 0 to 256, also one that a loader finds.
+    Limits,
     /// The cache has counted 2^64 calls.
     HistoryFull,
     /// The cache is closed.
@@ -41,6 +43,7 @@ impl<L: fmt::Display, W: fmt::Display> fmt::Display for Error<L, W> {
             Error::Writer(error) => write!(f, "the writer failed: {error}"),
             Error::Processor(error) => write!(f, "the processor failed: {error}"),
             Error::WouldDeadlock => f.write_str("the call would wait for its own thread"),
+            Error::Limits => f.write_str("a key has 1 to 32 bytes, a value 0 to 256"),
             Error::HistoryFull => f.write_str("the history is full"),
             Error::Closed => f.write_str("the cache is closed"),
         }

@@ -1,8 +1,8 @@
 //! Entry processors.
 use crate::cache::{Cache, CacheError};
 use crate::call::{Begun, Processing};
+use crate::op::Op;
 use crate::outside::{Loader, Writer, outside};
-use crate::stripe::Op;
 use std::hash::Hash;
 use std::sync::Arc;
 

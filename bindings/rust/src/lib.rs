@@ -18,19 +18,24 @@
 #![deny(missing_docs)]
 
 mod bulk;
+mod bytes;
 mod cache;
 pub mod call;
 pub mod core;
 mod error;
 mod invoke;
+mod op;
 mod outside;
+mod processing;
+mod side;
 mod stripe;
 mod table;
 mod waiting;
 
 pub use crate::core::Statistics;
+pub use bytes::{BytesBuilder, BytesCache, BytesError};
 pub use cache::{Builder, Cache, CacheBegun, CacheError};
 pub use error::{BuildError, BulkError, Error};
 pub use invoke::Entry;
+pub use op::{Expected, Op, Reply};
 pub use outside::{Loader, NoLoader, NoWriter, Unwritten, Writer};
-pub use stripe::{Expected, Op, Reply};

@@ -73,6 +73,8 @@ impl<V> Versioned<V> {
 pub(crate) enum Failure<E> {
     Error(Arc<E>),
     Panicked,
+    /// The value is too long for the core.
+    Limits,
 }
 
 impl<E> Clone for Failure<E> {
@@ -80,6 +82,7 @@ impl<E> Clone for Failure<E> {
         match self {
             Failure::Error(error) => Failure::Error(error.clone()),
             Failure::Panicked => Failure::Panicked,
+            Failure::Limits => Failure::Limits,
         }
     }
 }
@@ -326,7 +329,11 @@ impl<K, V, E> Table<K, V, E> {
     fn take(&mut self, at: usize, value: &[u8]) -> Option<Versioned<V>> {
         let entry = self.slots[at].entry.take();
         let version = entry.as_ref().map(|entry| entry.version);
-        assert_eq!(version, Some(number_of(value)), "the core has another value");
+        assert_eq!(
+            version,
+            Some(number_of(value)),
+            "the core has another value"
+        );
         entry
     }
 

@@ -25,7 +25,10 @@ impl Waiters {
     /// Sleeps until it is woken, or for no reason.
     pub(crate) fn sleep<'m, T>(&self, guard: MutexGuard<'m, T>) -> MutexGuard<'m, T> {
         self.state().sleepers += 1;
-        let guard = self.condvar.wait(guard).expect("a stripe's lock is poisoned");
+        let guard = self
+            .condvar
+            .wait(guard)
+            .expect("a stripe's lock is poisoned");
         self.state().sleepers -= 1;
         guard
     }

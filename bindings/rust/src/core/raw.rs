@@ -265,12 +265,8 @@ unsafe extern "C" {
         load: u64,
         out: *mut Out,
     ) -> u32;
-    pub(super) fn jc_peek(
-        h: *mut Handle,
-        key: *const u8,
-        key_len: usize,
-        value: *mut Value,
-    ) -> u32;
+    pub(super) fn jc_peek(h: *mut Handle, key: *const u8, key_len: usize, value: *mut Value)
+    -> u32;
     pub(super) fn jc_statistics_of(h: *mut Handle, out: *mut Statistics) -> u32;
     pub(super) fn jc_entries(
         h: *mut Handle,
