@@ -231,7 +231,7 @@ where
             .map(|(item, ticket)| (item.key, ticket.ask()))
             .unzip();
         let borrowed: Vec<&K> = keys.iter().map(|key| &**key).collect();
-        match outside(|| self.loader.load_all(&borrowed)) {
+        match outside(|| self.loader().load_all(&borrowed)) {
             Ok(found) => {
                 let found = found.into_iter().chain(std::iter::repeat_with(|| None));
                 for ((key, asked), found) in keys.into_iter().zip(asked).zip(found) {
@@ -291,9 +291,9 @@ where
         }
         outside(|| {
             if keys.is_empty() {
-                self.writer.write_all(&entries)
+                self.writer().write_all(&entries)
             } else {
-                self.writer.delete_all(&keys)
+                self.writer().delete_all(&keys)
             }
         })
     }

@@ -68,7 +68,7 @@ impl<L, W> BytesBuilder<L, W> {
         self
     }
 
-    /// How many events of each stripe's history, 16 to 65,536, before it begins a new one.
+    /// How many events of each stripe's history, 16 to 65,536: see [`Builder::history`](crate::Builder::history).
     pub fn history(mut self, history: usize) -> Self {
         self.shape.history = history;
         self

@@ -31,8 +31,8 @@ where
 {
     stripes: Box<[Stripe<K, V, L::Error>]>,
     hasher: RandomState,
-    pub(crate) loader: L,
-    pub(crate) writer: W,
+    loader: L,
+    writer: W,
 }
 
 /// The error of a cache's calls.
@@ -84,7 +84,9 @@ impl<K, V, L, W> Builder<K, V, L, W> {
         self
     }
 
-    /// How many events of each stripe's history, 16 to 65,536, before it begins a new one. 64 is enough, and the fastest.
+    /// How many events of each stripe's history, 16 to 65,536, before it begins a new one; 884 bytes each. A call under way needs room
+    /// for three and one that has joined a load for one: 64, the default, are for 21 calls of a stripe at a time, and 260 for the most
+    /// that there can be. Other calls wait.
     pub fn history(mut self, history: usize) -> Self {
         self.history = history;
         self
@@ -355,6 +357,16 @@ where
     /// The table of a stripe has its buckets by the lowest bits of a hash, and its tags by the highest.
     fn stripe(&self, hash: u64) -> &Stripe<K, V, L::Error> {
         &self.stripes[(hash >> 32) as usize % self.stripes.len()]
+    }
+
+    /// The loader.
+    pub fn loader(&self) -> &L {
+        &self.loader
+    }
+
+    /// The writer.
+    pub fn writer(&self) -> &W {
+        &self.writer
     }
 
     /// Hits, misses, puts, removals and evictions since the cache was built.

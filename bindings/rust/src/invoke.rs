@@ -62,7 +62,7 @@ where
     ) -> Result<T, CacheError<K, V, L, W>> {
         let mut entry = Entry {
             processing: self.processing(key)?,
-            loader: &self.loader,
+            loader: self.loader(),
         };
         let result = outside(|| processor(&mut entry));
         let mut processing = entry.processing;

@@ -10,8 +10,8 @@
 //! # Ok::<(), Box<dyn std::error::Error>>(())
 //! ```
 //!
-//! - [`Cache`] keeps any keys and values. The core decides what is cached, who may go on and who waits, by numbers; the objects are
-//!   beside it.
+//! - [`Cache`] keeps keys and values of any types. The core decides what is cached, who may go on and who waits, by numbers; the
+//!   objects are beside it.
 //! - [`BytesCache`] keeps keys of at most 32 and values of at most 256 bytes in the core itself.
 //! - [`call`] has the phases of a call, for async hosts.
 //! - [`core`] is the library's own interface: one stripe.
