@@ -273,7 +273,8 @@ mod processors {
         cache
             .invoke(own("a"), |entry| {
                 entry.remove();
-                Ok(assert_eq!(entry.value()?, None))
+                assert_eq!(entry.value()?, None);
+                Ok(())
             })
             .unwrap();
         assert_eq!(store.get("a"), None);
