@@ -230,10 +230,14 @@ class Desk:
 
     def entries(self):
         """What is cached, as (key, value), the most recently used first."""
+        room = (Entry * self._entries_into((Entry * 1)(), 0))()
+        self._entries_into(room, len(room))
+        return [(entry.key.get(), entry.value.get()) for entry in room]
+
+    def _entries_into(self, room, length):
         count = c_size_t()
-        room = (Entry * CAPACITY_MAX)()
-        _check(LIBRARY.jc_entries(self._at, ctypes.addressof(room), len(room), ctypes.addressof(count)))
-        return [(entry.key.get(), entry.value.get()) for entry in room[:count.value]]
+        _check(LIBRARY.jc_entries(self._at, ctypes.addressof(room), length, ctypes.addressof(count)))
+        return count.value
 
     def events_len(self):
         """How many events the present generation has."""
