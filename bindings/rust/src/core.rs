@@ -45,6 +45,7 @@ pub struct Desk {
 // SAFETY: what a handle names is plain memory of the heap; the library has no lock, no thread and no thread-local.
 unsafe impl Send for Desk {}
 
+#[inline]
 fn checked(code: u32) -> Result<(), Code> {
     Err(match code {
         raw::OK => return Ok(()),
@@ -58,6 +59,7 @@ fn checked(code: u32) -> Result<(), Code> {
 }
 
 impl raw::Out {
+    #[inline]
     fn reply(&self) -> Reply<'_> {
         match self.reply {
             0 => Reply::Unit,
@@ -72,6 +74,7 @@ impl raw::Out {
         }
     }
 
+    #[inline]
     fn moves(&self) -> Moves<'_> {
         let has = |flag| self.moves & flag != 0;
         Moves {
@@ -89,6 +92,7 @@ impl raw::Out {
     }
 
     /// The end of a call; of a first phase `shared` isn't written, and nobody shares.
+    #[inline]
     fn done(&self, shared: u32) -> Done<'_> {
         Done {
             reply: self.reply(),
@@ -98,6 +102,7 @@ impl raw::Out {
         }
     }
 
+    #[inline]
     fn asked(&self, session: u32) -> Asked<'_> {
         let ticket = Ticket(self.number);
         match self.next {

@@ -174,6 +174,7 @@ pub(crate) struct Compared {
 }
 
 impl Compared {
+    #[inline]
     pub(crate) fn note(&mut self, id: Id, is_same: bool) {
         if is_same {
             self.same = Some(id);
@@ -226,13 +227,17 @@ impl<K, V, E> Table<K, V, E> {
         }
     }
 
+    #[inline]
     pub(crate) fn find(&self, hash: u64, compared: &Compared) -> Place<K> {
+        if let Some(id) = compared.same
+            && self.slots[id.slot()].id == id
+            && self.slots[id.slot()].key.is_some()
+        {
+            return Place::At(id.slot());
+        }
         let mut at = self.first.get(&hash).copied().unwrap_or(NO_SLOT);
         while at != NO_SLOT {
             let slot = &self.slots[at as usize];
-            if compared.same == Some(slot.id) {
-                return Place::At(at as usize);
-            }
             if !compared.others.contains(&slot.id) {
                 return Place::Unknown(slot.id, slot.key().clone());
             }

@@ -114,6 +114,7 @@ impl Value {
         bytes: [0; VALUE_MAX],
     };
 
+    #[inline]
     pub(super) fn get(&self) -> &[u8] {
         &self.bytes[..self.len as usize]
     }
@@ -135,6 +136,7 @@ impl Key {
         bytes: [0; KEY_MAX],
     };
 
+    #[inline]
     pub(super) fn get(&self) -> &[u8] {
         &self.bytes[..self.len as usize]
     }
