@@ -99,7 +99,8 @@ fn keys_and_values_of_no_length_or_too_long() {
         desk.commit_load(asked, Loaded::Found(&value[..256]))
             .is_ok()
     );
-    assert!(desk.begin(1, Op::Get, &key[..32]).is_ok());
+    let longest = ticket(desk.begin(1, Op::Get, &key[..32]).unwrap());
+    desk.withdraw(longest).unwrap();
 }
 
 #[test]
@@ -129,9 +130,12 @@ fn sessions_that_have_a_call_out() {
     let mut desk = desk();
     let asked = ticket(desk.begin(1, Op::Get, b"a").unwrap());
     assert_eq!(desk.begin(1, Op::Get, b"b").err(), Some(Code::Misuse));
-    assert!(desk.begin(2, Op::Put(b"1"), b"b").is_ok());
+    let other = ticket(desk.begin(2, Op::Put(b"1"), b"b").unwrap());
     desk.withdraw(asked).unwrap();
-    assert!(desk.begin(1, Op::Get, b"a").is_ok());
+    let again = ticket(desk.begin(1, Op::Get, b"a").unwrap());
+    desk.withdraw(other).unwrap();
+    desk.withdraw(again).unwrap();
+    assert_eq!(desk.close(), Ok(()));
 }
 
 #[test]
