@@ -1,7 +1,8 @@
 """Plays random scripts of one stripe through the library and through `jcache run`, and compares what they say, byte by byte.
 
 Six sessions make all operations of one key, with processors, failures, writers that lie, joined loads, evictions, and calls that are
-given up. After each step a table that follows the core's moves is compared with what the core has.
+given up; now and then the cache is closed and opened again, in another shape. After each step a table that follows the core's moves is
+compared with what the core has.
 
 usage: differ.py JCACHE FIRST COUNT     JCACHE: the program; FIRST: the first random seed
 """
@@ -80,13 +81,12 @@ class Player:
 
     def __init__(self, seed):
         self.random = random.Random(seed)
-        self.capacity = self.random.choice([1, 2, 3, 8])
-        self.read_through = self.random.random() < .7
-        self.write_through = self.random.random() < .7
-        self.desk = Desk(Shape(1, self.capacity, HISTORY, self.read_through, self.write_through, False))
-        words = ['read'] * self.read_through + ['write'] * self.write_through
-        self.script = [' '.join([f'open 1 {self.capacity} {HISTORY}', *words])]
+        self.script = []
         self.says = ['open']
+        self.write_through = False
+        self.desk = None
+        self.is_closing = False
+        self.open('open', [])
         self.store = {}
         self.table = {}
         self.calls = {}
@@ -97,12 +97,34 @@ class Player:
                 self.store[key] = raw(value)
                 self.script.append(f'set {key} {value}')
 
+    def open(self, command, entries):
+        """Opens the desk with as many of these entries as fit, and returns the others."""
+        capacity = self.random.choice([1, 2, 3, 8])
+        read_through, self.write_through = self.random.random() < .7, self.random.random() < .7
+        flags = ['read'] * read_through + ['write'] * self.write_through
+        self.script.append(' '.join([f'{command} 1 {capacity} {HISTORY}', *flags]))
+        shape = Shape(1, capacity, HISTORY, read_through, self.write_through, False)
+        self.desk = Desk(shape, 0, entries[:capacity])
+        return entries[capacity:]
+
+    def reopen(self):
+        entries = self.desk.entries()
+        self.desk.close()
+        dropped = [key.decode() for key, _ in self.open('reopen', entries)]
+        self.says.append(' '.join(['reopened', *dropped]))
+        for key in dropped:
+            del self.table[key]
+        self.is_closing = False
+
     def play(self):
         for _ in range(STEPS):
             waiting = [call for call in self.calls.values() if call.processed is not None and not call.is_answered()]
+            self.is_closing = self.is_closing or self.random.random() < .01
             if waiting:
                 self.write(waiting[0])
-            elif not self.calls or self.random.random() < .35:
+            elif self.is_closing and not self.calls:
+                self.reopen()
+            elif not self.is_closing and (not self.calls or self.random.random() < .35):
                 self.begin()
             else:
                 self.go_on(self.random.choice(list(self.calls.values())))
