@@ -129,8 +129,8 @@ class Cache:
 
     def get(self, key, default=None):
         """The value of a key: the cached one, or what the loader finds; or the default."""
-        key_hash = hash(key)
-        value = self._stripes[key_hash % len(self._stripes)].hit(key, key_hash)
+        stripe, key_hash = self._place(key)
+        value = stripe.hit(key, key_hash)
         if value is None:
             value = self._call(core.GET, key).value
         return default if value is None else value

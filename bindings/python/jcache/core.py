@@ -152,6 +152,8 @@ def _check_sizes():
 
 _check_sizes()
 LIBRARY = _load()
+# The call of a hit, for arguments that are objects of ctypes already: that is twice as fast.
+HIT = LIBRARY['jc_hit']
 
 
 class Desk:
@@ -160,7 +162,7 @@ class Desk:
     def __init__(self, shape, number=0, entries=()):
         self.out = Out()
         self._handle = Handle()
-        self._at = ctypes.addressof(self._handle)
+        self.address = ctypes.addressof(self._handle)
         self._told = ctypes.addressof(self.out)
         self._value = Value()
         self.open(shape, number, entries)
@@ -171,26 +173,26 @@ class Desk:
         for entry, (key, value) in zip(room, entries):
             entry.key.set(key)
             entry.value.set(value)
-        _check(LIBRARY.jc_open(self._at, ctypes.addressof(shape), number, ctypes.addressof(room), len(entries)))
+        _check(LIBRARY.jc_open(self.address, ctypes.addressof(shape), number, ctypes.addressof(room), len(entries)))
 
     def close(self):
         """Closes and frees it."""
-        _check(LIBRARY.jc_close(self._at))
+        _check(LIBRARY.jc_close(self.address))
 
     def begin(self, session, op, key, value=b'', other=b''):
         """The first phase of the session's next call."""
-        code = LIBRARY.jc_begin(self._at, session, op, key, len(key), value, len(value), other, len(other), self._told)
+        code = LIBRARY.jc_begin(self.address, session, op, key, len(key), value, len(value), other, len(other), self._told)
         if code:
             raise CoreError(code)
         return self.out
 
     def hit(self, session, key):
         """A get that finds its entry; or None, and nothing was done."""
-        return self._valued(LIBRARY.jc_hit(self._at, session, key, len(key), ctypes.addressof(self._value)))
+        return self._valued(LIBRARY.jc_hit(self.address, session, key, len(key), ctypes.addressof(self._value)))
 
     def peek(self, key):
         """The key's entry, or None. No call is made."""
-        return self._valued(LIBRARY.jc_peek(self._at, key, len(key), ctypes.addressof(self._value)))
+        return self._valued(LIBRARY.jc_peek(self.address, key, len(key), ctypes.addressof(self._value)))
 
     def _valued(self, code):
         if code == NONE:
@@ -200,32 +202,32 @@ class Desk:
 
     def commit_load(self, ticket, answer, code=0, value=b''):
         """The last phase of a call whose loader was asked."""
-        _check(LIBRARY.jc_commit_load(self._at, ticket, answer, code, value, len(value), self._told))
+        _check(LIBRARY.jc_commit_load(self.address, ticket, answer, code, value, len(value), self._told))
         return self.out
 
     def commit_write(self, ticket, answer, code=0):
         """The last phase of a call whose writer was asked."""
-        _check(LIBRARY.jc_commit_write(self._at, ticket, answer, code, self._told))
+        _check(LIBRARY.jc_commit_write(self.address, ticket, answer, code, self._told))
         return self.out
 
     def commit_process(self, ticket, processed):
         """The last phase of a call whose processor ran."""
-        _check(LIBRARY.jc_commit_process(self._at, ticket, ctypes.addressof(processed), self._told))
+        _check(LIBRARY.jc_commit_process(self.address, ticket, ctypes.addressof(processed), self._told))
         return self.out
 
     def withdraw(self, ticket):
         """Gives a ticket back whose loader, writer or processor was not asked."""
-        _check(LIBRARY.jc_withdraw(self._at, ticket))
+        _check(LIBRARY.jc_withdraw(self.address, ticket))
 
     def pick_up(self, session, call, key, load):
         """Picks up the answer of a load that was joined."""
-        _check(LIBRARY.jc_pick_up(self._at, session, call, key, len(key), load, self._told))
+        _check(LIBRARY.jc_pick_up(self.address, session, call, key, len(key), load, self._told))
         return self.out
 
     def statistics(self):
         """What all events since the opening count."""
         counts = Statistics()
-        _check(LIBRARY.jc_statistics_of(self._at, ctypes.addressof(counts)))
+        _check(LIBRARY.jc_statistics_of(self.address, ctypes.addressof(counts)))
         return counts
 
     def entries(self):
@@ -236,21 +238,21 @@ class Desk:
 
     def _entries_into(self, room, length):
         count = c_size_t()
-        _check(LIBRARY.jc_entries(self._at, ctypes.addressof(room), length, ctypes.addressof(count)))
+        _check(LIBRARY.jc_entries(self.address, ctypes.addressof(room), length, ctypes.addressof(count)))
         return count.value
 
     def events_len(self):
         """How many events the present generation has."""
-        return LIBRARY.jc_events_len(self._at)
+        return LIBRARY.jc_events_len(self.address)
 
     def end_generation(self):
         """Ends the present generation."""
-        _check(LIBRARY.jc_end_generation(self._at))
+        _check(LIBRARY.jc_end_generation(self.address))
 
     def __del__(self):
         # A desk whose opening failed has only zeros.
         if LIBRARY is not None and self._handle.is_open:
-            LIBRARY.jc_close(self._at)
+            LIBRARY.jc_close(self.address)
 
 
 def _check(code):

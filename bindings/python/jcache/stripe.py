@@ -11,12 +11,14 @@ import ctypes
 import threading
 
 from . import core
-from .core import LIBRARY
+from .core import HIT
 from .errors import ClosedError, DeadlockError
 
 SLOT_BITS = 16
 AT_ONCE = 0
 """The session of calls that are done at once in any case."""
+_AT_ONCE = ctypes.c_uint32(AT_ONCE)
+_EIGHT = ctypes.c_size_t(8)
 NO_VERSION = bytes(8)
 """The version that no value has."""
 
@@ -104,13 +106,13 @@ class Stripe:
         self._room = threading.Condition(self._lock)
         self._is_outside = is_outside
         self._desk = core.Desk(shape)
-        self._handle = self._desk._at
         self._out = self._desk.out
         self._told, self._left, self._victim, self._evicted = [
             ctypes.c_uint64.from_buffer(self._out, field.offset + 4)
             for field in (core.Out.value, core.Out.left, core.Out.victim, core.Out.evicted)]
+        self._handle = ctypes.c_void_p(self._desk.address)
         self._hit_room = core.Value()
-        self._hit_at = ctypes.addressof(self._hit_room)
+        self._hit_at = ctypes.c_void_p(ctypes.addressof(self._hit_room))
         self._hit_told = ctypes.c_uint64.from_buffer(self._hit_room, 4)
         self._first = {}
         """The first node of each hash."""
@@ -227,7 +229,7 @@ class Stripe:
             version = node.version
             if self.is_closed:
                 raise ClosedError('the cache is closed')
-            if not version or LIBRARY.jc_hit(self._handle, AT_ONCE, node.number, 8, self._hit_at):
+            if not version or HIT(self._handle, _AT_ONCE, node.number, _EIGHT, self._hit_at):
                 return None
             if self._hit_told.value != version:
                 raise AssertionError('the core has another value')
