@@ -3,12 +3,13 @@
 //! Eight workers count visits of pages. The folder is the store of record: the numbers are there when the service begins again.
 use jcache::{Cache, Loader, Writer};
 use std::path::PathBuf;
+use std::sync::Arc;
 use std::{fs, io, thread};
 
 /// The store: a file for each page.
 struct Folder(PathBuf);
 
-impl Loader<String, u64> for &Folder {
+impl Loader<String, u64> for Folder {
     type Error = io::Error;
 
     fn load(&self, page: &String) -> io::Result<Option<u64>> {
@@ -20,7 +21,7 @@ impl Loader<String, u64> for &Folder {
     }
 }
 
-impl Writer<String, u64> for &Folder {
+impl Writer<String, u64> for Folder {
     type Error = io::Error;
 
     fn write(&self, page: &String, visits: &u64) -> io::Result<()> {
@@ -40,12 +41,11 @@ impl Writer<String, u64> for &Folder {
 fn main() -> Result<(), Box<dyn std::error::Error>> {
     let path = std::env::args().nth(1).ok_or("usage: service FOLDER")?;
     fs::create_dir_all(&path)?;
-    let folder = Folder(path.into());
+    let folder = Arc::new(Folder(path.into()));
     let cache = Cache::builder()
         .stripes(4)
         .capacity(1000)
-        .loader(&folder)
-        .writer(&folder)
+        .store(folder)
         .build()?;
     thread::scope(|workers| {
         for worker in 0..8 {

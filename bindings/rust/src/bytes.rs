@@ -2,12 +2,13 @@
 use crate::core::{self, Asked, Desk, Done, Loaded, PickedUp, Refusal, Shape};
 use crate::core::{Statistics, Ticket, Written};
 use crate::op::Reply;
-use crate::outside::{Loader, NoLoader, NoWriter, Writer, is_outside, outside};
+use crate::outside::{Loader, NoLoader, NoWriter, Shared, Writer, is_outside, outside};
 use crate::side::{FAILED, Sessions, Stop};
 use crate::table::{Failure, Flight};
 use crate::waiting::{self, Waiters, this_thread};
 use crate::{BuildError, Error};
 use std::collections::HashMap;
+use std::fmt;
 use std::sync::atomic::Ordering::Relaxed;
 use std::sync::{Arc, Mutex, MutexGuard, OnceLock};
 
@@ -23,6 +24,14 @@ where
     stripes: Box<[Stripe<L::Error>]>,
     loader: L,
     writer: W,
+}
+
+impl<L: Loader<[u8], Vec<u8>>, W: Writer<[u8], [u8]>> fmt::Debug for BytesCache<L, W> {
+    fn fmt(&self, f: &mut fmt::Formatter<'_>) -> fmt::Result {
+        f.debug_struct("BytesCache")
+            .field("stripes", &self.stripes.len())
+            .finish_non_exhaustive()
+    }
 }
 
 /// The error of a cache's calls.
@@ -92,6 +101,14 @@ impl<L, W> BytesBuilder<L, W> {
             loader: self.loader,
             writer,
         }
+    }
+
+    /// What reads the store and changes it.
+    pub fn store<T>(self, store: Arc<T>) -> BytesBuilder<Shared<T>, Shared<T>>
+    where
+        T: Loader<[u8], Vec<u8>> + Writer<[u8], [u8]>,
+    {
+        self.loader(Shared(store.clone())).writer(Shared(store))
     }
 
     /// The cache.

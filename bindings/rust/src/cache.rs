@@ -2,10 +2,11 @@
 use crate::call::{self, Begun, Change};
 use crate::core::{self, Shape, Statistics};
 use crate::op::{Expected, Op, Reply};
-use crate::outside::{Loader, NoLoader, NoWriter, Writer, outside};
+use crate::outside::{Loader, NoLoader, NoWriter, Shared, Writer, outside};
 use crate::stripe::Stripe;
 use crate::{BuildError, Error};
 use std::borrow::Borrow;
+use std::fmt;
 use std::hash::{BuildHasher, Hash, RandomState};
 use std::marker::PhantomData;
 use std::sync::Arc;
@@ -33,6 +34,14 @@ where
     hasher: RandomState,
     loader: L,
     writer: W,
+}
+
+impl<K, V, L: Loader<K, V>, W: Writer<K, V>> fmt::Debug for Cache<K, V, L, W> {
+    fn fmt(&self, f: &mut fmt::Formatter<'_>) -> fmt::Result {
+        f.debug_struct("Cache")
+            .field("stripes", &self.stripes.len())
+            .finish_non_exhaustive()
+    }
 }
 
 /// The error of a cache's calls.
@@ -130,6 +139,14 @@ impl<K, V, L, W> Builder<K, V, L, W> {
             writer,
             kinds: PhantomData,
         }
+    }
+
+    /// What reads the store and changes it.
+    pub fn store<T>(self, store: Arc<T>) -> Builder<K, V, Shared<T>, Shared<T>>
+    where
+        T: Loader<K, V> + Writer<K, V>,
+    {
+        self.loader(Shared(store.clone())).writer(Shared(store))
     }
 
     /// The cache.

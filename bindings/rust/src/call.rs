@@ -20,6 +20,7 @@ use std::sync::Arc;
 use std::task::{Context, Poll};
 
 /// What a first phase asks for. `L` is the loader's error, `W` the writer's.
+#[must_use]
 pub enum Begun<'c, K, V, L, W> {
     /// Nothing: the call is over.
     Done(Reply<V>),

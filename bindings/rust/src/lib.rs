@@ -38,4 +38,4 @@ pub use cache::{Builder, Cache, CacheBegun, CacheError};
 pub use error::{BuildError, BulkError, Error};
 pub use invoke::Entry;
 pub use op::{Expected, Op, Reply};
-pub use outside::{Loader, NoLoader, NoWriter, Unwritten, Writer};
+pub use outside::{Loader, NoLoader, NoWriter, Shared, Unwritten, Writer};

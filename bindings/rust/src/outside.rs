@@ -1,6 +1,7 @@
 //! The loader and the writer: what a cache has behind it.
 use std::cell::Cell;
 use std::convert::Infallible;
+use std::sync::Arc;
 
 /// Reads the store.
 ///
@@ -106,6 +107,48 @@ impl<K: ?Sized, V: ?Sized> Writer<K, V> for NoWriter {
 
     fn delete(&self, _key: &K) -> Result<(), Infallible> {
         Ok(())
+    }
+}
+
+/// A store that is shared, as the loader and the writer of a cache: see [`Builder::store`](crate::Builder::store).
+#[derive(Debug, Default)]
+pub struct Shared<T: ?Sized>(pub Arc<T>);
+
+impl<T: ?Sized> Clone for Shared<T> {
+    fn clone(&self) -> Shared<T> {
+        Shared(self.0.clone())
+    }
+}
+
+impl<K: ?Sized, V, T: Loader<K, V> + ?Sized> Loader<K, V> for Shared<T> {
+    type Error = T::Error;
+
+    fn load(&self, key: &K) -> Result<Option<V>, T::Error> {
+        self.0.load(key)
+    }
+
+    fn load_all(&self, keys: &[&K]) -> Result<Vec<Option<V>>, T::Error> {
+        self.0.load_all(keys)
+    }
+}
+
+impl<K: ?Sized, V: ?Sized, T: Writer<K, V> + ?Sized> Writer<K, V> for Shared<T> {
+    type Error = T::Error;
+
+    fn write(&self, key: &K, value: &V) -> Result<(), T::Error> {
+        self.0.write(key, value)
+    }
+
+    fn delete(&self, key: &K) -> Result<(), T::Error> {
+        self.0.delete(key)
+    }
+
+    fn write_all(&self, entries: &[(&K, &V)]) -> Result<(), Unwritten<T::Error>> {
+        self.0.write_all(entries)
+    }
+
+    fn delete_all(&self, keys: &[&K]) -> Result<(), Unwritten<T::Error>> {
+        self.0.delete_all(keys)
     }
 }
 

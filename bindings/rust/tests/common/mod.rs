@@ -1,6 +1,6 @@
 //! A store in memory that counts its calls, and fails or panics when it is told to.
 #![allow(dead_code)]
-use jcache::{Cache, Loader, Writer};
+use jcache::{Cache, Loader, Shared, Writer};
 use std::collections::HashMap;
 use std::fmt;
 use std::sync::atomic::{AtomicUsize, Ordering::SeqCst};
@@ -53,34 +53,33 @@ impl Store {
     }
 }
 
-/// A loader and a writer over a store.
-#[derive(Clone, Default)]
-pub struct Outside(pub Arc<Store>);
+/// A store as loader and writer.
+pub type Outside = Shared<Store>;
 
-impl Loader<String, String> for Outside {
+impl Loader<String, String> for Store {
     type Error = Broken;
 
     fn load(&self, key: &String) -> Result<Option<String>, Broken> {
-        self.0.loads.fetch_add(1, SeqCst);
-        Store::check(&self.0.loading, "no load")?;
-        Ok(self.0.get(key))
+        self.loads.fetch_add(1, SeqCst);
+        Store::check(&self.loading, "no load")?;
+        Ok(self.get(key))
     }
 }
 
-impl Writer<String, String> for Outside {
+impl Writer<String, String> for Store {
     type Error = Broken;
 
     fn write(&self, key: &String, value: &String) -> Result<(), Broken> {
-        self.0.writes.fetch_add(1, SeqCst);
-        Store::check(&self.0.writing, "no write")?;
-        self.0.set(key, value);
+        self.writes.fetch_add(1, SeqCst);
+        Store::check(&self.writing, "no write")?;
+        self.set(key, value);
         Ok(())
     }
 
     fn delete(&self, key: &String) -> Result<(), Broken> {
-        self.0.writes.fetch_add(1, SeqCst);
-        Store::check(&self.0.writing, "no delete")?;
-        self.0.held.lock().unwrap().remove(key);
+        self.writes.fetch_add(1, SeqCst);
+        Store::check(&self.writing, "no delete")?;
+        self.held.lock().unwrap().remove(key);
         Ok(())
     }
 }
@@ -88,13 +87,11 @@ impl Writer<String, String> for Outside {
 pub type Texts = Cache<String, String, Outside, Outside>;
 
 pub fn cache_of(stripes: usize, capacity: usize) -> (Arc<Store>, Texts) {
-    let outside = Outside::default();
-    let store = outside.0.clone();
+    let store = Arc::new(Store::default());
     let cache = Cache::builder()
         .stripes(stripes)
         .capacity(capacity)
-        .loader(outside.clone())
-        .writer(outside)
+        .store(store.clone())
         .build()
         .unwrap();
     (store, cache)
