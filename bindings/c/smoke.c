@@ -142,31 +142,43 @@ static picture look(jc_desk *desk) {
         CHECK(memcmp(&before, &after, sizeof before) == 0);    \
     } while (0)
 
+/* The same of a bad argument, which leaves all that it is given to write as it was. */
+#define BAD(call)                                              \
+    do {                                                       \
+        memset(&out, 0xa5, sizeof out);                        \
+        memset(&value, 0xa5, sizeof value);                    \
+        const jc_out out_before = out;                         \
+        const jc_value value_before = value;                   \
+        REFUSED(JC_BAD_ARGUMENT, call);                        \
+        CHECK(memcmp(&out, &out_before, sizeof out) == 0);     \
+        CHECK(memcmp(&value, &value_before, sizeof value) == 0); \
+    } while (0)
+
 static void bad_arguments(void) {
     jc_desk desk = opened(&SHAPE);
     jc_out out = {0};
     jc_value value;
     put(&desk, "a", "1", &out);
     for (size_t len = 0; len <= JC_KEY_MAX + 1; len += JC_KEY_MAX + 1) {
-        REFUSED(JC_BAD_ARGUMENT, jc_begin(&desk, 1, JC_GET, long_bytes, len, NONE, NONE, &out));
-        REFUSED(JC_BAD_ARGUMENT, jc_hit(&desk, 1, long_bytes, len, &value));
-        REFUSED(JC_BAD_ARGUMENT, jc_peek(&desk, long_bytes, len, &value));
-        REFUSED(JC_BAD_ARGUMENT, jc_pick_up(&desk, 1, 0, long_bytes, len, 0, &out));
+        BAD(jc_begin(&desk, 1, JC_GET, long_bytes, len, NONE, NONE, &out));
+        BAD(jc_hit(&desk, 1, long_bytes, len, &value));
+        BAD(jc_peek(&desk, long_bytes, len, &value));
+        BAD(jc_pick_up(&desk, 1, 0, long_bytes, len, 0, &out));
     }
-    REFUSED(JC_BAD_ARGUMENT, jc_begin(&desk, 1, JC_PUT, BYTES("a"), long_bytes, JC_VALUE_MAX + 1, NONE, &out));
-    REFUSED(JC_BAD_ARGUMENT, jc_begin(&desk, 1, JC_REPLACE_IF, BYTES("a"), NONE, long_bytes, JC_VALUE_MAX + 1, &out));
-    REFUSED(JC_BAD_ARGUMENT, jc_begin(&desk, 1, JC_INVOKE + 1, BYTES("a"), NONE, NONE, &out));
-    REFUSED(JC_BAD_ARGUMENT, jc_begin(&desk, 1, UINT32_MAX, BYTES("a"), NONE, NONE, &out));
+    BAD(jc_begin(&desk, 1, JC_PUT, BYTES("a"), long_bytes, JC_VALUE_MAX + 1, NONE, &out));
+    BAD(jc_begin(&desk, 1, JC_REPLACE_IF, BYTES("a"), NONE, long_bytes, JC_VALUE_MAX + 1, &out));
+    BAD(jc_begin(&desk, 1, JC_INVOKE + 1, BYTES("a"), NONE, NONE, &out));
+    BAD(jc_begin(&desk, 1, UINT32_MAX, BYTES("a"), NONE, NONE, &out));
     CHECK(begin(&desk, 1, JC_GET, "b", "", &out) == JC_OK);
     uint64_t ticket = out.number;
-    REFUSED(JC_BAD_ARGUMENT, jc_commit_load(&desk, ticket, JC_NOT_ASKED, 0, NONE, &out));
-    REFUSED(JC_BAD_ARGUMENT, jc_commit_load(&desk, ticket, JC_FAILED + 1, 0, NONE, &out));
-    REFUSED(JC_BAD_ARGUMENT, jc_commit_load(&desk, ticket, JC_FOUND, 0, long_bytes, JC_VALUE_MAX + 1, &out));
+    BAD(jc_commit_load(&desk, ticket, JC_NOT_ASKED, 0, NONE, &out));
+    BAD(jc_commit_load(&desk, ticket, JC_FAILED + 1, 0, NONE, &out));
+    BAD(jc_commit_load(&desk, ticket, JC_FOUND, 0, long_bytes, JC_VALUE_MAX + 1, &out));
     CHECK(jc_commit_load(&desk, ticket, JC_FOUND, 0, long_bytes, JC_VALUE_MAX, &out) == JC_OK);
     CHECK(begin(&desk, 1, JC_REMOVE, "b", "", &out) == JC_OK);
     ticket = out.number;
-    REFUSED(JC_BAD_ARGUMENT, jc_commit_write(&desk, ticket, JC_NOT_ASKED, 0, &out));
-    REFUSED(JC_BAD_ARGUMENT, jc_commit_write(&desk, ticket, JC_NOTHING, 0, &out));
+    BAD(jc_commit_write(&desk, ticket, JC_NOT_ASKED, 0, &out));
+    BAD(jc_commit_write(&desk, ticket, JC_NOTHING, 0, &out));
     CHECK(jc_withdraw(&desk, ticket) == JC_OK);
     CHECK(jc_close(&desk) == JC_OK);
 }
@@ -174,6 +186,7 @@ static void bad_arguments(void) {
 static void bad_processors(void) {
     jc_desk desk = opened(&SHAPE);
     jc_out out = {0};
+    jc_value value;
     CHECK(begin(&desk, 1, JC_INVOKE, "a", "", &out) == JC_OK);
     uint64_t ticket = out.number;
     const jc_value too_long = {.len = JC_VALUE_MAX + 1}, endless = {.len = UINT32_MAX};
@@ -183,7 +196,7 @@ static void bad_processors(void) {
         {.effect = JC_SET, .write = JC_WRITTEN, .set = endless}, {.has_outcome = true, .outcome = too_long},
     };
     for (size_t i = 0; i < sizeof wrong / sizeof *wrong; i++) {
-        REFUSED(JC_BAD_ARGUMENT, jc_commit_process(&desk, ticket, &wrong[i], &out));
+        BAD(jc_commit_process(&desk, ticket, &wrong[i], &out));
     }
     CHECK(jc_withdraw(&desk, ticket) == JC_OK);
     CHECK(jc_close(&desk) == JC_OK);
