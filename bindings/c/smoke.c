@@ -321,11 +321,43 @@ static void limits_of_calls_under_way(void) {
     CHECK(jc_close(&desk) == JC_OK);
 }
 
+static void events(void) {
+    jc_desk desk = {0};
+    jc_shape shape = SHAPE;
+    shape.capacity = 1;
+    const jc_entry opening[] = {{.key = {1, "a"}, .value = {1, "1"}}}, no_key[] = {{.value = {1, "1"}}};
+    CHECK(jc_open(&desk, &shape, 0, opening, 1) == JC_OK);
+    jc_out out = {0};
+    static jc_flat_event told[4];
+    put(&desk, "b", "2", &out);
+    CHECK(begin(&desk, 1, JC_GET, "b", "", &out) == JC_OK && jc_events_len(&desk) == 3);
+    for (size_t place = 0; place < 3; place++) {
+        CHECK(jc_event(&desk, place, &told[place]) == JC_OK);
+    }
+    CHECK(jc_event(&desk, 3, &told[3]) == JC_NONE);
+    CHECK(told[0].kind == JC_EVICTION && told[0].cause == JC_FOR_ROOM && is_key(&told[0].key, "a"));
+    CHECK(told[1].kind == JC_STEP && told[1].op == JC_PUT && is_key(&told[1].key, "b") && is_value(&told[1].value, "2"));
+    CHECK(told[1].outside.write == JC_WRITTEN && told[1].outside.effect == JC_NOT_RUN && told[1].reply == JC_UNIT);
+    CHECK(told[2].op == JC_GET && told[2].reply == JC_VALUE && is_value(&told[2].replied, "2") && !told[2].is_shared);
+    bool is_legal = false;
+    CHECK(jc_legal(&shape, opening, 1, told, 3, &is_legal) == JC_OK && is_legal);
+    CHECK(jc_legal(&shape, opening, 0, told, 3, &is_legal) == JC_OK && !is_legal);
+    CHECK(jc_legal(&shape, opening, 1, told, 2, &is_legal) == JC_OK && is_legal);
+    CHECK(jc_legal(&shape, opening, 1, told + 1, 2, &is_legal) == JC_OK && !is_legal);
+    CHECK(jc_legal(&shape, no_key, 1, told, 3, &is_legal) == JC_BAD_ARGUMENT);
+    told[2].replied.bytes[0] = '3';
+    CHECK(jc_legal(&shape, opening, 1, told, 3, &is_legal) == JC_OK && !is_legal);
+    told[2].replied.len = JC_VALUE_MAX + 1;
+    CHECK(jc_legal(&shape, opening, 1, told, 3, &is_legal) == JC_BAD_ARGUMENT);
+    CHECK(jc_close(&desk) == JC_OK && jc_event(&desk, 0, told) == JC_WRONG_HANDLE);
+}
+
 int main(void) {
     loads_and_joins();
     writes_and_evictions();
     processors();
     generations();
+    events();
     bad_arguments();
     bad_processors();
     bad_openings();

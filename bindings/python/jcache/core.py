@@ -33,7 +33,9 @@ HISTORY_FULL, BUSY, TOO_MANY_IN_FLIGHT, TOO_MANY_JOINERS, OTHER = range(5)
 KEPT, LEFT, EVICTED, OWN_EVICTED_FULL, OWN_EVICTED_MEMORY = 1, 2, 4, 8, 16
 NOT_ASKED, FOUND, NOTHING, FAILED = range(4)
 WRITTEN = 1
-KEEP, SET, TAKE_OUT, PROCESS_FAILED = range(4)
+KEEP, SET, TAKE_OUT, PROCESS_FAILED, NOT_RUN = range(5)
+STEP, EVICTION = range(2)
+FOR_ROOM, FOR_MEMORY = range(2)
 
 
 class CoreError(Exception):
@@ -96,6 +98,14 @@ class Processed(ctypes.Structure):
                 ('write_code', c_uint32), ('has_outcome', c_bool), ('loaded', Value), ('set_value', Value), ('outcome', Value)]
 
 
+class FlatEvent(ctypes.Structure):
+    """An event of a generation: see the header."""
+
+    _fields_ = [('kind', c_uint32), ('session', c_uint32), ('call', c_uint64), ('op', c_uint32), ('is_shared', c_bool),
+                ('shared_with', c_uint32), ('reply', c_uint32), ('reply_code', c_uint32), ('cause', c_uint32), ('key', Key),
+                ('value', Value), ('other', Value), ('replied', Value), ('outside', Processed)]
+
+
 class Statistics(ctypes.Structure):
     """What all events since the opening count."""
 
@@ -134,6 +144,8 @@ def _load():
         'jc_statistics_of': (handle, pointer),
         'jc_entries': (handle, pointer, c_size_t, pointer),
         'jc_events_len': (handle,),
+        'jc_event': (handle, c_size_t, pointer),
+        'jc_legal': (pointer, pointer, c_size_t, pointer, c_size_t, pointer),
         'jc_end_generation': (handle,),
     }
     for name, kinds in parameters.items():
@@ -144,7 +156,7 @@ def _load():
 
 
 def _check_sizes():
-    sizes = {Handle: 16, Shape: 32, Value: 260, Key: 36, Entry: 296, Out: 856, Processed: 808, Statistics: 40}
+    sizes = {Handle: 16, Shape: 32, Value: 260, Key: 36, Entry: 296, Out: 856, Processed: 808, FlatEvent: 1664, Statistics: 40}
     for kind, size in sizes.items():
         if ctypes.sizeof(kind) != size:
             raise ImportError(f'{kind.__name__} has {ctypes.sizeof(kind)} bytes here, and {size} in the core')
@@ -169,10 +181,7 @@ class Desk:
 
     def open(self, shape, number=0, entries=()):
         """Opens a desk that was closed, with these (key, value), the first one the most recently used."""
-        room = (Entry * max(1, len(entries)))()
-        for entry, (key, value) in zip(room, entries):
-            entry.key.set(key)
-            entry.value.set(value)
+        room = _entries(entries)
         _check(LIBRARY.jc_open(self.address, ctypes.addressof(shape), number, ctypes.addressof(room), len(entries)))
 
     def close(self):
@@ -245,6 +254,15 @@ class Desk:
         """How many events the present generation has."""
         return LIBRARY.jc_events_len(self.address)
 
+    def event(self, place):
+        """The event at a place of the present generation, from 0, or None if it has no such place."""
+        event = FlatEvent()
+        code = LIBRARY.jc_event(self.address, place, ctypes.addressof(event))
+        if code == NONE:
+            return None
+        _check(code)
+        return event
+
     def end_generation(self):
         """Ends the present generation."""
         _check(LIBRARY.jc_end_generation(self.address))
@@ -258,3 +276,22 @@ class Desk:
 def _check(code):
     if code:
         raise CoreError(code)
+
+
+def _entries(entries):
+    """(key, value) as structs; the room is never empty."""
+    room = (Entry * max(1, len(entries)))()
+    for entry, (key, value) in zip(room, entries):
+        entry.key.set(key)
+        entry.value.set(value)
+    return room
+
+
+def legal(shape, opening, events):
+    """Whether these events are a legal history of one stripe of a cache of this shape that began with these (key, value)."""
+    room = _entries(opening)
+    listed = (FlatEvent * max(1, len(events)))(*events)
+    is_legal = c_bool()
+    _check(LIBRARY.jc_legal(ctypes.addressof(shape), ctypes.addressof(room), len(opening), ctypes.addressof(listed), len(events),
+                            ctypes.addressof(is_legal)))
+    return is_legal.value

@@ -65,6 +65,20 @@ class Misuse(unittest.TestCase):
         desk.end_generation()
         self.assertEqual(desk.hit(1, b'a'), b'1')
 
+    def test_events_are_legal(self):
+        opening = [(b'a', b'1')]
+        desk = Desk(shape(capacity=1, keeps_events=True), 0, opening)
+        ticket = desk.begin(1, core.PUT, b'b', b'2').number
+        desk.commit_write(ticket, core.WRITTEN)
+        self.assertIsNone(desk.event(2))
+        events = [desk.event(place) for place in range(desk.events_len())]
+        self.assertEqual([event.kind for event in events], [core.EVICTION, core.STEP])
+        self.assertEqual((events[0].key.get(), events[1].key.get(), events[1].value.get()), (b'a', b'b', b'2'))
+        self.assertTrue(core.legal(shape(capacity=1), opening, events))
+        self.assertFalse(core.legal(shape(capacity=1), [], events))
+        self.assertTrue(core.legal(shape(), [], []))
+        self.refused(core.BAD_ARGUMENT, core.legal, shape(), [(b'', b'')], events)
+
     def test_a_library_that_is_missing(self):
         environment = dict(os.environ, JCACHE_CORE_SO='/nowhere/libjcache_core.so', PYTHONPATH=os.path.join(HERE, '..'))
         ran = subprocess.run([sys.executable, '-c', 'import jcache'], env=environment, stderr=subprocess.PIPE, universal_newlines=True)

@@ -9,9 +9,11 @@
 //! ticket's key, and the commit says what it answered; a ticket is withdrawn only if nobody was asked.
 #![allow(unsafe_code)]
 
+mod events;
 mod raw;
 mod words;
 
+pub use events::{Event, Outside, What, legal};
 use std::fmt;
 pub use words::{
     Asked, Cause, Code, Done, Effect, Join, Loaded, Moves, Op, PickedUp, Processed, Refusal, Reply,
@@ -61,17 +63,7 @@ fn checked(code: u32) -> Result<(), Code> {
 impl raw::Out {
     #[inline]
     fn reply(&self) -> Reply<'_> {
-        match self.reply {
-            0 => Reply::Unit,
-            1 => Reply::Flag(false),
-            2 => Reply::Flag(true),
-            3 => Reply::Value(None),
-            4 => Reply::Value(Some(self.value.get())),
-            5 => Reply::LoaderFailed(self.code),
-            6 => Reply::WriterFailed(self.code),
-            7 => Reply::ProcessorFailed(self.code),
-            reply => unreachable!("the core answered reply {reply}"),
-        }
+        Reply::of(self.reply, self.code, &self.value)
     }
 
     #[inline]
@@ -160,21 +152,8 @@ impl Desk {
         number: usize,
         entries: &[(&[u8], &[u8])],
     ) -> Result<(), Code> {
-        let shape = raw::Shape {
-            stripes: shape.stripes,
-            capacity: shape.capacity,
-            history: shape.history,
-            read_through: shape.read_through,
-            write_through: shape.write_through,
-            keeps_events: shape.keeps_events,
-        };
-        let entries: Vec<raw::Entry> = entries
-            .iter()
-            .map(|(key, value)| raw::Entry {
-                key: raw::Key::of(key),
-                value: raw::Value::of(value),
-            })
-            .collect();
+        let shape = raw_shape(shape);
+        let entries = raw_entries(entries);
         let handle = &mut self.room.handle;
         // SAFETY: the handle is one that was closed or never opened, or the library refuses it; the entries live through the call.
         checked(unsafe { raw::jc_open(handle, &shape, number, entries.as_ptr(), entries.len()) })
@@ -334,11 +313,40 @@ impl Desk {
         unsafe { raw::jc_events_len(&mut self.room.handle) }
     }
 
+    /// The event at a place of the present generation, from 0; or none, if it has no such place.
+    pub fn event(&mut self, place: usize) -> Result<Option<Event>, Code> {
+        let mut event = Event::empty();
+        // SAFETY: as in `begin`.
+        match unsafe { raw::jc_event(&mut self.room.handle, place, event.as_raw_mut()) } {
+            raw::NONE => Ok(None),
+            code => checked(code).map(|()| Some(event)),
+        }
+    }
+
     /// Ends the present generation. `InUse`: it has no event, or an answer is parked.
     pub fn end_generation(&mut self) -> Result<(), Code> {
         // SAFETY: as in `begin`.
         checked(unsafe { raw::jc_end_generation(&mut self.room.handle) })
     }
+}
+
+fn raw_shape(shape: &Shape) -> raw::Shape {
+    raw::Shape {
+        stripes: shape.stripes,
+        capacity: shape.capacity,
+        history: shape.history,
+        read_through: shape.read_through,
+        write_through: shape.write_through,
+        keeps_events: shape.keeps_events,
+    }
+}
+
+fn raw_entries(entries: &[(&[u8], &[u8])]) -> Vec<raw::Entry> {
+    let entries = entries.iter().map(|(key, value)| raw::Entry {
+        key: raw::Key::of(key),
+        value: raw::Value::of(value),
+    });
+    entries.collect()
 }
 
 fn written_parts(written: Option<Written>) -> (u32, u32) {

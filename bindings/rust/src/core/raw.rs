@@ -59,6 +59,7 @@ pub(super) struct Out {
 }
 
 #[repr(C)]
+#[derive(Clone, Copy)]
 pub(super) struct Processed {
     pub load: u32,
     pub load_code: u32,
@@ -70,6 +71,25 @@ pub(super) struct Processed {
     pub loaded: Value,
     pub set: Value,
     pub outcome: Value,
+}
+
+#[repr(C)]
+#[derive(Clone, Copy)]
+pub(super) struct FlatEvent {
+    pub kind: u32,
+    pub session: u32,
+    pub call: u64,
+    pub op: u32,
+    pub is_shared: bool,
+    pub shared_with: u32,
+    pub reply: u32,
+    pub reply_code: u32,
+    pub cause: u32,
+    pub key: Key,
+    pub value: Value,
+    pub other: Value,
+    pub replied: Value,
+    pub outside: Processed,
 }
 
 #[repr(C)]
@@ -105,6 +125,14 @@ const _: () = {
     assert!(offset_of!(Processed, write_code) == 20 && offset_of!(Processed, has_outcome) == 24);
     assert!(offset_of!(Processed, loaded) == 28 && offset_of!(Processed, set) == 288);
     assert!(offset_of!(Processed, outcome) == 548);
+    assert!(size_of::<FlatEvent>() == 1664);
+    assert!(offset_of!(FlatEvent, session) == 4 && offset_of!(FlatEvent, call) == 8);
+    assert!(offset_of!(FlatEvent, op) == 16 && offset_of!(FlatEvent, is_shared) == 20);
+    assert!(offset_of!(FlatEvent, shared_with) == 24 && offset_of!(FlatEvent, reply) == 28);
+    assert!(offset_of!(FlatEvent, reply_code) == 32 && offset_of!(FlatEvent, cause) == 36);
+    assert!(offset_of!(FlatEvent, key) == 40 && offset_of!(FlatEvent, value) == 76);
+    assert!(offset_of!(FlatEvent, other) == 336 && offset_of!(FlatEvent, replied) == 596);
+    assert!(offset_of!(FlatEvent, outside) == 856);
     assert!(size_of::<Statistics>() == 40 && offset_of!(Statistics, evictions) == 32);
 };
 
@@ -171,6 +199,36 @@ impl Out {
     }
 }
 
+impl FlatEvent {
+    pub(super) const EMPTY: FlatEvent = FlatEvent {
+        kind: 0,
+        session: 0,
+        call: 0,
+        op: 0,
+        is_shared: false,
+        shared_with: 0,
+        reply: 0,
+        reply_code: 0,
+        cause: 0,
+        key: Key::EMPTY,
+        value: Value::EMPTY,
+        other: Value::EMPTY,
+        replied: Value::EMPTY,
+        outside: Processed {
+            load: 0,
+            load_code: 0,
+            effect: 0,
+            code: 0,
+            write: 0,
+            write_code: 0,
+            has_outcome: false,
+            loaded: Value::EMPTY,
+            set: Value::EMPTY,
+            outcome: Value::EMPTY,
+        },
+    };
+}
+
 pub(super) const OK: u32 = 0;
 pub(super) const WRONG_HANDLE: u32 = 1;
 pub(super) const NO_MEMORY: u32 = 2;
@@ -202,10 +260,14 @@ pub(super) const WRITTEN: u32 = 1;
 pub(super) const NOTHING: u32 = 2;
 pub(super) const FAILED: u32 = 3;
 
+pub(super) const EVICTION: u32 = 1;
+pub(super) const FOR_MEMORY: u32 = 1;
+
 pub(super) const KEEP: u32 = 0;
 pub(super) const SET: u32 = 1;
 pub(super) const TAKE_OUT: u32 = 2;
 pub(super) const PROCESS_FAILED: u32 = 3;
+pub(super) const NOT_RUN: u32 = 4;
 
 unsafe extern "C" {
     pub(super) fn jc_open(
@@ -277,5 +339,14 @@ unsafe extern "C" {
         count: *mut usize,
     ) -> u32;
     pub(super) fn jc_events_len(h: *mut Handle) -> usize;
+    pub(super) fn jc_event(h: *mut Handle, place: usize, out: *mut FlatEvent) -> u32;
     pub(super) fn jc_end_generation(h: *mut Handle) -> u32;
+    pub(super) fn jc_legal(
+        shape: *const Shape,
+        opening: *const Entry,
+        opening_count: usize,
+        events: *const FlatEvent,
+        events_count: usize,
+        is_legal: *mut bool,
+    ) -> u32;
 }

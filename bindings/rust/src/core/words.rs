@@ -76,6 +76,30 @@ pub enum Op<'a> {
 }
 
 impl<'a> Op<'a> {
+    pub(super) fn of(op: u32, value: &'a raw::Value, other: &'a raw::Value) -> Op<'a> {
+        match op {
+            0 => Op::Get,
+            1 => Op::ContainsKey,
+            2 => Op::Put(value.get()),
+            3 => Op::GetAndPut(value.get()),
+            4 => Op::PutIfAbsent(value.get()),
+            5 => Op::Remove,
+            6 => Op::RemoveIf(value.get()),
+            7 => Op::GetAndRemove,
+            8 => Op::Replace(value.get()),
+            9 => Op::ReplaceIf {
+                old: value.get(),
+                new: other.get(),
+            },
+            10 => Op::GetAndReplace(value.get()),
+            11 => Op::Clear,
+            12 => Op::Load,
+            13 => Op::Reload,
+            14 => Op::Invoke,
+            op => unreachable!("the core answered operation {op}"),
+        }
+    }
+
     pub(super) fn parts(self) -> (u32, &'a [u8], &'a [u8]) {
         match self {
             Op::Get => (0, b"", b""),
@@ -142,10 +166,27 @@ pub enum Reply<'d> {
     ProcessorFailed(u32),
 }
 
-/// Why the entry that a step made was evicted at once.
+impl<'d> Reply<'d> {
+    #[inline]
+    pub(super) fn of(reply: u32, code: u32, value: &'d raw::Value) -> Reply<'d> {
+        match reply {
+            0 => Reply::Unit,
+            1 => Reply::Flag(false),
+            2 => Reply::Flag(true),
+            3 => Reply::Value(None),
+            4 => Reply::Value(Some(value.get())),
+            5 => Reply::LoaderFailed(code),
+            6 => Reply::WriterFailed(code),
+            7 => Reply::ProcessorFailed(code),
+            reply => unreachable!("the core answered reply {reply}"),
+        }
+    }
+}
+
+/// Why an entry was evicted: of a step, the one that it made, at once.
 #[derive(Clone, Copy, Debug, PartialEq, Eq)]
 pub enum Cause {
-    /// All other entries are reserved.
+    /// The stripe was full; of a step's own new entry: all others are reserved.
     Full,
     /// An allocation failed.
     Memory,
