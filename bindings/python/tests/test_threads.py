@@ -155,20 +155,26 @@ class Stress(unittest.TestCase):
         except jcache.CacheError:
             pass
 
-    def test_after_a_long_run_cached_is_stored(self):
+    def long_run(self, **words):
         store = Shaky()
-        cache = jcache.Cache(loader=store, writer=store, stripes=2, capacity=8)
+        cache = jcache.Cache(loader=store, writer=store, **words)
 
         def work(seed):
             chance = random.Random(seed)
-            for _ in range(1500):
+            for _ in range(1000):
                 self.one_call(cache, chance)
 
         results = run(*[lambda seed=seed: work(seed) for seed in range(6)])()
         self.assertEqual(results, [None] * 6)
         self.assertTrue(cache._agrees())
         self.assertEqual({key: store.held.get(key) for key in cache.keys()}, cache.get_many(cache.keys()))
-        self.assertLessEqual(len(cache), 16)
+        self.assertLessEqual(len(cache), words['stripes'] * words['capacity'])
+
+    def test_cached_is_stored(self):
+        self.long_run(stripes=2, capacity=8)
+
+    def test_in_little_room(self):
+        self.long_run(stripes=1, capacity=2, history=16)
 
 
 if __name__ == '__main__':
