@@ -239,7 +239,8 @@ class Stripe:
         """The first phase of a call: a Reply, a Call, or what it waits for, Blocked."""
         compared = (0, False)
         while True:
-            leavings = []
+            # What these names held is dropped before the lock is taken.
+            leavings, node, cached = [], None, None
             node = self._locate(key, key_hash)
             try:
                 if self.is_closed:

@@ -114,6 +114,64 @@ class Deadlocks(unittest.TestCase):
         self.assertTrue(cache._agrees())
 
 
+class Reentrant(unittest.TestCase):
+    """Keys and values whose own methods call the cache: nothing of the user's runs with a lock held, or these would never end."""
+
+    def test_methods_of_keys_and_values_may_call_the_cache(self):
+        cache = jcache.Cache(loader=lambda key: Value(1), stripes=1, capacity=3)
+        calls = {}
+        inside = threading.local()
+
+        def call_the_cache(what):
+            if getattr(inside, 'is_on', False):
+                return
+            inside.is_on = True
+            calls[what] = calls.get(what, 0) + 1
+            cache.put('own', 1)
+            cache.get('other')
+            cache.remove('own')
+            inside.is_on = False
+
+        class Key:
+            def __init__(self, number):
+                self.number = number
+
+            def __hash__(self):
+                call_the_cache('hash')
+                return 7
+
+            def __eq__(self, other):
+                call_the_cache('eq of a key')
+                return isinstance(other, Key) and other.number == self.number
+
+            def __del__(self):
+                call_the_cache('del of a key')
+
+        class Value(Key):
+            def __eq__(self, other):
+                call_the_cache('eq of a value')
+                return other.number == self.number
+
+            def __del__(self):
+                call_the_cache('del of a value')
+
+        def work():
+            for number in range(30):
+                cache.get(Key(number % 6))
+                cache.put(Key(number % 6), Value(2))
+                cache.replace_if(Key(number % 6), Value(2), Value(3))
+                cache.set_many({Key(number % 6): Value(4)})
+                cache.invoke(Key(number % 6), lambda entry: setattr(entry, 'value', Value(5)))
+                cache.get_many([Key(1), Key(2)])
+                cache.remove_if(Key(number % 6), Value(5))
+                cache.remove(Key(number % 6))
+            cache.clear()
+
+        self.assertEqual(run(work, work)(), [None, None])
+        self.assertTrue(cache._agrees())
+        self.assertEqual(sorted(calls), ['del of a key', 'del of a value', 'eq of a key', 'eq of a value', 'hash'])
+
+
 class Shaky(Store):
     """It fails one call of 16, and has changed nothing then."""
 
@@ -155,20 +213,26 @@ class Stress(unittest.TestCase):
         except jcache.CacheError:
             pass
 
-    def test_after_a_long_run_cached_is_stored(self):
+    def long_run(self, **words):
         store = Shaky()
-        cache = jcache.Cache(loader=store, writer=store, stripes=2, capacity=8)
+        cache = jcache.Cache(loader=store, writer=store, **words)
 
         def work(seed):
             chance = random.Random(seed)
-            for _ in range(1500):
+            for _ in range(1000):
                 self.one_call(cache, chance)
 
         results = run(*[lambda seed=seed: work(seed) for seed in range(6)])()
         self.assertEqual(results, [None] * 6)
         self.assertTrue(cache._agrees())
         self.assertEqual({key: store.held.get(key) for key in cache.keys()}, cache.get_many(cache.keys()))
-        self.assertLessEqual(len(cache), 16)
+        self.assertLessEqual(len(cache), words['stripes'] * words['capacity'])
+
+    def test_cached_is_stored(self):
+        self.long_run(stripes=2, capacity=8)
+
+    def test_in_little_room(self):
+        self.long_run(stripes=1, capacity=2, history=16)
 
 
 if __name__ == '__main__':

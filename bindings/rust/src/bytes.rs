@@ -218,6 +218,16 @@ where
         Ok(entries)
     }
 
+    /// The loader.
+    pub fn loader(&self) -> &L {
+        &self.loader
+    }
+
+    /// The writer.
+    pub fn writer(&self) -> &W {
+        &self.writer
+    }
+
     /// Hits, misses, puts, removals and evictions since the cache was built.
     pub fn stats(&self) -> Result<Statistics, BytesError<L, W>> {
         let mut sum = Statistics::default();

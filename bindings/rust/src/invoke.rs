@@ -55,6 +55,17 @@ where
     /// Runs a processor on the entry of a key, and returns what it returns.
     ///
     /// If it fails ([`Error::processor`](crate::Error::processor) makes an error of its own) or panics, nothing is changed.
+    ///
+    /// ```
+    /// # let cache = jcache::Cache::<String, u32>::builder().build()?;
+    /// let visits = cache.invoke("page".to_string(), |entry| {
+    ///     let visits = entry.value()?.map_or(0, |visits| *visits) + 1;
+    ///     entry.set(visits);
+    ///     Ok(visits)
+    /// })?;
+    /// assert_eq!(visits, 1);
+    /// # Ok::<(), Box<dyn std::error::Error>>(())
+    /// ```
     pub fn invoke<T>(
         &self,
         key: K,

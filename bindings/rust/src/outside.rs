@@ -7,6 +7,44 @@ use std::sync::Arc;
 ///
 /// A function or closure `Fn(&K) -> Result<Option<V>, E>` is a loader, too. A loader is called with no lock held, for each key by one
 /// call at a time. If it panics its call has failed, and the panic goes on.
+///
+/// ```
+/// use jcache::{Cache, Loader, Writer};
+/// use std::collections::HashMap;
+/// use std::convert::Infallible;
+/// use std::sync::{Arc, Mutex};
+///
+/// #[derive(Default)]
+/// struct Store(Mutex<HashMap<u32, String>>);
+///
+/// impl Loader<u32, String> for Store {
+///     type Error = Infallible;
+///
+///     fn load(&self, key: &u32) -> Result<Option<String>, Infallible> {
+///         Ok(self.0.lock().unwrap().get(key).cloned())
+///     }
+/// }
+///
+/// impl Writer<u32, String> for Store {
+///     type Error = Infallible;
+///
+///     fn write(&self, key: &u32, value: &String) -> Result<(), Infallible> {
+///         self.0.lock().unwrap().insert(*key, value.clone());
+///         Ok(())
+///     }
+///
+///     fn delete(&self, key: &u32) -> Result<(), Infallible> {
+///         self.0.lock().unwrap().remove(key);
+///         Ok(())
+///     }
+/// }
+///
+/// let store = Arc::new(Store::default());
+/// let cache = Cache::builder().store(store.clone()).build()?;
+/// cache.put(1, "one".to_string())?;
+/// assert_eq!(store.0.lock().unwrap()[&1], "one");
+/// # Ok::<(), Box<dyn std::error::Error>>(())
+/// ```
 pub trait Loader<K: ?Sized, V> {
     /// Its error.
     type Error;

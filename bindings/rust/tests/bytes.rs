@@ -2,7 +2,10 @@
 use jcache::{BytesCache, Error, Loader, NoLoader, Writer};
 use std::collections::HashMap;
 use std::panic::{AssertUnwindSafe, catch_unwind};
-use std::sync::Mutex;
+use std::sync::atomic::{AtomicUsize, Ordering::SeqCst};
+use std::sync::{Arc, Barrier, Mutex, OnceLock, Weak};
+use std::thread::{scope, sleep};
+use std::time::Duration;
 
 #[derive(Default)]
 struct Held(Mutex<HashMap<Vec<u8>, Vec<u8>>>);
@@ -106,6 +109,67 @@ fn failures_and_panics() {
     cache.close();
     assert!(matches!(cache.get(b"a"), Err(Error::Closed)));
     assert!(matches!(cache.stats(), Err(Error::Closed)));
+}
+
+/// A loader that asks the cache for the very key that it is asked for.
+struct Own(OnceLock<Weak<BytesCache<Own>>>);
+
+impl Loader<[u8], Vec<u8>> for Own {
+    type Error = String;
+
+    fn load(&self, key: &[u8]) -> Result<Option<Vec<u8>>, String> {
+        let cache = self
+            .0
+            .get()
+            .and_then(Weak::upgrade)
+            .expect("the cache is there");
+        let joined = cache.get(key).map_err(|error| format!("{error:?}"));
+        let put = cache.put(key, b"1").map_err(|error| format!("{error:?}"));
+        assert_eq!(put, Err("WouldDeadlock".to_string()));
+        joined
+    }
+}
+
+#[test]
+fn a_loader_that_waits_for_itself_is_told() {
+    let cache = Arc::new(
+        BytesCache::builder()
+            .loader(Own(OnceLock::new()))
+            .build()
+            .unwrap(),
+    );
+    cache.loader().0.set(Arc::downgrade(&cache)).unwrap();
+    for _ in 0..100 {
+        assert!(matches!(cache.get(b"a"), Err(Error::Loader(error)) if *error == "WouldDeadlock"));
+    }
+    assert!(cache.entries().unwrap().is_empty());
+}
+
+#[test]
+fn joined_calls_make_one_load() {
+    let loads = AtomicUsize::new(0);
+    let gate = Barrier::new(2);
+    let loader = |key: &[u8]| {
+        loads.fetch_add(1, SeqCst);
+        gate.wait();
+        gate.wait();
+        Err::<Option<Vec<u8>>, _>(key.len())
+    };
+    let cache = BytesCache::builder().loader(loader).build().unwrap();
+    scope(|threads| {
+        let first = threads.spawn(|| cache.get(b"key"));
+        gate.wait();
+        let others: Vec<_> = (0..4)
+            .map(|_| threads.spawn(|| cache.get(b"key")))
+            .collect();
+        sleep(Duration::from_millis(50));
+        gate.wait();
+        for call in others.into_iter().chain([first]) {
+            let reply = call.join().unwrap();
+            assert!(matches!(reply, Err(Error::Loader(length)) if *length == 3));
+        }
+    });
+    assert_eq!(loads.load(SeqCst), 1);
 }
 
 #[test]

@@ -83,6 +83,27 @@ impl Drop for Value {
 
 #[test]
 fn methods_of_keys_and_values_may_call_the_cache() {
+    std::thread::scope(|threads| {
+        for _ in 0..4 {
+            threads.spawn(make_all_calls);
+        }
+    });
+    CACHE.clear().unwrap();
+    assert!(CACHE.agrees());
+    let calls = CALLS.lock().unwrap();
+    for from in [
+        "Key::hash",
+        "Key::eq",
+        "Key::clone",
+        "Key::drop",
+        "Value::eq",
+        "Value::drop",
+    ] {
+        assert!(calls.contains_key(from), "{from} was not called");
+    }
+}
+
+fn make_all_calls() {
     for i in 0..40 {
         let key = || Key(i % 9);
         CACHE.get(&key()).unwrap();
@@ -100,18 +121,5 @@ fn methods_of_keys_and_values_may_call_the_cache() {
             })
             .unwrap();
         CACHE.remove(&key()).unwrap();
-    }
-    CACHE.clear().unwrap();
-    assert!(CACHE.agrees());
-    let calls = CALLS.lock().unwrap();
-    for from in [
-        "Key::hash",
-        "Key::eq",
-        "Key::clone",
-        "Key::drop",
-        "Value::eq",
-        "Value::drop",
-    ] {
-        assert!(calls.contains_key(from), "{from} was not called");
     }
 }

@@ -1,6 +1,6 @@
 //! Calls on threads: joined loads, waiting, deadlocks, and a long run over a store that fails.
 mod common;
-use common::{Broken, Mode, Store, text};
+use common::{Broken, Store};
 use jcache::{BytesCache, Cache, Error, Loader, Writer};
 use std::collections::HashMap;
 use std::sync::atomic::{AtomicUsize, Ordering::SeqCst};
@@ -304,11 +304,21 @@ fn one_call(cache: &Cache<String, String, Shaky, Shaky>, state: &mut u64) {
 
 #[test]
 fn after_a_long_run_cached_is_stored() {
+    long_run(4, 16, 64);
+}
+
+#[test]
+fn after_a_long_run_in_little_room_cached_is_stored() {
+    long_run(1, 2, 16);
+}
+
+fn long_run(stripes: usize, capacity: usize, history: usize) {
     let outside = Shaky::default();
     let store = outside.0.clone();
     let cache = Cache::builder()
-        .stripes(4)
-        .capacity(16)
+        .stripes(stripes)
+        .capacity(capacity)
+        .history(history)
         .loader(outside.clone())
         .writer(outside)
         .build()
@@ -325,14 +335,15 @@ fn after_a_long_run_cached_is_stored() {
         }
     });
     assert!(cache.agrees());
-    *store.loading.lock().unwrap() = Mode::Panics;
-    for key in cache.keys().unwrap() {
+    let cached = cache.keys().unwrap();
+    assert!(!cached.is_empty() && cached.len() <= stripes * capacity);
+    for key in cached {
+        assert!(cache.contains_key(&*key).unwrap());
         assert_eq!(
             cache.get(&*key).unwrap().as_deref(),
             store.get(&key).as_ref()
         );
     }
-    assert!(text("") != cache.get("key0").unwrap_or(None));
 }
 
 #[test]
