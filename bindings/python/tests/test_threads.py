@@ -123,7 +123,7 @@ class Reentrant(unittest.TestCase):
         inside = threading.local()
 
         def call_the_cache(what):
-            if getattr(inside, 'is_on', False):
+            if getattr(inside, 'is_on', False) or cache.closed:
                 return
             inside.is_on = True
             calls[what] = calls.get(what, 0) + 1
@@ -169,6 +169,7 @@ class Reentrant(unittest.TestCase):
 
         self.assertEqual(run(work, work)(), [None, None])
         self.assertTrue(cache._agrees())
+        cache.close()
         self.assertEqual(sorted(calls), ['del of a key', 'del of a value', 'eq of a key', 'eq of a value', 'hash'])
 
 
