@@ -127,9 +127,13 @@ class Reentrant(unittest.TestCase):
                 return
             inside.is_on = True
             calls[what] = calls.get(what, 0) + 1
-            cache.put('own', 1)
-            cache.get('other')
-            cache.remove('own')
+            try:
+                cache.put('own', 1)
+                cache.get('other')
+                cache.remove('own')
+            except jcache.DeadlockError:
+                # The thread has a call out, and the stripe has no room.
+                pass
             inside.is_on = False
 
         class Key:
@@ -162,7 +166,7 @@ class Reentrant(unittest.TestCase):
                 cache.replace_if(Key(number % 6), Value(2), Value(3))
                 cache.set_many({Key(number % 6): Value(4)})
                 cache.invoke(Key(number % 6), lambda entry: setattr(entry, 'value', Value(5)))
-                cache.get_many([Key(1), Key(2)])
+                cache.get_many([Key(1), Key(2), Key(1)])
                 cache.remove_if(Key(number % 6), Value(5))
                 cache.remove(Key(number % 6))
             cache.clear()
