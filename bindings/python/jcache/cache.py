@@ -58,7 +58,7 @@ class Entry:
     def value(self):
         """The value, or None. With read-through the loader is asked if there is none and the processor has changed nothing."""
         if self._may_load and self._load == core.NOT_ASKED and self._effect == core.KEEP:
-            self._ask()
+            self._load_value()
         if self._error is not None:
             raise LoaderError('the loader failed') from self._error
         return self._value
@@ -78,10 +78,10 @@ class Entry:
         if self._error is None:
             self._value, self._effect = None, core.TAKE_OUT
 
-    def _ask(self):
+    def _load_value(self):
         self._load = core.FAILED
         try:
-            self._value = self._loaded = self._cache._ask(self._cache._loader.load, self.key)
+            self._value = self._loaded = self._cache._in_call(self._cache._loader.load, self.key)
             self._load = core.NOTHING if self._value is None else core.FOUND
         except BaseException as error:
             self._error = error
@@ -113,13 +113,13 @@ class Cache:
             raise ValueError('stripes are 1 to 64')
         self._loader = _Loader(loader or (lambda key: None))
         self._writer = _Writer(writer or (lambda key, value: None))
-        self._inside = threading.local()
+        self._thread = threading.local()
         reads = loader is not None if read_through is None else read_through
         self._writes = writer is not None if write_through is None else write_through
         # A key's number says nothing of its stripe, which is chosen by its hash: each desk is a cache of one stripe.
         shape = core.Shape(1, capacity, history, reads, self._writes, False)
         try:
-            self._stripes = [Stripe(shape, self._is_inside) for _ in range(stripes)]
+            self._stripes = [Stripe(shape, self._is_in_call) for _ in range(stripes)]
         except core.CoreError as error:
             if error.code == core.NO_MEMORY:
                 raise MemoryError('a stripe of the cache') from None
@@ -211,7 +211,7 @@ class Cache:
         failure = None
         result = None
         try:
-            result = self._ask(processor, entry, *arguments)
+            result = self._in_call(processor, entry, *arguments)
             if self._writes and entry._error is None and entry._effect != core.KEEP:
                 write = core.FAILED
                 self._ask_writer(call.node.key, entry._value)
@@ -237,23 +237,23 @@ class Cache:
 
     # Phases.
 
-    def _is_inside(self):
-        return getattr(self._inside, 'depth', 0) > 0
+    def _is_in_call(self):
+        return getattr(self._thread, 'depth', 0) > 0
 
-    def _ask(self, function, *arguments):
-        """Calls a loader, a writer or a processor of the user's."""
-        inside = self._inside
-        inside.depth = getattr(inside, 'depth', 0) + 1
+    def _in_call(self, function, *arguments):
+        """Does what a call does while it has something out, as to ask a loader: who calls the cache meanwhile may not wait for room."""
+        thread = self._thread
+        thread.depth = getattr(thread, 'depth', 0) + 1
         try:
             return function(*arguments)
         finally:
-            inside.depth -= 1
+            thread.depth -= 1
 
     def _ask_writer(self, key, value):
         if value is None:
-            self._ask(self._writer.delete, key)
+            self._in_call(self._writer.delete, key)
         else:
-            self._ask(self._writer.write, key, value)
+            self._in_call(self._writer.write, key, value)
 
     def _place(self, key):
         key_hash = hash(key)
@@ -282,7 +282,7 @@ class Cache:
 
     def _load(self, stripe, call):
         try:
-            value = self._ask(self._loader.load, call.node.key)
+            value = self._in_call(self._loader.load, call.node.key)
         except BaseException as error:
             stripe.commit_load(call, None, error)
             if not isinstance(error, Exception):
@@ -372,6 +372,20 @@ class Cache:
         return all(stripe.agrees() for stripe in self._stripes)
 
 
+class _Item:
+    """A key of a call of many keys."""
+
+    __slots__ = ('op', 'key', 'value', 'stripe', 'hash', 'call')
+
+    def __init__(self, cache, op, key, value):
+        self.op = op
+        self.key = key
+        self.value = value
+        self.stripe, self.hash = cache._place(key)
+        self.call = None
+        """What it has out."""
+
+
 class _Round:
     """A call of many keys, in rounds.
 
@@ -382,57 +396,66 @@ class _Round:
 
     def __init__(self, cache, work):
         self._cache = cache
-        self._work = work
+        self._items = [_Item(cache, *item) for item in work]
         self._replies = []
         self._failed = []
         self._error = None
 
     def run(self):
         """All rounds: the replies, as (key, Reply)."""
-        while self._work:
-            reserved, joined, blocked = self._begin()
-            if not reserved and not joined and blocked is not None:
-                stripe, begun = blocked
-                self._stopped_by(lambda: stripe.wait(begun))
-            if reserved and reserved[0][1].next == core.ASK_LOADER:
-                self._load(reserved)
-            elif reserved:
-                self._write(reserved)
-            for item, call, stripe in joined:
-                self._pick_up(item, call, stripe)
+        while self._items:
+            blocked = self._cache._in_call(self._one)
+            if blocked is not None:
+                self._wait(*blocked)
         if self._error is not None:
             raise BulkError(self._failed) from self._error
         return self._replies
 
+    def _one(self):
+        """One round. If it could reserve and join nothing: what it waits for."""
+        reserved, joined, blocked = self._begin()
+        if not reserved and not joined:
+            return blocked
+        try:
+            if reserved and reserved[0].call.next == core.ASK_LOADER:
+                self._load(reserved)
+            elif reserved:
+                self._write(reserved)
+            while joined:
+                self._pick_up(joined.pop())
+        finally:
+            for item in joined:
+                item.stripe.abandon(item.call)
+        return None
+
     def _begin(self):
         """The first phases. If one is stopped, what was reserved is given up."""
-        work, self._work = self._work, []
+        items, self._items = self._items, []
         reserved, joined, blocked = [], [], None
         try:
-            for op, key, value in work:
-                stripe, key_hash = self._cache._place(key)
-                begun = stripe.begin(op, key, key_hash, value)
+            for item in items:
+                begun = item.stripe.begin(item.op, item.key, item.hash, item.value)
                 if isinstance(begun, Reply):
-                    self._replies.append((key, begun))
+                    self._replies.append((item.key, begun))
                 elif isinstance(begun, Call):
-                    out = joined if begun.next == core.JOINED else reserved
-                    out.append(((op, key, value), begun, stripe))
+                    item.call = begun
+                    (joined if begun.next == core.JOINED else reserved).append(item)
                 else:
-                    blocked = blocked or (stripe, begun)
-                    self._work.append((op, key, value))
+                    blocked = blocked or (item.stripe, begun)
+                    self._items.append(item)
         except BaseException:
-            for _, call, stripe in reserved:
-                stripe.withdraw(call)
-            for _, call, stripe in joined:
-                stripe.abandon(call)
+            for item in reserved:
+                item.stripe.withdraw(item.call)
+            for item in joined:
+                item.stripe.abandon(item.call)
             raise
         return reserved, joined, blocked
 
-    def _stopped_by(self, wait):
+    def _wait(self, stripe, blocked):
         try:
-            wait()
+            stripe.wait(blocked)
         except CacheError as error:
-            self._failed.extend(key for _, key, _ in self._work)
+            self._failed.extend(item.key for item in self._items)
             raise BulkError(self._failed) from error
 
     def _fail(self, key, error):
@@ -440,62 +463,58 @@ class _Round:
         self._error = self._error or error
 
     def _load(self, reserved):
-        error, found = None, {}
+        error, values = None, [None] * len(reserved)
         try:
-            found = self._cache._ask(self._cache._loader.load_many, [call.node.key for _, call, _ in reserved])
-            values = [found.get(key) for (_, key, _), _, _ in reserved]
+            found = self._cache._loader.load_many([item.key for item in reserved])
+            values = [found.get(item.key) for item in reserved]
         except BaseException as caught:
-            error, values = caught, [None] * len(reserved)
-        for ((_, key, _), call, stripe), value in zip(reserved, values):
-            reply = stripe.commit_load(call, value, error)
+            error = caught
+        for item, value in zip(reserved, values):
+            reply = item.stripe.commit_load(item.call, value, error)
             if error is None:
-                self._replies.append((key, reply))
+                self._replies.append((item.key, reply))
             else:
-                self._fail(key, error)
+                self._fail(item.key, error)
         if error is not None and not isinstance(error, Exception):
             raise error
 
     def _write(self, reserved):
-        failed, error = set(), None
-        try:
-            self._change(reserved)
-        except NotWritten as caught:
-            error = caught.__cause__ or caught
-            failed = self._places(reserved, caught.keys)
-        except BaseException as caught:
-            error, failed = caught, set(range(len(reserved)))
-        for place, ((_, key, _), call, stripe) in enumerate(reserved):
-            reply = stripe.commit_write(call, place not in failed)
+        failed, error = self._unwritten(reserved)
+        for place, item in enumerate(reserved):
+            reply = item.stripe.commit_write(item.call, place not in failed)
             if place in failed:
-                self._failed.append(key)
+                self._failed.append(item.key)
             else:
-                self._replies.append((key, reply))
-        if error is not None:
-            if not isinstance(error, Exception):
-                raise error
-            self._error = self._error or error
+                self._replies.append((item.key, reply))
+        if error is not None and not isinstance(error, Exception):
+            raise error
+        self._error = self._error or error
 
-    @staticmethod
-    def _places(reserved, keys):
-        keys = set(keys)
-        return {place for place, ((_, key, _), _, _) in enumerate(reserved) if key in keys}
-
-    def _change(self, reserved):
+    def _unwritten(self, reserved):
+        """Asks the writer: the places of what it did not write or delete, and why."""
         writer = self._cache._writer
-        if reserved[0][1].next == core.HAVE_WRITTEN:
-            self._cache._ask(writer.write_many, {key: call.value for (_, key, _), call, _ in reserved})
-        else:
-            self._cache._ask(writer.delete_many, [key for (_, key, _), _, _ in reserved])
-
-    def _pick_up(self, item, call, stripe):
         try:
-            reply = self._cache._join(stripe, call)
+            try:
+                if reserved[0].call.next == core.HAVE_WRITTEN:
+                    writer.write_many({item.key: item.value for item in reserved})
+                else:
+                    writer.delete_many([item.key for item in reserved])
+            except NotWritten as caught:
+                keys = set(caught.keys)
+                return {place for place, item in enumerate(reserved) if item.key in keys}, caught.__cause__ or caught
+        except BaseException as error:
+            return set(range(len(reserved))), error
+        return set(), None
+
+    def _pick_up(self, item):
+        try:
+            reply = self._cache._join(item.stripe, item.call)
         except LoaderError as error:
-            self._fail(item[1], error.__cause__)
+            self._fail(item.key, error.__cause__)
         except DeadlockError as error:
-            self._fail(item[1], error)
+            self._fail(item.key, error)
         else:
             if reply is None:
-                self._work.append(item)
+                self._items.append(item)
             else:
-                self._replies.append((item[1], reply))
+                self._replies.append((item.key, reply))

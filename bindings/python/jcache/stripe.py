@@ -101,10 +101,10 @@ class Reply:
 class Stripe:
     """A desk and its table. Leavings are lists that a caller drops when the lock is free."""
 
-    def __init__(self, shape, is_outside):
+    def __init__(self, shape, is_in_call):
         self._lock = threading.Lock()
         self._room = threading.Condition(self._lock)
-        self._is_outside = is_outside
+        self._is_in_call = is_in_call
         self._desk = core.Desk(shape)
         self._out = self._desk.out
         self._told, self._left, self._victim, self._evicted = [
@@ -406,8 +406,8 @@ class Stripe:
             if flight is not None:
                 self._sleep(flight, lambda: not flight.is_over and not self.is_closed)
                 return
-            if self._is_outside():
-                raise DeadlockError('a loader, a writer or a processor calls a stripe that has no room for a call more')
+            if self._is_in_call():
+                raise DeadlockError('a call inside another one needs a stripe that has no room')
             while self._changes == blocked.changes and not self.is_closed:
                 self._room.wait()
 

@@ -175,7 +175,7 @@ class Failures(unittest.TestCase):
     def test_what_is_no_exception_goes_on(self):
         for error in (KeyboardInterrupt(), SystemExit()):
             self.store.load_fails = self.store.write_fails = error
-            for call in (lambda: self.cache.get('b'), lambda: self.cache.put('a', 2), lambda: self.cache.get_many('bc'),
+            for call in (lambda: self.cache.get('b'), lambda: self.cache.put('a', 2), lambda: self.cache.get_many('bcb'),
                          lambda: self.cache.delete_many('ab'), lambda: self.cache.invoke('b', lambda entry: entry.value)):
                 with self.assertRaises(type(error)):
                     call()

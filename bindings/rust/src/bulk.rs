@@ -7,7 +7,7 @@ use crate::cache::{Cache, CacheError};
 use crate::call::{AskedLoad, AskedWrite, Begun, Busy, Change, Join, Ticket};
 use crate::error::{BulkError, Error};
 use crate::op::{Op, Reply};
-use crate::outside::{Loader, Unwritten, Writer, outside};
+use crate::outside::{Loader, Unwritten, Writer, in_call};
 use std::collections::HashMap;
 use std::hash::Hash;
 use std::sync::Arc;
@@ -160,20 +160,15 @@ where
             failed: Vec::new(),
         };
         while !items.is_empty() {
-            let mut round = Round::default();
-            if let Err((error, left)) = self.begin_round(items, &mut round, &mut progress) {
-                return Err(progress.stop(error, left));
-            }
-            if round.has_nothing_out()
-                && let Some(busy) = round.busy
+            let busy = match in_call(|| self.round(&mut items, &mut progress)) {
+                Ok(busy) => busy,
+                Err(error) => return Err(progress.stop(error, items)),
+            };
+            if let Some(busy) = busy
                 && let Err(error) = busy.wait()
             {
-                return Err(progress.stop(error, round.later));
+                return Err(progress.stop(error, items));
             }
-            self.ask_loader(round.loads, &mut progress);
-            self.ask_writer(round.writes, &mut progress);
-            self.pick_up(round.joins, &mut round.later, &mut progress);
-            items = round.later;
         }
         match progress.error {
             None => Ok(progress.replies),
@@ -182,6 +177,28 @@ where
                 failed: progress.failed,
             }),
         }
+    }
+
+    /// One round, of the items that are left. If it could reserve and join nothing: what it waits for.
+    fn round(
+        &self,
+        items: &mut Vec<Item<K, V>>,
+        progress: &mut Progress<K, V, L::Error, W::Error>,
+    ) -> Result<Option<Busy<'_, K, V, L::Error>>, CacheError<K, V, L, W>> {
+        let mut round = Round::default();
+        if let Err((error, left)) = self.begin_round(std::mem::take(items), &mut round, progress) {
+            *items = left;
+            return Err(error);
+        }
+        if round.has_nothing_out() {
+            *items = round.later;
+            return Ok(round.busy);
+        }
+        self.ask_loader(round.loads, progress);
+        self.ask_writer(round.writes, progress);
+        self.pick_up(round.joins, &mut round.later, progress);
+        *items = round.later;
+        Ok(None)
     }
 
     /// The first phases. If one is stopped, the round is given up: its keys are withdrawn.
@@ -231,7 +248,7 @@ where
             .map(|(item, ticket)| (item.key, ticket.ask()))
             .unzip();
         let borrowed: Vec<&K> = keys.iter().map(|key| &**key).collect();
-        match outside(|| self.loader().load_all(&borrowed)) {
+        match in_call(|| self.loader().load_all(&borrowed)) {
             Ok(found) => {
                 let found = found.into_iter().chain(std::iter::repeat_with(|| None));
                 for ((key, asked), found) in keys.into_iter().zip(asked).zip(found) {
@@ -289,7 +306,7 @@ where
                 Change::Delete => keys.push(asked.key()),
             }
         }
-        outside(|| {
+        in_call(|| {
             if keys.is_empty() {
                 self.writer().write_all(&entries)
             } else {

@@ -2,7 +2,7 @@
 use crate::core::{self, Asked, Desk, Done, Loaded, PickedUp, Refusal, Shape};
 use crate::core::{Statistics, Ticket, Written};
 use crate::op::Reply;
-use crate::outside::{Loader, NoLoader, NoWriter, Shared, Writer, is_outside, outside};
+use crate::outside::{Loader, NoLoader, NoWriter, Shared, Writer, in_call, is_in_call};
 use crate::side::{FAILED, Sessions, Stop};
 use crate::table::{Failure, Flight};
 use crate::waiting::{self, Waiters, this_thread};
@@ -271,11 +271,11 @@ where
             match stripe.begin(op, key)? {
                 First::Done(reply) => return Ok(reply),
                 First::Load(asked) => {
-                    let loaded = outside(|| self.loader.load(key));
+                    let loaded = in_call(|| self.loader.load(key));
                     return asked.commit_load(loaded);
                 }
                 First::Write(mut asked, value) => {
-                    let written = outside(|| match &value {
+                    let written = in_call(|| match &value {
                         Some(value) => self.writer.write(key, value),
                         None => self.writer.delete(key),
                     });
@@ -569,7 +569,7 @@ impl<E> Stripe<E> {
                 }
                 waiting::wait_no_more();
             }
-            Blocked::Room(_) if is_outside() => return Err(Stop::WouldDeadlock),
+            Blocked::Room(_) if is_in_call() => return Err(Stop::WouldDeadlock),
             Blocked::Room(_) => {
                 while side.is_blocked(blocked) {
                     side = self.room.sleep(side);

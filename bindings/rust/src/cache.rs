@@ -2,7 +2,7 @@
 use crate::call::{self, Begun, Change};
 use crate::core::{self, Shape, Statistics};
 use crate::op::{Expected, Op, Reply};
-use crate::outside::{Loader, NoLoader, NoWriter, Shared, Writer, outside};
+use crate::outside::{Loader, NoLoader, NoWriter, Shared, Writer, in_call};
 use crate::stripe::Stripe;
 use crate::{BuildError, Error};
 use std::borrow::Borrow;
@@ -315,7 +315,7 @@ where
                 Begun::Done(reply) => return Ok(reply),
                 Begun::Load(ticket) => {
                     let asked = ticket.ask();
-                    let loaded = outside(|| self.loader.load(asked.key()));
+                    let loaded = in_call(|| self.loader.load(asked.key()));
                     return asked.commit(loaded);
                 }
                 Begun::Write(ticket) => {
@@ -335,7 +335,7 @@ where
     }
 
     pub(crate) fn write(&self, key: &K, change: Change<'_, V>) -> Result<(), W::Error> {
-        outside(|| match change {
+        in_call(|| match change {
             Change::Write(value) => self.writer.write(key, value),
             Change::Delete => self.writer.delete(key),
         })

@@ -2,7 +2,7 @@
 use crate::cache::{Cache, CacheError};
 use crate::call::{Begun, Processing};
 use crate::op::Op;
-use crate::outside::{Loader, Writer, outside};
+use crate::outside::{Loader, Writer, in_call};
 use std::hash::Hash;
 use std::sync::Arc;
 
@@ -29,7 +29,7 @@ impl<K, V, L: Loader<K, V>, W: Writer<K, V>> Entry<'_, K, V, L, W> {
     pub fn value(&mut self) -> Result<Option<Arc<V>>, CacheError<K, V, L, W>> {
         if self.processing.must_load() {
             self.processing.start_load();
-            let loaded = outside(|| self.loader.load(self.processing.key()));
+            let loaded = in_call(|| self.loader.load(self.processing.key()));
             self.processing.loaded(loaded);
         }
         Ok(self.processing.value()?.cloned())
@@ -75,7 +75,7 @@ where
             processing: self.processing(key)?,
             loader: self.loader(),
         };
-        let result = outside(|| processor(&mut entry));
+        let result = in_call(|| processor(&mut entry));
         let mut processing = entry.processing;
         let value = match result {
             Ok(value) => value,

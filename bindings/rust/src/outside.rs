@@ -202,14 +202,14 @@ impl Drop for Leave {
     }
 }
 
-/// Calls a loader, a writer or a processor of the user's.
-pub(crate) fn outside<T>(ask: impl FnOnce() -> T) -> T {
+/// Does what a call does while it has something out, as to ask a loader: who calls a cache meanwhile may not wait for room.
+pub(crate) fn in_call<T>(work: impl FnOnce() -> T) -> T {
     DEPTH.with(|depth| depth.set(depth.get() + 1));
     let _leave = Leave;
-    ask()
+    work()
 }
 
-/// Whether this thread is inside a loader, a writer or a processor.
-pub(crate) fn is_outside() -> bool {
+/// Whether this thread has a call that has something out.
+pub(crate) fn is_in_call() -> bool {
     DEPTH.with(|depth| depth.get() > 0)
 }

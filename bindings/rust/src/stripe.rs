@@ -212,7 +212,7 @@ impl<K, V, E> Stripe<K, V, E> {
                 }
                 waiting::wait_no_more();
             }
-            Blocked::Room(_) if crate::outside::is_outside() => return Err(Stop::WouldDeadlock),
+            Blocked::Room(_) if crate::outside::is_in_call() => return Err(Stop::WouldDeadlock),
             Blocked::Room(_) => {
                 while guard.is_blocked(blocked) {
                     guard = self.room.sleep(guard);

@@ -1,5 +1,5 @@
 //! Keys and values whose own methods call the cache: nothing of the user's runs with a lock held, or these would never end.
-use jcache::Cache;
+use jcache::{Cache, Error};
 use std::cell::Cell;
 use std::collections::HashMap;
 use std::hash::{Hash, Hasher};
@@ -29,9 +29,15 @@ fn call_the_cache(from: &'static str) {
         return;
     }
     *CALLS.lock().unwrap().entry(from).or_default() += 1;
-    CACHE.put(Key(99), Value(99)).unwrap();
-    CACHE.get(&Key(98)).unwrap();
-    CACHE.remove(&Key(99)).unwrap();
+    let results = [
+        CACHE.put(Key(99), Value(99)),
+        CACHE.get(&Key(98)).map(drop),
+        CACHE.remove(&Key(99)).map(drop),
+    ];
+    for result in results {
+        // The thread may have a call out, and the stripe no room.
+        assert!(matches!(result, Ok(()) | Err(Error::WouldDeadlock)));
+    }
     IS_INSIDE.set(false);
 }
 
@@ -113,6 +119,9 @@ fn make_all_calls() {
         CACHE.get_and_put(key(), Value(i)).unwrap();
         CACHE
             .put_all([(key(), Value(1)), (Key(50), Value(2))])
+            .unwrap_or_else(|_| panic!());
+        CACHE
+            .load_all([key(), Key(51), key()], true)
             .unwrap_or_else(|_| panic!());
         CACHE
             .invoke(key(), |entry| {
