@@ -271,7 +271,7 @@ fn calls_of_one_thread() -> usize {
     std::env::var("STRESS_CALLS")
         .ok()
         .and_then(|it| it.parse().ok())
-        .unwrap_or(10_000)
+        .unwrap_or(5_000)
 }
 
 fn one_call(cache: &Cache<String, String, Shaky, Shaky>, state: &mut u64) {
