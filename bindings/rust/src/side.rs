@@ -198,21 +198,13 @@ impl<K, V, E> Side<K, V, E> {
                     .follow(slot, &done.moves, brought.as_ref(), leavings);
                 First::Done(reply.expect("a first phase has no fault"))
             }
-            Asked::Refused(Refusal::HistoryFull) => {
+            Asked::Refused(refusal) => {
+                let blocked = self.refused(slot, refusal);
                 self.table.release(slot, &mut leavings.keys[0]);
-                return Err(Stop::HistoryFull);
+                return blocked.map(First::Busy);
             }
-            Asked::Refused(refusal) => First::Busy(match &self.table.slot(slot).flight {
-                Some(flight) if refusal == Refusal::Busy => Blocked::Key(flight.clone()),
-                _ => Blocked::Room(self.changes),
-            }),
             Asked::Full => unreachable!("a full generation ends by itself"),
-            Asked::Joined(join) => {
-                let flight = self.table.slot(slot).flight.clone();
-                let flight = flight.expect("a load that is joined is under way");
-                assert_eq!(flight.number, join.load, "the core names another load");
-                First::Joined(self.take_out(key, slot, session, flight, brought), join)
-            }
+            Asked::Joined(join) => self.joined(key, slot, session, join),
             Asked::Load(Ticket(number)) => {
                 First::Load(self.reserve(key, slot, session, number, brought))
             }
@@ -228,22 +220,43 @@ impl<K, V, E> Side<K, V, E> {
                 entry,
                 may_load,
             } => {
-                let held = self.table.slot(slot).entry.clone();
-                let known = held.as_ref().map(Versioned::bytes);
+                let held = self.table.slot(slot).entry.as_ref();
+                let known = held.map(Versioned::bytes);
                 assert_eq!(
                     entry,
                     known.as_ref().map(|it| &it[..]),
                     "the core has another value"
                 );
                 First::Process {
+                    entry: held.map(|held| held.value.clone()),
                     out: self.reserve(key, slot, session, number, brought),
-                    entry: held.map(|held| held.value),
                     may_load,
                 }
             }
         };
         self.table.release(slot, &mut leavings.keys[0]);
         Ok(first)
+    }
+
+    fn refused(&mut self, slot: usize, refusal: Refusal) -> Result<Blocked<V, E>, Stop> {
+        match (refusal, &self.table.slot(slot).flight) {
+            (Refusal::HistoryFull, _) => Err(Stop::HistoryFull),
+            (Refusal::Busy, Some(flight)) => Ok(Blocked::Key(flight.clone())),
+            _ => Ok(Blocked::Room(self.changes)),
+        }
+    }
+
+    fn joined(
+        &mut self,
+        key: &Arc<K>,
+        slot: usize,
+        session: u32,
+        join: core::Join,
+    ) -> First<K, V, E> {
+        let flight = self.table.slot(slot).flight.clone();
+        let flight = flight.expect("a load that is joined is under way");
+        assert_eq!(flight.number, join.load, "the core names another load");
+        First::Joined(self.take_out(key, slot, session, flight, None), join)
     }
 
     fn reserve(
