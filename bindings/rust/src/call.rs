@@ -1,0 +1,335 @@
+//! Calls in phases: for hosts that ask their store themselves, as async ones do.
+//!
+//! [`Cache::begin`](crate::Cache::begin) makes the first phase. A [`Ticket`] reserves the key: [`ask`](Ticket::ask) says that the store
+//! is being asked, and the call then ends with a commit. A ticket that is dropped is withdrawn; a call that has asked and is dropped,
+//! because it was cancelled or panicked, is committed as failed. So no key stays reserved.
+//!
+//! Who has a ticket or an asked call should await nothing but its store: whoever waits for the key waits for that.
+use crate::Error;
+use crate::core::{self, Written};
+use crate::op::{Op, Reply};
+pub use crate::processing::Processing;
+use crate::processing::{Process, Reserved};
+use crate::side::{Answer, Blocked, FAILED, Fault, First, Loaded, Out, Stop};
+use crate::stripe::Stripe;
+use crate::table::Failure;
+use std::future::Future;
+use std::marker::PhantomData;
+use std::pin::Pin;
+use std::sync::Arc;
+use std::task::{Context, Poll};
+
+/// What a first phase asks for. `L` is the loader's error, `W` the writer's.
+#[must_use]
+pub enum Begun<'c, K, V, L, W> {
+    /// Nothing: the call is over.
+    Done(Reply<V>),
+    /// Ask the loader.
+    Load(Ticket<AskedLoad<'c, K, V, L, W>>),
+    /// Ask the writer.
+    Write(Ticket<AskedWrite<'c, K, V, L, W>>),
+    /// Run a processor.
+    Process(Ticket<Processing<'c, K, V, L, W>>),
+    /// Wait for another call's load.
+    Joined(Join<'c, K, V, L, W>),
+    /// Wait, then begin anew: nothing was done.
+    Busy(Busy<'c, K, V, L>),
+}
+
+/// A call that has reserved its key and has asked nobody yet. Dropped, it is withdrawn: nothing was done.
+pub struct Ticket<A>(A);
+
+impl<A: Reserved> Ticket<A> {
+    /// The store, or the processor, is being asked: from now on the call can't be withdrawn.
+    pub fn ask(mut self) -> A {
+        self.0.set_asked();
+        self.0
+    }
+}
+
+/// A reservation, and what becomes of it when it is dropped.
+pub(crate) struct Held<'c, K, V, L> {
+    pub stripe: &'c Stripe<K, V, L>,
+    pub out: Out<K, V, L>,
+    /// What is committed if the call is dropped after it has asked.
+    if_dropped: fn(&mut Process<V, L>) -> Answer<V, L>,
+    pub process: Process<V, L>,
+    pub is_asked: bool,
+    is_over: bool,
+}
+
+impl<K, V, L> Held<'_, K, V, L> {
+    pub(crate) fn commit(&mut self, answer: &Answer<V, L>) -> Result<Reply<V>, Fault> {
+        self.is_over = true;
+        self.stripe.commit(&self.out, answer)
+    }
+}
+
+impl<K, V, L> Drop for Held<'_, K, V, L> {
+    fn drop(&mut self) {
+        if self.is_over {
+            return;
+        }
+        if self.is_asked {
+            let answer = (self.if_dropped)(&mut self.process);
+            let _ = self.commit(&answer);
+        } else {
+            self.stripe.withdraw(&self.out);
+        }
+    }
+}
+
+fn failed_load<V, L>(_process: &mut Process<V, L>) -> Answer<V, L> {
+    Answer::Load(Err(Failure::Panicked))
+}
+
+fn failed_write<V, L>(_process: &mut Process<V, L>) -> Answer<V, L> {
+    Answer::Write(Written::Failed(FAILED))
+}
+
+/// The first phase's answer, as calls of this module.
+fn begun<'c, K, V, L, W>(
+    stripe: &'c Stripe<K, V, L>,
+    first: First<K, V, L>,
+) -> Begun<'c, K, V, L, W> {
+    let held = |out, if_dropped| Held {
+        stripe,
+        out,
+        if_dropped,
+        process: Process::default(),
+        is_asked: false,
+        is_over: false,
+    };
+    let writer = PhantomData;
+    match first {
+        First::Done(reply) => Begun::Done(reply),
+        First::Load(out) => {
+            let held = held(out, failed_load);
+            Begun::Load(Ticket(AskedLoad { held, writer }))
+        }
+        First::Write(out) => Begun::Write(Ticket(AskedWrite {
+            held: held(out, failed_write),
+            is_delete: false,
+            writer,
+        })),
+        First::Delete(out) => Begun::Write(Ticket(AskedWrite {
+            held: held(out, failed_write),
+            is_delete: true,
+            writer,
+        })),
+        First::Process {
+            out,
+            entry,
+            may_load,
+        } => {
+            let mut held = held(out, Process::failed);
+            held.process.entry = entry;
+            held.process.may_load = may_load;
+            Begun::Process(Ticket(Processing::new(held)))
+        }
+        First::Joined(out, join) => Begun::Joined(Join {
+            stripe,
+            out,
+            join: Some(join),
+            writer,
+        }),
+        First::Busy(blocked) => Begun::Busy(Busy { stripe, blocked }),
+    }
+}
+
+/// A call that asks the loader.
+pub struct AskedLoad<'c, K, V, L, W> {
+    held: Held<'c, K, V, L>,
+    writer: PhantomData<fn() -> W>,
+}
+
+impl<K, V, L, W> Reserved for AskedLoad<'_, K, V, L, W> {
+    fn set_asked(&mut self) {
+        self.held.is_asked = true;
+    }
+}
+
+impl<K, V, L, W> AskedLoad<'_, K, V, L, W> {
+    /// The key to load.
+    pub fn key(&self) -> &K {
+        &self.held.out.key
+    }
+
+    /// Ends the call with what the loader answered. All calls that have joined this load get the same.
+    pub fn commit(self, loaded: Result<Option<V>, L>) -> Result<Reply<V>, Error<L, W>> {
+        let loaded = loaded
+            .map(|found| found.map(Arc::new))
+            .map_err(|error| Failure::Error(Arc::new(error)));
+        self.commit_shared(loaded)
+    }
+
+    /// Ends the call with an error of the loader that other calls have, too.
+    pub(crate) fn commit_failed(self, error: Arc<L>) -> Result<Reply<V>, Error<L, W>> {
+        self.commit_shared(Err(Failure::Error(error)))
+    }
+
+    fn commit_shared(mut self, loaded: Loaded<V, L>) -> Result<Reply<V>, Error<L, W>> {
+        let failure = loaded.as_ref().err().cloned();
+        match self.held.commit(&Answer::Load(loaded)) {
+            Ok(reply) => Ok(reply),
+            Err(_) => Err(failure.expect("the loader failed").into()),
+        }
+    }
+}
+
+impl<L, W> From<Failure<L>> for Error<L, W> {
+    fn from(failure: Failure<L>) -> Self {
+        match failure {
+            Failure::Error(error) => Error::Loader(error),
+            Failure::Panicked => Error::LoaderPanicked,
+            Failure::Limits => Error::Limits,
+        }
+    }
+}
+
+/// What a writer is to do.
+#[derive(Debug, PartialEq, Eq)]
+pub enum Change<'a, V> {
+    /// Write this value.
+    Write(&'a V),
+    /// Delete the key.
+    Delete,
+}
+
+/// A call that asks the writer.
+pub struct AskedWrite<'c, K, V, L, W> {
+    held: Held<'c, K, V, L>,
+    is_delete: bool,
+    writer: PhantomData<fn() -> W>,
+}
+
+impl<K, V, L, W> Reserved for AskedWrite<'_, K, V, L, W> {
+    fn set_asked(&mut self) {
+        self.held.is_asked = true;
+    }
+}
+
+impl<K, V, L, W> AskedWrite<'_, K, V, L, W> {
+    /// The key to write or to delete.
+    pub fn key(&self) -> &K {
+        &self.held.out.key
+    }
+
+    /// What the writer is to do.
+    pub fn change(&self) -> Change<'_, V> {
+        match &self.held.out.brought {
+            Some(value) if !self.is_delete => Change::Write(&value.value),
+            _ => Change::Delete,
+        }
+    }
+
+    /// Ends the call with what the writer answered.
+    pub fn commit(self, written: Result<(), W>) -> Result<Reply<V>, Error<L, W>> {
+        match (self.end(written.is_ok()), written) {
+            (Some(reply), _) => Ok(reply),
+            (None, Err(error)) => Err(Error::Writer(error)),
+            (None, Ok(())) => unreachable!("the writer has written"),
+        }
+    }
+
+    /// The same; None: it failed.
+    pub(crate) fn end(mut self, is_written: bool) -> Option<Reply<V>> {
+        self.held.commit(&Answer::Write(written(is_written))).ok()
+    }
+}
+
+pub(crate) fn written(is_written: bool) -> Written {
+    if is_written {
+        Written::Done
+    } else {
+        Written::Failed(FAILED)
+    }
+}
+
+/// A call that has joined another call's load. Dropped, it gives up its answer.
+#[must_use]
+pub struct Join<'c, K, V, L, W> {
+    stripe: &'c Stripe<K, V, L>,
+    out: Out<K, V, L>,
+    /// None: it was picked up.
+    join: Option<core::Join>,
+    writer: PhantomData<fn() -> W>,
+}
+
+/// What a joiner is told: the reply, or none if it is to begin anew, since the load was withdrawn.
+pub type Joined<V, L, W> = Result<Option<Reply<V>>, Error<L, W>>;
+
+fn joined<V, L, W>(picked: Option<Result<Reply<V>, Failure<L>>>) -> Joined<V, L, W> {
+    Ok(picked.transpose()?)
+}
+
+impl<K, V, L, W> Join<'_, K, V, L, W> {
+    /// Sleeps until the load is over. None: it was withdrawn; begin anew.
+    pub fn wait(mut self) -> Joined<V, L, W> {
+        let join = self.join.expect("it was not picked up");
+        let picked = self.stripe.wait_and_pick_up(&self.out, join)?;
+        self.join = None;
+        joined(picked)
+    }
+}
+
+impl<K, V, L, W> Future for Join<'_, K, V, L, W> {
+    type Output = Joined<V, L, W>;
+
+    fn poll(mut self: Pin<&mut Self>, context: &mut Context<'_>) -> Poll<Self::Output> {
+        let join = self.join.expect("it was not picked up");
+        let waker = context.waker().clone();
+        match self.stripe.pick_up(&self.out, join, Some(waker)) {
+            None => Poll::Pending,
+            Some(picked) => {
+                self.join = None;
+                Poll::Ready(joined(picked))
+            }
+        }
+    }
+}
+
+impl<K, V, L, W> Drop for Join<'_, K, V, L, W> {
+    fn drop(&mut self) {
+        if let Some(join) = self.join {
+            self.stripe.abandon(&self.out, join);
+        }
+    }
+}
+
+/// A call that was refused: its key is reserved, or the stripe has no room for it. Awaited, or waited for, it says when to begin anew.
+#[must_use]
+pub struct Busy<'c, K, V, L> {
+    stripe: &'c Stripe<K, V, L>,
+    blocked: Blocked<V, L>,
+}
+
+impl<K, V, L> Busy<'_, K, V, L> {
+    /// Sleeps until the call may begin anew.
+    pub fn wait<W>(self) -> Result<(), Error<L, W>> {
+        self.stripe.wait(&self.blocked).map_err(Stop::into)
+    }
+}
+
+impl<K, V, L> Future for Busy<'_, K, V, L> {
+    type Output = ();
+
+    fn poll(self: Pin<&mut Self>, context: &mut Context<'_>) -> Poll<()> {
+        let waker = context.waker().clone();
+        if self.stripe.poll(&self.blocked, waker) {
+            Poll::Ready(())
+        } else {
+            Poll::Pending
+        }
+    }
+}
+
+/// Begins a call at a stripe.
+pub(crate) fn begin<'c, K: Eq, V, L, W>(
+    stripe: &'c Stripe<K, V, L>,
+    key: &Arc<K>,
+    hash: u64,
+    op: &Op<V>,
+) -> Result<Begun<'c, K, V, L, W>, Error<L, W>> {
+    Ok(begun(stripe, stripe.begin(key, hash, op)?))
+}

@@ -1,0 +1,120 @@
+//! What may go wrong.
+use std::error::Error as StdError;
+use std::fmt;
+use std::sync::Arc;
+
+/// Why a call has no answer: `L` is the loader's error, `W` the writer's.
+///
+/// After any of these the entry is as it was before the call.
+#[derive(Debug)]
+#[non_exhaustive]
+pub enum Error<L, W> {
+    /// The loader failed. All calls that have joined this load share its error.
+    Loader(Arc<L>),
+    /// The loader that another call has asked panicked, or that call was cancelled.
+    LoaderPanicked,
+    /// The writer failed.
+    Writer(W),
+    /// The processor of an `invoke` failed, with an error of its own.
+    Processor(Box<dyn StdError + Send + Sync>),
+    /// The call would wait for its own thread: it was made inside a loader, a writer or a processor, at a key that this thread has
+    /// reserved, at one whose call waits for this thread, or in a stripe that has no room for a call more.
+    WouldDeadlock,
+    /// Of a [`BytesCache`](crate::BytesCache): a key has 1 to 32 bytes, and a value 0 to 256, also one that a loader finds.
+    Limits,
+    /// The cache has counted 2^64 calls.
+    HistoryFull,
+    /// The cache is closed.
+    Closed,
+}
+
+impl<L, W> Error<L, W> {
+    /// The error of a processor.
+    pub fn processor(error: impl Into<Box<dyn StdError + Send + Sync>>) -> Self {
+        Error::Processor(error.into())
+    }
+}
+
+impl<L: fmt::Display, W: fmt::Display> fmt::Display for Error<L, W> {
+    fn fmt(&self, f: &mut fmt::Formatter<'_>) -> fmt::Result {
+        match self {
+            Error::Loader(error) => write!(f, "the loader failed: {error}"),
+            Error::LoaderPanicked => f.write_str("the loader panicked"),
+            Error::Writer(error) => write!(f, "the writer failed: {error}"),
+            Error::Processor(error) => write!(f, "the processor failed: {error}"),
+            Error::WouldDeadlock => f.write_str("the call would wait for its own thread"),
+            Error::Limits => f.write_str("a key has 1 to 32 bytes, a value 0 to 256"),
+            Error::HistoryFull => f.write_str("the history is full"),
+            Error::Closed => f.write_str("the cache is closed"),
+        }
+    }
+}
+
+impl<L: StdError + 'static, W: StdError + 'static> StdError for Error<L, W> {
+    fn source(&self) -> Option<&(dyn StdError + 'static)> {
+        match self {
+            Error::Loader(error) => Some(&**error),
+            Error::Writer(error) => Some(error),
+            Error::Processor(error) => Some(&**error),
+            _ => None,
+        }
+    }
+}
+
+/// Why a call of many keys failed: at some of its keys, or as a whole.
+#[derive(Debug)]
+pub struct BulkError<K, L, W> {
+    /// The first failure.
+    pub error: Error<L, W>,
+    /// The keys that failed. At all others the call took effect, unless [`error`](BulkError::error) is one that stops a call: then
+    /// these are the keys that were not reached.
+    pub failed: Vec<K>,
+}
+
+impl<K, L: fmt::Display, W: fmt::Display> fmt::Display for BulkError<K, L, W> {
+    fn fmt(&self, f: &mut fmt::Formatter<'_>) -> fmt::Result {
+        write!(f, "{} ({} keys failed)", self.error, self.failed.len())
+    }
+}
+
+impl<K, L, W> StdError for BulkError<K, L, W>
+where
+    K: fmt::Debug,
+    L: StdError + 'static,
+    W: StdError + 'static,
+{
+    fn source(&self) -> Option<&(dyn StdError + 'static)> {
+        Some(&self.error)
+    }
+}
+
+/// Why a cache can't be built.
+#[derive(Clone, Copy, Debug, PartialEq, Eq)]
+pub enum BuildError {
+    /// Stripes are 1 to 64, the capacity of a stripe is 1 to 4,096, a history 16 to 65,536 events.
+    Limits,
+    /// An allocation failed.
+    NoMemory,
+}
+
+impl fmt::Display for BuildError {
+    fn fmt(&self, f: &mut fmt::Formatter<'_>) -> fmt::Result {
+        f.write_str(match self {
+            BuildError::Limits => {
+                "stripes are 1 to 64, capacity is 1 to 4,096 a stripe, history 16 to 65,536"
+            }
+            BuildError::NoMemory => "out of memory",
+        })
+    }
+}
+
+impl StdError for BuildError {}
+
+impl From<crate::core::Code> for BuildError {
+    fn from(code: crate::core::Code) -> BuildError {
+        match code {
+            crate::core::Code::NoMemory => BuildError::NoMemory,
+            _ => BuildError::Limits,
+        }
+    }
+}

@@ -1,0 +1,108 @@
+//! Entry processors.
+use crate::cache::{Cache, CacheError};
+use crate::call::{Begun, Processing};
+use crate::op::Op;
+use crate::outside::{Loader, Writer, in_call};
+use std::hash::Hash;
+use std::sync::Arc;
+
+/// An entry while its processor runs: no other call changes it meanwhile. What the processor does is one change, when it has
+/// returned: of several the last counts.
+pub struct Entry<'c, K, V, L: Loader<K, V>, W: Writer<K, V>> {
+    processing: Processing<'c, K, V, L::Error, W::Error>,
+    loader: &'c L,
+}
+
+impl<K, V, L: Loader<K, V>, W: Writer<K, V>> Entry<'_, K, V, L, W> {
+    /// The entry's key.
+    pub fn key(&self) -> &K {
+        self.processing.key()
+    }
+
+    /// Whether there is a value. The loader isn't asked.
+    pub fn exists(&self) -> bool {
+        self.processing.exists()
+    }
+
+    /// The value. With read-through the loader is asked if there is none and the processor has changed nothing; if it fails, the call
+    /// fails.
+    pub fn value(&mut self) -> Result<Option<Arc<V>>, CacheError<K, V, L, W>> {
+        if self.processing.must_load() {
+            self.processing.start_load();
+            let loaded = in_call(|| self.loader.load(self.processing.key()));
+            self.processing.loaded(loaded);
+        }
+        Ok(self.processing.value()?.cloned())
+    }
+
+    /// Sets the value.
+    pub fn set(&mut self, value: impl Into<Arc<V>>) {
+        self.processing.set(value);
+    }
+
+    /// Removes the entry.
+    pub fn remove(&mut self) {
+        self.processing.remove();
+    }
+}
+
+impl<K, V, L, W> Cache<K, V, L, W>
+where
+    K: Eq + Hash,
+    L: Loader<K, V>,
+    W: Writer<K, V>,
+{
+    /// Runs a processor on the entry of a key, and returns what it returns.
+    ///
+    /// If it fails ([`Error::processor`](crate::Error::processor) makes an error of its own) or panics, nothing is changed.
+    ///
+    /// ```
+    /// # let cache = jcache::Cache::<String, u32>::builder().build()?;
+    /// let visits = cache.invoke("page".to_string(), |entry| {
+    ///     let visits = entry.value()?.map_or(0, |visits| *visits) + 1;
+    ///     entry.set(visits);
+    ///     Ok(visits)
+    /// })?;
+    /// assert_eq!(visits, 1);
+    /// # Ok::<(), Box<dyn std::error::Error>>(())
+    /// ```
+    pub fn invoke<T>(
+        &self,
+        key: K,
+        processor: impl FnOnce(&mut Entry<'_, K, V, L, W>) -> Result<T, CacheError<K, V, L, W>>,
+    ) -> Result<T, CacheError<K, V, L, W>> {
+        let mut entry = Entry {
+            processing: self.processing(key)?,
+            loader: self.loader(),
+        };
+        let result = in_call(|| processor(&mut entry));
+        let mut processing = entry.processing;
+        let value = match result {
+            Ok(value) => value,
+            Err(error) => return Err(processing.end_failed().unwrap_or(error)),
+        };
+        let mut written = None;
+        if processing.change().is_some() {
+            processing.start_write();
+            let change = processing.change().expect("it is due");
+            written = Some(self.write(processing.key(), change));
+        }
+        processing.commit(written)?;
+        Ok(value)
+    }
+
+    fn processing(
+        &self,
+        key: K,
+    ) -> Result<Processing<'_, K, V, L::Error, W::Error>, CacheError<K, V, L, W>> {
+        let hash = self.hash_of(&key);
+        let key = Arc::new(key);
+        loop {
+            match self.begin_at(&key, hash, &Op::Invoke)? {
+                Begun::Process(ticket) => return Ok(ticket.ask()),
+                Begun::Busy(busy) => busy.wait()?,
+                _ => unreachable!("an invoke runs its processor, or is refused"),
+            }
+        }
+    }
+}
