@@ -1,12 +1,17 @@
 -- What a handle owns.
+--     heap           the allocator of C
 --     handle_owns    an open one the box of its desk, at its pointer; one that isn't open nothing
 use Rattle.std.specs.Prelude.{Bool, true, false}
 use base.Fml.{Fml, ftrue}
 use denote.RawPtr.{Ptr}
 use Rattle.std_alloc.specs.Box.Ownership.{box_owns}
-use Rattle.libc.specs.Heap.{chunk}
+use Rattle.std_heap.specs.declared.Global.{Global}
+use Rattle.std_heap.specs.contracts.GlobalAllocator.TheImpl.{ghosts}
 use Rattle.jc_stripe.specs.contracts.desk.Desk.{the_row}
+
+abbrev pub heap : Global
+heap = record { memory = record { seal = tt } }
 
 abbrev pub handle_owns : Bool → Ptr → the_row.Denot → Fml
 handle_owns false p d = ftrue
-handle_owns true p d = box_owns (λ τ q. chunk τ q) the_row p d
+handle_owns true p d = box_owns (ghosts.dealloc_token heap) the_row p d

@@ -18,13 +18,12 @@ use denote.RawPtr.{null_ptr, ptr_val}
 use denote.Memory.{cell_at, lone}
 use denote.Struct.Struct.{within}
 use denote.Struct.Owning.{shape}
-use Rattle.libc.specs.Heap.{chunk}
 use Rattle.std_heap.specs.contracts.Global as HP
 use Rattle.std_heap.specs.contracts.GlobalAllocator.TheImpl.{ghosts}
 use Rattle.std_heap.proofs.Handle.{heap_val, heap_Tells}
 use Rattle.jc_parcel.specs.contracts.Loose as loose
 use Rattle.jc_stripe.specs.contracts.desk.Desk as desk
-use Rattle.jc_c.specs.Handles.{handle_owns}
+use Rattle.jc_c.specs.Handles.{handle_owns, heap}
 use Rattle.jc_c.specs.contracts.handle.Handle.put as f
 use Rattle.jc_c.proofs.handle.Handle.put.Statement.{statement}
 use Rattle.jc_c.proofs.handle.Handle.put.Code as code
@@ -50,7 +49,7 @@ put_spec 𝓤 𝓛 𝓜 𝓡 wired =
     -- [the loose box; the reference; the token]
     fsplit ! $ fpick ! (λ us. fsplit ! $ feq_l ! (λ ev. fsplit ! $ feq_l ! (λ ep. fsplit ! $ peeks ! HP.the_row (Is HP.the_row) (shows 𝓛 HP.the_row) d.alloc us.1.0 (λ ia.
     drop ! $ drop ! $
-    in_a_block ! d.at (λ p. handle_owns true p d.value) (fst∗ 𝓤 (never 𝓤) (sem 𝓛 (chunk (bare (lone (desk.the_row).mir)) null_ptr))) (λ b' o' e.
+    in_a_block ! d.at (λ p. handle_owns true p d.value) (fst∗ 𝓤 (never 𝓤) (sem 𝓛 (ghosts.dealloc_token heap (bare (lone (desk.the_row).mir)) null_ptr))) (λ b' o' e.
     -- [the box; the reference; the token]
     let ea : us.1.0 ≡ heap_val ∷ [] = heap_Tells d.alloc us.1.0 ia in
     let w : Val = vstruct (vcons (vptr b' o') (vcons heap_val vnil)) in

@@ -13,13 +13,12 @@ use denote.RawPtr.{null_ptr}
 use denote.Memory.{cell_at, lone}
 use denote.Struct.Struct.{within}
 use denote.Struct.Owning.{shape}
-use Rattle.libc.specs.Heap.{chunk}
 use Rattle.std_heap.specs.contracts.Global as HP
 use Rattle.std_heap.specs.contracts.GlobalAllocator.TheImpl.{ghosts}
 use Rattle.std_heap.proofs.Handle.{heap_val, heap_Tells}
 use Rattle.jc_parcel.specs.contracts.Loose as loose
 use Rattle.jc_stripe.specs.contracts.desk.Desk as desk
-use Rattle.jc_c.specs.Handles.{handle_owns}
+use Rattle.jc_c.specs.Handles.{handle_owns, heap}
 use Rattle.jc_c.specs.contracts.handle.Handle.take as f
 use Rattle.jc_c.proofs.handle.Handle.take.Statement.{statement}
 use Rattle.jc_c.proofs.handle.Handle.take.Code as code
@@ -45,7 +44,7 @@ take_spec 𝓤 𝓛 𝓜 𝓡 wired =
     move ! (1 ∷ []) $ peeks ! R _ (shows 𝓛 R) h us (λ is. fsplit ! $ drop ! $
     -- [what is handle_owns; the handle's cell; the open borrow, in three entries; the reference's first part; the allocator]
     rewrite ! 0 (λ (z : Bool). ‵ (handle_owns z h.at h.desk)) is_open refl $
-    in_a_block ! h.at (λ p. handle_owns true p h.desk) (fst∗ 𝓤 (never 𝓤) (sem 𝓛 (chunk (bare (lone (desk.the_row).mir)) null_ptr))) (λ b' o' e.
+    in_a_block ! h.at (λ p. handle_owns true p h.desk) (fst∗ 𝓤 (never 𝓤) (sem 𝓛 (ghosts.dealloc_token heap (bare (lone (desk.the_row).mir)) null_ptr))) (λ b' o' e.
     let word = lowers.val_is h us is ∙ ap (λ (p : Ptr). lowers.lowered (record h { at = p }) ∷ []) e in
     let Cell = λ (ws : List Val). ‵ (cell_at full_share R.mir ws b o) in
     rewrite ! 1 Cell word refl $
