@@ -1,10 +1,10 @@
 -- A desk's stripe after a generation has ended, if it was full, and after each phase, and what is left of its joiners.
-use Rattle.std.proofs.Common.{◌≡◌, ◌⊎◌, inl, inr, ⊎_elim, ◌<◌, ◌≤◌, ◌+◌, ℕ, List, [], ◌∷◌, ◌++◌, length, not, Bool, true, false, Some, refl, sym, ap, ◌∙◌, subst, arith}
+use Rattle.std.proofs.Common.{◌≡◌, ◌⊎◌, inl, inr, ⊎_elim, ◌<◌, ◌≤◌, ◌+◌, ℕ, List, [], ◌∷◌, ◌++◌, length, filter, not, Bool, true, false, Some, refl, sym, ap, ◌∙◌, subst, arith, get_or}
 use Rattle.std.specs.List.{All}
 use Rattle.std.proofs.lemmas.List.Elements.{All-push, All-filter}
 use Rattle.jc_types.specs.declared.caller.Caller.{Caller}
 use Rattle.jc_types.specs.declared.limits.TheConstants.{LAST_NUMBER}
-use Rattle.jc_model.specs.Cache.{Bytes}
+use Rattle.jc_model.specs.Cache.{Bytes, entry_at}
 use Rattle.std.proofs.Common.{Option, None, find, nat_lt, ◌==◌, ◌&&◌, cond}
 use Rattle.std.proofs.lemmas.Bool.{and_parts, and_from, eqb-true, false≢true}
 use Rattle.std.specs.Bool.{Decides}

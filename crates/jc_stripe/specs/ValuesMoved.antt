@@ -8,7 +8,7 @@
 --     victim_entry         a victim with the value that it had
 --     KeepsOtherEntries    the entries of all keys but the step's own and the victim's are as they were
 --     MovesValues          what a step at a key moved, of which this was the victim
-use Rattle.std.specs.Prelude.{◌≡◌, ◌==◌, Bool, false, not, Option, None, Some, option_map, if◌then◌else◌}
+use Rattle.std.specs.Prelude.{◌≡◌, ◌==◌, Bool, true, false, not, Option, None, Some, option_map, if◌then◌else◌}
 use Rattle.std.specs.Cmp.Lexicographic.{pointwise}
 use Rattle.jc_model.specs.Cache.{Bytes, entry_at}
 use Rattle.jc_model.specs.declared.event.Cause.{Cause}

@@ -24,13 +24,13 @@ fn place_of(tickets: &[Box<Reservation>], number: u64) -> Option<usize>
     tickets.iter().position(|ticket| ticket.number == number)
 }
 
-fn asks_loader(first: &First) -> bool
+fn is_loader(first: &First) -> bool
     ensures { result ≡ asks_loader first.now }
 {
     matches!(first, First::Loader)
 }
 
-fn asks_writer(first: &First) -> bool
+fn is_writer(first: &First) -> bool
     ensures { result ≡ asks_writer first.now }
 {
     matches!(first, First::Writer(_))
@@ -83,7 +83,7 @@ impl Desk {
         ensures none { IfNone result (self.new ≡ self.old) }
     {
         let place = place_of(&self.tickets, number)?;
-        if !answer.is_given() || !asks_loader(&self.tickets[place].first) {
+        if !answer.is_given() || !is_loader(&self.tickets[place].first) {
             return None;
         }
         let _ = self.stripe.events_len();
@@ -114,7 +114,7 @@ impl Desk {
         ensures none { IfNone result (self.new ≡ self.old) }
     {
         let place = place_of(&self.tickets, number)?;
-        if !answer.is_given() || !asks_writer(&self.tickets[place].first) {
+        if !answer.is_given() || !is_writer(&self.tickets[place].first) {
             return None;
         }
         let _ = self.stripe.events_len();
@@ -144,10 +144,8 @@ impl Desk {
         reply: &mut Reply,
         moves: &mut ValueMoves,
     ) -> Option<CommitDone>
-        ensures taken { is_some result ≡ takes_process self.old.stripe number
-            (record { load = load; write = write; process = process }) }
-        ensures some { IfSome result (λ said. CommitsAtDesk self.old number
-            (record { load = load; write = write; process = process }) reply.new moves.new said self.new) }
+        ensures taken { is_some result ≡ takes_process self.old.stripe number (record { load = load; write = write; process = process }) }
+        ensures some { IfSome result (λ said. CommitsAtDesk self.old number (record { load = load; write = write; process = process }) reply.new moves.new said self.new) }
         ensures none { IfNone result (self.new ≡ self.old) }
     {
         let place = place_of(&self.tickets, number)?;
@@ -200,10 +198,8 @@ impl Desk {
         load: u64,
         told: &mut Reply,
     ) -> PickUpAnswer
-        ensures misuse { is_pick_up_misuse result ≡ not (is_join_out self.old.stripe
-            (record { caller = caller; key = key.now; load = load })) }
-        ensures picks_up { PicksUpAtDesk self.old (record { caller = caller; key = key.now; load = load })
-            told.new result self.new }
+        ensures misuse { is_pick_up_misuse result ≡ not (is_join_out self.old.stripe (record { caller = caller; key = key.now; load = load })) }
+        ensures picks_up { PicksUpAtDesk self.old (record { caller = caller; key = key.now; load = load }) told.new result self.new }
     {
         let join = Join::new(caller, key, load);
         if !self.stripe.holds_join(&join) {

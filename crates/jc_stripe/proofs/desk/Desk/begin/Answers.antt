@@ -1,10 +1,20 @@
-use Rattle.std.proofs.Common.{◌≡◌, ◌&&◌, not, ◌≤◌, ◌+◌, ◌++◌, ◌∷◌, [], ℕ, List, map, length, true, false, ap, sym, refl, ◌∙◌, subst, arith}
+use Rattle.std.proofs.Common.{◌≡◌, ◌&&◌, not, ◌==◌, ◌<◌, ◌≤◌, ◌+◌, ◌++◌, ◌∷◌, [], ◌⊎◌, inl, inr, ℕ, List, map, position, length, true, false, cond, is_some, Some, None, ap, sym, refl, ◌∙◌, subst, arith}
 use Rattle.std.proofs.lemmas.List.{length-map, map_push, length-append}
+use Rattle.std.proofs.lemmas.List.Sums.{length-filter}
 use Rattle.jc_types.specs.declared.limits.TheConstants.{RESERVATIONS_MAX}
-use Rattle.jc_stripe.specs.State.{State}
+use Rattle.jc_model.specs.declared.event.Out.{Out}
+use Rattle.jc_model.specs.declared.event.Op.TheVariants.{Get}
+use Rattle.jc_model.specs.Cache.{Bytes}
+use Rattle.jc_model.specs.Group.{load_only, write_only, nothing_said}
+use Rattle.jc_inflight.specs.Joining.{callers_of, waits_for}
+use Rattle.jc_stripe.specs.State.{State, IsOut, is_key, without_key, with_reservation}
 use Rattle.jc_stripe.specs.Tickets.{TicketClaim, JoinClaim}
-use Rattle.jc_stripe.specs.Phases.{with_reply, Begins}
+use Rattle.jc_stripe.specs.Phases.{after_withdrawal, Commits, with_reply, hit_done, MayBegin, Begins}
+use Rattle.jc_stripe.specs.Tests.{is_clear}
+use Rattle.jc_stripe.specs.OnePhase.{IsPhaseOf}
+use Rattle.jc_stripe.specs.Reached.{IsReached}
 use Rattle.jc_stripe.specs.declared.ticket.Reservation.{Reservation}
+use Rattle.jc_stripe.specs.declared.begun.StepDone.{StepDone}
 use Rattle.jc_stripe.specs.declared.begun.Begun.TheVariants as begun
 use Rattle.jc_stripe.proofs.Uniform.{one_uniform}
 use Rattle.jc_stripe.proofs.Own.{own_left}
@@ -14,12 +24,13 @@ use Rattle.jc_stripe.specs.declared.desk.answers.FirstAnswer.{FirstAnswer}
 use Rattle.jc_stripe.specs.declared.desk.answers.FirstAnswer.TheVariants as asked
 use Rattle.jc_stripe.specs.ValuesMoved.{MovesMade}
 use Rattle.jc_stripe.proofs.desk.Desk.begin.Goals.{in-Done, in-Asks, in-Joined, in-Refused, else-self-via-then-self+else-is_renewable, else-self-via-else-self}
-use Rattle.jc_stripe.specs.DeskState.{DeskState, IsDesk, may_call_next}
-use Rattle.jc_stripe.specs.DeskPhases.{BeginsAtDesk, is_first_misuse}
+use Rattle.jc_stripe.specs.DeskState.{DeskState, IsDesk, may_call_next, awaits_end}
+use Rattle.jc_stripe.specs.DeskPhases.{BeginsAtDesk, RenewsAndBegins, is_first_misuse}
 use Rattle.jc_stripe.specs.Renewal.{is_renewable}
-use Rattle.jc_stripe.proofs.DeskNumbers.{may_behind, begun_done, begun_same}
-use Rattle.jc_stripe.proofs.DeskStates.{renewed_clear, renewed_desk, desk_same, desk_reserves, same_joined, one_joined, may_call, never_both}
-use Rattle.jc_stripe.proofs.ValuesMoved.{victim_next, moved, others_stay}
+use Rattle.jc_stripe.proofs.DeskNumbers.{may_behind, begun_done, begun_same, committed, picked, left_same}
+use Rattle.jc_stripe.proofs.DeskTickets.{Taken, taken}
+use Rattle.jc_stripe.proofs.DeskStates.{renewed_clear, renewed_desk, desk_same, desk_reserves, desk_ends, same_joined, one_joined, may_call, never_both}
+use Rattle.jc_stripe.proofs.ValuesMoved.{IsNext, victim_next, commit_next, moved, others_stay}
 use Rattle.jc_stripe.proofs.desk.Desk.begin.Goals as goal
 
 pub begin-requires : goal.begin-requires

@@ -1,25 +1,34 @@
-use Rattle.std.proofs.Common.{◌≡◌, ◌==◌, ◌<◌, ◌≤◌, ℕ, map, position, true, false, is_some, ap, sym, refl, ◌∙◌, subst}
-use Rattle.std.proofs.lemmas.List.{length-map}
+use Rattle.std.proofs.Common.{◌≡◌, ◌==◌, ◌<◌, ◌≤◌, ◌+◌, ◌++◌, ◌∷◌, [], ◌⊎◌, inl, inr, ℕ, List, map, position, length, true, false, cond, is_some, Some, None, ap, sym, refl, ◌∙◌, subst, arith}
+use Rattle.std.proofs.lemmas.List.{length-map, map_push}
 use Rattle.std.proofs.lemmas.List.Sums.{length-filter}
 use Rattle.jc_types.specs.declared.limits.TheConstants.{RESERVATIONS_MAX}
-use Rattle.jc_model.specs.Group.{load_only}
-use Rattle.jc_inflight.specs.Joining.{waits_for}
-use Rattle.jc_stripe.specs.State.{State, IsOut, without_key}
-use Rattle.jc_stripe.specs.Tickets.{TicketClaim}
-use Rattle.jc_stripe.specs.Phases.{Commits, with_reply}
+use Rattle.jc_model.specs.declared.event.Out.{Out}
+use Rattle.jc_model.specs.declared.event.Op.TheVariants.{Get}
+use Rattle.jc_model.specs.Cache.{Bytes}
+use Rattle.jc_model.specs.Group.{load_only, write_only, nothing_said}
+use Rattle.jc_inflight.specs.Joining.{callers_of, waits_for}
+use Rattle.jc_stripe.specs.State.{State, IsOut, is_key, without_key, with_reservation}
+use Rattle.jc_stripe.specs.Tickets.{TicketClaim, JoinClaim}
+use Rattle.jc_stripe.specs.Phases.{after_withdrawal, Commits, with_reply, hit_done, MayBegin}
+use Rattle.jc_stripe.specs.Tests.{is_clear}
+use Rattle.jc_stripe.specs.OnePhase.{IsPhaseOf}
+use Rattle.jc_stripe.specs.Reached.{IsReached}
 use Rattle.jc_stripe.specs.declared.ticket.Reservation.{Reservation}
 use Rattle.jc_stripe.specs.declared.begun.StepDone.{StepDone}
+use Rattle.jc_stripe.specs.declared.begun.Begun.TheVariants as begun
 use Rattle.jc_stripe.proofs.Uniform.{one_uniform}
 use Rattle.jc_stripe.proofs.Own.{own_left}
-use Rattle.jc_stripe.specs.DeskState.{DeskState}
-use Rattle.jc_stripe.specs.DeskPhases.{CommitsAtDesk}
-use Rattle.jc_stripe.proofs.DeskNumbers.{committed}
-use Rattle.jc_stripe.proofs.DeskTickets.{taken, ticket_nowhere, ticket_placed}
-use Rattle.jc_stripe.proofs.DeskStates.{desk_ends, resolved_joined, never_both}
-use Rattle.jc_stripe.proofs.ValuesMoved.{commit_next, moved, others_stay}
+use Rattle.jc_stripe.proofs.OwnNumbers.{own_numbers}
+use Rattle.jc_stripe.proofs.WholeCalls.{caller_numbers}
+use Rattle.jc_stripe.specs.DeskState.{DeskState, IsDesk}
+use Rattle.jc_stripe.specs.DeskPhases.{WithdrawsAtDesk, HitsAtDesk, BeginsAtDesk, CommitsAtDesk, RenewsAndBegins}
+use Rattle.jc_stripe.proofs.DeskNumbers.{may_behind, begun_done, begun_same, committed, picked, left_same}
+use Rattle.jc_stripe.proofs.DeskTickets.{Taken, taken, ticket_nowhere, ticket_placed}
+use Rattle.jc_stripe.proofs.DeskStates.{renewed_clear, renewed_desk, desk_ends, resolved_joined, never_both}
+use Rattle.jc_stripe.proofs.ValuesMoved.{IsNext, victim_next, commit_next, moved, others_stay}
 use Rattle.jc_stripe.proofs.desk.Desk.commit_load.Goals as goal
-use Rattle.jc_stripe.proofs.desk.Desk.commit_load.Goals.{then-not-is_given-via-then-not-is_given, then-not-is_given-via-else-not-is_given+then-not-asks_loader}
-use Rattle.std.proofs.Common.{◌&&◌}
+use Rattle.jc_stripe.proofs.desk.Desk.commit_load.Goals.{then-not-is_given-via-then-not-is_given, then-not-is_given-via-else-not-is_given+then-not-is_loader}
+use Rattle.std.proofs.Common.{◌&&◌, not}
 use Rattle.std.proofs.lemmas.Bool.{and_from}
 use Rattle.jc_model.specs.Table.{is_load_given}
 use Rattle.jc_stripe.specs.Tickets.{asks_loader}
@@ -87,11 +96,11 @@ pub returns-then-not-is_given-clause-taken : goal.returns-then-not-is_given-clau
 returns-then-not-is_given-clause-taken c =
     (elim c.then-not-is_given.branch [
       | then-not-is_given-via-then-not-is_given w ↦ ap (λ b. b && asks_first asks_loader (ticket_of c.self.inside.stripe c.args.number)) w.if-not-is_given.ensures
-      | then-not-is_given-via-else-not-is_given+then-not-asks_loader w ↦
+      | then-not-is_given-via-else-not-is_given+then-not-is_loader w ↦
           let t = ticket_placed (λ b. b.value) c.self.inside.stripe c.self.inside.tickets.items c.args.number c.self.invariant.1.tickets_are c.in_ok-place.place w.index.result.now
           (ap (position (λ b. b.value.number == c.args.number)) (sym c.deref.ensures.value) ∙ sym c.place_of.ensures ∙ c.in_ok-place.was) w.index.ensures in
           let other : asks_first asks_loader (ticket_of c.self.inside.stripe c.args.number) ≡ false =
-          ap (asks_first asks_loader) t ∙ ap (λ (r : Reservation). asks_loader r.first) (sym w.deref-else-not-is_given.ensures) ∙ sym w.if-not-asks_loader.ensures in
+          ap (asks_first asks_loader) t ∙ ap (λ (r : Reservation). asks_loader r.first) (sym w.deref-else-not-is_given.ensures) ∙ sym w.if-not-is_loader.ensures in
           sym (never_both (is_load_given c.args.answer) (asks_first asks_loader (ticket_of c.self.inside.stripe c.args.number)) other)
     ])
     ∙ ap (λ (d : DeskState). takes_load d.stripe c.args.number c.args.answer) c.self.view_is
@@ -101,6 +110,6 @@ returns-clause-taken c =
     let t = ticket_placed (λ b. b.value) c.self.inside.stripe c.self.inside.tickets.items c.args.number c.self.invariant.1.tickets_are c.in_ok-place.place c.index.result.now
     (ap (position (λ b. b.value.number == c.args.number)) (sym c.deref.ensures.value) ∙ sym c.place_of.ensures ∙ c.in_ok-place.was) c.index.ensures in
     let same : asks_first asks_loader (ticket_of c.self.inside.stripe c.args.number) ≡ true =
-    ap (asks_first asks_loader) t ∙ ap (λ (r : Reservation). asks_loader r.first) (sym c.deref-else-not-is_given.ensures) ∙ sym c.if-not-asks_loader.ensures in
+    ap (asks_first asks_loader) t ∙ ap (λ (r : Reservation). asks_loader r.first) (sym c.deref-else-not-is_given.ensures) ∙ sym c.if-not-is_loader.ensures in
     sym (and_from (is_load_given c.args.answer) (asks_first asks_loader (ticket_of c.self.inside.stripe c.args.number)) (sym c.if-not-is_given.ensures) same)
     ∙ ap (λ (d : DeskState). takes_load d.stripe c.args.number c.args.answer) c.self.view_is
