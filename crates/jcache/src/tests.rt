@@ -13,6 +13,14 @@ use std::alloc::{AllocError, Global};
 use std::io;
 use std::process::Abort;
 
+/// A value in a box, as this trait object.
+macro_rules! boxed {
+    ($rt:expr, $kind:ty, $inner:expr) => {{
+        let inner: $kind = Box::new($rt.alloc(), $inner).ok().expect(&$rt, "memory");
+        inner
+    }};
+}
+
 /// What a command line is to end with.
 #[derive(Clone, Copy)]
 struct Wanted<'a> {
@@ -244,23 +252,25 @@ fn ends_where_threads_have_no_memory(rt: HostRuntime) {
 #[test]
 fn counts_on_threads(rt: HostRuntime) {
     let alloc = rt.alloc();
+    let store = SharedStore::new(alloc, Store::new(alloc)).expect(&rt, "memory");
+    let mut outfits = Vec::new(alloc);
+    for _ in 0..5 {
+        let loader =
+            boxed!(rt, Box<dyn CacheLoader + Send + Drop>, store.loader(rt).expect(&rt, "memory"));
+        let writer =
+            boxed!(rt, Box<dyn CacheWriter + Send + Drop>, store.writer(rt).expect(&rt, "memory"));
+        let increment = boxed!(rt, Box<dyn EntryProcessor + Send + Drop>, Increment);
+        let outfit = Outfit {
+            loader,
+            writer,
+            increment,
+        };
+        outfits.push(outfit).expect(&rt, "memory");
+    }
+    let crew = Crew { store, outfits };
     let count = move |plan: &Plan| -> Result<Report, AllocError>
         ensures { IfOk result (IsReportOf plan.entry.now) }
-    {
-        let store = SharedStore::new(alloc, Store::new(alloc))?;
-        let mut outfits = Vec::new(alloc);
-        for _ in 0..5 {
-            let loader: Box<dyn CacheLoader + Send + Drop> = Box::new(alloc, store.loader(rt)?)?;
-            let writer: Box<dyn CacheWriter + Send + Drop> = Box::new(alloc, store.writer(rt)?)?;
-            let increment: Box<dyn EntryProcessor + Send + Drop> = Box::new(alloc, Increment)?;
-            outfits.push(Outfit {
-                loader,
-                writer,
-                increment,
-            })?;
-        }
-        count_on_threads(&rt, alloc, Crew { store, outfits }, plan)
-    };
+    { count_on_threads(&rt, alloc, crew, plan) };
     let wanted = Wanted {
         status: 0,
         out: "workers 4 rounds 100\ncounter 400\nstore 400\nown 100 100 100 100\nlegal true\n",
