@@ -254,7 +254,7 @@ fn read_outside(outside: &ProcessorAnswers) -> Option<Out>
     ensures fits { is_some result ≡ outside_fits outside.now }
     ensures answers { IfSome result (λ out. out ≡ read_outside outside.now) }
 {
-    let _types: Option<(Effect, Value)> = None;
+    let _types: Option<&(Effect, Value)> = None;
     if outside.effect == JC_NOT_RUN {
         return answers_beside(outside, ProcessAnswer::NotAsked);
     }
@@ -331,7 +331,7 @@ fn read_events(alloc: Global, events: &[FlatEvent]) -> Result<Vec<Event>, AllocE
     ensures { IfOk result (λ list. list.items ≡ map read_event events.now) }
 {
     let _answers: Option<(Out, LoadAnswer, WriteAnswer, ProcessAnswer, Effect, Value)> = None;
-    let _types: Option<(Caller, Op, Key, Reply, Refusal, Field, Cause)> = None;
+    let _types: Option<&(Caller, Op, Key, Reply, Refusal, Field, Cause)> = None;
     let mut list = Vec::with_capacity(alloc, events.len())?;
     for flat in events {
         match read_event(flat) {

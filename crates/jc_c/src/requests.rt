@@ -201,7 +201,7 @@ pub(crate) fn read_answers(processed: &ProcessorAnswers) -> Option<Out>
     ensures fits { is_some result ≡ processed_fits processed.now }
     ensures answers { IfSome result (λ out. out ≡ processor_out processed.now) }
 {
-    let _types: Option<(Effect, Value)> = None;
+    let _types: Option<&(Effect, Value)> = None;
     let process = read_process(processed)?;
     answers_beside(processed, process)
 }
