@@ -6,7 +6,8 @@
 #include <stdlib.h>
 #include <string.h>
 
-static unsigned checks_made;
+/* How many checks this thread has made. */
+static _Thread_local unsigned checks_made;
 
 #define CHECK(condition)                                                          \
     do {                                                                          \

@@ -1,8 +1,11 @@
 """Plays random scripts of one stripe through the library and through `jcache run`, and compares what they say, byte by byte.
 
 Six sessions make all operations of one key, with processors, failures, writers that lie, joined loads, evictions, and calls that are
-given up; now and then the cache is closed and opened again, in another shape. After each step a table that follows the core's moves is
-compared with what the core has.
+given up; now and then the cache is closed and opened again, in another shape, with what it had. After each step a table that follows the
+core's moves is compared with what the core has.
+
+`jcache run` has one long history. The library has the same, or short generations: those that end by themselves, or those whose events are
+taken and are legal, from what was cached when the generation began. All say the same.
 
 usage: differ.py JCACHE FIRST COUNT     JCACHE: the program; FIRST: the first random seed
 """
@@ -12,13 +15,15 @@ import subprocess
 import sys
 
 from jcache import core
-from jcache.core import CoreError, Desk, Processed, Shape
+from jcache.core import CoreError, Desk, Processed, Shape, legal
 
 KEYS = ['a', 'b', 'c', 'd', 'e1', 'f.2']
 VALUES = ['1', '2', '33', 'v_4', '~']
 SESSIONS = range(1, 7)
 HISTORY = 4096
 STEPS = 120
+# How many places of a generation are left when answers that are parked are picked up: a generation ends only without one.
+NEAR_THE_END = 30
 
 # Each operation of one key: its number, how many values it has, and how often it is chosen.
 OPERATIONS = {
@@ -83,9 +88,11 @@ class Player:
         self.random = random.Random(seed)
         self.script = []
         self.says = ['open']
-        self.write_through = False
+        self.shape = None
         self.desk = None
         self.is_closing = False
+        self.generation = None
+        """What was cached when the present generation began, and how many events were before it."""
         self.open('open', [])
         self.store = {}
         self.table = {}
@@ -100,15 +107,22 @@ class Player:
     def open(self, command, entries):
         """Opens the desk with as many of these entries as fit, and returns the others."""
         capacity = self.random.choice([1, 2, 3, 8])
-        read_through, self.write_through = self.random.random() < .7, self.random.random() < .7
-        flags = ['read'] * read_through + ['write'] * self.write_through
+        read_through, write_through = self.random.random() < .7, self.random.random() < .7
+        flags = ['read'] * read_through + ['write'] * write_through
         self.script.append(' '.join([f'{command} 1 {capacity} {HISTORY}', *flags]))
-        shape = Shape(1, capacity, HISTORY, read_through, self.write_through, False)
-        self.desk = Desk(shape, 0, entries[:capacity])
+        history, keeps_events = self.history()
+        self.shape = Shape(1, capacity, history, read_through, write_through, keeps_events)
+        self.desk = Desk(self.shape, 0, entries[:capacity])
+        self.generation = entries[:capacity], 0
         return entries[capacity:]
+
+    def history(self):
+        """How many events a generation of the library has, and whether they are taken at its end."""
+        return self.random.choice([(HISTORY, False), (40, False), (40, True)])
 
     def reopen(self):
         entries = self.desk.entries()
+        self.judge()
         self.desk.close()
         dropped = [key.decode() for key, _ in self.open('reopen', entries)]
         self.says.append(' '.join(['reopened', *dropped]))
@@ -132,19 +146,52 @@ class Player:
         self.says.append(' '.join(['cache'] + [f'{key.decode()}={word(value)}' for key, value in sorted(self.desk.entries())]))
         self.says.append(' '.join(['store'] + [f'{key}={word(value)}' for key, value in sorted(self.store.items())]))
 
-    # The first phase.
+    # Generations.
+
+    def events(self):
+        """How many events there were, in all generations."""
+        return self.generation[1] + self.desk.events_len()
+
+    def judge(self):
+        """The events of the present generation are legal, if they are taken."""
+        if self.shape.keeps_events:
+            events = [self.desk.event(place) for place in range(self.desk.events_len())]
+            assert legal(self.shape, self.generation[0], events), 'a generation is not legal'
+
+    def first_phase(self, session, op, key, *values):
+        """A first phase. A generation that is full ends before it."""
+        before, entries = self.events(), self.desk.entries()
+        out = self.desk.begin(session, op, key.encode(), *map(raw, values))
+        if out.next == core.FULL:
+            self.judge()
+            self.desk.end_generation()
+            out = self.desk.begin(session, op, key.encode(), *map(raw, values))
+        if self.events() < before:
+            self.generation = entries, before
+        return out
+
+    def is_over(self, call):
+        """Whether the load that a call has joined is over."""
+        return call.number not in [other.number for other in self.calls.values() if other.next != core.JOINED]
+
+    # The first phase of a call.
 
     def begin(self):
         free = [session for session in SESSIONS if session not in [call.session for call in self.calls.values()]]
-        if not free:
-            return
-        session, key, name = self.random.choice(free), self.random.choice(KEYS), self.random.choice(CHOICES)
+        parked = [call for call in self.calls.values() if call.next == core.JOINED and self.is_over(call)]
+        if parked and self.shape.history - self.desk.events_len() < NEAR_THE_END:
+            self.pick_up(parked[0])
+        elif free:
+            self.begin_one(self.random.choice(free))
+
+    def begin_one(self, session):
+        key, name = self.random.choice(KEYS), self.random.choice(CHOICES)
         op, count, _ = OPERATIONS[name]
         values = [self.random.choice(VALUES) for _ in range(count)]
         self.line += 1
         self.script.append(' '.join([f'begin {self.line} s{session} {name} {key}', *values]))
         was_missing = key not in self.table
-        out = self.desk.begin(session, op, key.encode(), *map(raw, values))
+        out = self.first_phase(session, op, key, *values)
         if out.next == core.DONE:
             self.done(self.line, key, was_missing and name in INSERTING)
         elif out.next == core.REFUSED:
@@ -179,25 +226,34 @@ class Player:
 
     def pick_up(self, call):
         self.script.append(f'take {call.line}')
+        picked = self.picked_up(call)
+        if picked == core.AGAIN:
+            self.script.append(f'drop {call.line}')
+            self.says.append(f'{call.line} dropped')
+        if picked != core.NOT_YET:
+            del self.calls[call.line]
+
+    def picked_up(self, call):
+        """What a joiner is told."""
         out = self.desk.pick_up(call.session, call.call, call.key.encode(), call.number)
         if out.next == core.NOT_YET:
             self.say(call.line, call.key, 'waits')
-            return
-        if out.next == core.AGAIN:
+        elif out.next == core.AGAIN:
             self.say(call.line, call.key, 'again')
-            self.script.append(f'drop {call.line}')
-            self.says.append(f'{call.line} dropped')
         else:
             # The library doesn't say with which step a joiner shares.
-            self.says.append((f'{call.line} {call.key} is {self.reply()} at 0.{out.place} shared ',))
-        del self.calls[call.line]
+            self.says.append((f'{call.line} {call.key} is {self.reply()} at 0.{self.place()} shared ',))
+        return out.next
 
     def drop(self, call):
         self.script.append(f'drop {call.line}')
         self.says.append(f'{call.line} dropped')
+        self.withdraw(call)
+        del self.calls[call.line]
+
+    def withdraw(self, call):
         self.desk.withdraw(call.number)
         self.misused(self.desk.withdraw, call.number)
-        del self.calls[call.line]
 
     def load(self, call):
         chance = self.random.random()
@@ -235,6 +291,10 @@ class Player:
             self.script.append(f'apply {call.line}')
             self.say(call.line, call.key, did)
             call.written = (core.WRITTEN, 0)
+        self.change(call)
+
+    def change(self, call):
+        """The writer does what it was asked."""
         if call.change is None:
             self.store.pop(call.key, None)
         else:
@@ -261,7 +321,7 @@ class Player:
             self.says.append(f'{call.line} fails 5')
             processed.effect, processed.code = core.PROCESS_FAILED, 5
         self.script.append(' '.join(words))
-        call.must_write = self.write_through and processed.effect in (core.SET, core.TAKE_OUT) and processed.load != core.FAILED
+        call.must_write = self.shape.write_through and processed.effect in (core.SET, core.TAKE_OUT) and processed.load != core.FAILED
         if not call.must_write:
             self.say(call.line, call.key, 'ready')
         elif processed.effect == core.SET:
@@ -291,6 +351,11 @@ class Player:
 
     def end(self, call):
         self.script.append(f'end {call.line}')
+        self.commit(call)
+        del self.calls[call.line]
+
+    def commit(self, call):
+        """The last phase of a call that was answered."""
         was_missing = call.key not in self.table
         ticket = call.number
         if call.processed is not None:
@@ -301,9 +366,8 @@ class Player:
             out = self.desk.commit_load(ticket, *call.loaded)
         else:
             out = self.desk.commit_write(ticket, *call.written)
-        self.done(call.line, call.key, was_missing and call.inserts() and out.reply < core.LOADER_FAILED)
+        self.done(call.line, call.key, was_missing and call.inserts() and out.reply < core.LOADER_FAILED, out.shared)
         self.misused(self.desk.withdraw, ticket)
-        del self.calls[call.line]
 
     # What a step says, and what it leaves.
 
@@ -316,14 +380,18 @@ class Player:
             return word(out.value.get())
         return ['ok', 'false', 'true', '-', '', f'LoaderFailed {out.code}', f'WriterFailed {out.code}', f'ProcessorFailed {out.code}'][out.reply]
 
-    def done(self, line, key, inserts):
+    def place(self):
+        """The place of a step, in one history of all generations."""
+        return self.generation[1] + self.desk.out.place
+
+    def done(self, line, key, inserts, shared=0):
+        """A step was made, and so many joiners share it."""
         out = self.desk.out
         if out.moves & core.EVICTED:
-            self.says.append(f'evict {out.victim.get().decode()} full at 0.{out.place - 1}')
-        self.say(line, key, f'is {self.reply()} at 0.{out.place}')
-        shared = out.shared if out.moves & core.OWN_EVICTED_FULL and line in self.calls else 0
+            self.says.append(f'evict {out.victim.get().decode()} full at 0.{self.place() - 1}')
+        self.say(line, key, f'is {self.reply()} at 0.{self.place()}')
         if out.moves & core.OWN_EVICTED_FULL:
-            self.says.append(f'evict {key} full at 0.{out.place + shared + 1}')
+            self.says.append(f'evict {key} full at 0.{self.place() + shared + 1}')
         self.follow(key, inserts)
 
     def follow(self, key, inserts):
@@ -360,27 +428,28 @@ def differs(said, expected):
     return None
 
 
-def compare(program, seed):
+def compare(program, player, seed):
     """Plays one script. How many lines agree; it exits where they don't."""
-    player = Player(seed)
     player.play()
+    player.judge()
     script = '\n'.join(player.script) + '\n'
     ran = subprocess.run([program, 'run'], input=script, stdout=subprocess.PIPE, stderr=subprocess.PIPE, universal_newlines=True)
     said = ran.stdout.split('\n')
-    history = f'history {player.desk.events_len()} legal'
+    history = f'history {player.events()} legal'
     wrong = differs(said, player.says) or (None if history in said[-3:] else f'jcache says "{said[-2]}", the library "{history}"')
     if wrong:
         sys.exit(f'{script}\nseed {seed}, {wrong}; status {ran.returncode} {ran.stderr}')
     return len(player.says)
 
 
-def main():
+def main(player, usage):
+    """Plays scripts of such a player."""
     if len(sys.argv) != 4 or not os.access(sys.argv[1], os.X_OK):
-        sys.exit(__doc__)
+        sys.exit(usage)
     program, first, count = sys.argv[1], int(sys.argv[2]), int(sys.argv[3])
-    lines = sum(compare(program, seed) for seed in range(first, first + count))
+    lines = sum(compare(program, player(seed), seed) for seed in range(first, first + count))
     print(f'{count} scripts, {lines} lines agree')
 
 
 if __name__ == '__main__':
-    main()
+    main(Player, __doc__)

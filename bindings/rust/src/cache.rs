@@ -1,13 +1,14 @@
 //! The cache.
 use crate::call::{self, Begun, Change};
 use crate::core::{self, Shape, Statistics};
+use crate::hashing::Hashing;
 use crate::op::{Expected, Op, Reply};
 use crate::outside::{Loader, NoLoader, NoWriter, Shared, Writer, in_call};
 use crate::stripe::Stripe;
 use crate::{BuildError, Error};
 use std::borrow::Borrow;
 use std::fmt;
-use std::hash::{BuildHasher, Hash, RandomState};
+use std::hash::{BuildHasher, Hash};
 use std::marker::PhantomData;
 use std::sync::Arc;
 
@@ -31,7 +32,7 @@ where
     W: Writer<K, V>,
 {
     stripes: Box<[Stripe<K, V, L::Error>]>,
-    hasher: RandomState,
+    hashing: Hashing,
     loader: L,
     writer: W,
 }
@@ -170,7 +171,7 @@ impl<K, V, L, W> Builder<K, V, L, W> {
         let stripes: Result<_, _> = (0..self.stripes).map(|_| Stripe::open(&shape)).collect();
         Ok(Cache {
             stripes: stripes?,
-            hasher: RandomState::new(),
+            hashing: Hashing::new(),
             loader: self.loader,
             writer: self.writer,
         })
@@ -190,7 +191,7 @@ where
         K: Borrow<Q>,
         Q: Eq + Hash + ToOwned<Owned = K> + ?Sized,
     {
-        let hash = self.hasher.hash_one(key);
+        let hash = self.hashing.hash_one(key);
         let stripe = self.stripe(hash);
         match stripe.hit(hash, |held| held.borrow() == key)? {
             Some(value) => Ok(Some(value)),
@@ -298,7 +299,7 @@ where
     }
 
     fn call(&self, key: K, op: &Op<V>) -> Result<Reply<V>, CacheError<K, V, L, W>> {
-        let hash = self.hasher.hash_one(&key);
+        let hash = self.hashing.hash_one(&key);
         self.call_at(Arc::new(key), hash, op)
     }
 
@@ -352,7 +353,7 @@ where
     }
 
     pub(crate) fn hash_of(&self, key: &K) -> u64 {
-        self.hasher.hash_one(key)
+        self.hashing.hash_one(key)
     }
 
     pub(crate) fn begin_at(

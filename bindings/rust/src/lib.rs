@@ -23,6 +23,7 @@ mod cache;
 pub mod call;
 pub mod core;
 mod error;
+mod hashing;
 mod invoke;
 mod op;
 mod outside;

@@ -2,7 +2,7 @@
 use crate::core::{self, Shape, Statistics, Ticket};
 use crate::op::{Op, Reply};
 use crate::side::{Answer, Blocked, Fault, First, Out, Side, Stop};
-use crate::table::{Compared, Failure, Flight, Leavings, NO_VERSION, Place};
+use crate::table::{Compared, Failure, Flight, Id, Leavings, NO_VERSION, Place};
 use crate::waiting::{self, Waiters};
 use std::sync::atomic::Ordering::Relaxed;
 use std::sync::{Arc, Mutex, MutexGuard};
@@ -36,11 +36,34 @@ impl<K, V, E> Stripe<K, V, E> {
     }
 
     /// A `get` that finds its entry. None: nothing was done.
+    ///
+    /// The first key of this hash is nearly always the key, so that is tried before any list is made of what was compared.
     pub(crate) fn hit(
         &self,
         hash: u64,
-        mut is_key: impl FnMut(&K) -> bool,
+        is_key: impl Fn(&K) -> bool,
     ) -> Result<Option<Arc<V>>, Stop> {
+        let Some((id, key)) = self.first_of(hash)? else {
+            return Ok(None);
+        };
+        if is_key(&key) {
+            let mut guard = self.lock();
+            if !guard.is_closed && guard.table.is_in_use(id) {
+                return Ok(guard.hit(id.slot()));
+            }
+        }
+        self.hit_among(hash, is_key)
+    }
+
+    fn first_of(&self, hash: u64) -> Result<Option<(Id, Arc<K>)>, Stop> {
+        let guard = self.lock();
+        guard.check_open()?;
+        Ok(guard.table.first_of(hash))
+    }
+
+    /// The same, among several keys of one hash.
+    #[cold]
+    fn hit_among(&self, hash: u64, is_key: impl Fn(&K) -> bool) -> Result<Option<Arc<V>>, Stop> {
         let mut compared = Compared::default();
         loop {
             let mut guard = self.lock();

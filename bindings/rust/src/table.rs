@@ -31,7 +31,7 @@ impl Id {
         Id(number_of(bytes))
     }
 
-    fn slot(self) -> usize {
+    pub(crate) fn slot(self) -> usize {
         (self.0 & ((1 << SLOT_BITS) - 1)) as usize
     }
 
@@ -227,11 +227,23 @@ impl<K, V, E> Table<K, V, E> {
         }
     }
 
+    /// Whether a key still has its slot.
     #[inline]
+    pub(crate) fn is_in_use(&self, id: Id) -> bool {
+        let slot = &self.slots[id.slot()];
+        slot.id == id && slot.key.is_some()
+    }
+
+    /// The first key of a hash.
+    #[inline]
+    pub(crate) fn first_of(&self, hash: u64) -> Option<(Id, Arc<K>)> {
+        let slot = &self.slots[*self.first.get(&hash)? as usize];
+        Some((slot.id, slot.key().clone()))
+    }
+
     pub(crate) fn find(&self, hash: u64, compared: &Compared) -> Place<K> {
         if let Some(id) = compared.same
-            && self.slots[id.slot()].id == id
-            && self.slots[id.slot()].key.is_some()
+            && self.is_in_use(id)
         {
             return Place::At(id.slot());
         }

@@ -234,10 +234,13 @@ struct Shaky(Arc<Store>, Arc<AtomicUsize>);
 
 impl Shaky {
     fn fails(&self) -> Result<(), Broken> {
-        if self.1.fetch_add(1, SeqCst) % 16 == 15 {
+        let turn = self.1.fetch_add(1, SeqCst);
+        if turn % 16 == 15 {
             return Err(Broken("by chance"));
         }
-        thread::yield_now();
+        if turn % 4 == 0 {
+            thread::yield_now();
+        }
         Ok(())
     }
 }

@@ -21,7 +21,7 @@ use Rattle.jc_stripe.specs.declared.desk.answers.CommitDone.{CommitDone}
 use Rattle.jc_stripe.specs.declared.desk.answers.PickUpAnswer.{PickUpAnswer}
 use Rattle.jc_stripe.specs.ValuesMoved.{MovesMade}
 use Rattle.jc_stripe.specs.DeskState.{DeskState, is_open_shape, are_contents}
-use Rattle.jc_stripe.specs.DeskPhases.{BeginsAtDesk, HitsAtDesk, CommitsAtDesk, PicksUpAtDesk}
+use Rattle.jc_stripe.specs.DeskPhases.{newest, BeginsAtDesk, HitsAtDesk, CommitsAtDesk, PicksUpAtDesk}
 use Rattle.jc_c.specs.declared.codes.TheConstants.{JC_OK, JC_WRONG_HANDLE, JC_BAD_ARGUMENT}
 use Rattle.jc_c.specs.declared.layouts.PhaseOut.{PhaseOut}
 use Rattle.jc_c.specs.declared.layouts.CacheShape.{CacheShape}
@@ -42,7 +42,7 @@ pub record BeginsForC (old : DeskState) (session number : ℕ) (key value other 
   pub moves : MovesMade
   pub answer : FirstAnswer
   pub begins : BeginsAtDesk old session out.call key (op_of_number number value other) reply moves answer new
-  pub shown : ShowsFirstAnswer answer reply moves out
+  pub shown : ShowsFirstAnswer answer (newest new.stripe) reply moves out
 
 pub record HitsForC (old : DeskState) (session : ℕ) (key : Bytes) (out : InlineValue) (new : DeskState) : Type 0 where
   pub call : ℕ

@@ -7,7 +7,7 @@ use denote.RawPtr.{Ptr}
 use Rattle.std_alloc.specs.Box.Ownership.{box_owns}
 use Rattle.std_heap.specs.declared.Global.{Global}
 use Rattle.std_heap.specs.contracts.GlobalAllocator.TheImpl.{ghosts}
-use Rattle.jc_stripe.specs.contracts.desk.Desk.{the_row}
+use Rattle.jc_c.specs.contracts.rooms.DeskRooms.{the_row}
 
 abbrev pub heap : Global
 heap = record { memory = record { seal = tt } }

@@ -8,7 +8,8 @@
 --     ShowsDone           a step that was done, by its place, its reply, its moves, and how many share it
 --     ShowsFirst          whom to ask, and what for
 --     refusal_number      a refusal, by its number
---     ShowsFirstAnswer    what a first phase gave
+--     ShowsReservation    whom a reservation asks first, if there is one
+--     ShowsFirstAnswer    what a first phase gave, and of a key that was reserved whom its reservation asks
 --     ShowsPickUp         what a joiner was told
 use Rattle.std.specs.Prelude.{◌≡◌, ◌+◌, ℕ, true, false, Option, None, Some, is_some, if◌then◌else◌}
 use Rattle.jc_types.specs.declared.refusal.Refusal.{Refusal}
@@ -21,6 +22,7 @@ use Rattle.jc_model.specs.declared.event.Reply.TheVariants as reply
 use Rattle.jc_model.specs.Cache.{Bytes}
 use Rattle.jc_stripe.specs.declared.ticket.First.{First}
 use Rattle.jc_stripe.specs.declared.ticket.First.TheVariants as first
+use Rattle.jc_stripe.specs.declared.ticket.Reservation.{Reservation}
 use Rattle.jc_stripe.specs.declared.desk.answers.FirstAnswer.{FirstAnswer}
 use Rattle.jc_stripe.specs.declared.desk.answers.FirstAnswer.TheVariants as first_answer
 use Rattle.jc_stripe.specs.declared.desk.answers.PickUpAnswer.{PickUpAnswer}
@@ -107,13 +109,17 @@ refusal_number refusal.TooManySessions = JC_OTHER
 refusal_number refusal.StillReserved = JC_OTHER
 refusal_number refusal.RepeatedKey = JC_OTHER
 
-abbrev pub ShowsFirstAnswer : FirstAnswer → Reply → MovesMade → PhaseOut → Type 0
-ShowsFirstAnswer (first_answer.Done place) reply moves out = ShowsDone place 0 reply moves out
-ShowsFirstAnswer (first_answer.Asks number first) reply moves out = (out.number ≡ number) × (out.moves ≡ 0) × ShowsFirst first out.next out.reply out.code out.value
-ShowsFirstAnswer (first_answer.Joined load) reply moves out = (out.next ≡ JC_JOINED) × (out.number ≡ load) × (out.moves ≡ 0)
-ShowsFirstAnswer (first_answer.Refused refusal) reply moves out = (out.next ≡ JC_REFUSED) × (out.reply ≡ refusal_number refusal) × (out.moves ≡ 0)
-ShowsFirstAnswer first_answer.Full reply moves out = (out.next ≡ JC_FULL) × (out.moves ≡ 0)
-ShowsFirstAnswer first_answer.Misuse reply moves out = ⊥
+abbrev pub ShowsReservation : Option Reservation → PhaseOut → Type 0
+ShowsReservation None out = Unit {0}
+ShowsReservation (Some r) out = ShowsFirst r.first out.next out.reply out.code out.value
+
+abbrev pub ShowsFirstAnswer : FirstAnswer → Option Reservation → Reply → MovesMade → PhaseOut → Type 0
+ShowsFirstAnswer (first_answer.Done place) newest reply moves out = ShowsDone place 0 reply moves out
+ShowsFirstAnswer (first_answer.Asks number) newest reply moves out = (out.number ≡ number) × (out.moves ≡ 0) × ShowsReservation newest out
+ShowsFirstAnswer (first_answer.Joined load) newest reply moves out = (out.next ≡ JC_JOINED) × (out.number ≡ load) × (out.moves ≡ 0)
+ShowsFirstAnswer (first_answer.Refused refusal) newest reply moves out = (out.next ≡ JC_REFUSED) × (out.reply ≡ refusal_number refusal) × (out.moves ≡ 0)
+ShowsFirstAnswer first_answer.Full newest reply moves out = (out.next ≡ JC_FULL) × (out.moves ≡ 0)
+ShowsFirstAnswer first_answer.Misuse newest reply moves out = ⊥
 
 abbrev pub ShowsPickUp : PickUpAnswer → Reply → PhaseOut → Type 0
 ShowsPickUp (pick_up_answer.Answer place shared_with) reply out = (out.next ≡ JC_DONE) × (out.place ≡ place) × ShowsReply reply out.reply out.code out.value

@@ -209,13 +209,13 @@ pub extern "C" fn jc_event(h: &mut Handle, alloc: Global, place: usize, out: &mu
     if !h.is_open() {
         return JC_WRONG_HANDLE;
     }
-    let desk = h.take(alloc).into_box();
-    if desk.events_len() <= place {
-        h.put(Loose::of(desk));
+    let rooms = h.take(alloc).into_box();
+    if rooms.desk.events_len() <= place {
+        h.put(Loose::of(rooms));
         return JC_NONE;
     }
-    let event = desk.event(place);
-    h.put(Loose::of(desk));
+    let event = rooms.desk.event(place);
+    h.put(Loose::of(rooms));
     show_event(&event, out);
     JC_OK
 }

@@ -1,11 +1,11 @@
 //! A handle of a desk.
 ghost use Rattle.std.specs.Prelude.{◌≡◌, true, false};
 ghost use Rattle.jc_stripe.specs.DeskState.{DeskState};
-ghost use Rattle.jc_stripe.specs.contracts.desk.Desk.{the_row as desk_row};
+ghost use Rattle.jc_c.specs.contracts.rooms.DeskRooms.{the_row as rooms_row};
 ghost use Rattle.jc_c.specs.Handles.{handle_owns};
 
+use crate::rooms::DeskRooms;
 use jc_parcel::Loose;
-use jc_stripe::Desk;
 use std::alloc::Global;
 use std::marker::Model;
 
@@ -15,7 +15,7 @@ use std::marker::Model;
 pub struct Handle {
     at: *mut u8,
     is_open: bool,
-    ghost desk: { DeskState } by { desk_row.coded },
+    ghost desk: { DeskState } by { rooms_row.coded },
 }
 
 impl Model for Handle {
@@ -31,22 +31,22 @@ impl Handle {
     }
 
     /// Opens it over a desk.
-    pub(crate) fn put(&mut self, desk: Loose<Desk, Global>)
-        ensures { (self.new.is_open ≡ true) × (self.new.desk ≡ desk.value) }
+    pub(crate) fn put(&mut self, rooms: Loose<DeskRooms, Global>)
+        ensures { (self.new.is_open ≡ true) × (self.new.desk ≡ rooms.value) }
     {
-        let Loose { at, alloc: _ } = desk;
+        let Loose { at, alloc: _ } = rooms;
         self.at = at as *mut u8;
         self.is_open = true;
     }
 
     /// Shuts it, and hands its desk out.
-    pub(crate) fn take(&mut self, alloc: Global) -> Loose<Desk, Global>
+    pub(crate) fn take(&mut self, alloc: Global) -> Loose<DeskRooms, Global>
         requires { self.old.is_open ≡ true }
         ensures { (self.new.is_open ≡ false) × (result.value ≡ self.old.desk) }
     {
         self.is_open = false;
         Loose {
-            at: self.at as *mut Desk,
+            at: self.at as *mut DeskRooms,
             alloc,
         }
     }

@@ -189,6 +189,14 @@ impl InlineKey {
         read_key(&self.bytes[..len])
     }
 
+    /// The bytes that count.
+    pub(crate) fn counted(&self) -> &[u8]
+        ensures { result.now ≡ inline_key self.now }
+    {
+        let len = self.len as usize;
+        &self.bytes[..len.min(KEY_MAX)]
+    }
+
     /// Writes a key.
     pub(crate) fn set(&mut self, key: &Key)
         ensures { inline_key self.new ≡ key.now }

@@ -18,6 +18,7 @@ mod opening;
 mod phases;
 mod replies;
 mod requests;
+mod rooms;
 
 pub use events::{jc_event, jc_legal};
 pub use handle::Handle;

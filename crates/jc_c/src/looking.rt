@@ -32,15 +32,15 @@ pub extern "C" fn jc_peek(h: &mut Handle, alloc: Global, key: &[u8], out: &mut I
     let Some(key) = read_key(key) else {
         return JC_BAD_ARGUMENT;
     };
-    let desk = h.take(alloc).into_box();
-    let code = match desk.entry(&key) {
+    let rooms = h.take(alloc).into_box();
+    let code = match rooms.desk.entry(&key) {
         Some(value) => {
             show_value(value, out);
             JC_OK
         }
         None => JC_NONE,
     };
-    h.put(Loose::of(desk));
+    h.put(Loose::of(rooms));
     code
 }
 
@@ -54,9 +54,9 @@ pub extern "C" fn jc_statistics_of(h: &mut Handle, alloc: Global, out: &mut Coun
     if !h.is_open() {
         return JC_WRONG_HANDLE;
     }
-    let desk = h.take(alloc).into_box();
-    let counts = desk.statistics();
-    h.put(Loose::of(desk));
+    let rooms = h.take(alloc).into_box();
+    let counts = rooms.desk.statistics();
+    h.put(Loose::of(rooms));
     out.hits = counts.hits;
     out.misses = counts.misses;
     out.puts = counts.puts;
@@ -94,9 +94,9 @@ pub extern "C" fn jc_entries(
         return JC_WRONG_HANDLE;
     }
     let mut entries: Vec<(Key, Value)> = Vec::new(alloc);
-    let desk = h.take(alloc).into_box();
-    let listed = desk.entries(&mut entries);
-    h.put(Loose::of(desk));
+    let rooms = h.take(alloc).into_box();
+    let listed = rooms.desk.entries(&mut entries);
+    h.put(Loose::of(rooms));
     if listed.is_err() {
         return JC_NO_MEMORY;
     }
@@ -114,9 +114,9 @@ pub extern "C" fn jc_events_len(h: &mut Handle, alloc: Global) -> usize
     if !h.is_open() {
         return 0;
     }
-    let desk = h.take(alloc).into_box();
-    let len = desk.events_len();
-    h.put(Loose::of(desk));
+    let rooms = h.take(alloc).into_box();
+    let len = rooms.desk.events_len();
+    h.put(Loose::of(rooms));
     len
 }
 
@@ -131,8 +131,8 @@ pub extern "C" fn jc_end_generation(h: &mut Handle, alloc: Global) -> u32
     if !h.is_open() {
         return JC_WRONG_HANDLE;
     }
-    let mut desk = h.take(alloc).into_box();
-    let ended = desk.end_generation();
-    h.put(Loose::of(desk));
+    let mut rooms = h.take(alloc).into_box();
+    let ended = rooms.desk.end_generation();
+    h.put(Loose::of(rooms));
     if ended { JC_OK } else { JC_IN_USE }
 }

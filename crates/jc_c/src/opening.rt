@@ -1,9 +1,13 @@
 //! Opening and closing a desk, for C.
-ghost use Rattle.std.specs.Prelude.{◌≡◌, ◌==◌, ◌↔◌, ◌⊎◌, [], ◌∷◌, true, false, IfOk};
-ghost use Rattle.std.specs.List.{list_all, list_any};
+ghost use Rattle.std.specs.Prelude.{◌≡◌, ◌==◌, ◌<◌, ◌⊎◌, true, false, not, is_some, IfOk};
+ghost use Rattle.std.specs.List.{list_all};
+ghost use Rattle.std.specs.FinMap.{find};
+ghost use Rattle.jc_types.specs.Stripes.{stripe_of};
+ghost use Rattle.jc_model.specs.Cache.{key_cmp};
+ghost use Rattle.jc_model.specs.Listed.{has_distinct_keys};
 ghost use Rattle.jc_stripe.specs.Reached.{IsReached};
 ghost use Rattle.jc_stripe.specs.DeskState.{opened_desk, nothing_is_out};
-ghost use Rattle.jc_c.specs.declared.codes.TheConstants.{JC_OK, JC_WRONG_HANDLE, JC_NO_MEMORY, JC_BAD_ARGUMENT, JC_IN_USE};
+ghost use Rattle.jc_c.specs.declared.codes.TheConstants.{JC_OK, JC_NO_MEMORY, JC_IN_USE};
 ghost use Rattle.jc_c.specs.Layouts.{inline_entries, config_of};
 ghost use Rattle.jc_c.specs.Requests.{entry_fits};
 ghost use Rattle.jc_c.specs.Exports.{export_code, opens_fit};
@@ -11,9 +15,10 @@ ghost use Rattle.jc_c.specs.Exports.{export_code, opens_fit};
 use crate::codes::{JC_BAD_ARGUMENT, JC_IN_USE, JC_NO_MEMORY, JC_OK, JC_WRONG_HANDLE};
 use crate::handle::Handle;
 use crate::layouts::{CacheShape, InlineEntry};
+use crate::rooms::DeskRooms;
 use jc_parcel::Loose;
 use jc_stripe::{Desk, OpenFault};
-use jc_types::{Config, Key, Value};
+use jc_types::{Config, Key, Value, stripe_of};
 use std::alloc::{AllocError, Global};
 use std::marker::Send;
 
@@ -32,6 +37,57 @@ pub(crate) fn entries_fit(entries: &[InlineEntry]) -> bool
     ensures { result ≡ list_all entry_fits entries.now }
 {
     entries.iter().all(|entry| entry_fits(entry))
+}
+
+/// Whether any entry has the key of these bytes. It looks at the entries one after another.
+fn has_key(entries: &[InlineEntry], key: &[u8]) -> bool
+    ensures { result ≡ is_some (find key_cmp key.now (inline_entries entries.now)) }
+{
+    for entry in entries {
+        if *key == *entry.key.counted() {
+            return true;
+        }
+    }
+    false
+}
+
+/// Whether no key is there twice. Each entry is compared with all that follow it, and no memory is taken.
+fn is_apart(entries: &[InlineEntry]) -> bool
+    ensures { result ≡ has_distinct_keys (inline_entries entries.now) }
+{
+    for (i, entry) in entries.iter().enumerate() {
+        if has_key(&entries[i + 1..], entry.key.counted()) {
+            return false;
+        }
+    }
+    true
+}
+
+/// Whether the keys are all of the stripe with this number.
+fn is_opening_of(stripes: usize, number: usize, entries: &[InlineEntry]) -> bool
+    requires some { 0 < stripes }
+    requires fit { list_all entry_fits entries.now ≡ true }
+    ensures { result ≡ list_all (λ entry. stripe_of entry.0 stripes == number) (inline_entries entries.now) }
+{
+    for entry in entries {
+        if stripe_of(&entry.entry().0, stripes) != number {
+            return false;
+        }
+    }
+    true
+}
+
+/// Whether a desk of this shape may open over the stripe with this number, with these entries.
+fn opens_fit(shape: &CacheShape, number: usize, entries: &[InlineEntry]) -> bool
+    ensures { result ≡ opens_fit shape.now number entries.now }
+{
+    let config = config_of(shape);
+    if !entries_fit(entries) || config.check().is_err() || number >= config.stripes {
+        return false;
+    }
+    entries.len() <= config.capacity
+        && is_apart(entries)
+        && is_opening_of(config.stripes, number, entries)
 }
 
 /// The entries that C gives. An `Err` says that an allocation failed.
@@ -63,7 +119,8 @@ pub(crate) fn config_of(shape: &CacheShape) -> Config
 }
 
 /// Opens a desk over the stripe with this number, with these contents, the first one the most recently used. `JC_BAD_ARGUMENT` says that
-/// the shape is out of its limits, that there is no such stripe, or that a key is there twice, of another stripe, or beyond the room.
+/// an entry is out of its limits, the shape is, there is no such stripe, or a key is there twice, of another stripe, or beyond the room.
+/// All that is tested before memory is taken.
 #[unsafe(no_mangle)]
 pub extern "C" fn jc_open(
     h: &mut Handle,
@@ -75,16 +132,14 @@ pub extern "C" fn jc_open(
     ensures opened { result ≡ JC_OK → (h.new.is_open ≡ true) × (h.old.is_open ≡ false) × (opens_fit shape.now number entries.now ≡ true)
         × (h.new.desk ≡ opened_desk (config_of shape.now) number shape.now.keeps_events (inline_entries entries.now)) }
     ensures reached { result ≡ JC_OK → IsReached h.new.desk.stripe }
-    ensures wrong { (result ≡ JC_WRONG_HANDLE) ↔ (h.old.is_open ≡ true) }
-    ensures bad { result ≡ JC_BAD_ARGUMENT → opens_fit shape.now number entries.now ≡ false }
-    ensures no_memory { result ≡ JC_NO_MEMORY → list_all entry_fits entries.now ≡ true }
-    ensures codes { list_any (λ code. code == result) (JC_OK ∷ JC_WRONG_HANDLE ∷ JC_NO_MEMORY ∷ JC_BAD_ARGUMENT ∷ []) ≡ true }
+    ensures code { (result ≡ export_code (not h.old.is_open) (opens_fit shape.now number entries.now) true JC_OK)
+        ⊎ ((result ≡ JC_NO_MEMORY) × (h.old.is_open ≡ false) × (opens_fit shape.now number entries.now ≡ true)) }
     ensures refused { (result ≡ JC_OK) ⊎ (h.new ≡ h.old) }
 {
     if h.is_open() {
         return JC_WRONG_HANDLE;
     }
-    if !entries_fit(entries) {
+    if !opens_fit(shape, number, entries) {
         return JC_BAD_ARGUMENT;
     }
     let Ok(contents) = contents_of(alloc, entries) else {
@@ -94,9 +149,9 @@ pub extern "C" fn jc_open(
     let desk = match Desk::open(alloc, &config, number, shape.keeps_events, &contents) {
         Ok(desk) => desk,
         Err(OpenFault::Memory) => return JC_NO_MEMORY,
-        Err(OpenFault::Shape) | Err(OpenFault::Contents) => return JC_BAD_ARGUMENT,
+        Err(OpenFault::Shape) | Err(OpenFault::Contents) => unreachable!(),
     };
-    let Ok(kept) = Box::new(alloc, desk) else {
+    let Ok(kept) = Box::new(alloc, DeskRooms::of(desk)) else {
         return JC_NO_MEMORY;
     };
     may_go::<Desk>();
@@ -114,10 +169,10 @@ pub extern "C" fn jc_close(h: &mut Handle, alloc: Global) -> u32
     if !h.is_open() {
         return JC_WRONG_HANDLE;
     }
-    let desk = h.take(alloc).into_box();
-    if desk.is_idle() {
+    let rooms = h.take(alloc).into_box();
+    if rooms.desk.is_idle() {
         return JC_OK;
     }
-    h.put(Loose::of(desk));
+    h.put(Loose::of(rooms));
     JC_IN_USE
 }

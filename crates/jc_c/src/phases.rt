@@ -7,15 +7,12 @@ ghost use Rattle.jc_c.specs.declared.codes.TheConstants.{JC_OK, JC_MISUSE, JC_NO
 ghost use Rattle.jc_c.specs.Requests.{key_fits, value_fits, op_fits, load_of_number, load_number_fits, write_of_number, write_number_fits, processor_out, processed_fits};
 ghost use Rattle.jc_c.specs.Exports.{export_code, join_named, BeginsForC, CommitsForC, PicksUpForC, HitsForC};
 
-use crate::codes::{JC_BAD_ARGUMENT, JC_MISUSE, JC_NONE, JC_OK, JC_WRONG_HANDLE};
+use crate::codes::{JC_BAD_ARGUMENT, JC_MISUSE, JC_OK, JC_WRONG_HANDLE};
 use crate::handle::Handle;
 use crate::layouts::{InlineValue, PhaseOut, ProcessorAnswers};
-use crate::replies::{show_asked, show_done, show_picked, show_value};
-use crate::requests::{read_answers, read_key, read_load, read_op, read_value, read_write};
-use jc_model::Reply;
+use crate::requests::{read_answers, read_key, read_load, read_value, read_write};
 use jc_parcel::Loose;
-use jc_stripe::ValueMoves;
-use jc_types::{Caller, Value};
+use jc_types::Caller;
 use std::alloc::Global;
 
 /// The first phase of the session's next call. `JC_MISUSE` says that the call may not begin: its key is of another stripe, the session has
@@ -43,16 +40,10 @@ pub extern "C" fn jc_begin(
     let Some(key) = read_key(key) else {
         return JC_BAD_ARGUMENT;
     };
-    let Some(op) = read_op(op, value, other) else {
-        return JC_BAD_ARGUMENT;
-    };
-    let mut reply = Reply::Unit;
-    let mut moves = ValueMoves::new();
-    let mut desk = h.take(alloc).into_box();
-    let (call, asked) = desk.begin(session, &key, &op, &mut reply, &mut moves);
-    h.put(Loose::of(desk));
-    out.call = call;
-    show_asked(&asked, &reply, &moves, out)
+    let mut rooms = h.take(alloc).into_box();
+    let code = rooms.begin(session, op, &key, value, other, out);
+    h.put(Loose::of(rooms));
+    code
 }
 
 /// A `get` that finds its entry, and nothing else: its value is written. `JC_NONE` says that no call was made: there is no entry, the
@@ -76,17 +67,10 @@ pub extern "C" fn jc_hit(
     let Some(key) = read_key(key) else {
         return JC_BAD_ARGUMENT;
     };
-    let mut value = Value::default();
-    let mut desk = h.take(alloc).into_box();
-    let hit = desk.hit(session, &key, &mut value);
-    h.put(Loose::of(desk));
-    match hit {
-        Some(_) => {
-            show_value(&value, out);
-            JC_OK
-        }
-        None => JC_NONE,
-    }
+    let mut rooms = h.take(alloc).into_box();
+    let code = rooms.hit(session, &key, out);
+    h.put(Loose::of(rooms));
+    code
 }
 
 /// The last phase of a call whose loader was asked. `JC_MISUSE` says that no ticket with this number is out that asks the loader; then
@@ -116,16 +100,10 @@ pub extern "C" fn jc_commit_load(
     let Some(answer) = read_load(answer, code, &value) else {
         return JC_BAD_ARGUMENT;
     };
-    let mut reply = Reply::Unit;
-    let mut moves = ValueMoves::new();
-    let mut desk = h.take(alloc).into_box();
-    let done = desk.commit_load(number, answer, &mut reply, &mut moves);
-    h.put(Loose::of(desk));
-    let Some(done) = done else {
-        return JC_MISUSE;
-    };
-    show_done(done.place, done.shared, &reply, &moves, out);
-    JC_OK
+    let mut rooms = h.take(alloc).into_box();
+    let code = rooms.commit_load(number, answer, out);
+    h.put(Loose::of(rooms));
+    code
 }
 
 /// The last phase of a call whose writer was asked. `JC_MISUSE` says that no ticket with this number is out that asks the writer; then
@@ -151,16 +129,10 @@ pub extern "C" fn jc_commit_write(
     let Some(answer) = read_write(answer, code) else {
         return JC_BAD_ARGUMENT;
     };
-    let mut reply = Reply::Unit;
-    let mut moves = ValueMoves::new();
-    let mut desk = h.take(alloc).into_box();
-    let done = desk.commit_write(number, answer, &mut reply, &mut moves);
-    h.put(Loose::of(desk));
-    let Some(done) = done else {
-        return JC_MISUSE;
-    };
-    show_done(done.place, done.shared, &reply, &moves, out);
-    JC_OK
+    let mut rooms = h.take(alloc).into_box();
+    let code = rooms.commit_write(number, answer, out);
+    h.put(Loose::of(rooms));
+    code
 }
 
 /// The last phase of a call whose processor ran. `JC_MISUSE` says that no ticket with this number is out that asks a processor, that its
@@ -186,23 +158,10 @@ pub extern "C" fn jc_commit_process(
     let Some(said) = read_answers(processed) else {
         return JC_BAD_ARGUMENT;
     };
-    let mut reply = Reply::Unit;
-    let mut moves = ValueMoves::new();
-    let mut desk = h.take(alloc).into_box();
-    let done = desk.commit_process(
-        number,
-        said.load,
-        said.process,
-        said.write,
-        &mut reply,
-        &mut moves,
-    );
-    h.put(Loose::of(desk));
-    let Some(done) = done else {
-        return JC_MISUSE;
-    };
-    show_done(done.place, done.shared, &reply, &moves, out);
-    JC_OK
+    let mut rooms = h.take(alloc).into_box();
+    let code = rooms.commit_process(number, said, out);
+    h.put(Loose::of(rooms));
+    code
 }
 
 /// Gives a ticket back whose loader, writer or processor was not asked. `JC_MISUSE` says that no ticket with this number is out.
@@ -216,9 +175,9 @@ pub extern "C" fn jc_withdraw(h: &mut Handle, alloc: Global, number: u64) -> u32
     if !h.is_open() {
         return JC_WRONG_HANDLE;
     }
-    let mut desk = h.take(alloc).into_box();
-    let done = desk.withdraw(number);
-    h.put(Loose::of(desk));
+    let mut rooms = h.take(alloc).into_box();
+    let done = rooms.desk.withdraw(number);
+    h.put(Loose::of(rooms));
     if done { JC_OK } else { JC_MISUSE }
 }
 
@@ -245,9 +204,8 @@ pub extern "C" fn jc_pick_up(
     let Some(key) = read_key(key) else {
         return JC_BAD_ARGUMENT;
     };
-    let mut reply = Reply::Unit;
-    let mut desk = h.take(alloc).into_box();
-    let picked = desk.pick_up(Caller { session, call }, &key, load, &mut reply);
-    h.put(Loose::of(desk));
-    show_picked(&picked, &reply, out)
+    let mut rooms = h.take(alloc).into_box();
+    let code = rooms.pick_up(Caller { session, call }, &key, load, out);
+    h.put(Loose::of(rooms));
+    code
 }

@@ -1,5 +1,6 @@
 //! What is told to C.
 ghost use Rattle.std.specs.Prelude.{◌≡◌, ◌≤◌, if◌then◌else◌};
+ghost use Rattle.std.specs.Option.{option_copied};
 ghost use Rattle.jc_stripe.specs.DeskPhases.{is_first_misuse, is_pick_up_misuse};
 ghost use Rattle.jc_c.specs.declared.codes.TheConstants.{JC_OK, JC_MISUSE, JC_OWN_EVICTED_MEMORY};
 ghost use Rattle.jc_c.specs.Layouts.{inline_value};
@@ -14,7 +15,7 @@ use crate::codes::{
 };
 use crate::layouts::{InlineKey, InlineValue, PhaseOut};
 use jc_model::{Cause, Change, Reply};
-use jc_stripe::{First, FirstAnswer, PickUpAnswer, ValueMoves};
+use jc_stripe::{First, FirstAnswer, PickUpAnswer, Reservation, ValueMoves};
 use jc_types::{Refusal, Value};
 
 /// A value.
@@ -192,29 +193,32 @@ fn number_of(refusal: &Refusal) -> u32
     }
 }
 
-/// What a first phase gave.
+/// What a first phase gave; whom to ask is what the newest reservation says.
 pub(crate) fn show_asked(
     asked: &FirstAnswer,
+    newest: Option<&Reservation>,
     reply: &Reply,
     moves: &ValueMoves,
     out: &mut PhaseOut,
 ) -> u32
-    ensures shown { result ≡ JC_OK → ShowsFirstAnswer asked.now reply.now moves.now out.new }
+    ensures shown { result ≡ JC_OK → ShowsFirstAnswer asked.now (option_copied newest.entry) reply.now moves.now out.new }
     ensures call { out.new.call ≡ out.old.call }
     ensures code { result ≡ (if is_first_misuse asked.now then JC_MISUSE else JC_OK) }
 {
     out.moves = 0;
     match asked {
         FirstAnswer::Done(place) => show_done(*place, 0, reply, moves, out),
-        FirstAnswer::Asks { number, first } => {
+        FirstAnswer::Asks(number) => {
             out.number = *number;
-            show_first(
-                first,
-                &mut out.next,
-                &mut out.reply,
-                &mut out.code,
-                &mut out.value,
-            );
+            if let Some(reservation) = newest {
+                show_first(
+                    &reservation.first,
+                    &mut out.next,
+                    &mut out.reply,
+                    &mut out.code,
+                    &mut out.value,
+                );
+            }
         }
         FirstAnswer::Joined(load) => {
             out.number = *load;

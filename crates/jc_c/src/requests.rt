@@ -1,7 +1,9 @@
 //! What C says, as words of a stripe.
 ghost use Rattle.std.specs.Prelude.{◌≡◌, ◌==◌, ◌||◌, not, is_some, IfSome};
 ghost use Rattle.jc_c.specs.declared.codes.TheConstants.{JC_NOT_ASKED};
+ghost use Rattle.std.specs.Bool.{OnTrue};
 ghost use Rattle.jc_model.specs.Cache.{Bytes};
+ghost use Rattle.jc_model.specs.declared.event.Op.TheVariants.{Put};
 ghost use Rattle.jc_c.specs.Layouts.{inline_value, is_inline_value};
 ghost use Rattle.jc_c.specs.Requests.{key_fits, value_fits, takes_no_value, takes_value, op_fits, op_of_number, load_of_number, load_number_fits, write_of_number, write_number_fits, effect_number_fits, process_answer_of, read_outcome, read_process, process_fits, answers_beside, others_fit, processor_out, processed_fits};
 
@@ -88,6 +90,55 @@ pub(crate) fn read_op(op: u32, value: &[u8], other: &[u8]) -> Option<Op>
     }
     let new = read_value(other)?;
     Some(Op::ReplaceIf { old, new })
+}
+
+/// Writes what is called to `room`, by its number. Of a `get`, a `remove`, an `invoke` or a `put` over another one only those bytes are
+/// copied that count. `false` says that the number is none, or that its values don't fit.
+pub(crate) fn write_op(op: u32, value: &[u8], other: &[u8], room: &mut Op) -> bool
+    ensures fits { result ≡ op_fits op value.now other.now }
+    ensures op { OnTrue result (room.new ≡ op_of_number op value.now other.now) }
+{
+    match op {
+        JC_GET => {
+            room.copy_from(&Op::Get);
+            true
+        }
+        JC_PUT => write_put(value, room),
+        _ => write_other_op(op, value, other, room),
+    }
+}
+
+/// The same of a `put`.
+#[inline(never)]
+fn write_put(value: &[u8], room: &mut Op) -> bool
+    ensures fits { result ≡ value_fits value.now }
+    ensures op { OnTrue result (room.new ≡ Put value.now) }
+{
+    match Value::new(value) {
+        Ok(value) => {
+            match &mut *room {
+                Op::Put(at) => at.copy_from(&value),
+                _ => *room = Op::Put(value),
+            }
+            true
+        }
+        Err(_) => false,
+    }
+}
+
+/// The same of any other one.
+#[inline(never)]
+fn write_other_op(op: u32, value: &[u8], other: &[u8], room: &mut Op) -> bool
+    ensures fits { result ≡ op_fits op value.now other.now }
+    ensures op { OnTrue result (room.new ≡ op_of_number op value.now other.now) }
+{
+    match read_op(op, value, other) {
+        Some(called) => {
+            *room = called;
+            true
+        }
+        None => false,
+    }
 }
 
 /// What the loader answered, by its number, if it was asked.

@@ -192,6 +192,13 @@ impl Entries {
         self.cache.pop(key)
     }
 
+    /// Takes all entries out: it is then as [`new`](Entries::new) makes it. The table for look-ups keeps its room.
+    pub fn clear(&mut self)
+        ensures { self.new ≡ record { capacity = self.old.capacity; list = [] } }
+    {
+        self.cache.clear();
+    }
+
     /// Appends the keys to a vector that has room for them, the most recently used first.
     pub fn keys(&self, out: &mut Vec<Key>)
         requires { vec_len out.old + length self.now.list ≤ vec_capacity out.old }

@@ -154,6 +154,15 @@ impl History {
         self.statistics = Statistics::new();
     }
 
+    /// Forgets all events, what was counted of them, and what was promised: the history is then as [`new`](History::new) makes it. The
+    /// room stays.
+    pub fn restart(&mut self)
+        ensures { self.new ≡ record { limit = self.old.limit; events = []; promised = 0; statistics = statistics_of [] } }
+    {
+        self.clear();
+        self.promised = 0;
+    }
+
     /// What was counted of the events, each with what its push said that it found. It reads none of them.
     pub fn statistics(&self) -> Statistics
         ensures { result ≡ self.now.statistics }

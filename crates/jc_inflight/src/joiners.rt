@@ -45,6 +45,13 @@ impl Joiners {
         }
     }
 
+    /// Takes all joiners out: the table is then as [`new`](Joiners::new) makes it.
+    pub fn clear(&mut self)
+        ensures { self.new ≡ [] }
+    {
+        self.joiners.clear();
+    }
+
     /// Has a call join the load of its key, to wait for its end. The load is named by the number of its reservation.
     ///
     /// Conditions: the caller has no joiner of this key in [`list`](Joiners::list).

@@ -13,8 +13,8 @@ use crate::stripes::are_of_one_stripe;
 use jc_types::{Config, Key, Value};
 use std::alloc::{AllocError, Global};
 
-/// Whether no key is there twice.
-fn is_apart(entries: &[(Key, Value)]) -> bool
+/// Whether no key is there twice. Each entry is compared with all that follow it, and no memory is taken.
+pub fn is_apart(entries: &[(Key, Value)]) -> bool
     ensures { result ≡ has_distinct_keys entries.now }
 {
     for (i, entry) in entries.iter().enumerate() {

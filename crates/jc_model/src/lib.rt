@@ -34,7 +34,7 @@ pub mod table;
 pub mod table_laws;
 
 pub use batches::{batch_answer, is_among};
-pub use checker::legal;
+pub use checker::{is_apart, legal};
 pub use contents::Contents;
 pub use event::{
     Cause, Change, Effect, Event, LoadAnswer, Op, Out, ProcessAnswer, Reply, WriteAnswer,

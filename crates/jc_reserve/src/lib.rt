@@ -4,7 +4,7 @@
 //! entry meanwhile (JSR 107, "Default Consistency").
 //!
 //! Why it is so:
-//! - An array of 64 places inside the stripe: making it takes no memory, a look-up goes over at most 64 keys. When a reservation ends
+//! - An array of 64 places in the table itself: making it takes no memory, a look-up goes over at most 64 keys. When a reservation ends
 //!   those behind it move up; the order can't be given up behind the contracts, since the table lends records and keys as slices in the
 //!   order of reserving, and a stripe's state is that list.
 #![tactic(auto)]

@@ -54,6 +54,15 @@ impl<R: Reserved> Reservations<R> {
         }
     }
 
+    /// Ends all reservations, and numbers from 0 again: the table is then as [`new`](Reservations::new) makes it.
+    pub fn restart(&mut self)
+        ensures { self.new ≡ record { held = []; next = 0 } }
+    {
+        self.held.clear();
+        self.keys.clear();
+        self.next = 0;
+    }
+
     /// The number of the next reservation. It isn't used up, if a key can be reserved.
     pub fn next_number(&self) -> u64
         ensures { result ≡ self.now.next }

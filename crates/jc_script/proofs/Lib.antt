@@ -16,3 +16,5 @@ pub mod Callable
 pub mod Fitting
 pub mod SingleCalls
 pub mod ReachedWorlds
+pub mod PrintedMemory
+pub mod OneTranscript

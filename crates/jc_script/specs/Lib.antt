@@ -9,4 +9,5 @@ pub mod Places
 pub mod ReachedWorlds
 pub mod Noting
 pub mod Running
+pub mod Determinism
 pub mod Spelled

@@ -17,9 +17,13 @@ pub enum Fault {
     BadByte,
     /// The line has no known shape.
     BadLine,
+    /// A word that is to be a number is none, or it is over the limit.
     BadNumber,
+    /// A word that is to be a session is none.
     BadCaller,
+    /// A word that is to be a key is none.
     BadKey,
+    /// A word that is to be a value is none.
     BadValue,
     /// The line names a key twice, where once is allowed.
     RepeatedKey,

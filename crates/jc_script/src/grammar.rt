@@ -325,7 +325,8 @@ fn line_of(alloc: Global, first: &[u8], words: &[&[u8]], line: &mut Line) -> Res
     }
 }
 
-fn none_empty(words: &[&[u8]]) -> bool
+/// Whether no word is empty.
+pub fn none_empty(words: &[&[u8]]) -> bool
     ensures { result ≡ are_words (map (λ w. w.now) words.now) }
 {
     for w in words {

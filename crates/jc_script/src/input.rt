@@ -12,8 +12,11 @@ use std::io::{Read, Write};
 /// Why an input could not be had.
 #[derive(Clone, Copy, Debug)]
 pub enum InputFault {
+    /// The reader failed.
     Read,
+    /// It gives more than [`SCRIPT_MAX`] bytes.
     TooLong,
+    /// An allocation failed.
     OutOfMemory,
 }
 

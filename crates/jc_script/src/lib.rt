@@ -10,27 +10,28 @@
 #![tactic(auto)]
 
 mod commands;
+pub mod determinism;
 mod distinct_pairs;
-mod fault;
-mod grammar;
-mod input;
+pub mod fault;
+pub mod grammar;
+pub mod input;
 mod keys;
 pub mod laws;
-mod line;
+pub mod line;
 pub mod noted;
 mod pairs;
 mod place;
 mod player;
-mod print_audit;
+pub mod print_audit;
 mod print_lines;
 mod print_place;
 mod print_process;
 mod print_shown;
-mod printing;
+pub mod printing;
 mod process_words;
 pub mod reached;
 pub mod run;
-mod words;
+pub mod words;
 
 pub use noted::Noted;
 pub use printing::{put, put_flag, put_number};

@@ -33,8 +33,9 @@ fn put_entries(out: &mut Vec<u8>, entries: &[(Key, Value)]) -> Result<(), AllocE
     Ok(())
 }
 
+/// A line of entries, with this word before them.
 #[tactic(auto, unfolding(crate::specs::Printing::entries_line))]
-fn put_entries_line(
+pub fn put_entries_line(
     out: &mut Vec<u8>,
     name: &str,
     entries: &[(Key, Value)],
@@ -46,7 +47,8 @@ fn put_entries_line(
     put(out, "\n")
 }
 
-fn put_coherence(out: &mut Vec<u8>, keys: &[Key]) -> Result<(), AllocError>
+/// The keys that differ, or that there is none.
+pub fn put_coherence(out: &mut Vec<u8>, keys: &[Key]) -> Result<(), AllocError>
     ensures { OnOk result (out.new.items ≡ out.old.items ++ coherence_text keys.now) }
 {
     match keys {

@@ -50,8 +50,8 @@ fn line_feed(bytes: &[u8]) -> Option<usize>
     memchr(b'\n', bytes)
 }
 
-/// The bytes before the first line feed, and those after it.
-fn first_line(bytes: &[u8]) -> Option<(&[u8], &[u8])>
+/// The bytes before the first line feed, and those after it. None if there is no line feed.
+pub fn first_line(bytes: &[u8]) -> Option<(&[u8], &[u8])>
     ensures { MatchOption result
         (pieces_of bytes.now ≡ bytes.now ∷ [])
         (λ x. (pieces_of bytes.now ≡ x.0.now ∷ pieces_of x.1.now) × (length x.1.now < length bytes.now)) }

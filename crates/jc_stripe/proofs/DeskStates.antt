@@ -1,11 +1,12 @@
 -- A desk's stripe after a generation has ended, if it was full, and after each phase, and what is left of its joiners.
-use Rattle.std.proofs.Common.{◌≡◌, ◌⊎◌, inl, inr, ⊎_elim, ◌<◌, ◌≤◌, ◌+◌, ℕ, List, [], ◌∷◌, ◌++◌, length, filter, not, Bool, true, false, Some, refl, sym, ap, ◌∙◌, subst, arith, get_or}
+use Rattle.std.proofs.Common.{◌≡◌, ◌⊎◌, inl, inr, ⊎_elim, ◌<◌, ◌≤◌, ◌+◌, ℕ, List, [], ◌∷◌, ◌++◌, length, not, Bool, true, false, Some, refl, sym, ap, ◌∙◌, subst, arith}
 use Rattle.std.specs.List.{All}
+use Rattle.std.proofs.lemmas.List.{length-append}
 use Rattle.std.proofs.lemmas.List.Elements.{All-push, All-filter}
 use Rattle.jc_types.specs.declared.caller.Caller.{Caller}
 use Rattle.jc_types.specs.declared.limits.TheConstants.{LAST_NUMBER}
-use Rattle.jc_model.specs.Cache.{Bytes, entry_at}
-use Rattle.std.proofs.Common.{Option, None, find, nat_lt, ◌==◌, ◌&&◌, cond}
+use Rattle.jc_model.specs.Cache.{Bytes}
+use Rattle.std.proofs.Common.{Option, None, find, nat_lt, ◌==◌, ◌&&◌, ◌-◌, cond, slice_get}
 use Rattle.std.proofs.lemmas.Bool.{and_parts, and_from, eqb-true, false≢true}
 use Rattle.std.specs.Bool.{Decides}
 use Rattle.std.proofs.lemmas.Bool.Decides.{nat_tests, same_from_decides, Decides-eqb}
@@ -27,7 +28,7 @@ use Rattle.jc_stripe.specs.Tests.{is_clear}
 use Rattle.jc_stripe.specs.Generations.{after_renewal}
 use Rattle.jc_stripe.specs.Renewal.{RenewsIfFull, is_renewable}
 use Rattle.jc_stripe.specs.DeskState.{DeskState, HasStepsBefore, IsDesk, is_joined_before, nothing_is_out, next_caller, may_call_next}
-use Rattle.jc_stripe.specs.DeskPhases.{has_joined_load, is_join_out}
+use Rattle.jc_stripe.specs.DeskPhases.{has_joined_load, is_join_out, newest}
 
 -- Joiners whose calls are before a number.
 
@@ -186,3 +187,17 @@ desk_ends old new tickets rest next key is rs left origin lives joined before =
       played = origin ∙ is.played;
       lives = lives ∙ is.lives;
     }
+
+-- the newest reservation
+at_end : (xs : List Reservation) (r : Reservation) → slice_get (xs ++ r ∷ []) (length xs) ≡ Some r
+at_end [] r = refl
+at_end (x ∷ xs) r = at_end xs r
+
+last_pushed : (xs : List Reservation) (r : Reservation) → slice_get (xs ++ r ∷ []) (length (xs ++ r ∷ []) - 1) ≡ Some r
+last_pushed xs r =
+    let long = length-append xs (r ∷ []) in
+    let is : length (xs ++ r ∷ []) - 1 ≡ length xs = omega (arith, long) in
+    ap (slice_get (xs ++ r ∷ [])) is ∙ at_end xs r
+
+pub newest_reserved : (old new : State) (r : Reservation) → new ≡ with_reservation old r → newest new ≡ Some r
+newest_reserved old new r with = ap newest with ∙ last_pushed old.reservations r

@@ -3,18 +3,17 @@
 --     found_ticket   the reservation at the place of a number is the first with it
 --     out_at         it is out
 --     left_at        without it those of the other keys are left
-use Rattle.std.proofs.Common.{◌≡◌, ◌==◌, ◌<◌, ◌+◌, ℕ, zero, suc, List, [], ◌∷◌, length, map, filter, Bool, true, false, cond, not, None, Some, find, position, remove, get_or, slice_index_or, subst, refl, sym, ap, ◌∙◌, arith}
+use Rattle.std.proofs.Common.{◌≡◌, ◌==◌, ◌<◌, ℕ, zero, suc, List, [], ◌∷◌, length, map, Bool, true, false, None, Some, position, remove, get_or, slice_index_or, sym, ap, ◌∙◌, arith}
 use Rattle.std.proofs.lemmas.Cmp.{nat_list_eq_equiv}
 use Rattle.std.proofs.lemmas.Grind.{common_steps}
 use Rattle.std.proofs.lemmas.List.{get_or-map, length-map}
-use Rattle.std.specs.Cmp.Lexicographic.{pointwise, same_text}
-use Rattle.std.specs.List.{AllPairs, position_or_len}
+use Rattle.std.specs.Cmp.Lexicographic.{same_text}
+use Rattle.std.specs.List.{AllPairs}
 use Rattle.jc_types.proofs.CallerLemmas.{find_at_place, find_nowhere, remove_at_place, position_map, map-remove}
-use Rattle.jc_model.specs.Cache.{Bytes}
 use Rattle.jc_stripe.specs.declared.ticket.Reservation.{Reservation}
 use Rattle.jc_stripe.specs.State.{State, is_key, without_key, IsOut}
 use Rattle.jc_stripe.specs.Reached.{IsReached}
-use Rattle.jc_stripe.specs.DeskPhases.{ticket_of, asks_first}
+use Rattle.jc_stripe.specs.DeskPhases.{ticket_of}
 
 abbrev pub has_number : ℕ → Reservation → Bool
 has_number number r = r.number == number

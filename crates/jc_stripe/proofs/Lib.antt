@@ -14,6 +14,7 @@ pub mod Picking
 pub mod Reaching
 pub mod Refusing
 pub mod Renewing
+pub mod Restarting
 pub mod Hitting
 pub mod Settled
 pub mod SharedSteps
@@ -42,3 +43,4 @@ pub mod DeskNumbers
 pub mod DeskTickets
 pub mod DeskStates
 pub mod ValuesMoved
+pub mod DeskAnswers

@@ -3,7 +3,7 @@
 --     commit_next    the same of a commit, in the state before it
 --     others_stay    the entries of the other keys stay
 --     told_victim    so the victim that was noted before is told
-use Rattle.std.proofs.Common.{◌≡◌, ◌==◌, ◌&&◌, ◌||◌, ◌<◌, ◌+◌, ◌-◌, ℕ, List, [], ◌∷◌, length, map, filter, reverse, Bool, true, false, cond, not, Option, None, Some, is_some, is_none, option_map, find, nat_lt, refl, sym, ap, ◌∙◌, subst, arith}
+use Rattle.std.proofs.Common.{◌≡◌, ◌==◌, ◌&&◌, ◌||◌, ◌+◌, ◌-◌, ℕ, List, [], ◌∷◌, length, map, filter, reverse, Bool, true, false, cond, not, Option, None, Some, is_some, is_none, option_map, find, nat_lt, refl, sym, ap, ◌∙◌, arith}
 use Rattle.std.proofs.lemmas.Bool.{and_parts}
 use Rattle.std.proofs.lemmas.Bool.Decides.{nat_tests}
 use Rattle.std.proofs.lemmas.Cmp.{nat_list_eq_equiv}
@@ -19,12 +19,12 @@ use Rattle.jc_model.specs.declared.event.Op.{Op}
 use Rattle.jc_model.specs.declared.event.Out.{Out}
 use Rattle.jc_model.specs.declared.event.Cause.{Cause}
 use Rattle.jc_model.specs.Cache.{Bytes, Cache, entry_at, key_cmp}
-use Rattle.jc_model.specs.Group.{Group, events_of, without_victim, without_own, cache_after_group}
+use Rattle.jc_model.specs.Group.{events_of, without_victim, without_own}
 use Rattle.jc_model.specs.declared.event.Op.TheVariants.{Get}
 use Rattle.jc_model.specs.Group.{nothing_said}
 use Rattle.jc_model.specs.Table.{NewStep, seq_cache, seq_entry, entry_after}
 use Rattle.jc_model.proofs.CallerLemmas.{get-with_entry, get-without}
-use Rattle.jc_entries.specs.ByUse.{is_pinned, lru_victim}
+use Rattle.jc_entries.specs.ByUse.{is_pinned}
 use Rattle.jc_stripe.specs.declared.ticket.Reservation.{Reservation}
 use Rattle.jc_stripe.specs.declared.begun.Eviction.{Eviction}
 use Rattle.jc_stripe.specs.declared.begun.StepDone.{StepDone}
@@ -33,7 +33,7 @@ use Rattle.jc_stripe.specs.OrderOfUse.{by_use, pinned, least_used, next_victim}
 use Rattle.jc_stripe.specs.Phases.{Steps, Commits, own_cause, inserts_here, overflows, victim, new_group, after_commit}
 use Rattle.jc_stripe.specs.Reached.{IsReached}
 use Rattle.jc_stripe.proofs.Used.{find-entry}
-use Rattle.jc_stripe.specs.ValuesMoved.{MovesMade, MovesValues, holds_value, is_new_value, value_lost, victim_entry, nothing_moved, KeepsOtherEntries}
+use Rattle.jc_stripe.specs.ValuesMoved.{MovesMade, MovesValues, is_new_value, value_lost, victim_entry, nothing_moved, KeepsOtherEntries}
 
 -- 1. Who is evicted.
 

@@ -1,4 +1,5 @@
 -- What the calls of a desk do to its stripe, and which of them it takes.
+--     newest             the reservation that is out and was made last
 --     BeginsWithMoves    a first phase gives this, with this reply and these moves if the call is done
 --     RenewsAndBegins    the first phase of the desk's next call, before which a full generation has ended; the call might be made, and no
 --                        events were to be taken first
@@ -10,6 +11,7 @@
 --     StaysOrRenewsFull  the desk stays as it was, or its generation has ended, if it was full and might end
 --     ticket_of          the reservation with this number that is out, if there is one
 --     asks_first         a reservation is there, and asks this one first
+--     AnswersTicket      a reservation with this number is out, and these are the answers of whom it asks first
 --     takes_load         a reservation with this number is out that asks the loader, and the loader answered
 --     takes_write        the same of the writer
 --     fits_processor     a processor is asked, which ran, and its loader answered only if it may be asked
@@ -22,7 +24,7 @@
 --     WithdrawsAtDesk    the reservation with this number is given back
 --     PicksUpAtDesk      a joiner asks for its answer; or no such join is out, and nothing was done
 --     is_pick_up_misuse  it was answered that no such join is out
-use Rattle.std.specs.Prelude.{◌≡◌, ◌==◌, ◌&&◌, ◌⊎◌, ◌+◌, ℕ, Bool, true, false, not, Option, None, Some, is_some, find, length}
+use Rattle.std.specs.Prelude.{◌≡◌, ◌==◌, ◌&&◌, ◌⊎◌, ◌+◌, ◌-◌, ℕ, Bool, true, false, not, Option, None, Some, is_some, find, length, slice_get}
 use Rattle.std.specs.Bool.{beq}
 use Rattle.jc_types.specs.declared.caller.Caller.{Caller}
 use Rattle.jc_types.specs.declared.config.Config.{Config}
@@ -53,17 +55,21 @@ use Rattle.jc_stripe.specs.State.{State}
 use Rattle.jc_stripe.specs.Tickets.{JoinClaim, TicketClaim, asks_loader, asks_writer, asks_processor, is_loadable}
 use Rattle.jc_stripe.specs.Phases.{Begins, Commits, Withdraws, PicksUp, hit_done}
 use Rattle.jc_stripe.specs.Refusals.{has_room}
+use Rattle.jc_stripe.specs.Appending.{AnswersFirst}
 use Rattle.jc_stripe.specs.Renewal.{RenewsIfFull}
 use Rattle.jc_stripe.specs.ValuesMoved.{MovesMade, MovesValues}
 use Rattle.jc_stripe.specs.DeskState.{DeskState, may_call_next, awaits_end, renewed_if_full}
 
 -- 1. First phases.
 
+abbrev pub newest : State → Option Reservation
+newest state = slice_get state.reservations (length state.reservations - 1)
+
 abbrev pub BeginsWithMoves : State → Caller → Bytes → Op → Reply → MovesMade → FirstAnswer → State → Type 0
 BeginsWithMoves old caller key op reply moves (first_answer.Done place) new =
     (done : StepDone) × Begins old caller key op (begun.Done done) new × (done.reply ≡ reply) × (done.place ≡ place) × MovesValues old key done.victim done.evicted moves new
-BeginsWithMoves old caller key op reply moves (first_answer.Asks number first) new =
-    (ticket : TicketClaim) × Begins old caller key op (begun.Asks ticket) new × (ticket.reservation.number ≡ number) × (ticket.reservation.first ≡ first)
+BeginsWithMoves old caller key op reply moves (first_answer.Asks number) new =
+    (ticket : TicketClaim) × Begins old caller key op (begun.Asks ticket) new × (ticket.reservation.number ≡ number) × (newest new ≡ Some ticket.reservation)
 BeginsWithMoves old caller key op reply moves (first_answer.Joined load) new = Begins old caller key op (begun.Joined (record { caller = caller; key = key; load = load })) new
 BeginsWithMoves old caller key op reply moves (first_answer.Refused refusal) new = Begins old caller key op (begun.Refused refusal) new
 BeginsWithMoves old caller key op reply moves first_answer.Full new = ⊥
@@ -86,7 +92,7 @@ BeginsAtDesk old session call key op reply moves answer new = RenewsAndBegins ol
 
 abbrev pub is_first_misuse : FirstAnswer → Bool
 is_first_misuse (first_answer.Done place) = false
-is_first_misuse (first_answer.Asks number first) = false
+is_first_misuse (first_answer.Asks number) = false
 is_first_misuse (first_answer.Joined load) = false
 is_first_misuse (first_answer.Refused refusal) = false
 is_first_misuse first_answer.Full = false
@@ -114,6 +120,9 @@ ticket_of state number = find (λ r. r.number == number) state.reservations
 abbrev pub asks_first : (First → Bool) → Option Reservation → Bool
 asks_first asks None = false
 asks_first asks (Some r) = asks r.first
+
+abbrev pub AnswersTicket : State → ℕ → Out → Type 0
+AnswersTicket state number out = (r : Reservation) × (ticket_of state number ≡ Some r) × AnswersFirst state.config r.first out
 
 abbrev pub takes_load : State → ℕ → LoadAnswer → Bool
 takes_load state number answer = is_load_given answer && asks_first asks_loader (ticket_of state number)

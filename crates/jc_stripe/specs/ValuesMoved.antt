@@ -8,11 +8,14 @@
 --     victim_entry         a victim with the value that it had
 --     KeepsOtherEntries    the entries of all keys but the step's own and the victim's are as they were
 --     MovesValues          what a step at a key moved, of which this was the victim
-use Rattle.std.specs.Prelude.{◌≡◌, ◌==◌, Bool, true, false, not, Option, None, Some, option_map, if◌then◌else◌}
+--     HasMovesIfDone       what the step of a first phase moved, if the call is done
+use Rattle.std.specs.Prelude.{◌≡◌, ◌==◌, Bool, false, not, Option, None, Some, option_map, if◌then◌else◌}
 use Rattle.std.specs.Cmp.Lexicographic.{pointwise}
 use Rattle.jc_model.specs.Cache.{Bytes, entry_at}
 use Rattle.jc_model.specs.declared.event.Cause.{Cause}
 use Rattle.jc_stripe.specs.declared.begun.Eviction.{Eviction}
+use Rattle.jc_stripe.specs.declared.begun.Started.{Started}
+use Rattle.jc_stripe.specs.declared.begun.Started.TheVariants as started
 use Rattle.jc_stripe.specs.State.{State}
 
 pub record MovesMade : Type 0 where
@@ -50,3 +53,9 @@ pub record MovesValues (old : State) (key : Bytes) (victim : Option Bytes) (evic
   pub victim_is : moves.victim ≡ victim_entry old victim
   pub own_is : moves.own ≡ option_map (λ e. e.cause) evicted
   pub others : KeepsOtherEntries old key victim new
+
+abbrev pub HasMovesIfDone : State → Bytes → Started → MovesMade → State → Type 0
+HasMovesIfDone old key (started.Done step) moves new = MovesValues old key step.victim step.evicted moves new
+HasMovesIfDone old key (started.Asks ticket) moves new = Unit {0}
+HasMovesIfDone old key (started.Joined join) moves new = Unit {0}
+HasMovesIfDone old key (started.Refused refusal) moves new = Unit {0}

@@ -13,9 +13,9 @@ ghost use Rattle.jc_stripe.specs.OrderOfUse.{uses};
 ghost use Rattle.jc_stripe.specs.Appending.{AppliesStep, new_step, group_events, callers_in, append_all, append_group, eviction_of};
 
 use crate::begun::{Appended, Eviction};
+use crate::stripe_tables::StripeJoiners;
 use jc_entries::{Entries, Inserted};
 use jc_history::{History, LentStep};
-use jc_inflight::Joiners;
 use jc_model::{Cause, Event, LoadAnswer, Op, Out, Reply};
 use jc_types::{Caller, Key, Value};
 use std::marker::Model;
@@ -189,7 +189,13 @@ fn append_shared_step(history: &mut History, place: u32, group: &NewGroup, joine
 }
 
 /// Appends the shared step of each joiner that waits for a load, in the order of joining.
-fn append_shared(history: &mut History, joiners: &Joiners, load: u64, place: u32, group: &NewGroup)
+fn append_shared(
+    history: &mut History,
+    joiners: &StripeJoiners,
+    load: u64,
+    place: u32,
+    group: &NewGroup,
+)
     requires places { length (callers_of load joiners.now) ≤ history.old.promised }
     ensures history { history.new ≡ append_all group.now.found (map (shared_event place group.now.key group.now.out.load)
         (callers_of load joiners.now)) history.old }
@@ -222,7 +228,7 @@ fn append_evicted(history: &mut History, group: &NewGroup) -> Option<Eviction>
 #[inline(always)]
 pub(crate) fn append_group(
     history: &mut History,
-    joiners: &Joiners,
+    joiners: &StripeJoiners,
     load: Option<u64>,
     group: &NewGroup,
     kept: usize,

@@ -22,12 +22,11 @@ ghost use Rattle.jc_stripe.specs.Reached.{IsReached};
 ghost use Rattle.jc_stripe.specs.Generations.{after_renewal};
 ghost use Rattle.jc_stripe.specs.Renewal.{can_renew};
 ghost use Rattle.jc_stripe.specs.DeskState.{opened_desk, is_open_shape, are_contents, may_call_next, nothing_is_out, OpenFails};
-ghost use Rattle.jc_stripe.specs.DeskPhases.{BeginsAtDesk, is_first_misuse, HitsAtDesk, hits_next, StaysOrRenewsFull};
+ghost use Rattle.jc_stripe.specs.DeskPhases.{BeginsAtDesk, is_first_misuse, newest, HitsAtDesk, hits_next, StaysOrRenewsFull};
 
 mod answers;
 mod last_phases;
 mod moves;
-mod noting;
 mod opening;
 
 use crate::begun::Started;
@@ -39,7 +38,6 @@ use jc_model::{Event, Op, Reply, Statistics};
 use jc_outside::Origin;
 use jc_types::{Caller, Config, Key, LAST_NUMBER, RESERVATIONS_MAX, Value};
 pub use moves::ValueMoves;
-use noting::{look_after, look_before};
 use opening::{are_contents, is_open_shape};
 use std::alloc::{AllocError, Global};
 use std::marker::Model;
@@ -152,18 +150,13 @@ impl Desk {
         self.stripe.renew_if_full();
         let _ = self.stripe.events_len();
         self.next_call = call + 1;
-        look_before(&self.stripe, key, moves);
-        let asked = match self.stripe.begin(caller, key, op, reply) {
-            Started::Done(step) => {
-                look_after(&self.stripe, key, &step, moves);
-                FirstAnswer::Done(step.place)
-            }
+        let asked = match moves.note_begin(&mut self.stripe, caller, key, op, reply) {
+            Started::Done(step) => FirstAnswer::Done(step.place),
             Started::Asks(ticket) => {
                 let kept = ticket.spend();
                 let number = kept.number;
-                let first = kept.first;
                 self.tickets.push_reserved(kept);
-                FirstAnswer::Asks { number, first }
+                FirstAnswer::Asks(number)
             }
             Started::Joined(join) => {
                 let load = join.load();
@@ -199,6 +192,16 @@ impl Desk {
         }
         self.next_call = call + 1;
         Some(call)
+    }
+
+    /// The reservation that is out and was made last. Its `first` says whom to ask.
+    pub fn newest(&self) -> Option<&Reservation>
+        ensures { option_copied result ≡ newest self.now.stripe }
+    {
+        match self.tickets.last() {
+            Some(ticket) => Some(&**ticket),
+            None => None,
+        }
     }
 
     /// The key's value, or none. No call is made, and the order of use stays.

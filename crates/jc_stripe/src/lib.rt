@@ -8,6 +8,7 @@
 //! - A ticket and a join are two types, so a join can't be committed and a ticket can't be picked up.
 //! - A ticket keeps its reservation (840 bytes) in a box that the stripe made and lends it: a phase takes no memory for it; 65
 //!   allocations and 54 kB a stripe.
+//! - Each table is in a block of its own (`stripe_tables.rt`): a stripe is small, and is made on an eighth of the stack.
 //! - An ask's claim is the part of the reservation that it has (`id_of`): no second copy.
 //! - Reserved places are a function of the state: three a reservation and one a waiting joiner; so no phase can forget to free one.
 //! - A processor's reservation keeps the entry that was seen and whether its key may be loaded.
@@ -36,6 +37,7 @@ mod log;
 pub mod phase_laws;
 mod reopening;
 mod stripe;
+mod stripe_tables;
 mod ticket;
 mod ticket_boxes;
 

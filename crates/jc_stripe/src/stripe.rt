@@ -21,7 +21,7 @@ ghost use Rattle.jc_stripe.specs.Phases.{MayBegin, Begins, begun_with, hit_done,
 ghost use Rattle.jc_stripe.specs.Effects.{HasReport, change_due, report_answer, process_out};
 ghost use Rattle.jc_stripe.specs.OnePhase.{IsPhaseOf};
 
-mod beginning;
+pub(crate) mod beginning;
 mod conditions;
 mod finding;
 mod living;
@@ -31,17 +31,17 @@ mod making;
 use crate::appending::{NewGroup, append_group, apply_to_entries};
 use crate::begun::{Appended, Picked, Started};
 use crate::life::Life;
+use crate::stripe_tables::{StripeJoiners, StripeReservations};
 use crate::ticket::{Ask, Join, Reservation, Ticket};
 use crate::ticket_boxes::TicketBoxes;
 use beginning::{appended_alone, is_get};
 use jc_entries::Entries;
 use jc_history::History;
-use jc_inflight::{JoinState, Joiners};
+use jc_inflight::JoinState;
 use jc_model::statistics::statistics_laws;
 use jc_model::{Event, Op, Out, Reply, WriteAnswer};
 use jc_mutentry::ProcDone;
 use jc_outside::{LoadDone, Origin, WriteDone};
-use jc_reserve::Reservations;
 use jc_types::{Caller, Config, HIT_PLACES, Key, STEP_PLACES, Value};
 use std::alloc::AllocError;
 use std::marker::Model;
@@ -66,9 +66,9 @@ pub struct Stripe {
     number: usize,
     origin: Origin,
     entries: Entries,
-    reservations: Reservations<Reservation>,
+    reservations: StripeReservations,
     boxes: TicketBoxes,
-    joiners: Joiners,
+    joiners: StripeJoiners,
     history: History,
     lives: bool,
     life: Life,
@@ -330,17 +330,34 @@ impl Stripe {
         requires answers { AnswersFirst self.old.config reservation.value.first out.now }
         ensures { Commits self.old reservation.value out.now (with_reply result reply.new) self.new }
     {
+        let mut entry = None;
+        self.entry_into(&reservation.key, &mut entry);
+        self.commit_on(reservation, out, &entry, reply)
+    }
+
+    /// The same, of a key that has this entry.
+    #[inline(always)]
+    pub(crate) fn commit_on(
+        &mut self,
+        reservation: Box<Reservation>,
+        out: &Out,
+        entry: &Option<Value>,
+        reply: &mut Reply,
+    ) -> Appended
+        requires out { IsOut self.old reservation.value }
+        requires answers { AnswersFirst self.old.config reservation.value.first out.now }
+        requires entry { entry.now ≡ entry_at self.old.cache reservation.value.key }
+        ensures { Commits self.old reservation.value out.now (with_reply result reply.new) self.new }
+    {
         statistics_laws();
         let ended = &*reservation;
         let key = ended.key;
         let load = ended.number;
         let _ = self.reservations.release(&key);
         let kept = STEP_PLACES + self.joiners.waiting(load) as usize;
-        let mut entry = None;
-        self.entries.peek_into(&key, &mut entry);
         let pinned = self.reservations.keys();
         let op = &ended.op;
-        let (victim, evicted) = apply_to_entries(&mut self.entries, pinned, &key, &entry, op, out);
+        let (victim, evicted) = apply_to_entries(&mut self.entries, pinned, &key, entry, op, out);
         op.reply_into(entry.as_ref(), out, reply);
         let group = NewGroup {
             caller: ended.caller,

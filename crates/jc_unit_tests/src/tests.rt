@@ -6,6 +6,7 @@ mod beside_lists;
 mod callers;
 mod config;
 mod contents;
+mod desk;
 mod entries;
 mod evictions;
 mod history;

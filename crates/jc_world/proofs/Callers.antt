@@ -143,7 +143,7 @@ order_stepped w key from to call met parts old there g reached put keeps owned =
     let put_of = IsPut w new call key in
     let fit : (who : Caller) (k : Bytes) → (p : put_of who k) → FitsCall w p.v = λ who k p. fits_found w (has_number who.call) w.calls p.v p.here old.calls in
     record {
-      shape = shape_set w new key from to refl refl old.shape there g.same.config g.same.stripe g.same.origin reached
+      shape = shape_set w new key from to refl refl old.shape there g.same.config g.same.stripe g.same.origin g.same.ended reached
           (share_grows w (home w key) from to g at reached)
           (λ m apart. share_stays w (home w key) m from to g at reached apart);
       order = added_order w.order from to g reached old.order
@@ -223,7 +223,7 @@ order_reserved w u key op from to p r there free caller_is key_is op_is is reach
       call = is_some_and (open_call new r.caller.call) (IsCallOf r.caller.session r.key r.op) u (ap (λ (c : Caller). open_call w c.call) caller_is ∙ may.here) (ap (λ (c : Caller). c.session) (sym caller_is), ap (op_at u) key_is ∙ may.op_is ∙ ap Some (sym op_is));
     } in
     record {
-      shape = shape_set w new key from to refl refl old.shape there (ap (λ (s : State). s.config) is) (ap (λ (s : State). s.stripe) is) (ap (λ (s : State). s.origin) is) reached
+      shape = shape_set w new key from to refl refl old.shape there (ap (λ (s : State). s.config) is) (ap (λ (s : State). s.stripe) is) (ap (λ (s : State). s.origin) is) (ap (λ (s : State). s.ended) is) reached
           (at.share ∙ sym (ap (λ (s : State). s.history) is)) (λ n apart. refl);
       order = old.order;
       numbers = old.numbers;
@@ -236,16 +236,16 @@ order_reserved w u key op from to p r there free caller_is key_is op_is is reach
     }
 
 -- the stripe is another, whose history and reservations are the same
-order_aside : (w : WorldState) (key : Bytes) (from to : State) (joins : Joins) → stripe_for w key ≡ Some from → to.config ≡ from.config → to.stripe ≡ from.stripe → to.origin ≡ from.origin
+order_aside : (w : WorldState) (key : Bytes) (from to : State) (joins : Joins) → stripe_for w key ≡ Some from → to.config ≡ from.config → to.stripe ≡ from.stripe → to.origin ≡ from.origin → to.ended ≡ from.ended
     → to.history ≡ from.history → to.reservations ≡ from.reservations → IsReached to
     → CallsFit (record w { stripes = slice_set w.stripes (home w key) to; joins = joins }) w.calls
     → IsSoundWorld w → HasOrder (record w { stripes = slice_set w.stripes (home w key) to; joins = joins })
-order_aside w key from to joins there config number origin history reservations reached calls old =
+order_aside w key from to joins there config number origin ended history reservations reached calls old =
     let new : WorldState = record w { stripes = slice_set w.stripes (home w key) to; joins = joins } in
     let at = old.shape.each (home w key) from there in
     let kept : (rs : List Reservation) → AllOwned w rs → AllOwned new rs = λ rs. each_map (IsOwned w) (IsOwned new) rs (λ r h. record { part = h.part; call = h.call }) in
     record {
-      shape = shape_set w new key from to refl refl old.shape there config number origin reached (at.share ∙ sym history) (λ n apart. refl);
+      shape = shape_set w new key from to refl refl old.shape there config number origin ended reached (at.share ∙ sym history) (λ n apart. refl);
       order = old.order;
       numbers = old.numbers;
       calls = calls;
@@ -263,7 +263,7 @@ order_joins w key from to join there is reached old =
     ap (λ (s : State). has_parked_answer (joiner_of caller q s.joiners)) is
     ∙ told_pushed caller q from.joiners (record { caller = join.caller; key = join.key; load = join.load; state = Waiting } ∷ []) h
     in
-    order_aside w key from to new.joins there (ap (λ (s : State). s.config) is) (ap (λ (s : State). s.stripe) is) (ap (λ (s : State). s.origin) is) (ap (λ (s : State). s.history) is) (ap (λ (s : State). s.reservations) is) reached
+    order_aside w key from to new.joins there (ap (λ (s : State). s.config) is) (ap (λ (s : State). s.stripe) is) (ap (λ (s : State). s.origin) is) (ap (λ (s : State). s.ended) is) (ap (λ (s : State). s.history) is) (ap (λ (s : State). s.reservations) is) reached
     (calls_same w new w.calls refl refl (served_set w key from to there keeps) old.calls) old
 
 -- 5. The last phase.
@@ -384,7 +384,7 @@ order_withdrawn stays w key claim from to key_is there h old =
     ap (λ (s : State). has_parked_answer (joiner_of caller q s.joiners)) h.1 ∙ told_dissolved claim.number caller q from.joiners k
     in
     record {
-      shape = shape_set w new key from to refl refl old.shape there (ap (λ (s : State). s.config) h.1) (ap (λ (s : State). s.stripe) h.1) (ap (λ (s : State). s.origin) h.1) (stays.withdraws from to claim at.reached h)
+      shape = shape_set w new key from to refl refl old.shape there (ap (λ (s : State). s.config) h.1) (ap (λ (s : State). s.stripe) h.1) (ap (λ (s : State). s.origin) h.1) (ap (λ (s : State). s.ended) h.1) (stays.withdraws from to claim at.reached h)
           (at.share ∙ sym (ap (λ (s : State). s.history) h.1)) (λ n apart. refl);
       order = old.order;
       numbers = old.numbers;
@@ -452,7 +452,7 @@ order_picked stays w call key met join from to p joined there picks is old =
     let at = old.shape.each (home w key) from there in
     let kept : (rs : List Reservation) → AllOwned w rs → AllOwned new rs = λ rs. each_map (IsOwned w) (IsOwned new) rs (λ r h. record { part = h.part; call = call_kept w call key met r (not_own w call key r (ap is_none one.none) h) h }) in
     record {
-      shape = shape_set w new key from to refl refl old.shape there (ap (λ (s : State). s.config) is) (ap (λ (s : State). s.stripe) is) (ap (λ (s : State). s.origin) is) (stays.picks_up from to join p at.reached picks)
+      shape = shape_set w new key from to refl refl old.shape there (ap (λ (s : State). s.config) is) (ap (λ (s : State). s.stripe) is) (ap (λ (s : State). s.origin) is) (ap (λ (s : State). s.ended) is) (stays.picks_up from to join p at.reached picks)
           (at.share ∙ sym (ap (λ (s : State). s.history) is)) (λ n apart. refl);
       order = old.order;
       numbers = old.numbers;
@@ -495,7 +495,7 @@ order_again stays w call key join from to joined there picks old =
     let same : v ≡ one.u = same_found (open_call w call) v one.u (ap (open_call w) (sym mine) ∙ found) one.here in
     let t : true ≡ false = sym h ∙ (λ i. is_served w (same i).caller (at i)) ∙ untold in cc) h
     in
-    order_aside w key from to new.joins there (ap (λ (s : State). s.config) is) (ap (λ (s : State). s.stripe) is) (ap (λ (s : State). s.origin) is) (ap (λ (s : State). s.history) is) (ap (λ (s : State). s.reservations) is)
+    order_aside w key from to new.joins there (ap (λ (s : State). s.config) is) (ap (λ (s : State). s.stripe) is) (ap (λ (s : State). s.origin) is) (ap (λ (s : State). s.ended) is) (ap (λ (s : State). s.history) is) (ap (λ (s : State). s.reservations) is)
     (stays.picks_up from to join Picked.Again at.reached picks)
     (calls_on w new (IsFound w) w.calls (λ v found h. fits_same w new v refl refl (served v found) h) (each_found w w.calls old.calls) old.calls) old
 

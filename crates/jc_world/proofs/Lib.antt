@@ -52,8 +52,16 @@ pub mod WriterBatches
 pub mod Changes
 pub mod Together
 pub mod Closing
+pub mod Restarting
 pub mod Merging
 pub mod Standing
 pub mod ShownOnce
 pub mod DroppedKeys
 pub mod Reopened
+mod SortedKeys
+pub mod DeterminedStripes
+pub mod DeterminedWorlds
+pub mod AlikeStripes
+pub mod AlikeWorlds
+pub mod Essences
+mod NextEntry

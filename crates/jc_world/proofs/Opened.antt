@@ -25,6 +25,7 @@ opening_order w h = record {
           config_is = o.config_is;
           number_is = o.number_is;
           origin_is = o.origin_is;
+          ended_is = o.ended_is;
           reached = o.reached;
           share = ap (of_stripe w.config.stripes n) h.order ∙ sym o.history;
         };
@@ -78,7 +79,7 @@ opens_start config fits =
       count = empty_count config 0 config.stripes;
       each = λ n s here.
           subst (IsOpeningStripe config n) (sym (start_is config n s here))
-          (record { config_is = refl; number_is = refl; origin_is = refl; reached = reached_empty config n fits; history = refl; reservations = refl; joiners = refl });
+          (record { config_is = refl; number_is = refl; origin_is = refl; ended_is = refl; reached = reached_empty config n fits; history = refl; reservations = refl; joiners = refl });
       order = refl;
       calls = refl;
       parts = refl;

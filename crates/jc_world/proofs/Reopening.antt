@@ -141,6 +141,7 @@ reopened_opens w config old fit =
         config_is = refl;
         number_is = refl;
         origin_is = refl;
+        ended_is = refl;
         reached = opened_reached config Played (all_entries w.stripes) n fits_in (entries_once w old);
         history = refl;
         reservations = refl;

@@ -141,19 +141,19 @@ shape_same w n config stripes order shape = record {
   each = λ k s here.
       let h = shape.each k s (ap (λ xs. slice_get xs k) (sym stripes) ∙ here) in
       let share : of_stripe n.config.stripes k n.order ≡ of_stripe w.config.stripes k w.order = λ i. of_stripe (config i).stripes k (order i) in
-      record { config_is = h.config_is ∙ sym config; number_is = h.number_is; origin_is = h.origin_is; reached = h.reached; share = share ∙ h.share };
+      record { config_is = h.config_is ∙ sym config; number_is = h.number_is; origin_is = h.origin_is; ended_is = h.ended_is; reached = h.reached; share = share ∙ h.share };
 }
 
 -- one stripe is another, and the order has all that it appended
 pub shape_set : (w n : WorldState) (key : Bytes) (from to : State) → n.config ≡ w.config → n.stripes ≡ slice_set w.stripes (home w key) to → IsShaped w → stripe_for w key ≡ Some from
-    → to.config ≡ from.config → to.stripe ≡ from.stripe → to.origin ≡ from.origin → IsReached to
+    → to.config ≡ from.config → to.stripe ≡ from.stripe → to.origin ≡ from.origin → to.ended ≡ from.ended → IsReached to
     → of_stripe w.config.stripes (home w key) n.order ≡ to.history
     → ((m : ℕ) → (home w key ≡ m → ⊥) → of_stripe w.config.stripes m n.order ≡ of_stripe w.config.stripes m w.order) → IsShaped n
-shape_set w n key from to config_is stripes_are shape there config number origin reached share rest =
+shape_set w n key from to config_is stripes_are shape there config number origin ended reached share rest =
     let old = shape.each (home w key) from there in
     let count_is : n.config.stripes ≡ w.config.stripes = ap (λ (c : Config). c.stripes) config_is in
     let mine : IsWorldStripe n (home w key) to =
-    record { config_is = config ∙ old.config_is ∙ sym config_is; number_is = number ∙ old.number_is; origin_is = origin ∙ old.origin_is; reached = reached; share = ap (λ c. of_stripe c (home w key) n.order) count_is ∙ share } in
+    record { config_is = config ∙ old.config_is ∙ sym config_is; number_is = number ∙ old.number_is; origin_is = origin ∙ old.origin_is; ended_is = ended ∙ old.ended_is; reached = reached; share = ap (λ c. of_stripe c (home w key) n.order) count_is ∙ share } in
     record {
       config_fits = ap check config_is ∙ shape.config_fits;
       count = ap length stripes_are ∙ length-slice_set w.stripes (home w key) to ∙ shape.count ∙ sym count_is;
@@ -161,7 +161,7 @@ shape_set w n key from to config_is stripes_are shape there config number origin
           (λ same is. let P : ℕ → Type 0 = λ m. IsWorldStripe n m s in let Q : State → Type 0 = λ s. IsWorldStripe n (home w key) s in subst P same (subst Q is mine))
           (λ apart here.
           let h = shape.each m s here in
-          record { config_is = h.config_is ∙ sym config_is; number_is = h.number_is; origin_is = h.origin_is; reached = h.reached; share = ap (λ c. of_stripe c m n.order) count_is ∙ rest m apart ∙ h.share })
+          record { config_is = h.config_is ∙ sym config_is; number_is = h.number_is; origin_is = h.origin_is; ended_is = h.ended_is; reached = h.reached; share = ap (λ c. of_stripe c m n.order) count_is ∙ rest m apart ∙ h.share })
           (ap (λ xs. slice_get xs m) (sym stripes_are) ∙ here);
     }
 

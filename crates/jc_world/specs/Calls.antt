@@ -39,6 +39,7 @@
 --     meet            the calls under way once one has met this
 --     drop_call       the calls without one that is over
 --     has_looked      a stripe is among those at which a call has looked
+--     looked_in       the stripes at which a call with this sweep has looked: none, if it is to look at no more
 --     has_looked_at_each
 --                     so is each of so many stripes
 --     next_sweep      a sweep of so many stripes behind a look at one more: none once it has looked at each
@@ -234,6 +235,10 @@ drop_call call calls = filter (λ u. not (has_number call u)) calls
 
 abbrev pub has_looked : List ℕ → ℕ → Bool
 has_looked looked stripe = list_any (λ other. other == stripe) looked
+
+abbrev pub looked_in : Option SweepState → List ℕ
+looked_in None = []
+looked_in (Some sweep) = sweep.looked
 
 -- at each of so many stripes
 abbrev pub has_looked_at_each : List ℕ → ℕ → Bool

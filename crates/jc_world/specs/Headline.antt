@@ -50,6 +50,7 @@ pub record IsOpeningStripe (config : Config) (number : ℕ) (s : State) : Type 0
   pub config_is : s.config ≡ config
   pub number_is : s.stripe ≡ number
   pub origin_is : s.origin ≡ Played
+  pub ended_is : s.ended ≡ []
   pub reached : IsReached s
   pub history : s.history ≡ []
   pub reservations : s.reservations ≡ []

@@ -19,3 +19,6 @@ pub mod Openings
 pub mod Replies
 pub mod Reserved
 pub mod PickUps
+pub mod Determinism
+pub mod Alike
+pub mod Essence

@@ -1,6 +1,7 @@
 -- What is true of every world that a run reaches. The contracts of public calls hand out what callers need of it.
 --     IsWorldStripe                      a stripe of the world: it is reached, and its history is its part of the order
 --     IsShaped                      there is a stripe for each number
+--     HaveNoneEnded                 of these stripes none has ended a generation
 --     is_up_to, number_up_to        a number is at most the last call's, and so is the number of an event's step
 --     has_answer, has_parked_answer  an answer is parked for a joiner in this state, and for a joiner that is there
 --     is_served_in, is_served       the answer of a load that it has joined is parked for a caller at a key, in a stripe and in the world
@@ -78,6 +79,7 @@ pub record IsWorldStripe (w : WorldState) (number : ℕ) (s : State) : Type 0 wh
   pub config_is : s.config ≡ w.config
   pub number_is : s.stripe ≡ number
   pub origin_is : s.origin ≡ Played
+  pub ended_is : s.ended ≡ []
   pub reached : IsReached s
   pub share : of_stripe w.config.stripes number w.order ≡ s.history
 
@@ -85,6 +87,9 @@ pub record IsShaped (w : WorldState) : Type 0 where
   pub config_fits : check w.config ≡ Ok tt
   pub count : length w.stripes ≡ w.config.stripes
   pub each : (number : ℕ) (s : State) → slice_get w.stripes number ≡ Some s → IsWorldStripe w number s
+
+abbrev pub HaveNoneEnded : List State → Type 0
+HaveNoneEnded stripes = (number : ℕ) (s : State) → slice_get stripes number ≡ Some s → s.ended ≡ []
 
 -- 2. The calls.
 

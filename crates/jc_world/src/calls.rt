@@ -74,6 +74,13 @@ pub(crate) fn has_call(calls: &[OpenCall], session: u32) -> bool
     calls.iter().any(|u| u.caller().session == session)
 }
 
+/// The call that a session has under way.
+pub(crate) fn call_by(calls: &[OpenCall], session: u32) -> Option<&OpenCall>
+    ensures { option_copied result ≡ find (is_of_session session) calls.now }
+{
+    calls.iter().find(|u| u.caller().session == session)
+}
+
 /// The call with this number.
 pub(crate) fn find_call(calls: &[OpenCall], call: u64) -> Option<&OpenCall>
     ensures { option_copied result ≡ find (has_number call) calls.now }

@@ -1,6 +1,6 @@
 //! The keys that calls have reserved, in a map by key.
 ghost use Rattle.std.specs.Prelude.{◌≡◌, ◌<◌, ◌≤◌, ◌++◌, ◌+◌, length, vec_len, vec_capacity, true, false, Option, Some};
-ghost use Rattle.std.specs.Prelude.{None, is_some, option_copied, [], IsTrue, IfSome, IfNone, OnOk, OnErr};
+ghost use Rattle.std.specs.Prelude.{None, is_some, option_copied, [], IsTrue, IfSome, IfNone, IfOk, OnOk, OnErr};
 ghost use Rattle.std.specs.FinMap as map;
 ghost use Rattle.indexmap.specs.IndexMap.{spare, index_map_len};
 ghost use Rattle.jc_model.specs.declared.event.Change.{Change};
@@ -17,15 +17,17 @@ ghost use Rattle.jc_world.specs.Events.{asks_as, new_part, new_progress, not_ove
 ghost use Rattle.jc_world.specs.Events.{run_answers, run_result, progress_after};
 ghost use Rattle.jc_world.specs.Held.{parts_of};
 
-use crate::event::{Shown, show};
+use crate::event::{Part, Shown, show};
 use crate::held::HeldKey;
 use crate::reports::{ReportedKey, WriterBatch};
 use crate::run::{RunShown, asks_as};
 use indexmap::IndexMap;
-use jc_model::{Change, Contents, EntryAnswer, EntryCall, LoadAnswer, WriteAnswer};
-use jc_stripe::Ticket;
+use jc_model::{
+    Change, Contents, EntryAnswer, EntryCall, LoadAnswer, Op, ProcessAnswer, WriteAnswer,
+};
+use jc_stripe::{First, Ticket};
 use jc_types::{Config, Key};
-use std::alloc::AllocError;
+use std::alloc::{AllocError, Global};
 
 /// The keys that are held, each with its ticket.
 pub(crate) type HeldKeys = IndexMap<Key, HeldKey>;
@@ -85,6 +87,21 @@ pub(crate) fn held_by<'a>(held: &'a HeldKeys, call: u64, key: &Key) -> Option<&'
         Some(one) => { if one.call() == call { Some(one) } else { None } }
         None => None,
     }
+}
+
+/// What was asked and answered for each key, in the order of the map.
+pub(crate) fn list_parts(alloc: Global, held: &HeldKeys) -> Result<Vec<(Key, Part)>, AllocError>
+    ensures { IfOk result (λ parts. map.from_entries parts.items ≡ parts_of held.now) }
+{
+    let _types: Option<&(Op, First, Change, LoadAnswer, ProcessAnswer)> = None;
+    let mut parts = Vec::new(alloc);
+    for place in 0..held.len() {
+        match held.get_index(place) {
+            Some((key, one)) => parts.push((*key, one.part()))?,
+            None => unreachable!(),
+        }
+    }
+    Ok(parts)
 }
 
 /// The loader answers for a key.

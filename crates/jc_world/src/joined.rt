@@ -1,5 +1,5 @@
 //! The calls that have joined a load and haven't its answer: their joins, in a map by call and key.
-ghost use Rattle.std.specs.Prelude.{◌≡◌, ◌<◌, ◌≤◌, ◌+◌, true, Option, Some, None, [], IfSome, IfNone, OnOk};
+ghost use Rattle.std.specs.Prelude.{◌≡◌, ◌↔◌, ◌<◌, ◌≤◌, ◌+◌, true, Option, Some, None, [], IsTrue, IfSome, IfNone, IfOk, OnOk};
 ghost use Rattle.std.specs.FinMap as map;
 ghost use Rattle.indexmap.specs.IndexMap.{spare, index_map_len};
 ghost use Rattle.jc_world.specs.World.{JoinKey, join_key, has_joined};
@@ -7,11 +7,67 @@ ghost use Rattle.jc_world.specs.Held.{joins_of};
 
 use indexmap::IndexMap;
 use jc_stripe::Join;
-use jc_types::Key;
-use std::alloc::AllocError;
+use jc_types::{Caller, Key};
+use std::alloc::{AllocError, Global};
+use std::marker::Model;
 
 /// The joins, each by its call's number and its key.
 pub(crate) type Joins = IndexMap<(u64, Key), Join>;
+
+/// A call that has joined the load of its key and hasn't its answer, as data.
+#[derive(Clone, Copy)]
+pub struct JoinedLoad {
+    caller: Caller,
+    key: Key,
+    load: u64,
+}
+
+impl Model for JoinedLoad {
+    ghost use Rattle.jc_stripe.specs.Tickets.{JoinClaim};
+
+    ghost Value = { JoinClaim };
+
+    ghost view = { λ j. record { caller = j.caller; key = j.key; load = j.load } };
+
+    ghost inverse = { λ j. record { caller = j.caller; key = j.key; load = j.load } };
+}
+
+impl JoinedLoad {
+    /// What a join is, as data.
+    fn new(join: &Join) -> JoinedLoad
+        ensures { result ≡ join.now }
+    {
+        JoinedLoad {
+            caller: join.caller(),
+            key: *join.key(),
+            load: join.load(),
+        }
+    }
+
+    /// Whether the two are one.
+    pub fn is_same(&self, other: &JoinedLoad) -> bool
+        ensures { IsTrue result ↔ (self.now ≡ other.now) }
+    {
+        self.caller == other.caller && self.key == other.key && self.load == other.load
+    }
+}
+
+/// The joins, in the order of the map.
+pub(crate) fn list_joins(
+    alloc: Global,
+    joins: &Joins,
+) -> Result<Vec<((u64, Key), JoinedLoad)>, AllocError>
+    ensures { IfOk result (λ list. map.from_entries list.items ≡ joins_of joins.now) }
+{
+    let mut list = Vec::new(alloc);
+    for place in 0..joins.len() {
+        match joins.get_index(place) {
+            Some((at, join)) => list.push((*at, JoinedLoad::new(join)))?,
+            None => unreachable!(),
+        }
+    }
+    Ok(list)
+}
 
 /// Makes room for one more join.
 pub(crate) fn make_join_room(joins: &mut Joins) -> Result<(), AllocError>

@@ -24,7 +24,9 @@
 pub mod audit;
 mod calls;
 pub mod command;
+pub mod determinism;
 mod ending;
+pub mod essence;
 pub mod event;
 pub mod headline;
 mod held;
@@ -51,6 +53,7 @@ pub use command::{CallKind, Command};
 pub use event::{
     JoinAnswer, Outcome, Over, Part, PartProgress, Premises, Shown, Stepped, WorldEvent,
 };
+pub use joined::JoinedLoad;
 pub use open_call::OpenCall;
 pub use process::{EntryCalls, LoadSource, Processed};
 pub use read_only::ReadOnlyList;

@@ -1,5 +1,5 @@
 //! The machine below a world: what each kind of event does.
-ghost use Rattle.std.specs.Prelude.{option_copied, ◌≡◌, true, false, Ok, IfOk, OnErr, OnOk, Option, None, Some};
+ghost use Rattle.std.specs.Prelude.{find, option_map, option_copied, ◌≡◌, true, false, Ok, IfOk, OnErr, OnOk, Option, None, Some};
 ghost use Rattle.std.specs.FinMap as map;
 ghost use Rattle.jc_types.specs.Limits.{check};
 ghost use Rattle.jc_model.specs.Cache.{entry_at};
@@ -8,6 +8,7 @@ ghost use Rattle.jc_world.specs.World.{start, is_busy, is_idle, open_call, part_
 ghost use Rattle.jc_world.specs.Fits.{fits, is_new};
 ghost use Rattle.jc_world.specs.Events.{Happens, Step, not_over};
 ghost use Rattle.jc_world.specs.declared.event.Outcome.TheVariants as outcome;
+ghost use Rattle.jc_world.specs.Calls.{is_of_session};
 ghost use Rattle.jc_world.specs.Sound.{IsSoundWorld};
 
 mod answering;
@@ -17,13 +18,17 @@ mod looking;
 mod processing;
 mod reopening;
 
-use crate::calls::{begin, drop_call, fault_in, find_call, has_call, is_above, refuse, settle};
+use crate::calls::{
+    begin, call_by, drop_call, fault_in, find_call, has_call, is_above, refuse, settle,
+};
 use crate::command::Command;
 use crate::ending::{end_all, pick_all};
-use crate::event::{JoinAnswer, Outcome, Premises, Shown, WorldEvent, show, show_end};
+use crate::event::{JoinAnswer, Outcome, Part, Premises, Shown, WorldEvent, show, show_end};
 use crate::held::HeldKey;
-use crate::held_keys::{HeldKeys, held_at, held_by, hold, make_room, take};
-use crate::joined::{Joins, has_joined, make_join_room, put_join, take_join};
+use crate::held_keys::{HeldKeys, held_at, held_by, hold, list_parts, make_room, take};
+use crate::joined::{
+    JoinedLoad, Joins, has_joined, list_joins, make_join_room, put_join, take_join,
+};
 use crate::open_call::OpenCall;
 use crate::stripes::{Stripes, shown_of};
 use jc_model::{Contents, Event, Reply};
@@ -86,6 +91,25 @@ impl Machine {
         })
     }
 
+    /// Makes the machine as `new` makes it in its present shape. What is out in it is ended first, as by `close`.
+    pub(crate) fn restart(&mut self)
+        requires { IsSoundWorld self.old }
+        ensures { self.new ≡ start self.old.config }
+    {
+        self.stripes
+            .restart(&self.config, &mut self.held, &mut self.joins);
+        self.store = Contents::new(self.alloc);
+        self.last = None;
+        self.calls.clear();
+        self.premises = Premises {
+            writers: true,
+            loaders: true,
+            quiet: true,
+            opening: true,
+        };
+        self.is_fresh = true;
+    }
+
     /// Whether no call has begun, nobody else has written the store, and nobody has opened the cache again.
     pub(crate) fn is_fresh(&self) -> bool
         ensures { result ≡ self.now.is_fresh }
@@ -105,6 +129,72 @@ impl Machine {
         ensures { result ≡ self.now.config.stripes }
     {
         self.config.stripes
+    }
+
+    /// The highest number of a call so far.
+    pub(crate) fn last(&self) -> Option<u64>
+        ensures { result ≡ self.now.last }
+    {
+        self.last
+    }
+
+    /// The number of the call that a session has under way.
+    pub(crate) fn call_of(&self, session: u32) -> Option<u64>
+        ensures { result ≡ option_map (λ u. u.caller.call) (find (is_of_session session) self.now.calls) }
+    {
+        match call_by(&self.calls, session) {
+            Some(u) => Some(u.caller().call),
+            None => None,
+        }
+    }
+
+    /// The shape of the cache.
+    pub(crate) fn config(&self) -> &Config
+        ensures { result.now ≡ self.now.config }
+    {
+        &self.config
+    }
+
+    /// The calls under way.
+    pub(crate) fn calls(&self) -> &[OpenCall]
+        ensures { result.now ≡ self.now.calls }
+    {
+        &self.calls
+    }
+
+    /// What has held since the last opening.
+    pub(crate) fn premises(&self) -> Premises
+        ensures { result ≡ self.now.premises }
+    {
+        self.premises
+    }
+
+    /// What the store holds, in the byte order of the keys.
+    pub(crate) fn stored_entries(&self, alloc: Global) -> Result<Vec<(Key, Value)>, AllocError>
+        ensures { IfOk result (λ entries. entries.items ≡ map.entries self.now.store) }
+    {
+        self.store.entries(alloc)
+    }
+
+    /// What was asked and answered for the reserved keys.
+    pub(crate) fn parts(&self, alloc: Global) -> Result<Vec<(Key, Part)>, AllocError>
+        ensures { IfOk result (λ parts. map.from_entries parts.items ≡ self.now.parts) }
+    {
+        list_parts(alloc, &self.held)
+    }
+
+    /// The joins.
+    pub(crate) fn joins(&self, alloc: Global) -> Result<Vec<((u64, Key), JoinedLoad)>, AllocError>
+        ensures { IfOk result (λ joins. map.from_entries joins.items ≡ self.now.joins) }
+    {
+        list_joins(alloc, &self.joins)
+    }
+
+    /// The stripes.
+    pub(crate) fn stripe_list(&self) -> &[jc_stripe::Stripe]
+        ensures { result.now ≡ self.now.stripes }
+    {
+        self.stripes.items()
     }
 
     /// Whether a session has a call under way.
@@ -377,14 +467,16 @@ impl Machine {
             store: _,
             last: _,
             calls: _,
-            held,
-            joins,
+            mut held,
+            mut joins,
             premises: _,
             is_fresh: _,
         } = self;
         let mut items = stripes.into_items();
-        end_all(&config, &mut items, held, &joins);
-        pick_all(&config, &mut items, joins);
+        end_all(&config, &mut items, &mut held, &joins);
+        pick_all(&config, &mut items, &mut joins);
+        held.destroy_empty();
+        joins.destroy_empty();
     }
 }
 

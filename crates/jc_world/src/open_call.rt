@@ -5,7 +5,7 @@ ghost use Rattle.std.specs.List.{list_all, list_any, IsDistinct};
 ghost use Rattle.std.specs.Cmp.Lexicographic.{pointwise};
 ghost use Rattle.jc_model.specs.declared.event.Op.TheVariants.{Get};
 ghost use Rattle.jc_world.specs.declared.command.Command.TheVariants as command;
-ghost use Rattle.jc_world.specs.Calls.{op_at, open_keys};
+ghost use Rattle.jc_world.specs.Calls.{op_at, op_found, looked_in, open_keys};
 ghost use Rattle.jc_world.specs.Calls.{is_going, new_call, over_of, settled, with_found, with_met, SweepState};
 ghost use Rattle.jc_world.specs.OpenCalls.{TakesKeys};
 ghost use Rattle.jc_world.specs.World.{is_free_of, waits_for_process};
@@ -21,8 +21,8 @@ use crate::reports::{ReportedKey, WriterBatch};
 use crate::sweep::Sweep;
 use crate::tasks::{
     Tasks, are_free, are_open, is_free_at, names_each_once, none_asked, none_waits, op_among,
-    push_each, push_reported, put_if_open, put_one, put_open_among, settle_at, take_keys,
-    tasks_for,
+    push_each, push_reported, push_task, push_tasks, put_if_open, put_one, put_open_among,
+    settle_at, take_keys, tasks_for,
 };
 use jc_model::Op;
 use jc_types::{Caller, Key, Refusal};
@@ -120,6 +120,44 @@ impl OpenCall {
         match &self.tasks {
             Tasks::One { key, op } => put_if_open(key, op, keys),
             Tasks::Many { ops, first: _ } => put_open_among(ops, keys),
+        }
+    }
+
+    /// The first fault, or refusal that isn't put off, that the call has met.
+    pub fn cause(&self) -> Option<Refusal>
+        ensures { result ≡ self.now.cause }
+    {
+        self.cause
+    }
+
+    /// What the call does at each key that it still finds, if it is to look at a stripe.
+    pub fn op_found(&self) -> Option<Op>
+        ensures { result ≡ op_found self.now.sweep }
+    {
+        match &self.sweep {
+            Some(sweep) => Some(*sweep.op()),
+            None => None,
+        }
+    }
+
+    /// The stripes at which the call has looked, if it is to look at more, in the order of its looks.
+    pub fn looked(&self) -> &[usize]
+        ensures { result.now ≡ looked_in self.now.sweep }
+    {
+        match &self.sweep {
+            Some(sweep) => sweep.looked(),
+            None => &[],
+        }
+    }
+
+    /// Appends the keys of the call in their order, each with what is done there as long as it is open. An `Err` says that an
+    /// allocation failed.
+    pub fn put_tasks(&self, out: &mut Vec<(Key, Option<Op>)>) -> Result<(), AllocError>
+        ensures { OnOk result (out.new.items ≡ out.old.items ++ self.now.tasks) }
+    {
+        match &self.tasks {
+            Tasks::One { key, op } => push_task(key, op, out),
+            Tasks::Many { ops, first: _ } => push_tasks(ops, out),
         }
     }
 

@@ -9,11 +9,16 @@ ghost use Rattle.jc_outside.specs.declared.done.Origin.TheVariants.{Played};
 ghost use Rattle.jc_world.specs.World.{out_of, is_answered, is_unanswered, empty_stripes};
 ghost use Rattle.jc_world.specs.Sound.{IsDue};
 ghost use Rattle.jc_stripe.specs.Reached.{IsReached};
+ghost use Rattle.jc_world.specs.Ending.{AreLeft, HasHeld, HasJoins, NoneReserved};
 ghost use Rattle.jc_world.specs.Events.{BeginsAs, step_of};
+ghost use Rattle.jc_world.specs.Held.{parts_of, joins_of};
 ghost use Rattle.jc_world.specs.Turns.{IsPhase, IsQuietPhase, history_at, merge, AreTurns};
 
+use crate::ending::{end_all, pick_all};
 use crate::event::Stepped;
 use crate::held::HeldKey;
+use crate::held_keys::HeldKeys;
+use crate::joined::Joins;
 use jc_model::{Effect, Event, LoadAnswer, Op, Out, ProcessAnswer, Reply, WriteAnswer};
 use jc_stripe::phase_laws::grows;
 use jc_stripe::{Appended, Join, Origin, Picked, Started, Stripe};
@@ -69,6 +74,22 @@ impl Stripes {
             items,
             turns: Vec::new(alloc),
         }
+    }
+
+    /// Ends what is out in the stripes, and makes each as `new` makes it. No key is held and no call has joined then.
+    pub(crate) fn restart(&mut self, config: &Config, held: &mut HeldKeys, joins: &mut Joins)
+        requires left { AreLeft config.now self.old.stripes }
+        requires held { HasHeld config.now self.old.stripes (parts_of held.old) }
+        requires joins { HasJoins config.now self.old.stripes (joins_of joins.old) }
+        ensures stripes { self.new.stripes ≡ empty_stripes config.now 0 config.now.stripes }
+        ensures order { self.new.order ≡ [] }
+        ensures held { held.new.entries ≡ [] }
+        ensures joins { joins.new.entries ≡ [] }
+    {
+        end_all(config, &mut self.items, held, joins);
+        pick_all(config, &mut self.items, joins);
+        restart_each(config, &mut self.items);
+        self.turns.clear();
     }
 
     /// Takes room for what one phase may append, before its first change.
@@ -179,6 +200,17 @@ fn make_stripes(alloc: Global, config: &Config) -> Result<Vec<Stripe>, AllocErro
         made.push(Stripe::new(alloc, config, number, Origin::Played)?)?;
     }
     Ok(made)
+}
+
+/// Makes each stripe as it was made, once no key is reserved.
+fn restart_each(config: &Config, stripes: &mut [Stripe])
+    requires left { AreLeft config.now stripes.old }
+    requires none { NoneReserved stripes.old }
+    ensures { stripes.new ≡ empty_stripes config.now 0 config.now.stripes }
+{
+    for stripe in stripes.iter_mut() {
+        stripe.restart();
+    }
 }
 
 /// How many events a stripe's history has.

@@ -40,6 +40,13 @@ impl Sweep {
         &self.op
     }
 
+    /// The stripes at which it has looked, in the order of its looks.
+    pub(crate) fn looked(&self) -> &[usize]
+        ensures { result.now ≡ self.now.looked }
+    {
+        &self.looked
+    }
+
     /// Whether it has looked at the stripe with this number.
     pub(crate) fn has_looked(&self, stripe: usize) -> bool
         ensures { result ≡ has_looked self.now.looked stripe }

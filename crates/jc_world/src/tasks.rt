@@ -187,6 +187,34 @@ pub(crate) fn put_open_among(
     Ok(())
 }
 
+/// One task.
+pub(crate) fn push_task(
+    key: &Key,
+    op: &Option<Op>,
+    out: &mut Vec<(Key, Option<Op>)>,
+) -> Result<(), AllocError>
+    ensures { OnOk result (out.new.items ≡ out.old.items ++ (key.now, op.now) ∷ []) }
+{
+    out.push((*key, *op))?;
+    Ok(())
+}
+
+/// Each task, in their order.
+pub(crate) fn push_tasks(
+    ops: &IndexMap<Key, Option<Op>>,
+    out: &mut Vec<(Key, Option<Op>)>,
+) -> Result<(), AllocError>
+    ensures { OnOk result (out.new.items ≡ out.old.items ++ ops.now.entries) }
+{
+    for place in 0..ops.len() {
+        match ops.get_index(place) {
+            Some((key, op)) => push_task(key, op, out)?,
+            None => unreachable!(),
+        }
+    }
+    Ok(())
+}
+
 /// What is done at a key, if it is open.
 pub(crate) fn op_among<'a>(ops: &'a IndexMap<Key, Option<Op>>, key: &Key) -> Option<&'a Op>
     ensures { option_copied result ≡ op_in ops.now.entries key.now }

@@ -1,6 +1,8 @@
 //! A world: stripes beside a store, driven by a list of events, with what there is to see of it.
 ghost use Rattle.std.specs.Prelude.{[], ◌≡◌, ◌≤◌, ◌⊎◌, ◌<◌, true, IsTrue, IfOk, IfErr, IsOk, option_copied, OnErr, OnOk, Ok, is_some};
-ghost use Rattle.std.specs.Prelude.{Err, take, length};
+ghost use Rattle.std.specs.Prelude.{Err, take, length, find, option_map};
+ghost use Rattle.std.specs.FinMap as map;
+ghost use Rattle.jc_world.specs.Calls.{is_of_session};
 ghost use Rattle.jc_types.specs.Limits.{check};
 ghost use Rattle.jc_world.specs.World.{start, is_busy, is_idle, open_call, part_of, has_progress, waits_for_load, waits_for_process};
 ghost use Rattle.jc_world.specs.World.{waits_for_report, is_joined, with_stored};
@@ -9,9 +11,11 @@ ghost use Rattle.jc_world.specs.Events.{RunAppending};
 ghost use Rattle.jc_world.specs.Together.{BeginFits, FitTogether};
 ghost use Rattle.jc_world.specs.Coherent.{all_hold, Coherent};
 ghost use Rattle.jc_world.specs.Audit.{IsOrder, HasShares, IsAudit};
+ghost use Rattle.jc_world.specs.Sound.{HaveNoneEnded};
 
 use crate::audit::Audit;
-use crate::event::{Part, Shown, WorldEvent, nothing_shown};
+use crate::event::{Part, Premises, Shown, WorldEvent, nothing_shown};
+use crate::joined::JoinedLoad;
 use crate::machine::Machine;
 use crate::open_call::OpenCall;
 use jc_model::Event;
@@ -149,6 +153,72 @@ impl World {
         self.machine.is_busy(session)
     }
 
+    /// The highest number of a call so far.
+    pub fn last(&self) -> Option<u64>
+        ensures { result ≡ self.now.world.last }
+    {
+        self.machine.last()
+    }
+
+    /// The number of the call that a session has under way.
+    pub fn call_of(&self, session: u32) -> Option<u64>
+        ensures { result ≡ option_map (λ u. u.caller.call) (find (is_of_session session) self.now.world.calls) }
+    {
+        self.machine.call_of(session)
+    }
+
+    /// The shape of the cache.
+    pub fn config(&self) -> &Config
+        ensures { result.now ≡ self.now.world.config }
+    {
+        self.machine.config()
+    }
+
+    /// The calls under way, in the order in which they began.
+    pub fn calls(&self) -> &[OpenCall]
+        ensures { result.now ≡ self.now.world.calls }
+    {
+        self.machine.calls()
+    }
+
+    /// What has held, since the world was opened last, of loaders, writers and other programs, and of that opening.
+    pub fn premises(&self) -> Premises
+        ensures { result ≡ self.now.world.premises }
+    {
+        self.machine.premises()
+    }
+
+    /// What the store holds, in the byte order of the keys. An `Err` says that an allocation failed.
+    pub fn stored_entries(&self, alloc: Global) -> Result<Vec<(Key, Value)>, AllocError>
+        ensures { IfOk result (λ entries. entries.items ≡ map.entries self.now.world.store) }
+    {
+        self.machine.stored_entries(alloc)
+    }
+
+    /// Each reserved key, with what its call has asked and heard for it, in no particular order. An `Err` says that an allocation
+    /// failed.
+    pub fn parts(&self, alloc: Global) -> Result<Vec<(Key, Part)>, AllocError>
+        ensures { IfOk result (λ parts. map.from_entries parts.items ≡ self.now.world.parts) }
+    {
+        self.machine.parts(alloc)
+    }
+
+    /// The joins of calls that haven't the answer yet, each by its call's number and its key, in no particular order. An `Err` says
+    /// that an allocation failed.
+    pub fn joins(&self, alloc: Global) -> Result<Vec<((u64, Key), JoinedLoad)>, AllocError>
+        ensures { IfOk result (λ joins. map.from_entries joins.items ≡ self.now.world.joins) }
+    {
+        self.machine.joins(alloc)
+    }
+
+    /// The stripes. None of them has ended a generation.
+    pub fn stripe_list(&self) -> &[jc_stripe::Stripe]
+        ensures stripes { result.now ≡ self.now.world.stripes }
+        ensures ended { HaveNoneEnded self.now.world.stripes }
+    {
+        self.machine.stripe_list()
+    }
+
     /// Whether no call is under way: then the cache may be opened again.
     pub fn is_idle(&self) -> bool
         ensures { result ≡ is_idle self.now.world }
@@ -258,6 +328,18 @@ impl World {
         ensures legal { IfOk result (λ a. IsTrue a.is_legal) }
     {
         self.machine.audit(alloc)
+    }
+
+    /// Makes the world as [`new`](World::new) makes it in its present shape: the cache and the store are empty, no call has begun, and
+    /// numbers count from the start. What is out is ended first, as [`close`](World::close) ends it.
+    ///
+    /// It takes no memory, so it doesn't fail.
+    pub fn restart(&mut self)
+        ensures made { self.new ≡ record { world = start self.old.world.config; taken = 0 } }
+        ensures fits { check self.old.world.config ≡ Ok tt }
+    {
+        self.machine.restart();
+        self.played = 0;
     }
 
     /// Ends the world: each reservation that was answered is committed, each other one is given back, and each call that has

@@ -1,9 +1,11 @@
 -- What the program answers, by its words and its streams.
 --     ExitOfPlay        the script was played, and this status says how that ended
+--     status_of_end     the status of an exploration whose answer was written: 0 if all outcomes are known and each expectation holds, 1 if a
+--                       line has a fault, 5 if an expectation fails, 6 if none fails and not all outcomes are known
+--     ExitOfExplore     the answer of an exploration was written, and this status says how it ended; or a write failed, or nothing was written
 --     status_of         the status of a report that was written: 0 if it is right, else 5
 --     ShowsReport       a report was written, and this status says whether it is right; or a write failed; or an allocation did, and nothing
 --                       was written
---     is_too_much       a plan has more increments than one history has room for, and its cache doesn't live on
 --     ExitOfThreads     a report on these threads was shown; or they were too much work; or an allocation failed, and nothing was written
 --     ExitOfTask        a task was carried out, and this status says how that ended
 --     version_text      what `--version` shows
@@ -15,8 +17,8 @@
 --     Exit              the task of right words is carried out; wrong ones are reported, and nothing is read; or an allocation failed,
 --                       and nothing was read or written
 --     status_without_words   the status if the words of the command line can't be had: 4 if memory is short, else 2
---     FailsByStreams    status 3 comes if a stream failed, and only then or if the script is too long; after a failed read nothing is on standard output
-use Rattle.std.specs.Prelude.{◌≡◌, ◌⊎◌, ◌<◌, ◌*◌, ◌&&◌, ◌++◌, ℕ, List, [], Bool, true, false, nat_lt, is_none, Option, IfSome, codes, length, if◌then◌else◌}
+--     FailsByStreams    status 3 comes if a stream failed, and only then or if the input is too long; after a failed read nothing is on standard output
+use Rattle.std.specs.Prelude.{◌≡◌, ◌⊎◌, ◌<◌, ◌++◌, ℕ, List, [], Bool, true, false, Option, IfSome, codes, length, if◌then◌else◌}
 use Rattle.std.specs.Io.KnownBytes.{Appends}
 use Rattle.clap.specs.Walk.{Row, Text}
 use Rattle.clap.specs.Words.{IsAmong, Kinds}
@@ -24,15 +26,17 @@ use Rattle.clap.specs.declared.error.kind.ErrorKind.{ErrorKind}
 use Rattle.clap.specs.declared.error.kind.ErrorKind.TheVariants as kind
 use Rattle.std.specs.declared.io.ErrorKind.{ErrorKind as IoErrorKind}
 use Rattle.std.specs.declared.io.ErrorKind.TheVariants as io-kind
+use Rattle.jc_litmus.specs.Running.{Broke as BrokeLitmus, Ran as RanLitmus}
+use Rattle.jc_litmus.specs.declared.run.LitmusEnd.{LitmusEnd}
+use Rattle.jc_litmus.specs.declared.run.LitmusEnd.TheVariants as litmus
 use Rattle.jc_script.specs.Running.{Broke, Ran}
 use Rattle.jc_script.specs.declared.run.RunEnd.TheVariants.{Clean, LineFault}
 use Rattle.jc_types.specs.declared.limits.TheConstants.{SCRIPT_MAX}
-use Rattle.jcache.specs.CommandLine.{IsAsked}
+use Rattle.jc_commands.specs.CommandLine.{IsAsked, is_too_much}
 use Rattle.jcache.specs.Reports.{IsReportOf, is_right, report_text}
-use Rattle.jcache.specs.declared.commands.Task.{Task}
-use Rattle.jcache.specs.declared.commands.Task.TheVariants as task
-use Rattle.jcache.specs.declared.plan.Plan.{Plan}
-use Rattle.jcache.specs.declared.plan.TheConstants.{INCREMENTS_MAX}
+use Rattle.jc_commands.specs.declared.commands.Task.{Task}
+use Rattle.jc_commands.specs.declared.commands.Task.TheVariants as task
+use Rattle.jc_commands.specs.declared.plan.Plan.{Plan}
 use Rattle.jcache.specs.declared.report.Report.{Report}
 
 -- before and after: what the reader has left; old and new: what standard output holds; silent: that nothing was written to it
@@ -43,6 +47,18 @@ ExitOfPlay status before after old new silent =
     ⊎ (((status ≡ 3) × (Broke before after old new ⊎ silent))
     ⊎ ((status ≡ 4) × silent)))
 
+abbrev pub status_of_end : LitmusEnd → ℕ
+status_of_end litmus.Holds = 0
+status_of_end litmus.LineFault = 1
+status_of_end litmus.Fails = 5
+status_of_end litmus.Open = 6
+
+abbrev pub ExitOfExplore : (states : ℕ) (status : ℕ) (before after old new : Option (List ℕ)) (silent : Type 0) → Type 0
+ExitOfExplore states status before after old new silent =
+    ((end : LitmusEnd) × (status ≡ status_of_end end) × RanLitmus states before after old new end)
+    ⊎ (((status ≡ 3) × (BrokeLitmus states before after old new ⊎ silent))
+    ⊎ ((status ≡ 4) × silent))
+
 abbrev pub status_of : Report → ℕ
 status_of report = if is_right report then 0 else 5
 
@@ -51,9 +67,6 @@ ShowsReport report status old new silent =
     ((status ≡ status_of report) × Appends old new (report_text report))
     ⊎ ((status ≡ 3) ⊎ ((status ≡ 4) × silent))
 
-abbrev pub is_too_much : Plan → Bool
-is_too_much plan = is_none plan.history && nat_lt INCREMENTS_MAX (plan.workers * plan.rounds)
-
 abbrev pub ExitOfThreads : Plan → (status : ℕ) (old new : Option (List ℕ)) (silent : Type 0) → Type 0
 ExitOfThreads plan status old new silent =
     ((is_too_much plan ≡ true) × (status ≡ 2) × silent)
@@ -61,17 +74,19 @@ ExitOfThreads plan status old new silent =
     × (((report : Report) × IsReportOf plan report × ShowsReport report status old new silent)
     ⊎ ((status ≡ 4) × silent)))
 
--- played: that the script was played; counted: that this plan was carried out; unread: that nothing was read
-abbrev pub ExitOfTask : Task → (played : Type 0) (counted : Plan → Type 0) (unread : Type 0) → Type 0
-ExitOfTask task.Run played counted unread = played
-ExitOfTask (task.Threads plan) played counted unread = counted plan × unread
+-- played: that the script was played; explored: that at most so many states were followed; counted: that this plan was carried out;
+-- unread: that nothing was read
+abbrev pub ExitOfTask : Task → (played : Type 0) (explored : ℕ → Type 0) (counted : Plan → Type 0) (unread : Type 0) → Type 0
+ExitOfTask task.Run played explored counted unread = played
+ExitOfTask (task.Explore states) played explored counted unread = explored states
+ExitOfTask (task.Threads plan) played explored counted unread = counted plan × unread
 
 abbrev pub version_text : List ℕ
 version_text = codes "jcache 0.2.0\n"
 
 abbrev pub ending_text : List ℕ
 ending_text =
-    codes "\nExit status: 0 done, 1 a line has a fault, 2 wrong words, 3 a stream failed, 4 out of memory, 5 wrong report\n\nThe script ./jcache of the repository builds this program if it has to, and has further words:\n  run FILE..       Plays these scripts, one after the other, up to the first whose exit status isn't 0; - is standard input\n  build [CRATE..]  Proves and builds the program, and these crates with those below them; exit status 125 if that fails\n\nFor example: ./jcache run examples/put_seen_after_commit.script\nThe words of a script, and all limits: docs/SCRIPT.md\n"
+    codes "\nExit status: 0 done, 1 a line has a fault, 2 wrong words, 3 a stream failed, 4 out of memory, 5 wrong report or an expectation fails,\n  6 the outcomes aren't all known, and no expectation fails\n\nThe script ./jcache of the repository builds this program if it has to, and has further words:\n  run FILE..       Plays these scripts, one after the other, up to the first whose exit status isn't 0; - is standard input\n  explore FILE..   Explores these programs of threads in the same way\n  build [CRATE..]  Proves and builds the program, and these crates with those below them; exit status 125 if that fails\n\nFor example: ./jcache run examples/put_seen_after_commit.script\nThe words of a script, and all limits: docs/SCRIPT.md; of a program of threads: docs/EXPLORE.md\n"
 
 abbrev pub IsHelp : List ℕ → Type 0
 IsHelp text = (before : List ℕ) × (text ≡ before ++ ending_text)

@@ -1,4 +1,3 @@
-pub mod CommandLine
 pub mod Exit
 pub mod Reports
 pub mod Teams

@@ -14,7 +14,7 @@ use Rattle.std.specs.Prelude.{◌≡◌, ◌==◌, ◌&&◌, ◌*◌, ◌++◌, 
 use Rattle.std.specs.List.{flat_map, list_all}
 use Rattle.std.specs.Str.{bytes_eq}
 use Rattle.jc_script.specs.Printing.{flag_text}
-use Rattle.jcache.specs.declared.plan.Plan.{Plan}
+use Rattle.jc_commands.specs.declared.plan.Plan.{Plan}
 use Rattle.jcache.specs.declared.report.Report.{Report}
 
 abbrev pub AreCounts : (workers rounds : ℕ) → List ℕ → Type 0

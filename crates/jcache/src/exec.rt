@@ -1,27 +1,29 @@
 //! What the program does with its words, and the status that it ends with.
-ghost use Rattle.std.specs.Prelude.{◌≡◌, ◌⊎◌, ◌↔◌, Result, map, string_bytes, true, false, IfOk, IfErr};
+ghost use Rattle.std.specs.Prelude.{◌≡◌, ◌≢◌, ◌⊎◌, ◌↔◌, Result, map, string_bytes, true, false, IfOk, IfErr};
 ghost use Rattle.std.specs.Io.KnownBytes.{Appends};
 ghost use Rattle.std.specs.IoError.{error_kind};
-ghost use Rattle.jcache.specs.CommandLine.{faults_at, subcommand_at};
+ghost use Rattle.jc_commands.specs.CommandLine.{faults_at, subcommand_at};
 ghost use Rattle.clap.specs.Words.{kind_of};
-ghost use Rattle.jcache.specs.Exit.{Exit, ExitOfFault, ExitOfPlay, ExitOfTask, ExitOfThreads, FailsByStreams, IsHelp, ShowsReport};
-ghost use Rattle.jcache.specs.Exit.{status_of, status_without_words};
+ghost use Rattle.jcache.specs.Exit.{Exit, ExitOfExplore, ExitOfFault, ExitOfPlay, ExitOfTask, ExitOfThreads, FailsByStreams, IsHelp, ShowsReport};
+ghost use Rattle.jcache.specs.Exit.{status_of, status_of_end, status_without_words};
 ghost use Rattle.jcache.specs.Reports.{IsReportOf};
 
-use crate::commands::{Task, read_task};
-use crate::plan::{INCREMENTS_MAX, Plan};
 use crate::report::Report;
 use clap::Error;
 use clap::error::ErrorKind;
+use jc_commands::commands::{Task, read_task};
+use jc_commands::plan::{INCREMENTS_MAX, Plan};
+use jc_litmus::run::run as explore;
+use jc_litmus::{LitmusEnd, LitmusFault};
 use jc_script::run::run;
 use jc_script::{Noted, RunEnd, RunFault};
 use jc_types::SCRIPT_MAX;
 use std::alloc::{AllocError, Global};
 use std::io::{self, Read, Write};
 
-/// The script was played to its end, or the text that was asked for was shown.
+/// The script was played to its end, or each expectation holds, or the text that was asked for was shown.
 const CLEAN: u8 = 0;
-/// The transcript ends with a line's fault.
+/// The transcript ends with a line's fault, or a line of the program of threads has one.
 const LINE_FAULT: u8 = 1;
 /// The command line is not one of this program's, or asks for too much work.
 const USAGE: u8 = 2;
@@ -29,22 +31,26 @@ const USAGE: u8 = 2;
 const STREAMS: u8 = 3;
 /// An allocation failed.
 const MEMORY: u8 = 4;
-/// What was counted on threads isn't what the plan says.
-const MISCOUNTED: u8 = 5;
+/// What was counted on threads isn't what the plan says, or what was found isn't what is expected.
+const UNEXPECTED: u8 = 5;
+/// Not all outcomes are known, and no expectation fails.
+const OPEN: u8 = 6;
 
 /// What `--version` shows.
 const VERSION: &str = "jcache 0.2.0\n";
 
 /// What help ends with. The script `jcache` at the top of the repository shows the same help.
 const ENDING: &str = "
-Exit status: 0 done, 1 a line has a fault, 2 wrong words, 3 a stream failed, 4 out of memory, 5 wrong report
+Exit status: 0 done, 1 a line has a fault, 2 wrong words, 3 a stream failed, 4 out of memory, 5 wrong report or an expectation fails,
+  6 the outcomes aren't all known, and no expectation fails
 
 The script ./jcache of the repository builds this program if it has to, and has further words:
   run FILE..       Plays these scripts, one after the other, up to the first whose exit status isn't 0; - is standard input
+  explore FILE..   Explores these programs of threads in the same way
   build [CRATE..]  Proves and builds the program, and these crates with those below them; exit status 125 if that fails
 
 For example: ./jcache run examples/put_seen_after_commit.script
-The words of a script, and all limits: docs/SCRIPT.md
+The words of a script, and all limits: docs/SCRIPT.md; of a program of threads: docs/EXPLORE.md
 ";
 
 /// Says what failed. Nobody is left to hear of it if that fails, too.
@@ -81,6 +87,14 @@ fn end_without_memory<E: Write>(err: &mut E) -> u8
 {
     complain(err, "jcache: out of memory\n");
     MEMORY
+}
+
+/// Says that the input is too long, and answers the status.
+fn end_of_long_input<E: Write>(err: &mut E) -> u8
+    ensures { result ≡ 3 }
+{
+    let _ = write!(err, "jcache: input too long: over {SCRIPT_MAX} bytes\n");
+    STREAMS
 }
 
 /// Says why the words of the command line couldn't be had, and answers the status.
@@ -127,11 +141,46 @@ fn play<R: Read, W: Write, E: Write>(
             STREAMS
         }
         Err(RunFault::Write) => end_of_output(out, err),
-        Err(RunFault::TooLong) => {
-            let _ = write!(err, "jcache: input too long: over {SCRIPT_MAX} bytes\n");
+        Err(RunFault::TooLong) => end_of_long_input(err),
+        Err(RunFault::OutOfMemory) => end_without_memory(err),
+    }
+}
+
+/// The status of an exploration whose answer was written.
+fn status_of_end(end: LitmusEnd) -> u8
+    ensures status { result ≡ status_of_end end }
+    ensures apart { result ≢ 3 }
+{
+    match end {
+        LitmusEnd::Holds => CLEAN,
+        LitmusEnd::LineFault => LINE_FAULT,
+        LitmusEnd::Fails => UNEXPECTED,
+        LitmusEnd::Open => OPEN,
+    }
+}
+
+/// Writes the outcomes of a program of threads, of which at most so many states are followed, and answers the status.
+fn explore_and_show<R: Read, W: Write, E: Write>(
+    alloc: Global,
+    states: u32,
+    reader: &mut Noted<R>,
+    out: &mut Noted<W>,
+    err: &mut E,
+) -> u8
+    ensures explored { ExitOfExplore states result (R.remaining reader.old.inner) (R.remaining reader.new.inner)
+        (W.contents out.old.inner) (W.contents out.new.inner) (out.new ≡ out.old) }
+    ensures streams { reader.old.failed ≡ false → out.old.failed ≡ false
+        → FailsByStreams result reader.new.failed out.new.failed (R.remaining reader.old.inner) (out.new ≡ out.old) }
+{
+    match explore(alloc, reader, out, states as usize) {
+        Ok(end) => status_of_end(end),
+        Err(LitmusFault::Read) => {
+            complain_of(reader, err, "read failed");
             STREAMS
         }
-        Err(RunFault::OutOfMemory) => end_without_memory(err),
+        Err(LitmusFault::Write) => end_of_output(out, err),
+        Err(LitmusFault::TooLong) => end_of_long_input(err),
+        Err(LitmusFault::OutOfMemory) => end_without_memory(err),
     }
 }
 
@@ -201,7 +250,7 @@ fn show_report<W: Write, E: Write>(
 fn status_of(report: &Report) -> u8
     ensures { result ≡ status_of report.now }
 {
-    if report.is_right() { CLEAN } else { MISCOUNTED }
+    if report.is_right() { CLEAN } else { UNEXPECTED }
 }
 
 /// Says that a plan is too much work.
@@ -262,6 +311,8 @@ fn carry_out<F: FnOnce(&Plan) -> Result<Report, AllocError>, R: Read, W: Write, 
     ensures done { ExitOfTask task.now
         (ExitOfPlay result (R.remaining reader.old.inner) (R.remaining reader.new.inner) (W.contents out.old.inner)
         (W.contents out.new.inner) (out.new ≡ out.old))
+        (λ states. ExitOfExplore states result (R.remaining reader.old.inner) (R.remaining reader.new.inner) (W.contents out.old.inner)
+        (W.contents out.new.inner) (out.new ≡ out.old))
         (λ plan. ExitOfThreads plan result (W.contents out.old.inner) (W.contents out.new.inner) (out.new ≡ out.old))
         (reader.new ≡ reader.old) }
     ensures streams { reader.old.failed ≡ false → out.old.failed ≡ false
@@ -269,6 +320,7 @@ fn carry_out<F: FnOnce(&Plan) -> Result<Report, AllocError>, R: Read, W: Write, 
 {
     match task {
         Task::Run => play(alloc, reader, out, err),
+        Task::Explore { states } => explore_and_show(alloc, *states, reader, out, err),
         Task::Threads(plan) => count_and_show(alloc, count, plan, out, err),
     }
 }
@@ -288,6 +340,8 @@ fn do_words<F: FnOnce(&Plan) -> Result<Report, AllocError>, R: Read, W: Write, E
         (λ task. ExitOfTask task
         (ExitOfPlay result (R.remaining reader.old.inner) (R.remaining reader.new.inner) (W.contents out.old.inner)
         (W.contents out.new.inner) (out.new ≡ out.old))
+        (λ states. ExitOfExplore states result (R.remaining reader.old.inner) (R.remaining reader.new.inner) (W.contents out.old.inner)
+        (W.contents out.new.inner) (out.new ≡ out.old))
         (λ plan. ExitOfThreads plan result (W.contents out.old.inner) (W.contents out.new.inner) (out.new ≡ out.old))
         (reader.new ≡ reader.old))
         (reader.new ≡ reader.old) (W.contents out.old.inner) (W.contents out.new.inner) (out.new ≡ out.old) }
@@ -305,11 +359,13 @@ fn do_words<F: FnOnce(&Plan) -> Result<Report, AllocError>, R: Read, W: Write, E
     }
 }
 
-/// Does what the words of a command line ask for, and answers the status: 0 if the script was played to its end, if threads
-/// counted right, or if a text was asked for and shown, as by `--help` and `--version`; 1 if the transcript ends with a line's
-/// fault, of which `err` gets the column and the word; 2 if the words are none of this program's, ask for too much work or aren't
-/// UTF-8, which is written to `err`; 3 if the input or output failed, or the input is too long; 4 if an allocation failed; 5 if the
-/// report that was written shows a wrong number, or that the history isn't legal.
+/// Does what the words of a command line ask for, and answers the status: 0 if the script was played to its end, if all outcomes of
+/// a program of threads were written and each expectation holds, if threads counted right, or if a text was asked for and shown, as
+/// by `--help` and `--version`; 1 if the transcript ends with a line's fault, of which `err` gets the column and the word, or a line
+/// of the program of threads has one; 2 if the words are none of this program's, ask for too much work or aren't UTF-8, which is
+/// written to `err`; 3 if the input or output failed, or the input is too long; 4 if an allocation failed; 5 if the report that was
+/// written shows a wrong number, or that the history isn't legal, or an expectation fails; 6 if no expectation fails, and not all
+/// outcomes are known.
 ///
 /// `count` has threads count by a plan. It is called once if the words ask for it and it isn't too much work, else never, so what
 /// threads need is made only then. While it is at work, this waits. Nothing else waits.
@@ -330,6 +386,8 @@ pub fn exec<F: FnOnce(&Plan) -> Result<Report, AllocError>, R: Read, W: Write, E
     ensures answered { IfOk words (λ w. Exit (faults_at (map string_bytes w.items)) (subcommand_at (map string_bytes w.items)) result
         (λ task. ExitOfTask task
         (ExitOfPlay result (R.remaining reader.old.inner) (R.remaining reader.new.inner) (W.contents out.old.inner)
+        (W.contents out.new.inner) (out.new ≡ out.old))
+        (λ states. ExitOfExplore states result (R.remaining reader.old.inner) (R.remaining reader.new.inner) (W.contents out.old.inner)
         (W.contents out.new.inner) (out.new ≡ out.old))
         (λ plan. ExitOfThreads plan result (W.contents out.old.inner) (W.contents out.new.inner) (out.new ≡ out.old))
         (reader.new ≡ reader.old))

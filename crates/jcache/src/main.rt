@@ -1,4 +1,4 @@
-//! The program: a command line, the script that it plays, and threads that count.
+//! The program: a command line, the script that it plays, the program of threads whose outcomes it looks for, and threads that count.
 //!
 //! Why it is so:
 //! - The command line is what `clap`'s contract says of its words; a law computes it at the words that matter. A help text is put
@@ -10,18 +10,16 @@
 ghost use Rattle.std.specs.Prelude.{IfOk};
 ghost use Rattle.jcache.specs.Reports.{IsReportOf};
 
-mod commands;
 mod exec;
-mod plan;
 mod report;
 #[cfg(test)]
 mod tests;
 mod threads;
 
 use jc_cache::{CacheLoader, CacheWriter, EntryProcessor};
+use jc_commands::plan::Plan;
 use jc_script::Noted;
 use jc_store::{Increment, SharedStore, Store};
-use plan::Plan;
 use report::Report;
 use std::alloc::AllocError;
 use std::env::{self, Env};

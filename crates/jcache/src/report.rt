@@ -3,8 +3,8 @@ ghost use Rattle.std.specs.Prelude.{◌≡◌, ◌++◌, ◌==◌, OnOk, IfOk, d
 ghost use Rattle.std.specs.List.{flat_map, list_all};
 ghost use Rattle.jcache.specs.Reports.{is_right, is_count, plan_text, count_text, own_text, counts_text, steps_text, report_text};
 
-use crate::plan::Plan;
 use itoa::Buffer;
+use jc_commands::plan::Plan;
 use jc_script::{put, put_flag, put_number};
 use jc_types::Value;
 use std::alloc::{AllocError, Global};

@@ -3,10 +3,10 @@ ghost use Rattle.std.specs.Prelude.{Result, IfOk};
 ghost use Rattle.jcache.specs.Reports.{IsReportOf};
 
 use crate::exec::exec;
-use crate::plan::Plan;
 use crate::report::Report;
 use crate::threads::{Crew, Outfit, count_on_threads};
 use jc_cache::{CacheLoader, CacheWriter, EntryProcessor, Value};
+use jc_commands::plan::Plan;
 use jc_script::Noted;
 use jc_store::{Increment, SharedStore, Store};
 use std::alloc::{AllocError, Global};
@@ -101,6 +101,52 @@ fn tells_a_fault(rt: HostRuntime) {
             err: "jcache: line 3, column 1: not now 'end' (it fits if the call has a started key, and waits for no loader, writer or processor)\n",
         },
     );
+}
+
+/// A program of threads with one outcome and two states, and how the answer begins.
+const PROGRAM: &str = "open 1 2 100\nthread\nget a\n";
+
+const ANSWER: &str =
+    "outcome 1\n1.1 -\ncache\nstore\ncoherent\n| open 1 2 100\n| begin 1 s1 get a\n| audit\nall outcomes: 1 of 2 states\n";
+
+/// Explores this program with one expectation more.
+fn expects(rt: &impl Abort, alloc: Global, expectation: &str, status: u8, verdict: &str) {
+    let program = format!(in alloc; "{PROGRAM}{expectation}\n").expect(rt, "memory");
+    let answer = format!(in alloc; "{ANSWER}{expectation}: {verdict}\n").expect(rt, "memory");
+    let wanted = Wanted {
+        status,
+        out: &answer,
+        err: "",
+    };
+    ends_alone(rt, alloc, "jcache explore", program.as_bytes(), wanted);
+}
+
+#[test]
+fn explores_a_program(rt: HostRuntime) {
+    expects(&rt, rt.alloc(), "always 1.1=-", 0, "holds");
+    expects(&rt, rt.alloc(), "never 1.1=-", 5, "fails, outcome 1");
+}
+
+#[test]
+fn stops_after_its_states(rt: HostRuntime) {
+    let wanted = Wanted {
+        status: 6,
+        out: "stopped after 1 states\n",
+        err: "",
+    };
+    let words = "jcache explore --states 1";
+    ends_alone(&rt, rt.alloc(), words, PROGRAM.as_bytes(), wanted);
+}
+
+#[test]
+fn tells_a_fault_of_a_program(rt: HostRuntime) {
+    let wanted = Wanted {
+        status: 1,
+        out: "line 3: no thread\n",
+        err: "",
+    };
+    let program = b"open 1 2 100\n# a comment\nget a\n";
+    ends_alone(&rt, rt.alloc(), "jcache explore", program, wanted);
 }
 
 #[test]

@@ -7,12 +7,12 @@ ghost use Rattle.jc_cache.specs.Sessions.{MayCall};
 ghost use Rattle.jcache.specs.Reports.{AreCounts, IsReportOf};
 ghost use Rattle.jcache.specs.Teams.{HasCounted};
 
-use crate::plan::{Plan, WORKERS_MAX};
 use crate::report::Report;
 use jc_cache::{
     Cache, CacheLoader, CacheOwner, CacheWriter, Config, EntryProcessor, Key, Refusal, Session,
     Value,
 };
+use jc_commands::plan::{Plan, WORKERS_MAX};
 use jc_store::SharedStore;
 use std::alloc::{AllocError, Global};
 use std::sync::Wait;

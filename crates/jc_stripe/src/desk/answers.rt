@@ -1,5 +1,4 @@
 //! What a desk answers.
-use crate::ticket::First;
 use jc_types::Refusal;
 
 /// Why a desk was not opened. Nothing is kept of what it was given.
@@ -18,13 +17,8 @@ pub enum OpenFault {
 pub enum FirstAnswer {
     /// The call is done: the place of its step in the present generation.
     Done(u32),
-    /// The key is reserved.
-    Asks {
-        /// The reservation's number.
-        number: u64,
-        /// Whom to ask.
-        first: First,
-    },
+    /// The key is reserved: the reservation's number.
+    Asks(u64),
     /// The call has joined the load with this number.
     Joined(u64),
     /// The call is refused; nothing was done.

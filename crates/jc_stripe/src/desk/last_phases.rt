@@ -1,20 +1,18 @@
 //! The last phases of calls at a desk. What isn't out is answered with nothing done.
 ghost use Rattle.std.specs.Prelude.{◌≡◌, ◌==◌, position, is_some, not, IfSome, IfNone};
 ghost use Rattle.std.specs.Bool.{OnTrue, OnFalse};
+ghost use Rattle.std.specs.Option.{option_copied};
 ghost use Rattle.jc_model.specs.Group.{load_only, write_only};
 ghost use Rattle.jc_mutentry.specs.Done.{effect_change};
 ghost use Rattle.jc_stripe.specs.Tickets.{asks_loader, asks_writer};
-ghost use Rattle.jc_stripe.specs.DeskPhases.{CommitsAtDesk, WithdrawsAtDesk, PicksUpAtDesk, is_pick_up_misuse, is_join_out, ticket_of, takes_load, takes_write, takes_process, fits_processor, wants_writer};
+ghost use Rattle.jc_stripe.specs.DeskPhases.{CommitsAtDesk, WithdrawsAtDesk, PicksUpAtDesk, is_pick_up_misuse, is_join_out, ticket_of, takes_load, takes_write, takes_process, asks_first, AnswersTicket, fits_processor, wants_writer};
 
 use super::Desk;
 use super::answers::{CommitDone, PickUpAnswer};
 use super::moves::ValueMoves;
-use super::noting::{look_after, look_before};
 use crate::begun::Picked;
 use crate::ticket::{First, Join, Reservation, Ticket};
-use jc_model::{Effect, LoadAnswer, ProcessAnswer, Reply, WriteAnswer};
-use jc_mutentry::said_process;
-use jc_outside::{played_load, played_write};
+use jc_model::{Effect, LoadAnswer, Out, ProcessAnswer, Reply, WriteAnswer};
 use jc_types::{Caller, Config, Key};
 
 /// The place of the reservation with this number.
@@ -24,16 +22,34 @@ fn place_of(tickets: &[Box<Reservation>], number: u64) -> Option<usize>
     tickets.iter().position(|ticket| ticket.number == number)
 }
 
-fn is_loader(first: &First) -> bool
-    ensures { result ≡ asks_loader first.now }
+/// Whether a reservation is there, and asks the loader first.
+fn asks_loader(ticket: Option<&Reservation>) -> bool
+    ensures { result ≡ asks_first asks_loader (option_copied ticket.entry) }
 {
-    matches!(first, First::Loader)
+    match ticket {
+        Some(ticket) => matches!(ticket.first, First::Loader),
+        None => false,
+    }
 }
 
-fn is_writer(first: &First) -> bool
-    ensures { result ≡ asks_writer first.now }
+/// Whether one is there, and asks the writer first.
+fn asks_writer(ticket: Option<&Reservation>) -> bool
+    ensures { result ≡ asks_first asks_writer (option_copied ticket.entry) }
 {
-    matches!(first, First::Writer(_))
+    match ticket {
+        Some(ticket) => matches!(ticket.first, First::Writer(_)),
+        None => false,
+    }
+}
+
+/// Whether one is there, and these answers fit it.
+fn fits_ticket(ticket: Option<&Reservation>, load: &LoadAnswer, process: &ProcessAnswer) -> bool
+    ensures { result ≡ asks_first (fits_processor load.now process.now) (option_copied ticket.entry) }
+{
+    match ticket {
+        Some(ticket) => fits_processor(&ticket.first, load, process),
+        None => false,
+    }
 }
 
 /// Whether a processor is asked, which ran, and its loader answered only if it may be asked.
@@ -82,22 +98,10 @@ impl Desk {
         ensures some { IfSome result (λ said. CommitsAtDesk self.old number (load_only answer) reply.new moves.new said self.new) }
         ensures none { IfNone result (self.new ≡ self.old) }
     {
-        let place = place_of(&self.tickets, number)?;
-        if !answer.is_given() || !is_loader(&self.tickets[place].first) {
+        if !self.takes_load(number, &answer) {
             return None;
         }
-        let _ = self.stripe.events_len();
-        let mut ticket = Ticket::new(self.tickets.remove(place));
-        let key = ticket.reservation().key;
-        look_before(&self.stripe, &key, moves);
-        let shared = self.stripe.waiting(number);
-        let done = played_load(ticket.ask(), answer);
-        let step = self.stripe.commit_load(ticket, done, reply);
-        look_after(&self.stripe, &key, &step, moves);
-        Some(CommitDone {
-            place: step.place,
-            shared,
-        })
+        Some(self.commit(number, &Out::load_only(answer), reply, moves))
     }
 
     /// The last phase of a call whose writer was asked. Its reply and what came and went are written. None says that no such ticket is
@@ -113,22 +117,10 @@ impl Desk {
         ensures some { IfSome result (λ said. CommitsAtDesk self.old number (write_only answer) reply.new moves.new said self.new) }
         ensures none { IfNone result (self.new ≡ self.old) }
     {
-        let place = place_of(&self.tickets, number)?;
-        if !answer.is_given() || !is_writer(&self.tickets[place].first) {
+        if !self.takes_write(number, &answer) {
             return None;
         }
-        let _ = self.stripe.events_len();
-        let mut ticket = Ticket::new(self.tickets.remove(place));
-        let key = ticket.reservation().key;
-        look_before(&self.stripe, &key, moves);
-        let shared = self.stripe.waiting(number);
-        let done = played_write(ticket.ask(), answer);
-        let step = self.stripe.commit_write(ticket, done, reply);
-        look_after(&self.stripe, &key, &step, moves);
-        Some(CommitDone {
-            place: step.place,
-            shared,
-        })
+        Some(self.commit(number, &Out::write_only(answer), reply, moves))
     }
 
     /// The last phase of a call whose processor ran: what its loader answered, if it was asked, what it did, and what the writer
@@ -148,31 +140,76 @@ impl Desk {
         ensures some { IfSome result (λ said. CommitsAtDesk self.old number (record { load = load; write = write; process = process }) reply.new moves.new said self.new) }
         ensures none { IfNone result (self.new ≡ self.old) }
     {
-        let place = place_of(&self.tickets, number)?;
-        if !fits_processor(&self.tickets[place].first, &load, &process) {
-            return None;
-        }
-        let wants = wants_writer(self.stripe.config(), &load, &process);
-        if wants != write.is_given() {
-            return None;
-        }
-        let _ = self.stripe.events_len();
-        let mut ticket = Ticket::new(self.tickets.remove(place));
-        let key = ticket.reservation().key;
-        look_before(&self.stripe, &key, moves);
-        let shared = self.stripe.waiting(number);
-        let done = said_process(ticket.ask(), load, process);
-        let report = if wants {
-            Some(played_write(ticket.ask_writer(&done), write))
-        } else {
-            None
+        let out = Out {
+            load,
+            write,
+            process,
         };
-        let step = self.stripe.commit_process(ticket, done, report, reply);
-        look_after(&self.stripe, &key, &step, moves);
-        Some(CommitDone {
+        if !self.takes_process(number, &out) {
+            return None;
+        }
+        Some(self.commit(number, &out, reply, moves))
+    }
+
+    /// The reservation with this number that is out.
+    fn ticket(&self, number: u64) -> Option<&Reservation>
+        ensures { option_copied result ≡ ticket_of self.now.stripe number }
+    {
+        match place_of(&self.tickets, number) {
+            Some(place) => Some(&self.tickets[place]),
+            None => None,
+        }
+    }
+
+    /// Whether a reservation with this number is out that asks the loader, and the loader answered.
+    fn takes_load(&self, number: u64, answer: &LoadAnswer) -> bool
+        ensures { result ≡ takes_load self.now.stripe number answer.now }
+    {
+        let asks = asks_loader(self.ticket(number));
+        answer.is_given() && asks
+    }
+
+    /// The same of the writer.
+    fn takes_write(&self, number: u64, answer: &WriteAnswer) -> bool
+        ensures { result ≡ takes_write self.now.stripe number answer.now }
+    {
+        let asks = asks_writer(self.ticket(number));
+        answer.is_given() && asks
+    }
+
+    /// Whether a reservation with this number is out that asks a processor, these answers fit it, and the writer answered exactly if it
+    /// was to be asked.
+    fn takes_process(&self, number: u64, out: &Out) -> bool
+        ensures { result ≡ takes_process self.now.stripe number out.now }
+    {
+        let fits = fits_ticket(self.ticket(number), &out.load, &out.process);
+        let wants = wants_writer(self.stripe.config(), &out.load, &out.process);
+        fits && wants == out.write.is_given()
+    }
+
+    /// The last phase of the reservation with this number, with these answers.
+    #[inline(always)]
+    fn commit(
+        &mut self,
+        number: u64,
+        out: &Out,
+        reply: &mut Reply,
+        moves: &mut ValueMoves,
+    ) -> CommitDone
+        requires { AnswersTicket self.old.stripe number out.now }
+        ensures { CommitsAtDesk self.old number out.now reply.new moves.new result self.new }
+    {
+        let Some(place) = place_of(&self.tickets, number) else {
+            unreachable!();
+        };
+        let _ = self.stripe.events_len();
+        let ticket = self.tickets.remove(place);
+        let shared = self.stripe.waiting(number);
+        let step = moves.note_commit(&mut self.stripe, ticket, out, reply);
+        CommitDone {
             place: step.place,
             shared,
-        })
+        }
     }
 
     /// Gives a reservation back whose loader, writer or processor was not asked.

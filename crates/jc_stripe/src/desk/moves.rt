@@ -1,11 +1,21 @@
 //! Which values came into a stripe with a step, and which left it.
-ghost use Rattle.std.specs.Prelude.{◌≡◌, Bool, None, Some, is_some, option_map};
+ghost use Rattle.std.specs.Prelude.{◌≡◌, Bool, None, Some, is_some, option_map, if◌then◌else◌};
 ghost use Rattle.std.specs.Option.{option_copied};
 ghost use Rattle.std.specs.Map.Iter.{deref_pair};
-ghost use Rattle.jc_stripe.specs.ValuesMoved.{holds_value, is_new_value, value_lost};
+ghost use Rattle.jc_model.specs.Cache.{entry_at};
+ghost use Rattle.jc_stripe.specs.State.{IsOut};
+ghost use Rattle.jc_stripe.specs.OrderOfUse.{next_victim};
+ghost use Rattle.jc_stripe.specs.Appending.{AnswersFirst};
+ghost use Rattle.jc_stripe.specs.OnePhase.{IsPhaseOf};
+ghost use Rattle.jc_stripe.specs.Phases.{MayBegin, Begins, Commits, begun_with, with_reply};
+ghost use Rattle.jc_stripe.specs.ValuesMoved.{holds_value, is_new_value, value_lost, victim_entry, nothing_moved, MovesValues, HasMovesIfDone};
 
-use jc_model::Cause;
-use jc_types::{Key, Value};
+use crate::begun::{Appended, Started};
+use crate::stripe::Stripe;
+use crate::stripe::beginning::appended_alone;
+use crate::ticket::Reservation;
+use jc_model::{Cause, Op, Out, Reply};
+use jc_types::{Caller, Key, Value};
 use std::marker::Model;
 
 /// Which values came into a stripe with a step, and which left it. A driver that keeps what the values stand for beside the stripe knows
@@ -16,7 +26,7 @@ use std::marker::Model;
 pub struct ValueMoves {
     is_kept: bool,
     has_left: bool,
-    left: Value,
+    before: Option<Value>,
     victim: Option<Key>,
     evicted: Value,
     own: Option<Cause>,
@@ -30,19 +40,50 @@ impl Model for ValueMoves {
 
     ghost view = { λ m. record {
       kept = m.is_kept;
-      left = if m.has_left then Some m.left else None;
+      left = if m.has_left then m.before else None;
       victim = option_map (λ key. (key, m.evicted)) m.victim;
       own = m.own;
     } };
 }
 
 /// Whether an entry has this value.
-fn holds_value(entry: Option<&Value>, value: &Value) -> bool
-    ensures { result ≡ holds_value (option_copied entry.entry) value.now }
+fn holds_value(entry: &Option<Value>, value: &Value) -> bool
+    ensures { result ≡ holds_value entry.now value.now }
 {
     match entry {
         Some(held) => *held == *value,
         None => false,
+    }
+}
+
+/// Why a step's own key was evicted after it, if it was.
+fn eviction_cause(step: &Appended) -> Option<Cause>
+    ensures { result ≡ option_map (λ e. e.cause) step.now.evicted }
+{
+    match &step.evicted {
+        Some(eviction) => Some(eviction.cause),
+        None => None,
+    }
+}
+
+/// Writes who would be evicted if a key that has this entry got a new one, and the value that it has.
+fn note_victim(
+    stripe: &Stripe,
+    entry: &Option<Value>,
+    victim: &mut Option<Key>,
+    evicted: &mut Value,
+)
+    ensures { option_map (λ key. (key, evicted.new)) victim.new ≡ (if is_some entry.now then None else victim_entry stripe.now (next_victim stripe.now)) }
+{
+    *victim = None;
+    if entry.is_some() {
+        return;
+    }
+    if let Some(next) = stripe.next_victim() {
+        if let Some(value) = stripe.entry(&next) {
+            *victim = Some(next);
+            evicted.copy_from(value);
+        }
     }
 }
 
@@ -52,7 +93,7 @@ impl ValueMoves {
         ValueMoves {
             is_kept: false,
             has_left: false,
-            left: Value::default(),
+            before: None,
             victim: None,
             evicted: Value::default(),
             own: None,
@@ -71,7 +112,7 @@ impl ValueMoves {
         ensures { option_copied result ≡ self.now.left }
     {
         if self.has_left {
-            Some(&self.left)
+            self.before.as_ref()
         } else {
             None
         }
@@ -94,55 +135,98 @@ impl ValueMoves {
         self.own
     }
 
-    /// Notes why the step's own key was evicted after it, if it was.
-    pub(crate) fn note_own(&mut self, own: Option<Cause>)
-        ensures { self.new ≡ record self.old { own = own } }
+    /// A first phase at a stripe. If the call is done, it is noted what came and went.
+    #[inline(always)]
+    pub(super) fn note_begin(
+        &mut self,
+        stripe: &mut Stripe,
+        caller: Caller,
+        key: &Key,
+        op: &Op,
+        reply: &mut Reply,
+    ) -> Started
+        requires begins { MayBegin stripe.old caller key.now }
+        ensures begins { Begins stripe.old caller key.now op.now (begun_with result reply.new) stripe.new }
+        ensures moves { HasMovesIfDone stripe.old key.now result self.new stripe.new }
+        ensures phase { IsPhaseOf caller.session stripe.old stripe.new }
     {
-        self.own = own;
+        if let Some(place) = stripe.hit_or_entry(caller, key, op, &mut self.before, reply) {
+            self.clear();
+            return Started::Done(appended_alone(place));
+        }
+        self.has_left = true;
+        note_victim(stripe, &self.before, &mut self.victim, &mut self.evicted);
+        let started = stripe.begin_on(caller, key, op, &self.before, reply);
+        if let Started::Done(step) = &started {
+            self.note_after(stripe, key, step);
+        }
+        started
     }
 
-    /// Notes the entry of a step's own key before it, and that nobody was evicted.
-    pub(crate) fn note_before(&mut self, entry: Option<&Value>)
-        ensures { self.new ≡ record self.old { left = option_copied entry.entry; victim = None } }
+    /// A last phase at a stripe, of the reservation in this box: it is noted what came and went.
+    #[inline(always)]
+    pub(super) fn note_commit(
+        &mut self,
+        stripe: &mut Stripe,
+        reservation: Box<Reservation>,
+        out: &Out,
+        reply: &mut Reply,
+    ) -> Appended
+        requires out { IsOut stripe.old reservation.value }
+        requires answers { AnswersFirst stripe.old.config reservation.value.first out.now }
+        ensures commits { Commits stripe.old reservation.value out.now (with_reply result reply.new) stripe.new }
+        ensures moves { MovesValues stripe.old reservation.value.key result.victim result.evicted self.new stripe.new }
     {
+        let _ = stripe.events_len();
+        let key = reservation.key;
+        stripe.entry_into(&key, &mut self.before);
+        self.has_left = true;
+        note_victim(stripe, &self.before, &mut self.victim, &mut self.evicted);
+        let step = stripe.commit_on(reservation, out, &self.before, reply);
+        self.note_after(stripe, &key, &step);
+        step
+    }
+
+    /// Notes that nothing came, and nothing left.
+    #[inline(always)]
+    fn clear(&mut self)
+        ensures { self.new ≡ nothing_moved }
+    {
+        self.is_kept = false;
+        self.has_left = false;
         self.victim = None;
-        match entry {
-            Some(value) => {
-                self.has_left = true;
-                self.left.copy_from(value);
-            }
-            None => self.has_left = false,
+        self.own = None;
+    }
+
+    /// Notes what came and went with this step.
+    fn note_after(&mut self, stripe: &Stripe, key: &Key, step: &Appended)
+        ensures kept { self.new.kept ≡ is_new_value self.old.left (entry_at stripe.now.cache key.now) }
+        ensures left { self.new.left ≡ value_lost self.old.left (entry_at stripe.now.cache key.now) }
+        ensures victim { self.new.victim ≡ (if is_some step.now.victim then self.old.victim else None) }
+        ensures own { self.new.own ≡ option_map (λ e. e.cause) step.now.evicted }
+    {
+        self.note_entry(stripe.entry(key));
+        self.own = eviction_cause(step);
+        if step.victim.is_none() {
+            self.victim = None;
         }
     }
 
-    /// Notes who would be evicted.
-    pub(crate) fn note_victim(&mut self, key: &Key, value: &Value)
-        ensures { self.new ≡ record self.old { victim = Some (key.now, value.now) } }
-    {
-        self.victim = Some(*key);
-        self.evicted.copy_from(value);
-    }
-
-    /// Notes that nobody was evicted.
-    pub(crate) fn forget_victim(&mut self)
-        ensures { self.new ≡ record self.old { victim = None } }
-    {
-        self.victim = None;
-    }
-
     /// Notes the entry of the step's own key after it.
-    pub(crate) fn note_after(&mut self, entry: Option<&Value>)
+    #[inline(always)]
+    fn note_entry(&mut self, entry: Option<&Value>)
         ensures { self.new ≡ record self.old {
           kept = is_new_value self.old.left (option_copied entry.entry);
           left = value_lost self.old.left (option_copied entry.entry);
         } }
     {
-        self.is_kept = match entry {
-            Some(value) => !self.has_left || self.left != *value,
-            None => false,
-        };
-        if self.has_left && holds_value(entry, &self.left) {
-            self.has_left = false;
+        match entry {
+            Some(value) => {
+                let stays = self.has_left && holds_value(&self.before, value);
+                self.is_kept = !stays;
+                self.has_left = self.has_left && !stays;
+            }
+            None => self.is_kept = false,
         }
     }
 }

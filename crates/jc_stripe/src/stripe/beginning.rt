@@ -1,10 +1,11 @@
 //! The first phase of a call: a hit, and what it is otherwise.
-ghost use Rattle.std.specs.Prelude.{◌≡◌, ◌↔◌, [], length, true, false, is_some, IsTrue, None, Some};
+ghost use Rattle.std.specs.Prelude.{◌≡◌, ◌↔◌, [], length, true, false, is_some, IsTrue, IfSome, IfNone, None, Some};
 ghost use Rattle.std.specs.Bool.{OnTrue, OnFalse};
 ghost use Rattle.jc_entries.specs.MostRecent.{most_recent};
 ghost use Rattle.jc_stripe.specs.OrderOfUse.{by_use};
 ghost use Rattle.jc_types.specs.declared.limits.TheConstants.{HIT_PLACES};
 ghost use Rattle.jc_model.specs.declared.event.Op.TheVariants.{Get};
+ghost use Rattle.jc_model.specs.declared.event.Reply.TheVariants.{Value as ReplyValue};
 ghost use Rattle.jc_model.specs.Cache.{entry_at};
 ghost use Rattle.jc_model.specs.Group.{nothing_said};
 ghost use Rattle.jc_stripe.specs.State.{new_reservation, with_reservation};
@@ -13,6 +14,7 @@ ghost use Rattle.jc_stripe.specs.Finding.{found_at};
 ghost use Rattle.jc_stripe.specs.Phases.{MayBegin, Steps, Begins, begun_with, with_joiner, with_reply};
 ghost use Rattle.jc_stripe.specs.Hitting.{IsHit};
 ghost use Rattle.jc_stripe.specs.declared.ticket.First.TheVariants.{Nobody};
+ghost use Rattle.jc_stripe.specs.declared.begun.Begun.TheVariants.{Done};
 
 use super::Stripe;
 use crate::appending::{NewGroup, append_group, apply_to_entries};
@@ -31,13 +33,24 @@ pub(super) fn is_get(op: &Op) -> bool
 }
 
 /// A step at this place for which nobody is evicted.
-pub(super) fn appended_alone(place: u32) -> Appended
+pub(crate) fn appended_alone(place: u32) -> Appended
     ensures { result ≡ record { place = place; victim = None; evicted = None } }
 {
     Appended {
         place,
         victim: None,
         evicted: None,
+    }
+}
+
+/// Makes a reply this value, in place: of a reply that is a value already, only those bytes are copied that count.
+#[inline(always)]
+fn set_value(reply: &mut Reply, value: &Value)
+    ensures { reply.new ≡ ReplyValue (Some value.now) }
+{
+    match &mut *reply {
+        Reply::Value(Some(room)) => room.copy_from(value),
+        _ => *reply = Reply::Value(Some(*value)),
     }
 }
 
@@ -56,6 +69,35 @@ impl Stripe {
         let mut entry = None;
         self.entry_into(key, &mut entry);
         self.begin_on(caller, key, op, &entry, reply)
+    }
+
+    /// A `get` that finds its entry: the place of its step, and its value in `reply`. None says that the call is none, or that the
+    /// history lacks the place; then nothing is done, and the key's entry is written to `entry`.
+    #[inline(always)]
+    pub(crate) fn hit_or_entry(
+        &mut self,
+        caller: Caller,
+        key: &Key,
+        op: &Op,
+        entry: &mut Option<Value>,
+        reply: &mut Reply,
+    ) -> Option<u32>
+        requires begins { MayBegin self.old caller key.now }
+        ensures none { IfNone result ((self.new ≡ self.old) × (entry.new ≡ entry_at self.old.cache key.now)) }
+        ensures hit { IfSome result (λ place. (op.now ≡ Get) × Begins self.old caller key.now Get
+            (Done (with_reply (record { place = place; victim = None; evicted = None }) reply.new)) self.new) }
+    {
+        if !is_get(op) || !self.has_room(caller.call, HIT_PLACES) {
+            self.entry_into(key, entry);
+            return None;
+        }
+        let place = self.next_place();
+        if !self.find_and_use(caller, key) {
+            *entry = None;
+            return None;
+        }
+        set_value(reply, self.most_recent());
+        Some(place)
     }
 
     /// What a first phase gives, and what it leaves, if the key has no entry.
@@ -82,7 +124,7 @@ impl Stripe {
 
     /// What a first phase gives on a key that has this entry, and what it leaves.
     #[inline(never)]
-    fn begin_on(
+    pub(crate) fn begin_on(
         &mut self,
         caller: Caller,
         key: &Key,

@@ -50,7 +50,7 @@ impl Stripe {
     }
 
     /// Writes the key's value, or none, to `entry`.
-    pub(super) fn entry_into(&self, key: &Key, entry: &mut Option<Value>)
+    pub(crate) fn entry_into(&self, key: &Key, entry: &mut Option<Value>)
         ensures { entry.new ≡ entry_at self.now.cache key.now }
     {
         self.entries.peek_into(key, entry);

@@ -11,9 +11,32 @@ ghost use Rattle.jc_stripe.specs.Keys.{Looks};
 ghost use Rattle.jc_stripe.specs.Reopening.{shares_key};
 
 use super::Stripe;
+use crate::ticket::Reservation;
+use jc_inflight::Joiner;
 use jc_types::Key;
 
 impl Stripe {
+    /// The reservations that are out, in the order of reserving.
+    pub fn reservations(&self) -> &[Reservation]
+        ensures { result.now ≡ self.now.reservations }
+    {
+        self.reservations.list()
+    }
+
+    /// Who has joined a load, and hasn't picked up its answer, in the order of joining.
+    pub fn joiners(&self) -> &[Joiner]
+        ensures { result.now ≡ self.now.joiners }
+    {
+        self.joiners.list()
+    }
+
+    /// The number of the next reservation.
+    pub fn next_number(&self) -> u64
+        ensures { result ≡ self.now.next }
+    {
+        self.reservations.next_number()
+    }
+
     /// Appends the keys that have an entry, each once, in byte order. It takes no memory.
     ///
     /// Condition: the vector has room for as many keys as the stripe may cache.

@@ -9,12 +9,11 @@ ghost use Rattle.jc_stripe.specs.Reopening.{opened_stripe};
 
 use super::Stripe;
 use crate::life::Life;
+use crate::stripe_tables::{StripeJoiners, StripeReservations};
 use crate::ticket_boxes::TicketBoxes;
 use jc_entries::Entries;
 use jc_history::History;
-use jc_inflight::Joiners;
 use jc_outside::Origin;
-use jc_reserve::Reservations;
 use jc_types::Config;
 use std::alloc::{AllocError, Global};
 
@@ -93,9 +92,9 @@ impl Stripe {
     {
         // For its contract: each key is there once, and there are not too many.
         let _ = entries.capacity();
-        let reservations = Reservations::new_from(next);
+        let reservations = StripeReservations::new_from(alloc, next)?;
         let boxes = TicketBoxes::new(alloc)?;
-        let joiners = Joiners::new();
+        let joiners = StripeJoiners::new(alloc)?;
         let history = History::new(alloc, config.history)?;
         let life = Life::new(&entries);
         Ok(Stripe {
@@ -110,5 +109,21 @@ impl Stripe {
             lives: false,
             life,
         })
+    }
+
+    /// Makes the stripe as [`new`](Stripe::new) makes it with its shape, its number and its origin: it is empty, nothing has happened, it
+    /// doesn't live on, and reservations are numbered from 0. It takes no memory.
+    ///
+    /// Conditions: no key is reserved. A join that is out here can't be picked up any more.
+    pub fn restart(&mut self)
+        requires { self.old.reservations ≡ [] }
+        ensures { self.new ≡ opened_stripe self.old.config self.old.origin self.old.stripe [] }
+    {
+        self.entries.clear();
+        self.reservations.restart();
+        self.joiners.clear();
+        self.history.restart();
+        self.lives = false;
+        self.life = Life::new(&self.entries);
     }
 }

@@ -15,6 +15,7 @@ mod courses;
 mod looks;
 mod many_keys;
 mod random;
+mod snapshots;
 
 /// A cache with read-through and write-through.
 fn config(stripes: usize, capacity: usize, history: usize) -> Config {
@@ -38,10 +39,15 @@ fn value_of(rt: &impl Abort, name: &str) -> Value {
 /// A world of one stripe with two entries, whose store has a=1.
 fn opened_world(rt: &impl Abort, alloc: Global) -> World {
     let mut world = World::new(alloc, &config(1, 2, 100)).expect(rt, "a world");
+    stores_a(rt, &mut world);
+    world
+}
+
+/// Nothing has happened in the world, and its store is given a=1.
+fn stores_a(rt: &impl Abort, world: &mut World) {
     let (a, one) = (key_of(rt, "a"), value_of(rt, "1"));
     assert!(rt; world.is_fresh(), "nothing has happened");
     world.set(&a, &one).expect(rt, "memory");
-    world
 }
 
 /// The key of a step, or the key that is evicted.
@@ -331,5 +337,39 @@ fn has_one_order_over_its_stripes(rt: HostRuntime) {
     let mut world = World::new(alloc, &config).expect(&rt, "a world");
     plays(&rt, alloc, &mut world, OVER_STRIPES);
     is_in_order(&rt, alloc, &world, "a b ab a e ");
+    world.close();
+}
+
+// 5. A world that is restarted.
+
+/// The world has no entry, its store neither, and nothing has happened.
+fn is_new(rt: &impl Abort, alloc: Global, world: &World) {
+    let audit = world.audit(alloc).expect(rt, "memory");
+    assert!(rt;
+        audit.cache.is_empty() && audit.store.is_empty(),
+        "no entry"
+    );
+    assert!(rt; audit.events == 0 && audit.is_legal, "no event");
+    assert!(rt; world.played() == 0 && world.is_new(0), "no call");
+    assert!(rt;
+        !world.is_busy(1) && world.open_call(101).is_none(),
+        "nothing is out"
+    );
+}
+
+/// It is restarted while the writer is out. The same calls go the same way then, though their numbers were used.
+#[test]
+fn restarts_as_new(rt: HostRuntime) {
+    let alloc = rt.alloc();
+    let mut world = opened_world(&rt, alloc);
+    plays(&rt, alloc, &mut world, PUT_CHANGED);
+    world.restart();
+    is_new(&rt, alloc, &world);
+    stores_a(&rt, &mut world);
+    plays(&rt, alloc, &mut world, PUT_CHANGED);
+    is_reserved(&rt, &world);
+    audits(&rt, alloc, &world, "1", "101", 2);
+    plays(&rt, alloc, &mut world, PUT_COMMITTED);
+    audits(&rt, alloc, &world, "101", "101", 4);
     world.close();
 }

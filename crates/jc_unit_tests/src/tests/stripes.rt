@@ -10,6 +10,7 @@
 //! - `drop CALL`, a withdrawal: `dropped`;
 //! - `take CALL`, a joiner asks for its answer: `REPLY at PLACE shared PLACE`, `waits`, or `again`;
 //! - `counts HITS MISSES PUTS REMOVALS EVICTIONS`, what the steps count: `yes` or `no`;
+//! - `restart`, the stripe is made as a new one: `yes` if nothing is out then;
 //! - `idle`, `clear CALL SESSION KEY`, `admits CALL SESSION KEY`, `outside OP KEY [VALUE]`, tests of the stripe: `yes` or `no`.
 //!
 //! `each N: LINE` is N lines, with the numbers from 1 in place of each `#`. A case is a comment with its rule, a line
@@ -30,7 +31,7 @@ use std::process::Abort;
 use words::{Seen, seen_of};
 
 /// A shape as `open` says it.
-fn shape(rt: &impl Abort, line: &str) -> Config {
+pub(super) fn shape(rt: &impl Abort, line: &str) -> Config {
     let (history, options) = first_word(line.strip_prefix("open ").expect(rt, line));
     Config {
         stripes: 1,
@@ -50,7 +51,7 @@ fn first_reservation(rt: &impl Abort, line: &str) -> u64 {
 }
 
 /// Hits, misses, puts, removals and evictions, in this order.
-fn statistics(rt: &impl Abort, text: &str) -> Statistics {
+pub(super) fn statistics(rt: &impl Abort, text: &str) -> Statistics {
     let (hits, rest) = first_word(text);
     let (misses, rest) = first_word(rest);
     let (puts, rest) = first_word(rest);
@@ -99,6 +100,7 @@ fn play(rt: &impl Abort, desk: &mut Desk, line: &str) {
         "commit" => desk.commit(rt, number, &answer(rt, rest)),
         "drop" => desk.withdraw(rt, number),
         "take" => desk.pick_up(rt, number),
+        "restart" => desk.restart(rt),
         _ => Seen::Flag(look(rt, &desk.stripe, word, text)),
     };
     is(rt, line, found, seen_of(rt, wanted));
@@ -307,6 +309,26 @@ open 100 from 18446744073709551613
 begin 18446744073709551614 s1 put a 1 = ok at 0
 begin 18446744073709551615 s1 get a = refused HistoryFull
 begin 1 s2 get a = 1 at 1
+idle = yes
+==
+# A stripe that is restarted answers as a new one: without entries, from its first place, and with all numbers.
+open 16 read write from 18446744073709551613
+begin 1 s1 get a = asks loader
+begin 2 s2 get a = joins 1
+commit 1 read 1 = 1 at 0
+take 2 = 1 at 1 shared 0
+begin 3 s1 put b 2 = asks write 2
+commit 3 apply = ok at 2
+begin 4 s1 get a = refused HistoryFull
+restart = yes
+counts 0 0 0 0 0 = yes
+begin 1 s1 get a = asks loader
+begin 2 s2 get a = joins 1
+commit 1 read 3 = 3 at 0
+take 2 = 3 at 1 shared 0
+begin 3 s1 get b = asks loader
+drop 3 = dropped
+begin 4 s1 get a = 3 at 2
 idle = yes
 ";
 

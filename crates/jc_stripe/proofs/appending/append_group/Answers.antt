@@ -1,5 +1,4 @@
-use Rattle.std.proofs.Common.{◌≡◌, ◌+◌, ◌-◌, List, [], ◌∷◌, map, length, None, Some, sym, ap, ◌∙◌}
-use Rattle.jc_types.specs.declared.caller.Caller.{Caller}
+use Rattle.std.proofs.Common.{◌≡◌, ◌+◌, ◌-◌, List, map, length, sym, ap, ◌∙◌}
 use Rattle.jc_model.specs.declared.event.Event.{Event}
 use Rattle.jc_model.specs.Group.{victim_events, shared_event, evicted_events}
 use Rattle.jc_history.specs.Past.{unpromise}

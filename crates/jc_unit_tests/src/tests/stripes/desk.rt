@@ -186,6 +186,13 @@ impl Desk {
         }
     }
 
+    /// Makes the stripe as a new one, and shows whether nothing is out in it.
+    pub fn restart(&mut self, rt: &impl Abort) -> Seen {
+        assert!(rt; self.stripe.is_idle(), "no call is out");
+        self.stripe.restart();
+        Seen::Flag(self.stripe.is_idle())
+    }
+
     /// Asserts that no call is out, and ends the run.
     pub fn close(self, rt: &impl Abort) {
         let Desk {

@@ -19,6 +19,8 @@ pub enum Seen {
     Dropped,
     Waits,
     Again,
+    Full,
+    Misuse,
     Flag(bool),
 }
 
@@ -69,6 +71,8 @@ pub fn seen_of(rt: &impl Abort, text: &str) -> Seen {
         "dropped" => Seen::Dropped,
         "waits" => Seen::Waits,
         "again" => Seen::Again,
+        "full" => Seen::Full,
+        "misuse" => Seen::Misuse,
         "yes" => Seen::Flag(true),
         "no" => Seen::Flag(false),
         _ => step(rt, text),

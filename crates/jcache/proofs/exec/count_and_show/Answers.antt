@@ -1,5 +1,5 @@
 use Rattle.std.proofs.Common.{inl, inr, rules, ◌≡◌, false}
-use Rattle.jcache.specs.Exit.{is_too_much}
+use Rattle.jc_commands.specs.CommandLine.{is_too_much}
 use Rattle.jcache.proofs.exec.count_and_show.Goals as goal
 
 pub returns-in-Ok-clause-counted : goal.returns-in-Ok-clause-counted

@@ -22,7 +22,7 @@ use Rattle.std_heap.specs.contracts.Global as HP
 use Rattle.std_heap.specs.contracts.GlobalAllocator.TheImpl.{ghosts}
 use Rattle.std_heap.proofs.Handle.{heap_val, heap_Tells}
 use Rattle.jc_parcel.specs.contracts.Loose as loose
-use Rattle.jc_stripe.specs.contracts.desk.Desk as desk
+use Rattle.jc_c.specs.contracts.rooms.DeskRooms as desk
 use Rattle.jc_c.specs.Handles.{handle_owns, heap}
 use Rattle.jc_c.specs.contracts.handle.Handle.put as f
 use Rattle.jc_c.proofs.handle.Handle.put.Statement.{statement}

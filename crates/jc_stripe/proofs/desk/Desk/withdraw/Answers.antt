@@ -1,31 +1,15 @@
-use Rattle.std.proofs.Common.{◌≡◌, ◌==◌, ◌<◌, ◌≤◌, ◌+◌, ◌++◌, ◌∷◌, [], ◌⊎◌, inl, inr, ℕ, List, map, position, length, true, false, cond, is_some, Some, None, ap, sym, refl, ◌∙◌, subst, arith}
-use Rattle.std.proofs.lemmas.List.{length-map, map_push}
-use Rattle.std.proofs.lemmas.List.Sums.{length-filter}
+use Rattle.std.proofs.Common.{◌≡◌, ◌==◌, ◌≤◌, ℕ, map, position, is_some, ap, sym, refl, ◌∙◌, subst}
 use Rattle.jc_types.specs.declared.limits.TheConstants.{RESERVATIONS_MAX}
-use Rattle.jc_model.specs.declared.event.Out.{Out}
-use Rattle.jc_model.specs.declared.event.Op.TheVariants.{Get}
-use Rattle.jc_model.specs.Cache.{Bytes}
-use Rattle.jc_model.specs.Group.{load_only, write_only, nothing_said}
-use Rattle.jc_inflight.specs.Joining.{callers_of, waits_for}
-use Rattle.jc_stripe.specs.State.{State, IsOut, is_key, without_key, with_reservation}
-use Rattle.jc_stripe.specs.Tickets.{TicketClaim, JoinClaim}
-use Rattle.jc_stripe.specs.Phases.{after_withdrawal, Commits, with_reply, hit_done, MayBegin}
-use Rattle.jc_stripe.specs.Tests.{is_clear}
-use Rattle.jc_stripe.specs.OnePhase.{IsPhaseOf}
-use Rattle.jc_stripe.specs.Reached.{IsReached}
-use Rattle.jc_stripe.specs.declared.ticket.Reservation.{Reservation}
-use Rattle.jc_stripe.specs.declared.begun.StepDone.{StepDone}
-use Rattle.jc_stripe.specs.declared.begun.Begun.TheVariants as begun
+use Rattle.jc_stripe.specs.State.{State, IsOut, without_key}
+use Rattle.jc_stripe.specs.Tickets.{TicketClaim}
+use Rattle.jc_stripe.specs.Phases.{after_withdrawal}
 use Rattle.jc_stripe.proofs.Uniform.{one_uniform}
 use Rattle.jc_stripe.proofs.Own.{own_left}
-use Rattle.jc_stripe.proofs.OwnNumbers.{own_numbers}
-use Rattle.jc_stripe.proofs.WholeCalls.{caller_numbers}
-use Rattle.jc_stripe.specs.DeskState.{DeskState, IsDesk}
-use Rattle.jc_stripe.specs.DeskPhases.{WithdrawsAtDesk, HitsAtDesk, BeginsAtDesk, CommitsAtDesk, RenewsAndBegins}
-use Rattle.jc_stripe.proofs.DeskNumbers.{may_behind, begun_done, begun_same, committed, picked, left_same}
-use Rattle.jc_stripe.proofs.DeskTickets.{Taken, taken, ticket_nowhere}
-use Rattle.jc_stripe.proofs.DeskStates.{renewed_clear, renewed_desk, desk_ends, dissolved_joined}
-use Rattle.jc_stripe.proofs.ValuesMoved.{IsNext, victim_next, commit_next, moved, others_stay}
+use Rattle.jc_stripe.specs.DeskState.{DeskState}
+use Rattle.jc_stripe.specs.DeskPhases.{WithdrawsAtDesk}
+use Rattle.jc_stripe.proofs.DeskNumbers.{left_same}
+use Rattle.jc_stripe.proofs.DeskTickets.{taken, ticket_nowhere}
+use Rattle.jc_stripe.proofs.DeskStates.{desk_ends, dissolved_joined}
 use Rattle.jc_stripe.specs.DeskPhases.{ticket_of}
 use Rattle.jc_stripe.proofs.desk.Desk.withdraw.Goals as goal
 

@@ -36,8 +36,8 @@ opened s fits once few own reservations joiners history life =
 
 pub invariant_of-result : goal.invariant_of-result
 invariant_of-result c =
-    let table = c.new_from-reservations.ensures in
-    let joiners = c.new-joiners.ensures in
+    let table = c.in_ok-reservations.ensures in
+    let joiners = c.in_ok-joiners.ensures in
     let history = c.in_ok-history.ensures in
     let life = c.new-life.ensures in
     let valid = c.capacity.ensures.valid in
@@ -48,13 +48,13 @@ invariant_of-result c =
       by_use = sym (λ k. by_use ((life k).opening) ((history k).events));
       promised = ap (λ (h : Past). h.promised) history ∙ sym (λ i. STEP_PLACES * length (table i).held + HIT_PLACES * count_by waits (joiners i));
       counted = ap (λ (h : Past). h.statistics) history ∙ sym (λ k. statistics_of (occurrences ((life k).opening) ((history k).events)));
-      boxes = ap (λ n. n + length c.new_from-reservations.result.held) c.in_ok-boxes.ensures ∙ ap (λ (t : Table Reservation). RESERVATIONS_MAX + length t.held) table;
-      state = opened (record { config = c.args.config.now; number = c.args.number; origin = c.args.origin; entries = c.args.entries; reservations = c.new_from-reservations.result; boxes = c.in_ok-boxes.boxes; joiners = c.new-joiners.result; history = c.in_ok-history.history; lives = false; life = c.new-life.result }) c.requires.fits valid.distinct (let e = c.requires.capacity in omega arith) c.requires.own (ap (λ (t : Table Reservation). t.held) table) joiners (ap (λ (h : Past). h.events) history) life;
+      boxes = ap (λ n. n + length c.in_ok-reservations.reservations.held) c.in_ok-boxes.ensures ∙ ap (λ (t : Table Reservation). RESERVATIONS_MAX + length t.held) table;
+      state = opened (record { config = c.args.config.now; number = c.args.number; origin = c.args.origin; entries = c.args.entries; reservations = c.in_ok-reservations.reservations; boxes = c.in_ok-boxes.boxes; joiners = c.in_ok-joiners.joiners; history = c.in_ok-history.history; lives = false; life = c.new-life.result }) c.requires.fits valid.distinct (let e = c.requires.capacity in omega arith) c.requires.own (ap (λ (t : Table Reservation). t.held) table) joiners (ap (λ (h : Past). h.events) history) life;
     }
 
 pub returns-clause-reached : goal.returns-clause-reached
 returns-clause-reached c =
     let valid = c.capacity.ensures.valid in
     let bounded = valid.bounded in
-    opened (record { config = c.args.config.now; number = c.args.number; origin = c.args.origin; entries = c.args.entries; reservations = c.new_from-reservations.result; boxes = c.in_ok-boxes.boxes; joiners = c.new-joiners.result; history = c.in_ok-history.history; lives = false; life = c.new-life.result }) c.requires.fits valid.distinct (let e = c.requires.capacity in omega arith) c.requires.own (ap (λ (t : Table Reservation). t.held) c.new_from-reservations.ensures) c.new-joiners.ensures
+    opened (record { config = c.args.config.now; number = c.args.number; origin = c.args.origin; entries = c.args.entries; reservations = c.in_ok-reservations.reservations; boxes = c.in_ok-boxes.boxes; joiners = c.in_ok-joiners.joiners; history = c.in_ok-history.history; lives = false; life = c.new-life.result }) c.requires.fits valid.distinct (let e = c.requires.capacity in omega arith) c.requires.own (ap (λ (t : Table Reservation). t.held) c.in_ok-reservations.ensures) c.in_ok-joiners.ensures
     (ap (λ (h : Past). h.events) c.in_ok-history.ensures) c.new-life.ensures

@@ -1,14 +1,13 @@
-use Rattle.std.proofs.Common.{◌≡◌, ◌<◌, ◌≤◌, ℕ, Bool, true, false, cond, List, Option, None, length, nat_lt, ap, sym, ◌∙◌, arith}
+use Rattle.std.proofs.Common.{◌≡◌, ◌<◌, ◌≤◌, ℕ, Bool, true, false, cond, List, None, length, nat_lt, ap, sym, ◌∙◌, arith}
 use Rattle.std.proofs.lemmas.Bool.Decides.{nat_tests}
 use Rattle.std.specs.FinMap.{len}
 use Rattle.jc_model.specs.Cache.{Bytes}
 use Rattle.jc_model.specs.Listed.{has_distinct_keys}
 use Rattle.jc_model.proofs.CallerLemmas.{len-distinct}
 use Rattle.jc_entries.specs.ByUse.{lru_victim}
-use Rattle.jc_stripe.specs.State.{State}
 use Rattle.jc_stripe.specs.Inside.{state_of, IsStripe}
 use Rattle.jc_stripe.specs.declared.stripe.Stripe.TheInside.{Inside}
-use Rattle.jc_stripe.specs.OrderOfUse.{next_victim, least_used, pinned, by_use}
+use Rattle.jc_stripe.specs.OrderOfUse.{next_victim, least_used, by_use}
 use Rattle.jc_stripe.proofs.stripe.Stripe.next_victim.Goals as goal
 
 below : (n m : ℕ) → n < m → nat_lt n m ≡ true

@@ -1,0 +1,172 @@
+//! A desk with the rooms that its exports write into.
+ghost use Rattle.std.specs.Prelude.{◌≡◌, ◌⊎◌, true, if◌then◌else◌};
+ghost use Rattle.jc_model.specs.Group.{load_only, write_only};
+ghost use Rattle.jc_stripe.specs.DeskState.{may_call_next};
+ghost use Rattle.jc_stripe.specs.DeskPhases.{StaysOrRenewsFull, hits_next, takes_load, takes_write, takes_process, is_join_out};
+ghost use Rattle.jc_c.specs.declared.codes.TheConstants.{JC_OK, JC_MISUSE, JC_NONE};
+ghost use Rattle.jc_c.specs.Requests.{op_fits};
+ghost use Rattle.jc_c.specs.Exports.{export_code, BeginsForC, CommitsForC, PicksUpForC, HitsForC};
+
+use crate::codes::{JC_BAD_ARGUMENT, JC_MISUSE, JC_NONE, JC_OK};
+use crate::layouts::{InlineValue, PhaseOut};
+use crate::replies::{show_asked, show_done, show_picked, show_value};
+use crate::requests::write_op;
+use jc_model::{LoadAnswer, Op, Out, Reply, WriteAnswer};
+use jc_stripe::{Desk, ValueMoves};
+use jc_types::{Caller, Key, Value};
+use std::marker::Model;
+
+/// A desk, and the rooms of what its calls are and write, which are kept with it: so no call makes and clears one. A host sees the desk
+/// alone.
+#[derive(Drop)]
+pub(crate) struct DeskRooms {
+    pub(crate) desk: Desk,
+    pub(crate) op: Op,
+    pub(crate) reply: Reply,
+    pub(crate) moves: ValueMoves,
+    pub(crate) value: Value,
+}
+
+impl Model for DeskRooms {
+    ghost use Rattle.std.specs.Coded.{codes};
+    ghost use Rattle.jc_model.specs.Cache.{cache_code};
+    ghost use Rattle.jc_stripe.specs.DeskState.{DeskState};
+
+    ghost Value = { DeskState };
+
+    ghost coded = { Prim.hlevel (codes, cache_code) };
+
+    ghost view = { λ r. r.desk };
+}
+
+impl DeskRooms {
+    /// A desk with its rooms.
+    pub(crate) fn of(desk: Desk) -> DeskRooms
+        ensures { result ≡ desk }
+    {
+        DeskRooms {
+            desk,
+            op: Op::Get,
+            reply: Reply::Unit,
+            moves: ValueMoves::new(),
+            value: Value::default(),
+        }
+    }
+
+    /// The first phase of the session's next call, told to C.
+    #[inline(always)]
+    pub(crate) fn begin(
+        &mut self,
+        session: u32,
+        op: u32,
+        key: &Key,
+        value: &[u8],
+        other: &[u8],
+        out: &mut PhaseOut,
+    ) -> u32
+        ensures code { result ≡ export_code true (op_fits op value.now other.now) (may_call_next self.old session key.now) JC_MISUSE }
+        ensures begins { result ≡ JC_OK → BeginsForC self.old session op key.now value.now other.now out.new self.new }
+        ensures refused { (result ≡ JC_OK) ⊎ (self.new ≡ self.old) }
+    {
+        if !write_op(op, value, other, &mut self.op) {
+            return JC_BAD_ARGUMENT;
+        }
+        let (call, asked) = self
+            .desk
+            .begin(session, key, &self.op, &mut self.reply, &mut self.moves);
+        out.call = call;
+        show_asked(&asked, self.desk.newest(), &self.reply, &self.moves, out)
+    }
+
+    /// A `get` that finds its entry, told to C.
+    #[inline(always)]
+    pub(crate) fn hit(&mut self, session: u32, key: &Key, out: &mut InlineValue) -> u32
+        ensures code { result ≡ (if hits_next self.old session key.now then JC_OK else JC_NONE) }
+        ensures hit { result ≡ JC_OK → HitsForC self.old session key.now out.new self.new }
+        ensures none { (result ≡ JC_OK) ⊎ ((out.new ≡ out.old) × StaysOrRenewsFull self.old self.new) }
+    {
+        let Some(_call) = self.desk.hit(session, key, &mut self.value) else {
+            return JC_NONE;
+        };
+        show_value(&self.value, out);
+        JC_OK
+    }
+
+    /// The last phase of a call whose loader was asked, told to C.
+    #[inline(always)]
+    pub(crate) fn commit_load(&mut self, number: u64, answer: LoadAnswer, out: &mut PhaseOut) -> u32
+        ensures code { result ≡ (if takes_load self.old.stripe number answer then JC_OK else JC_MISUSE) }
+        ensures commits { result ≡ JC_OK → CommitsForC self.old number (load_only answer) out.new self.new }
+        ensures refused { (result ≡ JC_OK) ⊎ (self.new ≡ self.old) }
+    {
+        let done = self
+            .desk
+            .commit_load(number, answer, &mut self.reply, &mut self.moves);
+        let Some(done) = done else {
+            return JC_MISUSE;
+        };
+        show_done(done.place, done.shared, &self.reply, &self.moves, out);
+        JC_OK
+    }
+
+    /// The same of the writer.
+    #[inline(always)]
+    pub(crate) fn commit_write(
+        &mut self,
+        number: u64,
+        answer: WriteAnswer,
+        out: &mut PhaseOut,
+    ) -> u32
+        ensures code { result ≡ (if takes_write self.old.stripe number answer then JC_OK else JC_MISUSE) }
+        ensures commits { result ≡ JC_OK → CommitsForC self.old number (write_only answer) out.new self.new }
+        ensures refused { (result ≡ JC_OK) ⊎ (self.new ≡ self.old) }
+    {
+        let done = self
+            .desk
+            .commit_write(number, answer, &mut self.reply, &mut self.moves);
+        let Some(done) = done else {
+            return JC_MISUSE;
+        };
+        show_done(done.place, done.shared, &self.reply, &self.moves, out);
+        JC_OK
+    }
+
+    /// The same of a processor.
+    #[inline(always)]
+    pub(crate) fn commit_process(&mut self, number: u64, said: Out, out: &mut PhaseOut) -> u32
+        ensures code { result ≡ (if takes_process self.old.stripe number said then JC_OK else JC_MISUSE) }
+        ensures commits { result ≡ JC_OK → CommitsForC self.old number said out.new self.new }
+        ensures refused { (result ≡ JC_OK) ⊎ (self.new ≡ self.old) }
+    {
+        let done = self.desk.commit_process(
+            number,
+            said.load,
+            said.process,
+            said.write,
+            &mut self.reply,
+            &mut self.moves,
+        );
+        let Some(done) = done else {
+            return JC_MISUSE;
+        };
+        show_done(done.place, done.shared, &self.reply, &self.moves, out);
+        JC_OK
+    }
+
+    /// A joiner asks for its answer, which is told to C.
+    #[inline(always)]
+    pub(crate) fn pick_up(
+        &mut self,
+        caller: Caller,
+        key: &Key,
+        load: u64,
+        out: &mut PhaseOut,
+    ) -> u32
+        ensures code { result ≡ (if is_join_out self.old.stripe (record { caller = caller; key = key.now; load = load }) then JC_OK else JC_MISUSE) }
+        ensures picks_up { result ≡ JC_OK → PicksUpForC self.old (record { caller = caller; key = key.now; load = load }) out.new self.new }
+        ensures refused { (result ≡ JC_OK) ⊎ (self.new ≡ self.old) }
+    {
+        let picked = self.desk.pick_up(caller, key, load, &mut self.reply);
+        show_picked(&picked, &self.reply, out)
+    }
+}

@@ -1,0 +1,170 @@
+-- The command line: which words are right, what they ask for, and what is wrong with the others.
+--     option_rule               an option with a number, which must be given or needn't
+--     explore                   the command of the subcommand `explore`: one such option, with its range
+--     threads                   the command of the subcommand `threads`: three such options, with their ranges
+--     player                    the command with its first subcommand, `run`: it has a version, and a subcommand must be named
+--     program                   the command, as `clap` sees it, with its other subcommands, `explore` and `threads`
+--     faults_at                 the kinds of error that these words may have, the program's name first; none if they are right
+--     subcommand_at             the subcommand that these words name, with its options
+--     SpellsOr, SpellsIf        the number that an option's text spells in decimal digits, and if it isn't given a number that stands for
+--                               it, or none
+--     IsAsked                   the task of a subcommand with its options
+--     RunIsRight                `run` alone is right, whatever the program is called, and asks for a script
+--     ExploresUpTo              these words are right, and ask for an exploration of at most so many states
+--     ExploreIsRight            `explore` alone is right, and asks for 200,000 states; with its option it asks for as many as that says
+--     is_too_much               a plan has more increments than one history has room for, and its cache doesn't live on
+--     AsksFor                   these words are right, and ask for threads by this plan
+--     ThreadsIsRight            `threads` with both options that must be given is right, in any order of them, and asks for so many
+--                               threads and rounds; so it is with the third one
+--     OptionMissingIsWrong      `threads` without one of the two is wrong
+--     NumberIsWrong             `threads` with no thread, with 32, with no round, with 10,001, with a word that is no number, or with histories
+--                               of 15 or 65,537 events is wrong, and so is `explore` with no state, with 1,000,001, or with a word that is no number
+--     NoWordIsWrong             no word at all is wrong: a subcommand is missing
+--     UnknownWordIsWrong        a word that isn't the program's, as `play`, is wrong
+--     WordTooManyIsWrong        a word after `run` is wrong, and one after `explore`
+--     FlagIsWrong               a flag that isn't the program's, as `--fast`, is wrong, before `run`, after it, and after `explore`
+--     HelpIsShown               `--help` and `-h` ask for help, before a subcommand and after it
+--     HelpWordIsShownOrWrong    `help` asks for help, or is wrong: `clap`'s contract leaves it open
+--     VersionIsShown            `--version` and `-V` ask for the version
+use Rattle.std.specs.Prelude.{◌≡◌, ◌≢◌, ◌<◌, ◌^◌, ℕ, List, [], ◌∷◌, Bool, true, false, codes, pos, Option, None, Some, option_map, ◌*◌, ◌&&◌, is_none, nat_lt}
+use Rattle.std.specs.Str.Parse.{IsNumeral, digits_value, without_leading_plus}
+use Rattle.clap.specs.Walk.{Row, Rule, Text, one_of}
+use Rattle.clap.specs.Words.{App, Kinds, fault_of, new_app, new_rule, subcommand_of, with_rule, with_subcommand}
+use Rattle.clap.specs.declared.builder.value_parser.ValueParser.{ValueParser}
+use Rattle.clap.specs.declared.builder.value_parser.ValueParser.TheVariants.{Signed}
+use Rattle.clap.specs.declared.error.kind.ErrorKind.TheVariants as kind
+use Rattle.jc_commands.specs.declared.budget.TheConstants.{STATES_DEFAULT, STATES_MAX}
+use Rattle.jc_commands.specs.declared.commands.Task.{Task}
+use Rattle.jc_commands.specs.declared.commands.Task.TheVariants as task
+use Rattle.jc_commands.specs.declared.plan.Plan.{Plan}
+use Rattle.jc_commands.specs.declared.plan.TheConstants.{WORKERS_MAX, ROUNDS_MAX, EVENTS_MIN, EVENTS_MAX, INCREMENTS_MAX}
+
+-- 1. The command.
+
+abbrev pub option_rule : Text → ValueParser → Bool → Rule
+option_rule name parser required = record (new_rule name) { long = Some name; value_names = 1; required = required; parser = Some parser }
+
+abbrev pub explore : App
+explore = with_rule (new_app (codes "explore")) (option_rule (codes "states") (Signed (pos 1) (pos STATES_MAX)) false)
+
+abbrev pub threads : App
+threads =
+    with_rule
+    (with_rule (with_rule (new_app (codes "threads")) (option_rule (codes "workers") (Signed (pos 1) (pos WORKERS_MAX)) true))
+    (option_rule (codes "rounds") (Signed (pos 1) (pos ROUNDS_MAX)) true))
+    (option_rule (codes "history") (Signed (pos EVENTS_MIN) (pos EVENTS_MAX)) false)
+
+abbrev pub player : App
+player =
+    let app = new_app (codes "jcache") in
+    with_subcommand (record app { top = record app.top { has_version = true; subcommand_required = true } }) (new_app (codes "run")).top
+
+abbrev pub program : App
+program = with_subcommand (with_subcommand player explore.top) threads.top
+
+abbrev pub faults_at : List (List ℕ) → Kinds
+faults_at words = fault_of program words
+
+abbrev pub subcommand_at : List (List ℕ) → Option (Text × List Row)
+subcommand_at words = subcommand_of program words
+
+-- 2. What is asked for.
+
+abbrev pub SpellsOr : (default : ℕ) → Option Text → ℕ → Type 0
+SpellsOr default None number = number ≡ default
+SpellsOr default (Some text) number =
+    IsNumeral 10 (without_leading_plus text) → digits_value 10 (without_leading_plus text) < 2 ^ 32 → number ≡ digits_value 10 (without_leading_plus text)
+
+abbrev pub SpellsIf : Option Text → Option ℕ → Type 0
+SpellsIf None number = number ≡ None
+SpellsIf (Some text) number =
+    IsNumeral 10 (without_leading_plus text) → digits_value 10 (without_leading_plus text) < 2 ^ 32 → number ≡ Some (digits_value 10 (without_leading_plus text))
+
+abbrev pub IsAsked : Option (Text × List Row) → Task → Type 0
+IsAsked found task.Run =
+    (option_map (λ named. named.0) found ≢ Some (codes "threads")) × (option_map (λ named. named.0) found ≢ Some (codes "explore"))
+IsAsked found (task.Explore states) =
+    (options : List Row) × (found ≡ Some (codes "explore", options))
+    × SpellsOr STATES_DEFAULT (one_of (codes "states") options) states
+IsAsked found (task.Threads plan) =
+    (options : List Row) × (found ≡ Some (codes "threads", options))
+    × SpellsOr 0 (one_of (codes "workers") options) plan.workers
+    × SpellsOr 0 (one_of (codes "rounds") options) plan.rounds
+    × SpellsIf (one_of (codes "history") options) plan.history
+
+-- 3. Words that are written out.
+
+abbrev pub RunIsRight : Type 0
+RunIsRight = (name : List ℕ) → (faults_at (name ∷ codes "run" ∷ []) ≡ []) × ((t : Task) → IsAsked (subcommand_at (name ∷ codes "run" ∷ [])) t → t ≡ task.Run)
+
+abbrev pub ExploresUpTo : List (List ℕ) → ℕ → Type 0
+ExploresUpTo words states = (faults_at words ≡ []) × ((t : Task) → IsAsked (subcommand_at words) t → t ≡ task.Explore states)
+
+abbrev pub ExploreIsRight : Type 0
+ExploreIsRight = (name : List ℕ)
+    → ExploresUpTo (name ∷ codes "explore" ∷ []) 200000
+    × ExploresUpTo (name ∷ codes "explore" ∷ codes "--states" ∷ codes "1" ∷ []) 1
+    × ExploresUpTo (name ∷ codes "explore" ∷ codes "--states=1000000" ∷ []) 1000000
+
+abbrev pub is_too_much : Plan → Bool
+is_too_much plan = is_none plan.history && nat_lt INCREMENTS_MAX (plan.workers * plan.rounds)
+
+abbrev pub AsksFor : List (List ℕ) → Plan → Type 0
+AsksFor words plan = (faults_at words ≡ []) × ((t : Task) → IsAsked (subcommand_at words) t → t ≡ task.Threads plan)
+
+abbrev pub ThreadsIsRight : Type 0
+ThreadsIsRight = (name : List ℕ)
+    → AsksFor (name ∷ codes "threads" ∷ codes "--workers" ∷ codes "4" ∷ codes "--rounds" ∷ codes "100" ∷ []) (record { workers = 4; rounds = 100; history = None })
+    × AsksFor (name ∷ codes "threads" ∷ codes "--rounds=10000" ∷ codes "--workers=31" ∷ []) (record { workers = 31; rounds = 10000; history = None })
+    × AsksFor (name ∷ codes "threads" ∷ codes "--rounds=10000" ∷ codes "--workers=31" ∷ codes "--history=16" ∷ []) (record { workers = 31; rounds = 10000; history = Some 16 })
+
+abbrev pub OptionMissingIsWrong : Type 0
+OptionMissingIsWrong = (name : List ℕ)
+    → (faults_at (name ∷ codes "threads" ∷ codes "--workers" ∷ codes "4" ∷ []) ≡ kind.MissingRequiredArgument ∷ [])
+    × (faults_at (name ∷ codes "threads" ∷ codes "--rounds" ∷ codes "100" ∷ []) ≡ kind.MissingRequiredArgument ∷ [])
+
+abbrev pub NumberIsWrong : Type 0
+NumberIsWrong = (name : List ℕ)
+    → (faults_at (name ∷ codes "threads" ∷ codes "--workers=0" ∷ codes "--rounds=1" ∷ []) ≡ kind.ValueValidation ∷ [])
+    × (faults_at (name ∷ codes "threads" ∷ codes "--workers=32" ∷ codes "--rounds=1" ∷ []) ≡ kind.ValueValidation ∷ [])
+    × (faults_at (name ∷ codes "threads" ∷ codes "--workers=1" ∷ codes "--rounds=0" ∷ []) ≡ kind.ValueValidation ∷ [])
+    × (faults_at (name ∷ codes "threads" ∷ codes "--workers=1" ∷ codes "--rounds=10001" ∷ []) ≡ kind.ValueValidation ∷ [])
+    × (faults_at (name ∷ codes "threads" ∷ codes "--workers=all" ∷ codes "--rounds=1" ∷ []) ≡ kind.ValueValidation ∷ [])
+    × (faults_at (name ∷ codes "threads" ∷ codes "--workers=1" ∷ codes "--rounds=1" ∷ codes "--history=15" ∷ []) ≡ kind.ValueValidation ∷ [])
+    × (faults_at (name ∷ codes "threads" ∷ codes "--workers=1" ∷ codes "--rounds=1" ∷ codes "--history=65537" ∷ []) ≡ kind.ValueValidation ∷ [])
+    × (faults_at (name ∷ codes "explore" ∷ codes "--states=0" ∷ []) ≡ kind.ValueValidation ∷ [])
+    × (faults_at (name ∷ codes "explore" ∷ codes "--states=1000001" ∷ []) ≡ kind.ValueValidation ∷ [])
+    × (faults_at (name ∷ codes "explore" ∷ codes "--states=all" ∷ []) ≡ kind.ValueValidation ∷ [])
+
+abbrev pub NoWordIsWrong : Type 0
+NoWordIsWrong = (name : List ℕ) → faults_at (name ∷ []) ≡ kind.MissingSubcommand ∷ []
+
+abbrev pub UnknownWordIsWrong : Type 0
+UnknownWordIsWrong = (name : List ℕ) → faults_at (name ∷ codes "play" ∷ []) ≡ kind.UnknownArgument ∷ kind.InvalidSubcommand ∷ []
+
+abbrev pub WordTooManyIsWrong : Type 0
+WordTooManyIsWrong = (name : List ℕ)
+    → (faults_at (name ∷ codes "run" ∷ codes "twice" ∷ []) ≡ kind.UnknownArgument ∷ [])
+    × (faults_at (name ∷ codes "explore" ∷ codes "twice" ∷ []) ≡ kind.UnknownArgument ∷ [])
+
+abbrev pub FlagIsWrong : Type 0
+FlagIsWrong = (name : List ℕ)
+    → (faults_at (name ∷ codes "--fast" ∷ []) ≡ kind.UnknownArgument ∷ [])
+    × (faults_at (name ∷ codes "run" ∷ codes "--fast" ∷ []) ≡ kind.UnknownArgument ∷ [])
+    × (faults_at (name ∷ codes "explore" ∷ codes "--fast" ∷ []) ≡ kind.UnknownArgument ∷ [])
+
+abbrev pub HelpIsShown : Type 0
+HelpIsShown = (name : List ℕ)
+    → (faults_at (name ∷ codes "--help" ∷ []) ≡ kind.DisplayHelp ∷ [])
+    × (faults_at (name ∷ codes "-h" ∷ []) ≡ kind.DisplayHelp ∷ [])
+    × (faults_at (name ∷ codes "run" ∷ codes "--help" ∷ []) ≡ kind.DisplayHelp ∷ [])
+    × (faults_at (name ∷ codes "explore" ∷ codes "--help" ∷ []) ≡ kind.DisplayHelp ∷ [])
+    × (faults_at (name ∷ codes "threads" ∷ codes "--help" ∷ []) ≡ kind.DisplayHelp ∷ [])
+
+abbrev pub HelpWordIsShownOrWrong : Type 0
+HelpWordIsShownOrWrong = (name : List ℕ) → faults_at (name ∷ codes "help" ∷ []) ≡ kind.DisplayHelp ∷ kind.InvalidSubcommand ∷ []
+
+abbrev pub VersionIsShown : Type 0
+VersionIsShown = (name : List ℕ)
+    → (faults_at (name ∷ codes "--version" ∷ []) ≡ kind.DisplayVersion ∷ [])
+    × (faults_at (name ∷ codes "-V" ∷ []) ≡ kind.DisplayVersion ∷ [])

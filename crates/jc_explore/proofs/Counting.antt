@@ -1,0 +1,103 @@
+-- The states that are known are as many scenes, no two of them alike.
+use Rattle.std.proofs.Common.{◌≡◌, ℕ, zero, suc, ◌<◌, List, [], ◌∷◌, length, Some, slice_get, get_or, sym, refl, ap, ◌∙◌, subst, arith, true}
+use Rattle.std.specs.List.{All, AllPairs}
+use Rattle.jc_world.specs.Determinism.{RunsAreDetermined}
+use Rattle.jc_world.specs.Essence.{WorldEssence, essence_of_world}
+use Rattle.jc_snapshot.specs.declared.seen.Seen.{Seen}
+use Rattle.jc_snapshot.specs.Laws.{HasOneSnapshot}
+use Rattle.jc_snapshot.specs.Snapshot.{IsSnapshot}
+use Rattle.jc_explore.specs.declared.key.StateKey.{StateKey}
+use Rattle.jc_explore.specs.declared.known.KnownState.{KnownState}
+use Rattle.jc_explore.specs.declared.known.States.{States}
+use Rattle.jc_explore.specs.declared.program.Program.{Program}
+use Rattle.jc_explore.specs.declared.search.Explored.{Explored}
+use Rattle.jc_explore.specs.Explored.{AreKnown, AreUnlike, HasEachKnown, HasEachScene, IsCounted, IsKnownBy, IsMet}
+use Rattle.jc_explore.specs.Keys.{ScenesAlike, IsKeyOf, HaveOneKey}
+use Rattle.jc_explore.specs.Schedule.{SceneState, Plays, opening}
+use Rattle.jc_explore.proofs.Runs.{plays-determined}
+use Rattle.jc_explore.proofs.Searching.{same-at, there-at}
+
+pub record IsSceneOf (p : Program) (seen : Seen) (k : KnownState) (s : SceneState) : Type 0 where
+  pub plays : Plays p (opening p) k.schedule.items s
+  pub key : IsKeyOf seen k.key s
+
+-- the scene at a place is that of the state there
+abbrev SceneAt : Program → Seen → List KnownState → List SceneState → ℕ → SceneState → Type 0
+SceneAt p seen known scenes i e = (k : KnownState) × (slice_get known i ≡ Some k) × IsSceneOf p seen k (get_or scenes i e)
+
+pub record AreScenesOf (p : Program) (seen : Seen) (known : List KnownState) (scenes : List SceneState) : Type 0 where
+  pub as_many : length scenes ≡ length known
+  pub at : (i : ℕ) (e : SceneState) → i < length known → SceneAt p seen known scenes i e
+
+at-cons : (p : Program) (seen : Seen) (k : KnownState) (ks : List KnownState) (s : SceneState) (ss : List SceneState) → IsSceneOf p seen k s
+    → ((i : ℕ) (e : SceneState) → i < length ks → SceneAt p seen ks ss i e)
+    → (i : ℕ) (e : SceneState) → i < length (k ∷ ks) → SceneAt p seen (k ∷ ks) (s ∷ ss) i e
+at-cons p seen k ks s ss first rest zero e h = (k, refl, first)
+at-cons p seen k ks s ss first rest (suc i) e h = rest i e (omega (arith, h))
+
+scenes-of : (p : Program) (seen : Seen) (known : List KnownState) → All (IsKnownBy p seen) known → (scenes : List SceneState) × AreScenesOf p seen known scenes
+scenes-of p seen [] all = ([], record { as_many = refl; at = λ i e h. absurd (omega (arith, h)) })
+scenes-of p seen (k ∷ ks) all =
+    let by : IsKnownBy p seen k = all 0 k (omega arith) in
+    let rest = scenes-of p seen ks (λ i d h. all (suc i) d (omega (arith, h))) in (
+      by.scene ∷ rest.0,
+      record {
+        as_many = ap (λ (n : ℕ). suc n) rest.1.as_many;
+        at = at-cons p seen k ks by.scene rest.0 (record { plays = by.plays; key = by.key }) rest.1.at;
+      },
+    )
+
+-- scenes that are alike have one key over the same tables
+one-key : (seen : Seen) → HasOneSnapshot seen → (a b : StateKey) (s t : SceneState) → IsKeyOf seen a s → IsKeyOf seen b t → ScenesAlike s t → HaveOneKey a b
+one-key seen only a b s t x y like =
+    let snapshot = only (essence_of_world t.world) a.snapshot b.snapshot
+    (subst (λ (e : WorldEssence). IsSnapshot e seen a.snapshot) like.world x.world) y.world in
+    let positions = x.positions ∙ like.positions ∙ sym y.positions in
+    let replies = x.replies ∙ like.replies ∙ sym y.replies in
+    λ i. record { snapshot = snapshot i; positions = positions i; replies = replies i }
+
+abbrev Apart : KnownState → KnownState → Type 0
+Apart a b = HaveOneKey a.key b.key → ⊥
+
+apart-at : (known : List KnownState) (i j : ℕ) (a b : KnownState) → i < j → j < length known → slice_get known i ≡ Some a → slice_get known j ≡ Some b
+    → AllPairs (λ (x y : KnownState). HaveOneKey x.key y.key → ⊥) known → Apart a b
+apart-at known i j a b below inside first second apart =
+    subst (λ (x : KnownState). Apart x b) (same-at known i a a (omega (arith, below, inside)) first)
+    (subst (λ (y : KnownState). Apart (get_or known i a) y) (same-at known j a b inside second) (apart i j a below inside))
+
+scenes-unlike : (p : Program) (states : States) (scenes : List SceneState) → HasOneSnapshot states.seen → AreKnown p states → AreScenesOf p states.seen states.list.items scenes → AreUnlike scenes
+scenes-unlike p states scenes only known are i j e below inside like =
+    let known_list = states.list.items in
+    let within : j < length known_list = omega (arith, inside, are.as_many) in
+    let a = are.at i e (omega (arith, below, within)) in
+    let b = are.at j e within in
+    apart-at known_list i j a.0 b.0 below within a.1 b.1 known.apart
+    (one-key states.seen only a.0.key b.0.key (get_or scenes i e) (get_or scenes j e) a.2.key b.2.key like)
+
+scenes-met : (p : Program) (seen : Seen) (known : List KnownState) (scenes : List SceneState) → AreScenesOf p seen known scenes → All (λ (s : SceneState). IsMet p s) scenes
+scenes-met p seen known scenes are i e h =
+    let a = are.at i e (omega (arith, h, are.as_many)) in
+    (a.0.schedule.items, a.2.plays)
+
+scenes-each : RunsAreDetermined → (p : Program) (seen : Seen) (known : List KnownState) (scenes : List SceneState) → AreScenesOf p seen known scenes → HasEachKnown p known → HasEachScene p scenes
+scenes-each det p seen known scenes are each s met =
+    let h = each s met in
+    let a = are.at h.0 s h.2 in
+    let inside : h.0 < length scenes = omega (arith, h.2, are.as_many) in
+    let here : SceneState = get_or scenes h.0 s in
+    let is : a.0 ≡ h.1 = sym (same-at known h.0 h.1 a.0 h.2 a.1) ∙ h.3 in
+    let plays : Plays p (opening p) h.1.schedule.items here = subst (λ (k : KnownState). Plays p (opening p) k.schedule.items here) is a.2.plays in
+    let same : h.4.0 ≡ here = plays-determined det p (opening p) h.4.0 here h.1.schedule.items h.4.1 plays in
+    (h.0, here, inside, same-at scenes h.0 here here inside (there-at scenes h.0 s inside), subst (λ (t : SceneState). ScenesAlike s t) same h.4.2)
+
+pub are-counted : RunsAreDetermined → (p : Program) (states : States) (r : Explored) → HasOneSnapshot states.seen → AreKnown p states → r.states ≡ length states.list.items
+    → (r.is_whole ≡ true → HasEachKnown p states.list.items) → IsCounted p r
+are-counted det p states r only known count each =
+    let made = scenes-of p states.seen states.list.items known.each in
+    record {
+      scenes = made.0;
+      count_is = count ∙ sym made.1.as_many;
+      met = scenes-met p states.seen states.list.items made.0 made.1;
+      unlike = scenes-unlike p states made.0 only known made.1;
+      each = λ whole. scenes-each det p states.seen states.list.items made.0 made.1 (each whole);
+    }

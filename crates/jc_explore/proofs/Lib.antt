@@ -1,0 +1,10 @@
+mod Essences
+mod AlikeScenes
+mod Keys
+mod Runs
+mod Scenes
+mod AllMoves
+mod Finals
+mod Searching
+mod Closing
+mod Counting

@@ -1,0 +1,91 @@
+-- A move of a schedule is one by what was played, and isn't one by what was played.
+use Rattle.std.proofs.Common.{◌≡◌, List, [], ◌∷◌, ◌++◌, Bool, true, false, Option, None, Some, slice_get, slice_set, sym, refl, ap, ◌∙◌, subst, true≢false}
+use Rattle.jc_world.specs.declared.event.WorldEvent.{WorldEvent}
+use Rattle.jc_world.specs.declared.event.Shown.{Shown}
+use Rattle.jc_world.specs.Determinism.{RunsAreDetermined, have_memory}
+use Rattle.jc_world.specs.Events.{Run, RunAppending}
+use Rattle.jc_world.specs.Fits.{fits}
+use Rattle.jc_world.specs.World.{WorldState}
+use Rattle.jc_explore.specs.declared.moves.Move.{Move}
+use Rattle.jc_explore.specs.declared.program.Program.{Program}
+use Rattle.jc_explore.specs.declared.scene.Position.{Position}
+use Rattle.jc_explore.specs.Schedule.{SceneState, may_begin, events_at, events_of, is_proper, position_after, positions_at, positions_after, replies_after, Moves}
+use Rattle.std.proofs.Common.{inl, inr, ◌&&◌, nat_lt, length}
+
+-- what was shown of its events decides whether it is one
+pub stays : RunsAreDetermined → (p : Program) (old : SceneState) (m : Move) (events : List WorldEvent) (seen : List Shown) (n : WorldState)
+    → events ≡ events_of p old m → RunAppending old.world events [] seen n → have_memory seen ≡ true → is_proper seen ≡ false
+    → (new : SceneState) → Moves p old m new → ⊥
+stays det p old m events seen n is ran memory improper new moves =
+    let run : Run old.world (events_of p old m) seen n =
+    subst (λ (es : List WorldEvent). Run old.world es seen n) is (subst (λ (ss : List Shown). Run old.world events ss n) (sym ran.2) ran.1) in
+    let same = det old.world n new.world (events_of p old m) seen moves.seen run memory moves.runs moves.memory in
+    true≢false (sym moves.proper ∙ ap is_proper (sym same.0) ∙ improper)
+
+pub goes : (p : Program) (old : SceneState) (m : Move) (events : List WorldEvent) (seen : List Shown) (new : SceneState)
+    → events ≡ events_of p old m → RunAppending old.world events [] seen new.world → have_memory seen ≡ true → is_proper seen ≡ true
+    → new.positions ≡ positions_after old m → new.replies ≡ replies_after m.thread old.replies seen → Moves p old m new
+goes p old m events seen new is ran memory proper positions replies =
+    record {
+      seen = seen;
+      runs = subst (λ (es : List WorldEvent). Run old.world es seen new.world) is (subst (λ (ss : List Shown). Run old.world events ss new.world) (sym ran.2) ran.1);
+      proper = proper;
+      memory = memory;
+      positions_are = positions;
+      replies_are = replies;
+    }
+
+nothing-runs : (w n : WorldState) (seen : List Shown) → Run w [] seen n → is_proper seen ≡ false
+nothing-runs w n [] run = refl
+nothing-runs w n (s ∷ seen) run = absurd run
+
+-- with no event there is no move
+pub nothing-moves : (p : Program) (old : SceneState) (m : Move) → events_of p old m ≡ [] → (new : SceneState) → Moves p old m new → ⊥
+nothing-moves p old m is new moves =
+    true≢false (sym moves.proper ∙ nothing-runs old.world new.world moves.seen (subst (λ (es : List WorldEvent). Run old.world es moves.seen new.world) is moves.runs))
+
+no-number : (p : Program) (w : WorldState) (m : Move) (position : Position) → may_begin w.last position m.act ≡ false → events_at p w m (Some position) ≡ []
+no-number p w m position none = rw none refl
+
+-- nor is there one if there is no number for it
+pub no-number-moves : (p : Program) (old : SceneState) (m : Move) (position : Position) → slice_get old.positions m.thread ≡ Some position
+    → may_begin old.world.last position m.act ≡ false → (new : SceneState) → Moves p old m new → ⊥
+no-number-moves p old m position at none =
+    nothing-moves p old m (ap (λ (o : Option Position). events_at p old.world m o) at ∙ no-number p old.world m position none)
+
+-- nor if there is no such thread
+pub nobody-moves : (p : Program) (old : SceneState) (m : Move) → slice_get old.positions m.thread ≡ None → (new : SceneState) → Moves p old m new → ⊥
+nobody-moves p old m at = nothing-moves p old m (ap (λ (o : Option Position). events_at p old.world m o) at)
+
+and-false : (b : Bool) → (b && false) ≡ false
+and-false true = refl
+and-false false = refl
+
+unfit-runs : (w n : WorldState) (e : WorldEvent) (es : List WorldEvent) (seen : List Shown) → fits w e ≡ false → Run w (e ∷ es) seen n → is_proper seen ≡ false
+unfit-runs w n e es [] unfit run = absurd run
+unfit-runs w n e es (s ∷ seen) unfit run =
+    elim run.1 [
+      | inl fit ↦ absurd (true≢false (sym fit.0 ∙ unfit))
+      | inr none ↦ ap (λ (x : Shown). is_proper (x ∷ seen)) none.1 ∙ and-false (nat_lt 0 (length (s ∷ seen)))
+    ]
+
+-- nor if its first event doesn't fit
+pub unfit-moves : (p : Program) (old : SceneState) (m : Move) (e : WorldEvent) (es : List WorldEvent) → events_of p old m ≡ e ∷ es → fits old.world e ≡ false
+    → (new : SceneState) → Moves p old m new → ⊥
+unfit-moves p old m e es is unfit new moves =
+    true≢false (sym moves.proper ∙ unfit-runs old.world new.world e es moves.seen unfit (subst (λ (xs : List WorldEvent). Run old.world xs moves.seen new.world) is moves.runs))
+
+-- the events, as they were appended
+pub events-are : (p : Program) (old : SceneState) (m : Move) (position : Position) (before after : List WorldEvent) → slice_get old.positions m.thread ≡ Some position
+    → before ≡ [] → after ≡ before ++ events_at p old.world m (Some position) → after ≡ events_of p old m
+events-are p old m position before after at none is =
+    is ∙ ap (λ (xs : List WorldEvent). xs ++ events_at p old.world m (Some position)) none ∙ ap (λ (o : Option Position). events_at p old.world m o) (sym at)
+
+-- a run, as it was played
+pub ran-as : (w n : WorldState) (es fs : List WorldEvent) (before seen : List Shown) → es ≡ fs → before ≡ [] → RunAppending w es before seen n → RunAppending w fs [] seen n
+ran-as w n es fs before seen is none ran =
+    subst (λ (xs : List Shown). RunAppending w fs xs seen n) none (subst (λ (xs : List WorldEvent). RunAppending w xs before seen n) is ran)
+
+pub positions-are : (old : SceneState) (m : Move) (position : Position) (positions : List Position) → slice_get old.positions m.thread ≡ Some position
+    → positions ≡ slice_set old.positions m.thread (position_after m.act position) → positions ≡ positions_after old m
+positions-are old m position positions at is = is ∙ ap (λ (o : Option Position). positions_at m old.positions o) (sym at)

@@ -1,0 +1,44 @@
+use Rattle.std.proofs.Common.{List, sym, subst}
+use Rattle.std.specs.List.{All, AllPairs}
+use Rattle.std.proofs.lemmas.List.Elements.{All-push}
+use Rattle.std.proofs.lemmas.List.Quantifiers.{all_pairs_push}
+use Rattle.jc_explore.specs.declared.known.KnownState.{KnownState}
+use Rattle.jc_explore.specs.Schedule.{state_of}
+use Rattle.jc_explore.specs.Explored.{IsKnown, IsKnownBy}
+use Rattle.jc_explore.specs.Keys.{HaveOneKey}
+use Rattle.jc_explore.proofs.Keys.{known-stay}
+use Rattle.jc_explore.proofs.Searching.{known-before, known-last, grows-refl, places-push, prints-push}
+use Rattle.jc_explore.proofs.known.note_state.Goals as goal
+
+pub returns-then-has : goal.returns-then-has
+returns-then-has c =
+    let p = c.args.program.now in
+    let known = c.args.known.now.list.items in
+    let seen = c.of.new.seen in
+    let stay = known-stay c.snapshots_stay.ensures p c.args.known.now.seen seen known c.in_ok-key.ensures.grows c.requires.known.each in
+    record {
+      known = record { each = stay; apart = c.requires.known.apart; prints = c.requires.known.prints; places = c.requires.known.places };
+      kept = grows-refl known;
+      there = known-before c.snapshots_tell.ensures p seen known c.in_ok-key.key (state_of c.args.scene.now) stay c.in_ok-key.ensures.key (c.has.ensures.there c.if-has.true);
+    }
+
+pub returns : goal.returns
+returns c =
+    let p = c.args.program.now in
+    let known = c.args.known.now.list.items in
+    let seen = c.of.new.seen in
+    let stay = known-stay c.snapshots_stay.ensures p c.args.known.now.seen seen known c.in_ok-key.ensures.grows c.requires.known.each in
+    let one : KnownState = record { schedule = c.args.schedule; key = c.in_ok-key.key } in
+    let by : IsKnownBy p seen one = record { scene = state_of c.args.scene.now; plays = c.requires.plays; key = c.in_ok-key.ensures.key; sessions = c.requires.sessions } in
+    record {
+      known = record {
+        each = subst (All (IsKnownBy p seen)) (sym c.in_ok-push-2.ensures.items) (All-push (IsKnownBy p seen) known one stay by);
+        apart = subst (AllPairs (λ (a b : KnownState). HaveOneKey a.key b.key → ⊥)) (sym c.in_ok-push-2.ensures.items)
+            (all_pairs_push (λ (a b : KnownState). HaveOneKey a.key b.key → ⊥) known one c.requires.known.apart (c.has.ensures.none c.if-has.false));
+        prints = prints-push known _ one c.args.known.now.fingerprints.items _ c.fingerprint-print.result c.requires.known.prints c.in_ok-push.ensures.items c.fingerprint-print.ensures c.in_ok-push-2.ensures.items;
+        places = places-push c.args.known.now.places c.note.new.self c.args.known.now.fingerprints.items _ c.fingerprint-print.result c.requires.known.places c.in_ok-note.ensures.others c.in_ok-note.ensures.there c.in_ok-push.ensures.items;
+      };
+      kept = (_, c.in_ok-push-2.ensures.items);
+      there = subst (λ (ks : List KnownState). IsKnown p ks (state_of c.args.scene.now)) (sym c.in_ok-push-2.ensures.items)
+          (known-last p known one (state_of c.args.scene.now) c.requires.plays);
+    }

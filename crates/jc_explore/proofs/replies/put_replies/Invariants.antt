@@ -1,0 +1,6 @@
+use Rattle.std.proofs.Common.{◌≡◌, drop}
+use Rattle.jc_explore.specs.Schedule.{replies_after}
+use Rattle.jc_explore.proofs.replies.put_replies.Given as goal
+
+abbrev pub invariant-loop-one : goal.invariant-loop-one
+invariant-loop-one l = replies_after l.thread l.replies.items (drop l.one-index l.shown) ≡ replies_after l.thread l.fn.replies.items l.shown

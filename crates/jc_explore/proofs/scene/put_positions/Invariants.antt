@@ -1,0 +1,6 @@
+use Rattle.std.proofs.Common.{◌≡◌, replicate}
+use Rattle.jc_explore.specs.Schedule.{unbegun}
+use Rattle.jc_explore.proofs.scene.put_positions.Given as goal
+
+abbrev pub invariant-loop-thread : goal.invariant-loop-thread
+invariant-loop-thread l = l.positions.items ≡ replicate l._thread unbegun

@@ -1,0 +1,9 @@
+use Rattle.std.proofs.Common.{◌≡◌, drop, true}
+use Rattle.jc_explore.specs.Schedule.{with_all_stored}
+use Rattle.jc_explore.proofs.scene.put_stored.Given as goal
+
+abbrev pub invariant-loop-key : goal.invariant-loop-key
+invariant-loop-key l = record {
+  fresh : l.world.world.is_fresh ≡ true;
+  left : with_all_stored l.world.world (drop l.key-index l.stored) ≡ with_all_stored l.fn.world.world l.stored;
+}

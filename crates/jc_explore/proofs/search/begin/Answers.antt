@@ -1,0 +1,28 @@
+use Rattle.std.proofs.Common.{[], List, sym, subst, arith}
+use Rattle.jc_explore.specs.declared.program.Program.{Program}
+use Rattle.jc_explore.specs.declared.search.Finding.{Finding}
+use Rattle.jc_explore.specs.Explored.{AreDistinct, AreWitnessed, IsKnown}
+use Rattle.jc_explore.proofs.Searching.{none-known}
+use Rattle.jc_explore.proofs.search.begin.Goals as goal
+
+none-witnessed : (p : Program) → AreWitnessed p []
+none-witnessed p k d h = absurd (omega (arith, h))
+
+none-distinct : AreDistinct []
+none-distinct i j d h inside = absurd (omega (arith, inside))
+
+pub note_state-requires-clause-known : goal.note_state-requires-clause-known
+note_state-requires-clause-known c = none-known c.args.program.now c.new-known.result c.new-known.ensures.list c.new-known.ensures.fingerprints
+
+pub returns : goal.returns
+returns c =
+    let p = c.args.program.now in
+    let n = c.in_ok-note_state.ensures in
+    record {
+      search = record {
+        known = n.known;
+        witnessed = subst (λ (xs : List Finding). AreWitnessed p xs) (sym c.new-found.ensures.items) (none-witnessed p);
+        distinct = subst (λ (xs : List Finding). AreDistinct xs) (sym c.new-found.ensures.items) none-distinct;
+      };
+      opening = subst (IsKnown p c.note_state.new.known.list.items) c.requires n.there;
+    }

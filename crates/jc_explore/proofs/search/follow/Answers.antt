@@ -1,0 +1,35 @@
+use Rattle.std.proofs.Common.{◌++◌, ◌∷◌, [], sym, subst, true≢false}
+use Rattle.jc_explore.specs.Explored.{IsKnown}
+use Rattle.jc_explore.specs.Schedule.{opening, state_of}
+use Rattle.jc_explore.proofs.AllMoves.{sessions-push}
+use Rattle.jc_explore.proofs.Runs.{plays-determined}
+use Rattle.jc_explore.proofs.Searching.{grows-refl}
+use Rattle.jc_explore.proofs.search.follow.Goals as goal
+
+pub returns-then-not-moved : goal.returns-then-not-moved
+returns-then-not-moved c =
+    let stays = c.in_ok-moved.ensures.stays c.if-not-moved.true in
+    record {
+      known = c.requires.known;
+      kept = grows-refl c.args.known.now.list.items;
+      all = λ s plays. absurd (stays s plays);
+      goes = λ t. absurd (true≢false (sym t));
+      stays = λ _. stays;
+    }
+
+pub note_next-requires-clause-sessions : goal.note_next-requires-clause-sessions
+note_next-requires-clause-sessions c = sessions-push c.args.schedule.now c.args.step c.requires.sessions c.requires.session
+
+pub returns : goal.returns
+returns c =
+    let p = c.args.program.now in
+    let here = c.in_ok-moved.ensures.moved c.if-not-moved.false in
+    let note = c.in_ok-note_next.ensures in
+    record {
+      known = note.known;
+      kept = note.kept;
+      all = λ s plays. subst (IsKnown p c.note_next.new.known.list.items)
+          (plays-determined c.runs_are_determined.ensures p (opening p) (state_of c.attempt.new.scene) s (c.args.schedule.now ++ c.args.step ∷ []) here plays) note.there;
+      goes = λ _. (state_of c.attempt.new.scene, here);
+      stays = λ f. absurd (true≢false f);
+    }

@@ -1,0 +1,10 @@
+use Rattle.std.proofs.Common.{◌≡◌, ◌<◌, ℕ, true}
+use Rattle.jc_explore.specs.Schedule.{have_sessions, state_of}
+use Rattle.jc_explore.proofs.Searching.{KeptAt}
+use Rattle.jc_explore.proofs.search.keep_moves.Given as goal
+
+abbrev pub invariant-loop-step : goal.invariant-loop-step
+invariant-loop-step l = record {
+  each : (k : ℕ) → k < l.step-index → KeptAt l.program (state_of l.scene) l.moves l.kept.items k;
+  sessions : have_sessions l.kept.items ≡ true;
+}

@@ -1,0 +1,79 @@
+use Rattle.std.proofs.Common.{◌≡◌, ℕ, eqb, ◌<◌, List, length, ◌∙◌, ap, subst, arith, true, true≢false, sym, inl, inr}
+use borrow.Author.Tests.{eqb-true, eqb-false}
+use Rattle.std.proofs.Common.{length-append}
+use Rattle.jc_explore.specs.declared.known.KnownState.{KnownState}
+use Rattle.jc_explore.specs.declared.moves.Move.{Move}
+use Rattle.jc_explore.specs.declared.search.Finding.{Finding}
+use Rattle.jc_explore.specs.Explored.{IsClosedAt}
+use Rattle.jc_explore.specs.Schedule.{opening}
+use Rattle.jc_explore.proofs.Closing.{IsClosedUpTo, closed-more, each-known, has-each}
+use Rattle.jc_explore.proofs.Searching.{known-grown, same-at}
+use Rattle.jc_explore.proofs.search.visit_all.Goals as goal
+
+pub returns-then-place-len : goal.returns-then-place-len
+returns-then-place-len c =
+    let p = c.args.program.now in
+    let i = c.loop-place.invariant in
+    let known = c.loop-place.search.known.list.items in
+    let found = c.loop-place.search.found.items in
+    record {
+      witnessed = i.search.witnessed;
+      distinct = i.search.distinct;
+      all = λ _. has-each p known found (subst (λ (n : ℕ). IsClosedUpTo p known found n) (c.if-place-len.true ∙ c.len.ensures ∙ c.loop-place.search.known.list.ok.0) i.closed) i.opening;
+      known = i.search.known;
+      scenes = λ _. each-known p known found (subst (λ (n : ℕ). IsClosedUpTo p known found n) (c.if-place-len.true ∙ c.len.ensures ∙ c.loop-place.search.known.list.ok.0) i.closed) i.opening;
+      tried = λ f. absurd (true≢false f);
+    }
+
+pub returns-then-has_too_many : goal.returns-then-has_too_many
+returns-then-has_too_many c =
+    let i = c.loop-place.invariant in
+    record {
+      witnessed = i.search.witnessed;
+      distinct = i.search.distinct;
+      all = λ t. absurd (true≢false (sym t));
+      known = i.search.known;
+      scenes = λ t. absurd (true≢false (sym t));
+      tried = λ _. inr (subst (λ (xs : List Finding). _ < length xs) c.deref.ensures.value (c.has_too_many.ensures c.if-has_too_many.true));
+    }
+
+pub loop-place-preserved : goal.loop-place-preserved
+loop-place-preserved c =
+    let p = c.args.program.now in
+    let i = c.loop-place.invariant in
+    let e = c.in_ok-visit.ensures in
+    let place = c.loop-place.place in
+    let was = c.loop-place.search.known.list.items in
+    let now = c.visit.new.search.known.list.items in
+    let apart = c.if-place-len.false in
+    let h : place < length was = omega (arith, i.within, apart, c.len.ensures, c.loop-place.search.known.list.ok.0) in
+    record {
+      search = e.search;
+      opening = known-grown p was now (opening p) e.known_kept i.opening;
+      closed = closed-more p was now c.loop-place.search.found.items c.visit.new.search.found.items place e.known_kept e.found_kept h i.closed
+          (λ m at. subst (λ (ms : List Move). IsClosedAt p now c.visit.new.search.found.items ms)
+          (c.deref-in-loop-place-2.ensures.value ∙ c.in_ok-schedule.ensures.items ∙ c.deref-in-loop-place.ensures.value ∙ ap (λ (x : KnownState). x.schedule.items) (c.index.ensures ∙ same-at was place c.index.result.now m h at))
+          e.closed);
+      within = omega (arith, h, length-append was e.known_kept.0, ap (λ (ks : List KnownState). length ks) e.known_kept.1);
+    }
+
+pub returns : goal.returns
+returns c =
+    let p = c.args.program.now in
+    let i = c.loop-place.invariant in
+    let known = c.loop-place.search.known.list.items in
+    let found = c.loop-place.search.found.items in
+    let b = c.loop-place-test.false in
+    let count : c.len-count.result ≡ length known = c.len-count.ensures ∙ c.loop-place.search.known.list.ok.0 in
+    let at_end : eqb c.len-count.result c.args.states ≡ true → c.loop-place.place ≡ length known =
+    λ whole. omega (arith, b, i.within, eqb-true c.len-count.result c.args.states whole, count) in
+    record {
+      witnessed = i.search.witnessed;
+      distinct = i.search.distinct;
+      all = λ whole. has-each p known found (subst (λ (n : ℕ). IsClosedUpTo p known found n) (at_end whole) i.closed) i.opening;
+      known = i.search.known;
+      scenes = λ whole. each-known p known found (subst (λ (n : ℕ). IsClosedUpTo p known found n) (at_end whole) i.closed) i.opening;
+      tried = λ f.
+          let apart = eqb-false c.len-count.result c.args.states f in
+          inl (omega (arith, b, i.within, apart, count));
+    }

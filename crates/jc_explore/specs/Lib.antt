@@ -1,0 +1,6 @@
+pub mod Moves
+pub mod Schedule
+pub mod Final
+pub mod Keys
+pub mod Explored
+pub mod Search

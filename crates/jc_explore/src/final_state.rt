@@ -1,0 +1,112 @@
+//! Final states of a program.
+ghost use Rattle.std.specs.Prelude.{◌≡◌, true, false, IfOk};
+ghost use Rattle.jc_explore.specs.Final.{final_of, IsFinal};
+ghost use Rattle.jc_explore.specs.Schedule.{state_of};
+
+use crate::replies::{ThreadReply, same_replies};
+use crate::scene::Scene;
+use jc_types::{Key, Value};
+use jc_world::Audit;
+use std::alloc::{AllocError, Global};
+
+/// How a run of a program ends: what the threads were answered, and what the cache and the store hold when nothing can happen any
+/// more. Entries and keys are in the byte order of the keys.
+#[derive(Drop)]
+pub struct FinalState {
+    /// What the threads were answered, thread by thread, each in the order of its calls. A thread that waits for ever has fewer replies
+    /// than calls.
+    pub replies: Vec<ThreadReply>,
+    /// What is cached.
+    pub cache: Vec<(Key, Value)>,
+    /// What the store holds.
+    pub store: Vec<(Key, Value)>,
+    /// The keys whose cached value isn't the store's, but for those whose writer has changed the store and whose call isn't committed.
+    pub differing: Vec<Key>,
+}
+
+fn is_key(one: &Key, other: &Key) -> bool
+    ensures same { result ≡ true → one.now ≡ other.now }
+    ensures apart { result ≡ false → one.now ≡ other.now → ⊥ }
+{
+    *one == *other
+}
+
+fn is_value(one: &Value, other: &Value) -> bool
+    ensures same { result ≡ true → one.now ≡ other.now }
+    ensures apart { result ≡ false → one.now ≡ other.now → ⊥ }
+{
+    *one == *other
+}
+
+fn is_entry(one: &(Key, Value), other: &(Key, Value)) -> bool
+    ensures same { result ≡ true → one.now ≡ other.now }
+    ensures apart { result ≡ false → one.now ≡ other.now → ⊥ }
+{
+    is_key(&one.0, &other.0) && is_value(&one.1, &other.1)
+}
+
+/// Whether two lists of entries are one.
+fn same_entries(one: &[(Key, Value)], other: &[(Key, Value)]) -> bool
+    ensures same { result ≡ true → one.now ≡ other.now }
+    ensures apart { result ≡ false → one.now ≡ other.now → ⊥ }
+{
+    if one.len() != other.len() {
+        return false;
+    }
+    for at in 0..one.len() {
+        if !is_entry(&one[at], &other[at]) {
+            return false;
+        }
+    }
+    true
+}
+
+/// Whether two lists of keys are one.
+fn same_keys(one: &[Key], other: &[Key]) -> bool
+    ensures same { result ≡ true → one.now ≡ other.now }
+    ensures apart { result ≡ false → one.now ≡ other.now → ⊥ }
+{
+    if one.len() != other.len() {
+        return false;
+    }
+    for at in 0..one.len() {
+        if !is_key(&one[at], &other[at]) {
+            return false;
+        }
+    }
+    true
+}
+
+impl FinalState {
+    /// What a scene has. An `Err` says that an allocation failed.
+    pub(crate) fn of(alloc: Global, scene: &Scene) -> Result<FinalState, AllocError>
+        ensures { IfOk result (λ f. IsFinal (state_of scene.now) (final_of f)) }
+    {
+        let replies = Vec::from_slice(alloc, &scene.replies)?;
+        let audit = scene.world.audit(alloc)?;
+        let Audit {
+            cache,
+            store,
+            differing,
+            events: _,
+            is_legal: _,
+        } = audit;
+        Ok(FinalState {
+            replies,
+            cache,
+            store,
+            differing,
+        })
+    }
+
+    /// Whether two final states are one.
+    pub(crate) fn is_same(&self, other: &FinalState) -> bool
+        ensures same { result ≡ true → final_of self.now ≡ final_of other.now }
+        ensures apart { result ≡ false → final_of self.now ≡ final_of other.now → ⊥ }
+    {
+        same_replies(&self.replies, &other.replies)
+            && same_entries(&self.cache, &other.cache)
+            && same_entries(&self.store, &other.store)
+            && same_keys(&self.differing, &other.differing)
+    }
+}

@@ -1,0 +1,112 @@
+//! What may happen to the threads of a program, one move at a time.
+ghost use Rattle.std.specs.Prelude.{◌≡◌, ◌++◌, IfOk, OnOk};
+ghost use Rattle.jc_explore.specs.Moves.{moves_of_thread, moves_up_to, is_begin};
+
+use std::alloc::{AllocError, Global};
+
+/// What may happen next to a thread: one phase of its call, or what is outside of it.
+#[derive(Clone, Copy, Debug, PartialEq, Eq)]
+pub enum Act {
+    /// Its next item begins: a call makes its first phase, another program writes the store.
+    Begin,
+    /// Its loader reads the store.
+    Read,
+    /// Its loader fails.
+    LoadFails,
+    /// Its entry processor runs. If its loader is asked, it reads the store.
+    Process,
+    /// Its entry processor runs. If its loader is asked, it fails.
+    ProcessLoadFails,
+    /// Its entry processor runs, and then fails. If its loader is asked, it reads the store.
+    ProcessFails,
+    /// Its writer does as it was asked.
+    Write,
+    /// Its writer fails, and has changed nothing.
+    WriteFails,
+    /// Its writer fails, and has changed the store.
+    WriteLies,
+    /// The last phase of its call.
+    Commit,
+    /// It asks for the answer of the load that it has joined.
+    PickUp,
+}
+
+impl Act {
+    /// Whether an item begins.
+    pub(crate) fn is_begin(self) -> bool
+        ensures { result ≡ is_begin self }
+    {
+        matches!(self, Act::Begin)
+    }
+}
+
+/// A move of a schedule.
+#[derive(Clone, Copy, Debug, PartialEq, Eq)]
+pub struct Move {
+    /// The thread, from 0.
+    pub thread: usize,
+    /// What happens to it.
+    pub act: Act,
+}
+
+/// Appends the moves of a thread.
+fn put_moves(moves: &mut Vec<Move>, thread: usize) -> Result<(), AllocError>
+    ensures { OnOk result (moves.new.items ≡ moves.old.items ++ moves_of_thread thread) }
+{
+    moves.push(Move {
+        thread,
+        act: Act::Begin,
+    })?;
+    moves.push(Move {
+        thread,
+        act: Act::Read,
+    })?;
+    moves.push(Move {
+        thread,
+        act: Act::LoadFails,
+    })?;
+    moves.push(Move {
+        thread,
+        act: Act::Process,
+    })?;
+    moves.push(Move {
+        thread,
+        act: Act::ProcessLoadFails,
+    })?;
+    moves.push(Move {
+        thread,
+        act: Act::ProcessFails,
+    })?;
+    moves.push(Move {
+        thread,
+        act: Act::Write,
+    })?;
+    moves.push(Move {
+        thread,
+        act: Act::WriteFails,
+    })?;
+    moves.push(Move {
+        thread,
+        act: Act::WriteLies,
+    })?;
+    moves.push(Move {
+        thread,
+        act: Act::Commit,
+    })?;
+    moves.push(Move {
+        thread,
+        act: Act::PickUp,
+    })?;
+    Ok(())
+}
+
+/// Each move that a program of so many threads can have, thread by thread.
+pub(crate) fn moves_up_to(alloc: Global, threads: usize) -> Result<Vec<Move>, AllocError>
+    ensures { IfOk result (λ moves. moves.items ≡ moves_up_to threads) }
+{
+    let mut moves = Vec::new(alloc);
+    for thread in 0..threads {
+        put_moves(&mut moves, thread)?;
+    }
+    Ok(moves)
+}

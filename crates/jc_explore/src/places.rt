@@ -1,0 +1,39 @@
+//! Where to look for a state with a fingerprint.
+ghost use Rattle.std.specs.Prelude.{ℕ, ◌<◌, IfNone, OnOk};
+ghost use Rattle.jc_explore.specs.Keys.{HasPlace};
+
+use std::alloc::{AllocError, Global};
+use std::collections::HashMap;
+
+/// For each fingerprint that was noted the place of the last state with it. That it is this state's is no promise of its contracts:
+/// the search needs only that a fingerprint without a place is of no state.
+#[derive(Drop)]
+pub struct Places {
+    /// The places.
+    pub by_print: HashMap<u64, usize>,
+}
+
+impl Places {
+    /// No places.
+    pub(crate) fn new(alloc: Global) -> Places {
+        Places {
+            by_print: HashMap::new(alloc),
+        }
+    }
+
+    /// A place to look at, if the fingerprint was noted.
+    pub(crate) fn find(&self, fingerprint: u64) -> Option<usize>
+        ensures { IfNone result (HasPlace self.now fingerprint → ⊥) }
+    {
+        self.by_print.get(&fingerprint).copied()
+    }
+
+    /// Notes a fingerprint's place. An `Err` says that an allocation failed.
+    pub(crate) fn note(&mut self, fingerprint: u64, place: usize) -> Result<(), AllocError>
+        ensures there { OnOk result (HasPlace self.new fingerprint) }
+        ensures others { OnOk result ((n : ℕ) → HasPlace self.old n → HasPlace self.new n) }
+    {
+        self.by_print.insert(fingerprint, place)?;
+        Ok(())
+    }
+}

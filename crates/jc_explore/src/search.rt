@@ -1,0 +1,416 @@
+//! The search: each state that can be reached is followed once, whatever leads to it, the states of short schedules first.
+ghost use Rattle.jc_explore.specs.declared.search.TheConstants.{OUTCOMES_MAX};
+ghost use Rattle.std.specs.Prelude.{◌≡◌, ◌||◌, ◌≤◌, ◌<◌, ◌++◌, ◌∷◌, [], List, Ok, length, true, false, IfOk, OnOk};
+ghost use Rattle.std.specs.List.{All};
+ghost use Rattle.jc_types.specs.Limits.{check};
+ghost use Rattle.jc_explore.specs.Explored.{AreDistinct, AreKnown, AreWitnessed, HasEachOutcome, IsCounted, IsEnd, IsFound, IsRefusedAs, IsTried, IsAccepted};
+ghost use Rattle.jc_explore.specs.Final.{FinalValue, IsFinal, final_of};
+ghost use Rattle.jc_explore.specs.Moves.{moves_up_to};
+ghost use Rattle.jc_explore.specs.Schedule.{SceneState, Moves, Plays, has_session, have_sessions, opening, state_of};
+ghost use Rattle.jc_explore.specs.Search.{Expands, Follows, Ends, HasExplored, KeepsMoves, kept_if, NotesEnd, IsSearchOf, Searches, Visits};
+
+use crate::final_state::FinalState;
+use crate::known::{States, note_next, note_state};
+use crate::moves::{Move, moves_up_to};
+use crate::program::Program;
+use crate::scene::Scene;
+use jc_snapshot::laws::has_one_snapshot;
+use jc_types::{Refusal, SESSIONS_MAX};
+use jc_world::determinism::runs_are_determined;
+use jc_world::essence::{essences_tell, worlds_go_on_alike};
+use std::alloc::{AllocError, Global};
+
+/// How many final states an exploration looks for. Once it has found more it stops.
+pub const OUTCOMES_MAX: usize = 4096;
+
+/// A final state, and a schedule that leads to it: a shortest one.
+#[derive(Drop)]
+pub struct Finding {
+    /// The final state.
+    pub state: FinalState,
+    /// The schedule.
+    pub witness: Vec<Move>,
+}
+
+/// What an exploration has found.
+#[derive(Drop)]
+pub struct Explored {
+    /// The final states, each once.
+    pub found: Vec<Finding>,
+    /// How many states it came to: scenes of which no two have one essence, equal positions and equal replies. If each was followed,
+    /// there is no other one.
+    pub states: u64,
+    /// Whether it followed each of them. Then there is no other final state.
+    pub is_whole: bool,
+}
+
+/// Why a program wasn't explored.
+#[derive(Clone, Copy, Debug, PartialEq, Eq)]
+pub enum ExploreFault {
+    /// An allocation failed.
+    OutOfMemory,
+    /// It has more than [`SESSIONS_MAX`](jc_types::SESSIONS_MAX) threads.
+    TooManyThreads,
+    /// The cache's shape is refused, as `Config::check` says.
+    BadConfig(Refusal),
+}
+
+/// What a search has come to so far.
+#[derive(Drop)]
+pub struct Search {
+    /// The states, in the order in which they are to be followed.
+    pub known: States,
+    /// The final states.
+    pub found: Vec<Finding>,
+}
+
+/// Makes the moves of a schedule. One that isn't a move then is refused as if an allocation had failed: it never comes.
+fn replay(
+    alloc: Global,
+    program: &Program,
+    scene: &mut Scene,
+    schedule: &[Move],
+) -> Result<(), AllocError>
+    requires { have_sessions schedule.now ≡ true }
+    ensures { OnOk result (Plays program.now (state_of scene.old) schedule.now (state_of scene.new)) }
+{
+    for step in schedule {
+        if !scene.step(alloc, program, *step)? {
+            return Err(AllocError);
+        }
+    }
+    Ok(())
+}
+
+/// Brings the scene to where a schedule leads from the opening.
+fn go_to(
+    alloc: Global,
+    program: &Program,
+    scene: &mut Scene,
+    schedule: &[Move],
+) -> Result<(), AllocError>
+    requires config { check program.now.config ≡ Ok tt }
+    requires sessions { have_sessions schedule.now ≡ true }
+    ensures { OnOk result (
+        Plays program.now (opening program.now) schedule.now (state_of scene.new)) }
+{
+    scene.restart(alloc, program)?;
+    replay(alloc, program, scene, schedule)?;
+    Ok(())
+}
+
+/// Brings the scene to where a schedule leads, unless it is there.
+fn return_to(
+    alloc: Global,
+    program: &Program,
+    scene: &mut Scene,
+    schedule: &[Move],
+    is_there: bool,
+) -> Result<(), AllocError>
+    requires config { check program.now.config ≡ Ok tt }
+    requires sessions { have_sessions schedule.now ≡ true }
+    requires there { is_there ≡ true
+        → Plays program.now (opening program.now) schedule.now (state_of scene.old) }
+    ensures { OnOk result (
+        Plays program.now (opening program.now) schedule.now (state_of scene.new)) }
+{
+    if is_there {
+        return Ok(());
+    }
+    go_to(alloc, program, scene, schedule)?;
+    Ok(())
+}
+
+/// Brings the scene to where a schedule and one more move lead, if that is one then. The scene may be where the schedule leads.
+fn attempt(
+    alloc: Global,
+    program: &Program,
+    scene: &mut Scene,
+    schedule: &[Move],
+    step: Move,
+    is_there: bool,
+) -> Result<bool, AllocError>
+    requires config { check program.now.config ≡ Ok tt }
+    requires sessions { have_sessions schedule.now ≡ true }
+    requires session { has_session step ≡ true }
+    requires there { is_there ≡ true
+        → Plays program.now (opening program.now) schedule.now (state_of scene.old) }
+    ensures moved { IfOk result (λ moved. moved ≡ true
+        → Plays program.now (opening program.now) (schedule.now ++ step ∷ []) (state_of scene.new)) }
+    ensures stays { IfOk result (λ moved. moved ≡ false
+        → (new : SceneState) → Plays program.now (opening program.now) (schedule.now ++ step ∷ []) new → ⊥) }
+{
+    runs_are_determined();
+    return_to(alloc, program, scene, schedule, is_there)?;
+    let moved = scene.step(alloc, program, step)?;
+    Ok(moved)
+}
+
+/// Follows one move after a schedule, if it is one then: the state to which it leads is known. The scene may be where the schedule
+/// leads.
+fn follow(
+    alloc: Global,
+    program: &Program,
+    scene: &mut Scene,
+    schedule: &[Move],
+    step: Move,
+    is_there: bool,
+    known: &mut States,
+) -> Result<bool, AllocError>
+    requires config { check program.now.config ≡ Ok tt }
+    requires sessions { have_sessions schedule.now ≡ true }
+    requires session { has_session step ≡ true }
+    requires there { is_there ≡ true
+        → Plays program.now (opening program.now) schedule.now (state_of scene.old) }
+    requires known { AreKnown program.now known.old }
+    ensures { IfOk result (λ moved.
+        Follows program.now schedule.now step known.old known.new moved) }
+{
+    runs_are_determined();
+    let moved = attempt(alloc, program, scene, schedule, step, is_there)?;
+    if !moved {
+        return Ok(false);
+    }
+    note_next(alloc, program, scene, schedule, step, known)?;
+    Ok(true)
+}
+
+/// Appends a move, if it may be one.
+fn keep_if(kept: &mut Vec<Move>, step: Move, may: bool) -> Result<(), AllocError>
+    ensures { OnOk result (kept.new.items ≡ kept_if may step kept.old.items) }
+{
+    if may {
+        kept.push(step)?;
+    }
+    Ok(())
+}
+
+/// Those of some moves of which the first event fits now: the others aren't moves.
+fn keep_moves(
+    alloc: Global,
+    program: &Program,
+    scene: &Scene,
+    moves: &[Move],
+) -> Result<Vec<Move>, AllocError>
+    requires { have_sessions moves.now ≡ true }
+    ensures { IfOk result (λ kept. KeepsMoves program.now (state_of scene.now) moves.now kept.items) }
+{
+    let mut kept = Vec::new(alloc);
+    for step in moves {
+        let may = scene.may(alloc, program, *step)?;
+        keep_if(&mut kept, *step, may)?;
+    }
+    Ok(kept)
+}
+
+/// Whether one of two is.
+fn either(one: bool, other: bool) -> bool
+    ensures { result ≡ (one || other) }
+{
+    one || other
+}
+
+/// Follows each of some moves after a schedule, and says whether any is one. The scene is where the schedule leads: the first move goes
+/// on from there, each other one after a replay.
+fn expand(
+    alloc: Global,
+    program: &Program,
+    scene: &mut Scene,
+    moves: &[Move],
+    schedule: &[Move],
+    known: &mut States,
+) -> Result<bool, AllocError>
+    requires config { check program.now.config ≡ Ok tt }
+    requires moves { have_sessions moves.now ≡ true }
+    requires sessions { have_sessions schedule.now ≡ true }
+    requires there { Plays program.now (opening program.now) schedule.now (state_of scene.old) }
+    requires known { AreKnown program.now known.old }
+    ensures { IfOk result (λ any.
+        Expands program.now moves.now schedule.now known.old known.new any) }
+{
+    let mut any = false;
+    let mut is_there = true;
+    for step in moves {
+        let moved = follow(alloc, program, scene, schedule, *step, is_there, known)?;
+        is_there = false;
+        let now = either(any, moved);
+        any = now;
+    }
+    Ok(any)
+}
+
+/// Whether a final state was found.
+fn is_found(found: &[Finding], state: &FinalState) -> bool
+    ensures there { result ≡ true → IsFound (final_of state.now) found.now }
+    ensures none { result ≡ false → All (λ x. final_of x.state ≡ final_of state.now → ⊥) found.now }
+{
+    for one in found {
+        if one.state.is_same(state) {
+            return true;
+        }
+    }
+    false
+}
+
+/// A schedule is whole, and has led to a scene. Its final state is noted, unless it was found.
+fn note_end(
+    alloc: Global,
+    program: &Program,
+    scene: &Scene,
+    schedule: &[Move],
+    found: &mut Vec<Finding>,
+) -> Result<(), AllocError>
+    requires plays { Plays program.now (opening program.now) schedule.now (state_of scene.now) }
+    requires ends { IsEnd program.now (state_of scene.now) }
+    requires witnessed { AreWitnessed program.now found.old.items }
+    requires distinct { AreDistinct found.old.items }
+    ensures { OnOk result (
+        NotesEnd program.now found.old.items found.new.items (state_of scene.now)) }
+{
+    let _threads = program.threads.len();
+    let state = FinalState::of(alloc, scene)?;
+    if is_found(found, &state) {
+        return Ok(());
+    }
+    let witness = Vec::from_slice(alloc, schedule)?;
+    found.push(Finding { state, witness })?;
+    Ok(())
+}
+
+/// Follows each move of a known state. If there is none, its final state is found.
+fn visit(
+    alloc: Global,
+    program: &Program,
+    scene: &mut Scene,
+    moves: &[Move],
+    schedule: &[Move],
+    search: &mut Search,
+) -> Result<(), AllocError>
+    requires accepted { IsAccepted program.now }
+    requires moves { moves.now ≡ moves_up_to (length program.now.threads.items) }
+    requires sessions { have_sessions schedule.now ≡ true }
+    requires search { IsSearchOf program.now search.old.known search.old.found.items }
+    ensures { OnOk result (Visits program.now schedule.now search.old search.new) }
+{
+    runs_are_determined();
+    worlds_go_on_alike();
+    essences_tell();
+    go_to(alloc, program, scene, schedule)?;
+    let kept = keep_moves(alloc, program, scene, moves)?;
+    let any = expand(alloc, program, scene, &kept, schedule, &mut search.known)?;
+    if any {
+        return Ok(());
+    }
+    go_to(alloc, program, scene, schedule)?;
+    note_end(alloc, program, scene, schedule, &mut search.found)?;
+    Ok(())
+}
+
+/// Whether more final states were found than an exploration looks for.
+fn has_too_many(found: &[Finding]) -> bool
+    ensures { result ≡ true → OUTCOMES_MAX < length found.now }
+{
+    found.len() > OUTCOMES_MAX
+}
+
+/// Follows states that are known, up to so many, and says whether it followed each.
+fn visit_all(
+    alloc: Global,
+    program: &Program,
+    scene: &mut Scene,
+    moves: &[Move],
+    states: usize,
+    search: &mut Search,
+) -> Result<bool, AllocError>
+    requires accepted { IsAccepted program.now }
+    requires moves { moves.now ≡ moves_up_to (length program.now.threads.items) }
+    requires search { Searches program.now search.old }
+    ensures { IfOk result (λ whole. Ends program.now states search.new whole) }
+{
+    runs_are_determined();
+    worlds_go_on_alike();
+    essences_tell();
+    for place in 0..states {
+        if place == search.known.list.len() {
+            return Ok(true);
+        }
+        if has_too_many(&search.found) {
+            return Ok(false);
+        }
+        let schedule = Vec::from_slice(alloc, &search.known.list[place].schedule)?;
+        visit(alloc, program, scene, moves, &schedule, search)?;
+    }
+    let count = search.known.list.len();
+    Ok(count == states)
+}
+
+/// A search that has come to the opening. The scene is to be at the opening.
+fn begin(alloc: Global, program: &Program, scene: &Scene) -> Result<Search, AllocError>
+    requires { state_of scene.now ≡ opening program.now }
+    ensures { IfOk result (λ search. Searches program.now search) }
+{
+    let mut known = States::new(alloc);
+    note_state(alloc, program, scene, Vec::new(alloc), &mut known)?;
+    let found = Vec::new(alloc);
+    Ok(Search { known, found })
+}
+
+/// Searches with a scene that is at the opening.
+fn search_with(
+    alloc: Global,
+    program: &Program,
+    scene: &mut Scene,
+    states: usize,
+) -> Result<Explored, AllocError>
+    requires accepted { IsAccepted program.now }
+    requires opened { state_of scene.old ≡ opening program.now }
+    ensures { IfOk result (λ r. HasExplored program.now states r) }
+{
+    let mut search = begin(alloc, program, scene)?;
+    let moves = moves_up_to(alloc, program.threads.len())?;
+    let is_whole = visit_all(alloc, program, scene, &moves, states, &mut search)?;
+    runs_are_determined();
+    has_one_snapshot(&search.known.seen);
+    let Search { known, found } = search;
+    Ok(Explored {
+        found,
+        states: known.list.len() as u64,
+        is_whole,
+    })
+}
+
+/// Searches from a new scene.
+fn search_anew(alloc: Global, program: &Program, states: usize) -> Result<Explored, AllocError>
+    requires accepted { IsAccepted program.now }
+    ensures { IfOk result (λ r. HasExplored program.now states r) }
+{
+    let mut scene = Scene::open(alloc, program)?;
+    let explored = search_with(alloc, program, &mut scene, states);
+    scene.close();
+    explored
+}
+
+/// Explores a program: each final state that it can have, with a schedule that leads there.
+///
+/// It follows at most so many states, and stops once it has found more than [`OUTCOMES_MAX`] final states: each one that it has found
+/// is real even then. A program with too many threads, or a shape that `Config::check` refuses, is refused.
+pub fn explore(alloc: Global, program: &Program, states: usize) -> Result<Explored, ExploreFault>
+    ensures witnessed { IfOk result (λ r. AreWitnessed program.now r.found.items) }
+    ensures distinct { IfOk result (λ r. AreDistinct r.found.items) }
+    ensures all { IfOk result (λ r. r.is_whole ≡ true → HasEachOutcome program.now r.found.items) }
+    ensures tried { IfOk result (λ r. r.is_whole ≡ false → IsTried states r) }
+    ensures counted { IfOk result (λ r. IsCounted program.now r) }
+    ensures refused { IsRefusedAs program.now result }
+{
+    if program.threads.len() > SESSIONS_MAX as usize {
+        return Err(ExploreFault::TooManyThreads);
+    }
+    match program.config.check() {
+        Ok(()) => {}
+        Err(refusal) => return Err(ExploreFault::BadConfig(refusal)),
+    }
+    match search_anew(alloc, program, states) {
+        Ok(explored) => Ok(explored),
+        Err(_) => Err(ExploreFault::OutOfMemory),
+    }
+}

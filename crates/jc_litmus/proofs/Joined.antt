@@ -1,0 +1,45 @@
+-- Words that are joined to a line.
+--     joined_spaced     a first word, and each other one after a space
+--     spelled_open      the line that opens a cache
+--     put_four          what is behind something after four steps
+--     spelled_process   the line of a processor's run
+use Rattle.std.proofs.Common.{◌≡◌, ◌∙◌, sym, ap, ℕ, List, [], ◌∷◌, ◌++◌, append-nil, append_assoc, refl, map, Option}
+use Rattle.std.specs.Prelude.{codes, decimal}
+use Rattle.std.specs.List.{join_with_byte}
+use Rattle.std.proofs.lemmas.Grind.{flat_map-append}
+use Rattle.jc_types.specs.declared.config.Config.{Config}
+use Rattle.jc_model.specs.declared.processor.EntryCall.{EntryCall}
+use Rattle.jc_world.specs.declared.process.LoadSource.{LoadSource}
+use Rattle.jc_script.specs.declared.line.Act.TheVariants.{Process}
+use Rattle.jc_script.specs.declared.line.Line.TheVariants.{OfCall, Open}
+use Rattle.jc_script.specs.ProcessWords.{call_text, fail_words, source_words}
+use Rattle.jc_script.specs.Spelled.{flag_words, spelling}
+use Rattle.jc_litmus.specs.Spaced.{lone_text, open_text, spaced}
+
+pub joined_spaced : (w : List ℕ) (ws : List (List ℕ)) → join_with_byte 32 (w ∷ ws) ≡ w ++ spaced ws
+joined_spaced w [] = sym (append-nil w)
+joined_spaced w (v ∷ vs) = ap (λ x. w ++ 32 ∷ x) (joined_spaced v vs)
+
+pub spelled_open : (config : Config) → spelling (Open config) ≡ open_text config (spaced (flag_words config.read_through config.write_through))
+spelled_open config =
+    ap (λ (x : List ℕ). join_with_byte 32 (codes "open" ∷ decimal config.stripes ∷ decimal config.capacity ∷ x ∷ []))
+    (joined_spaced (decimal config.history) (flag_words config.read_through config.write_through))
+
+pub put_four : (o o1 o2 o3 o4 a b d e s : List ℕ) → o1 ≡ o ++ a → o2 ≡ o1 ++ b → o3 ≡ o2 ++ d → o4 ≡ o3 ++ e → s ≡ a ++ (b ++ (d ++ e)) → o4 ≡ o ++ s
+put_four o o1 o2 o3 o4 a b d e s e1 e2 e3 e4 es =
+    e4
+    ∙ ap (λ (x : List ℕ). x ++ e) (e3 ∙ ap (λ (x : List ℕ). x ++ d) (e2 ∙ ap (λ (x : List ℕ). x ++ b) e1))
+    ∙ append_assoc ((o ++ a) ++ b) d e
+    ∙ append_assoc (o ++ a) b (d ++ e)
+    ∙ append_assoc o a (b ++ (d ++ e))
+    ∙ ap (λ (x : List ℕ). o ++ x) (sym es)
+
+pub spelled_process : (call : ℕ) (load : LoadSource) (calls : List EntryCall) (fail : Option ℕ) → spelling (OfCall call (Process load calls fail)) ≡ lone_text (codes "process") call ++ (spaced (source_words load) ++ (spaced (map call_text calls) ++ spaced (fail_words fail)))
+spelled_process call load calls fail =
+    joined_spaced (codes "process") (decimal call ∷ (source_words load ++ (map call_text calls ++ fail_words fail)))
+    ∙ ap (λ x. codes "process" ++ (32 ∷ decimal call ++ x)) (flat_map-append (λ (word : List ℕ). 32 ∷ word) (source_words load) (map call_text calls ++ fail_words fail)
+    ∙ ap (λ x. spaced (source_words load) ++ x) (flat_map-append (λ (word : List ℕ). 32 ∷ word) (map call_text calls) (fail_words fail)))
+    ∙ regroup
+  where
+    regroup : codes "process" ++ (32 ∷ decimal call ++ (spaced (source_words load) ++ (spaced (map call_text calls) ++ spaced (fail_words fail)))) ≡ lone_text (codes "process") call ++ (spaced (source_words load) ++ (spaced (map call_text calls) ++ spaced (fail_words fail)))
+    regroup = refl

@@ -1,0 +1,65 @@
+-- A program from its first line on.
+--     onto_the_last     an item more in the last of some threads
+--     pushed            the same, of threads in a vector
+--     pieces_some       there is always a piece of a text
+--     next_line         a line that is read
+--     at_fault          a line at fault
+--     last_line         what is behind the last line feed
+use Rattle.std.proofs.Common.{◌≡◌, ◌∙◌, ◌==◌, ap, sym, refl, ℕ, ◌+◌, Bool, true, false, cond, List, [], ◌∷◌, ◌++◌, Result, Ok, Err, map}
+use Rattle.std.specs.Global.{Vec}
+use Rattle.std.specs.List.{onto_first}
+use Rattle.std.proofs.lemmas.List.{map-append}
+use Rattle.jc_explore.specs.declared.program.Item.{Item}
+use Rattle.jc_script.specs.Transcript.{pieces_of}
+use Rattle.jc_litmus.specs.declared.line_error.LineError.{LineError}
+use Rattle.jc_litmus.specs.declared.line_error.LineError.TheVariants as errors
+use Rattle.jc_litmus.specs.declared.program.LineFault.{LineFault}
+use Rattle.jc_litmus.specs.Program.{after_line, ended, fault_at, is_blank, onto_last, program_from, ReadSoFar, ReadsLines, then_on}
+use Rattle.jc_litmus.specs.Reads.{Reads}
+
+pub onto_the_last : (one : Item) (threads : List (List Item)) (last : List Item) → onto_last one (threads ++ last ∷ []) ≡ threads ++ (last ++ one ∷ []) ∷ []
+onto_the_last one [] last = refl
+onto_the_last one (a ∷ []) last = refl
+onto_the_last one (a ∷ b ∷ more) last = ap (λ (x : List (List Item)). a ∷ x) (onto_the_last one (b ∷ more) last)
+
+pub pushed : (one : Item) (old front new : List (Vec Item)) (last changed : Vec Item) → old ≡ front ++ last ∷ [] → changed.items ≡ last.items ++ one ∷ [] → new ≡ front ++ changed ∷ []
+    → map (λ t. t.items) new ≡ onto_last one (map (λ t. t.items) old)
+pushed one old front new last changed cut put back =
+    ap (λ (x : List (Vec Item)). map (λ t. t.items) x) back
+    ∙ map-append (λ (t : Vec Item). t.items) front (changed ∷ [])
+    ∙ ap (λ (x : List Item). map (λ t. t.items) front ++ x ∷ []) put
+    ∙ sym (onto_the_last one (map (λ t. t.items) front) last.items)
+    ∙ ap (λ (x : List (List Item)). onto_last one x) (sym (ap (λ (x : List (Vec Item)). map (λ t. t.items) x) cut ∙ map-append (λ (t : Vec Item). t.items) front (last ∷ [])))
+
+first_of : (t : Bool) (x : ℕ) (parts : List (List ℕ)) → (p : List ℕ) × (ps : List (List ℕ)) × (cond t ([] ∷ parts) (onto_first x parts) ≡ p ∷ ps)
+first_of true x parts = ([], parts, refl)
+first_of false x [] = (x ∷ [], [], refl)
+first_of false x (q ∷ qs) = (x ∷ q, qs, refl)
+
+pub pieces_some : (bs : List ℕ) → (p : List ℕ) × (ps : List (List ℕ)) × (pieces_of bs ≡ p ∷ ps)
+pieces_some [] = ([], [], refl)
+pieces_some (b ∷ bs) = first_of (b == 10) b (pieces_of bs)
+
+-- a line that has more behind it
+at_line : (so_far : ReadSoFar) (n : ℕ) (text after rest : List ℕ) → pieces_of rest ≡ text ∷ pieces_of after
+    → program_from so_far n (pieces_of rest) ≡ then_on n (after_line so_far text) (λ new. program_from new (n + 1) (pieces_of after))
+at_line so_far n text after rest cut =
+    let s = pieces_some after in
+    ap (λ (x : List (List ℕ)). program_from so_far n x) (cut ∙ ap (λ (x : List (List ℕ)). text ∷ x) s.2)
+    ∙ ap (λ (x : List (List ℕ)). then_on n (after_line so_far text) (λ new. program_from new (n + 1) x)) (sym s.2)
+
+pub next_line : (so_far new : ReadSoFar) (n : ℕ) (text after rest : List ℕ) → pieces_of rest ≡ text ∷ pieces_of after → after_line so_far text ≡ Ok new
+    → program_from so_far n (pieces_of rest) ≡ program_from new (n + 1) (pieces_of after)
+next_line so_far new n text after rest cut read =
+    at_line so_far n text after rest cut
+    ∙ ap (λ (r : Result ReadSoFar LineFault). then_on n r (λ new. program_from new (n + 1) (pieces_of after))) read
+
+pub at_fault : (so_far new : ReadSoFar) (n : ℕ) (text after rest : List ℕ) (error : LineError) → pieces_of rest ≡ text ∷ pieces_of after
+    → Reads {X = ReadSoFar} (Err error) (after_line so_far text) → ReadsLines (Err (fault_at n error)) new (program_from so_far n (pieces_of rest))
+at_fault so_far new n text after rest errors.Memory cut read = tt
+at_fault so_far new n text after rest (errors.Fault fault) cut read =
+    at_line so_far n text after rest cut
+    ∙ ap (λ (r : Result ReadSoFar LineFault). then_on n r (λ new. program_from new (n + 1) (pieces_of after))) read
+
+pub last_line : (so_far : ReadSoFar) (n : ℕ) (rest : List ℕ) → pieces_of rest ≡ rest ∷ [] → program_from so_far n (pieces_of rest) ≡ ended so_far n (is_blank rest)
+last_line so_far n rest uncut = ap (λ (x : List (List ℕ)). program_from so_far n x) uncut

@@ -1,0 +1,7 @@
+use Rattle.std.proofs.Common.{◌≡◌, ◌++◌, map, drop}
+use Rattle.jc_script.specs.ProcessWords.{call_text}
+use Rattle.jc_litmus.specs.Spaced.{spaced}
+use Rattle.jc_litmus.proofs.spelling.put_entry_calls.Given as goal
+
+abbrev pub invariant-loop-call : goal.invariant-loop-call
+invariant-loop-call l = l.out.items ++ spaced (map call_text (drop l.call-index l.calls)) ≡ l.fn.out.items ++ spaced (map call_text l.calls)

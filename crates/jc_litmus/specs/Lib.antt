@@ -1,0 +1,16 @@
+pub mod LineFaults
+pub mod Reads
+pub mod Then
+pub mod WordParts
+pub mod ReplyWords
+pub mod Calls
+pub mod Atoms
+pub mod Grammar
+pub mod Opened
+pub mod Program
+pub mod Judging
+pub mod Spaced
+pub mod Witness
+pub mod Outcomes
+pub mod Meaning
+pub mod Running

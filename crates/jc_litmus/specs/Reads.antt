@@ -1,0 +1,19 @@
+-- What a function that reads a line gives.
+--     error_of      an error of a script's reader, as one of a program's
+--     Reads         what a function returned is what the definition says, unless an allocation failed
+use Rattle.std.specs.Prelude.{◌≡◌, Result, Ok, Err}
+use Rattle.jc_script.specs.declared.fault.ReadError.{ReadError}
+use Rattle.jc_script.specs.declared.fault.ReadError.TheVariants as script
+use Rattle.jc_litmus.specs.declared.program.LineFault.{LineFault}
+use Rattle.jc_litmus.specs.declared.program.LineFault.TheVariants as faults
+use Rattle.jc_litmus.specs.declared.line_error.LineError.{LineError}
+use Rattle.jc_litmus.specs.declared.line_error.LineError.TheVariants as errors
+
+abbrev pub error_of : ReadError → LineError
+error_of script.Memory = errors.Memory
+error_of (script.Fault fault) = errors.Fault (faults.Script fault)
+
+abbrev pub Reads : {X : Type 0} → Result X LineError → Result X LineFault → Type 0
+Reads (Ok x) said = said ≡ Ok x
+Reads (Err errors.Memory) said = Unit {0}
+Reads (Err (errors.Fault fault)) said = said ≡ Err fault

@@ -1,0 +1,66 @@
+-- Runs: from what a reader gives to what a writer takes.
+--     IsExplored   what an exploration with this budget of states has found: outcomes with their schedules, no two the same, and each
+--                  one if it is whole; else it has met more states than the budget, or more outcomes than the limit
+--     IsAnswer     an output is the answer of an exploration of a program, and the end is that of its expectations, and means
+--                  what it says of all schedules
+--     IsComplaint  an output names the line of the input that is the first at fault, with its fault, and the end says so
+--     Answers      the answer to the program that the input's text says, or the complaint of that text
+--     Ran          the input was read to its end, and its answer written
+--     Broke        the same, up to a write that failed
+use Rattle.std.specs.Prelude.{◌≡◌, ◌≤◌, ◌⊎◌, ℕ, List, take, length, Option, Ok, Err, true, false}
+use Rattle.std.specs.Io.KnownBytes.{Appends}
+use Rattle.jc_explore.specs.declared.program.Program.{Program}
+use Rattle.jc_explore.specs.declared.search.Explored.{Explored}
+use Rattle.jc_explore.specs.Explored.{AreDistinct, AreWitnessed, HasEachOutcome, IsCounted, IsTried}
+use Rattle.jc_script.specs.Running.{ReadsAll}
+use Rattle.jc_litmus.specs.declared.run.LitmusEnd.{LitmusEnd}
+use Rattle.jc_litmus.specs.declared.run.LitmusEnd.TheVariants.{LineFault}
+use Rattle.jc_litmus.specs.declared.program.LineFault as faulty
+use Rattle.jc_litmus.specs.declared.program.Litmus.{Litmus}
+use Rattle.jc_litmus.specs.Judging.{end_of}
+use Rattle.jc_litmus.specs.Meaning.{EndMeans}
+use Rattle.jc_litmus.specs.Outcomes.{answer_text, fault_text}
+use Rattle.jc_litmus.specs.Program.{program_of, value_of_program}
+
+pub record IsExplored (p : Program) (budget : ℕ) (r : Explored) : Type 0 where
+  pub witnessed : AreWitnessed p r.found.items
+  pub distinct : AreDistinct r.found.items
+  pub all : r.is_whole ≡ true → HasEachOutcome p r.found.items
+  pub tried : r.is_whole ≡ false → IsTried budget r
+  pub counted : IsCounted p r
+
+pub record IsAnswer (budget : ℕ) (x : Litmus) (out : List ℕ) (end : LitmusEnd) : Type 0 where
+  pub explored : Explored
+  pub is_explored : IsExplored x.program budget explored
+  pub out_is : out ≡ answer_text budget x.program explored x.expectations.items
+  pub end_is : end ≡ end_of explored x.expectations.items
+  pub means : EndMeans x.program x.expectations.items end
+
+pub record IsComplaint (input out : List ℕ) (end : LitmusEnd) : Type 0 where
+  pub line : ℕ
+  pub fault : faulty.LineFault
+  pub is_first : program_of input ≡ Err (line, fault)
+  pub out_is : out ≡ fault_text line fault
+  pub end_is : end ≡ LineFault
+
+abbrev pub Answers : ℕ → List ℕ → List ℕ → LitmusEnd → Type 0
+Answers budget input out end =
+    ((x : Litmus) × (program_of input ≡ Ok (value_of_program x)) × IsAnswer budget x out end)
+    ⊎ IsComplaint input out end
+
+pub record Ran (budget : ℕ) (before after old new : Option (List ℕ)) (end : LitmusEnd) : Type 0 where
+  pub input : List ℕ
+  pub read : ReadsAll before after input
+  pub out : List ℕ
+  pub answer : Answers budget input out end
+  pub written : Appends old new out
+
+pub record Broke (budget : ℕ) (before after old new : Option (List ℕ)) : Type 0 where
+  pub input : List ℕ
+  pub read : ReadsAll before after input
+  pub out : List ℕ
+  pub end : LitmusEnd
+  pub answer : Answers budget input out end
+  pub count : ℕ
+  pub within : count ≤ length out
+  pub written : Appends old new (take count out)

@@ -1,0 +1,8 @@
+-- What a step that may fail continues with.
+use Rattle.std.specs.Prelude.{Result, Ok, Err}
+use Rattle.jc_litmus.specs.declared.program.LineFault.{LineFault}
+
+infixl 10 ◌>>=◌
+abbrev pub ◌>>=◌ : {A B : Type 0} → Result A LineFault → (A → Result B LineFault) → Result B LineFault
+(Ok x) >>= f = f x
+(Err e) >>= f = Err e

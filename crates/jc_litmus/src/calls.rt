@@ -1,0 +1,121 @@
+//! The calls of a program, by the numbers that an expectation names them by.
+ghost use Rattle.std.specs.Prelude.{◌≡◌, count_by, map, take, slice_get, option_copied};
+ghost use Rattle.jc_litmus.specs.Calls.{answered, is_call, answered_at, call_in, place_of, call_at, call_named};
+
+use crate::program::LineFault;
+use crate::reply_words::{Answer, answer_kind};
+use jc_explore::Item;
+
+/// How a call is answered if it is neither refused nor fails. A write of another program isn't answered.
+fn answered(item: &Item) -> Option<Answer>
+    ensures { result ≡ answered item.now }
+{
+    match item {
+        Item::Call { op, .. } => Some(answer_kind(op)),
+        Item::Invoke { .. } => Some(Answer::Value),
+        Item::Foreign { .. } => None,
+    }
+}
+
+/// Whether an item is a call.
+fn is_call(item: &Item) -> bool
+    ensures { result ≡ is_call item.now }
+{
+    match item {
+        Item::Call { .. } | Item::Invoke { .. } => true,
+        Item::Foreign { .. } => false,
+    }
+}
+
+/// How many of these items are calls.
+fn calls_in(items: &[Item]) -> usize
+    ensures { result ≡ count_by is_call items.now }
+{
+    items.iter().filter(|item| is_call(item)).count()
+}
+
+/// The first items, so many, or all.
+fn front(items: &[Item], count: usize) -> &[Item]
+    ensures { result.now ≡ take count items.now }
+{
+    if items.len() < count {
+        items
+    } else {
+        &items[..count]
+    }
+}
+
+/// The item at a place.
+fn item_at(items: &[Item], at: usize) -> Option<&Item>
+    ensures { option_copied result ≡ slice_get items.now at }
+{
+    items.get(at)
+}
+
+/// How the item at a place is answered, if it is there and is a call.
+fn answered_at(items: &[Item], at: usize) -> Option<Answer>
+    ensures { result ≡ answered_at (slice_get items.now at) }
+{
+    match item_at(items, at) {
+        None => None,
+        Some(item) => answered(item),
+    }
+}
+
+/// A call of a thread: its place among the thread's calls, and how it is answered.
+fn call_in(items: &[Item], at: usize) -> Result<(usize, Answer), LineFault>
+    ensures { result ≡ call_in items.now at }
+{
+    match answered_at(items, at) {
+        None => Err(LineFault::NoSuchItem),
+        Some(answer) => Ok((calls_in(front(items, at)), answer)),
+    }
+}
+
+/// The place of a number that counts from 1.
+fn place_of(number: u32) -> Result<usize, LineFault>
+    ensures { result ≡ place_of number }
+{
+    if number == 0 {
+        return Err(LineFault::NoSuchItem);
+    }
+    Ok(number as usize - 1)
+}
+
+/// A call that an expectation names.
+#[derive(Clone, Copy)]
+pub(crate) struct Named {
+    /// The thread, from 0.
+    pub thread: usize,
+    /// The place among the thread's calls, from 0.
+    pub call: usize,
+    /// How it is answered.
+    pub answer: Answer,
+}
+
+/// The call at a place of a thread.
+fn call_at(threads: &[Vec<Item>], thread: usize, at: usize) -> Result<Named, LineFault>
+    ensures { result ≡ call_at thread at (slice_get (map (λ t. t.items) threads.now) thread) }
+{
+    match threads.get(thread) {
+        None => Err(LineFault::NoSuchItem),
+        Some(items) => {
+            let (call, answer) = call_in(items, at)?;
+            Ok(Named {
+                thread,
+                call,
+                answer,
+            })
+        }
+    }
+}
+
+/// The call with these numbers of its thread and of its item there, which count from 1.
+#[tactic(auto, unfolding(crate::specs::Calls::call_named))]
+pub(crate) fn call_named(threads: &[Vec<Item>], thread: u32, item: u32) -> Result<Named, LineFault>
+    ensures { result ≡ call_named (map (λ t. t.items) threads.now) thread item }
+{
+    let thread = place_of(thread)?;
+    let at = place_of(item)?;
+    call_at(threads, thread, at)
+}

@@ -1,0 +1,245 @@
+//! Outcomes, as text.
+ghost use Rattle.std.specs.Prelude.{◌≡◌, ◌++◌, ◌+◌, ◌<◌, ◌^◌, codes, length, slice_get, OnOk};
+ghost use Rattle.jc_litmus.specs.Outcomes.{answer_line, call_text, calls_before, is_call, item_text, number_line, outcome_if, outcome_text, outcomes_text};
+ghost use Rattle.jc_litmus.specs.Outcomes.{place_name, replies_to, reply_line, state_text, stuck_line, thread_at, thread_text, threads_text};
+
+use crate::judge::reply_of;
+use crate::witness::put_witness;
+use jc_explore::{FinalState, Finding, Item, Program, ThreadReply};
+use jc_model::Reply;
+use jc_script::print_audit::{put_coherence, put_entries_line};
+use jc_script::printing::{Piece, put_pieces};
+use std::alloc::{AllocError, Global};
+
+/// Whether an item is a call, and no write of another program.
+fn is_call(item: &Item) -> bool
+    ensures { result ≡ is_call item.now }
+{
+    match item {
+        Item::Call { op: _, key: _ } | Item::Invoke { key: _, calls: _ } => true,
+        Item::Foreign { key: _, value: _ } => false,
+    }
+}
+
+/// How many calls are before a place of a thread's list.
+fn calls_before(items: &[Item], at: usize) -> usize
+    requires { at < length items.now }
+    ensures { result ≡ calls_before items.now at }
+{
+    items[..at].iter().filter(|item| is_call(*item)).count()
+}
+
+/// How many replies a thread got.
+fn replies_to(thread: usize, replies: &[ThreadReply]) -> usize
+    ensures { result ≡ replies_to thread replies.now }
+{
+    replies.iter().filter(|r| r.thread == thread).count()
+}
+
+/// Appends the line of a call that was answered.
+#[tactic(auto, unfolding(crate::specs::Outcomes::reply_line, crate::specs::Outcomes::place_name))]
+fn put_reply_line(
+    out: &mut Vec<u8>,
+    thread: usize,
+    at: usize,
+    reply: &Reply,
+) -> Result<(), AllocError>
+    requires thread { thread + 1 < 2 ^ 64 }
+    requires at { at + 1 < 2 ^ 64 }
+    ensures { OnOk result (out.new.items ≡ out.old.items ++ reply_line thread at reply.now) }
+{
+    put_pieces(
+        out,
+        &[
+            Piece::Number(thread as u64 + 1),
+            Piece::Text("."),
+            Piece::Number(at as u64 + 1),
+            Piece::Text(" "),
+            Piece::Reply(reply),
+            Piece::Text("\n"),
+        ],
+    )
+}
+
+/// Appends the line of a call that never was answered.
+#[tactic(auto, unfolding(crate::specs::Outcomes::stuck_line, crate::specs::Outcomes::place_name))]
+fn put_stuck_line(out: &mut Vec<u8>, thread: usize, at: usize) -> Result<(), AllocError>
+    requires thread { thread + 1 < 2 ^ 64 }
+    requires at { at + 1 < 2 ^ 64 }
+    ensures { OnOk result (out.new.items ≡ out.old.items ++ stuck_line thread at) }
+{
+    put_pieces(
+        out,
+        &[
+            Piece::Number(thread as u64 + 1),
+            Piece::Text("."),
+            Piece::Number(at as u64 + 1),
+            Piece::Text(" stuck\n"),
+        ],
+    )
+}
+
+/// Appends the line of a call, if it was answered, or is the first of its thread that wasn't.
+fn put_call(
+    out: &mut Vec<u8>,
+    replies: &[ThreadReply],
+    thread: usize,
+    at: usize,
+    call: usize,
+) -> Result<(), AllocError>
+    requires thread { thread + 1 < 2 ^ 64 }
+    requires at { at + 1 < 2 ^ 64 }
+    ensures { OnOk result (out.new.items ≡ out.old.items ++ call_text replies.now thread at call) }
+{
+    match reply_of(thread, call, replies) {
+        Some(reply) => put_reply_line(out, thread, at, &reply),
+        None => {
+            if call == replies_to(thread, replies) {
+                put_stuck_line(out, thread, at)
+            } else {
+                Ok(())
+            }
+        }
+    }
+}
+
+/// Appends what is said of a thread's item.
+fn put_item(
+    out: &mut Vec<u8>,
+    replies: &[ThreadReply],
+    thread: usize,
+    items: &[Item],
+    at: usize,
+) -> Result<(), AllocError>
+    requires thread { thread + 1 < 2 ^ 64 }
+    requires at { at < length items.now }
+    ensures { OnOk result (out.new.items ≡ out.old.items ++ item_text replies.now thread items.now at) }
+{
+    if is_call(&items[at]) {
+        put_call(out, replies, thread, at, calls_before(items, at))
+    } else {
+        Ok(())
+    }
+}
+
+/// Appends what is said of a thread.
+fn put_thread(
+    out: &mut Vec<u8>,
+    replies: &[ThreadReply],
+    thread: usize,
+    items: &[Item],
+) -> Result<(), AllocError>
+    requires { thread + 1 < 2 ^ 64 }
+    ensures { OnOk result (out.new.items ≡ out.old.items ++ thread_text replies.now thread items.now) }
+{
+    for at in 0..items.len() {
+        put_item(out, replies, thread, items, at)?;
+    }
+    Ok(())
+}
+
+/// Appends what is said of a thread, if there is one with this number.
+fn put_thread_at(
+    out: &mut Vec<u8>,
+    program: &Program,
+    replies: &[ThreadReply],
+    thread: usize,
+) -> Result<(), AllocError>
+    requires { thread + 1 < 2 ^ 64 }
+    ensures { OnOk result (out.new.items
+        ≡ out.old.items ++ thread_at replies.now thread (slice_get program.now.threads.items thread)) }
+{
+    match program.threads.get(thread) {
+        Some(items) => put_thread(out, replies, thread, items),
+        None => Ok(()),
+    }
+}
+
+/// Appends what is said of each thread.
+fn put_threads(
+    out: &mut Vec<u8>,
+    program: &Program,
+    replies: &[ThreadReply],
+) -> Result<(), AllocError>
+    ensures { OnOk result (out.new.items ≡ out.old.items ++ threads_text program.now replies.now) }
+{
+    for thread in 0..program.threads.len() {
+        put_thread_at(out, program, replies, thread)?;
+    }
+    Ok(())
+}
+
+/// Appends a final state.
+fn put_state(out: &mut Vec<u8>, program: &Program, state: &FinalState) -> Result<(), AllocError>
+    ensures { OnOk result (out.new.items ≡ out.old.items ++ state_text program.now state.now) }
+{
+    put_threads(out, program, &state.replies)?;
+    put_entries_line(out, "cache", &state.cache)?;
+    put_entries_line(out, "store", &state.store)?;
+    put_coherence(out, &state.differing)
+}
+
+/// Appends the number of an outcome.
+#[tactic(auto, unfolding(crate::specs::Outcomes::number_line))]
+fn put_number_line(out: &mut Vec<u8>, at: usize) -> Result<(), AllocError>
+    requires { at + 1 < 2 ^ 64 }
+    ensures { OnOk result (out.new.items ≡ out.old.items ++ number_line at) }
+{
+    put_pieces(
+        out,
+        &[
+            Piece::Text("outcome "),
+            Piece::Number(at as u64 + 1),
+            Piece::Text("\n"),
+        ],
+    )
+}
+
+/// Appends an outcome: its number, its final state and its script.
+fn put_outcome(
+    alloc: Global,
+    out: &mut Vec<u8>,
+    program: &Program,
+    at: usize,
+    finding: &Finding,
+) -> Result<(), AllocError>
+    requires { at + 1 < 2 ^ 64 }
+    ensures { OnOk result (out.new.items ≡ out.old.items ++ outcome_text program.now at finding.now) }
+{
+    put_number_line(out, at)?;
+    put_state(out, program, &finding.state)?;
+    put_witness(alloc, out, program, &finding.witness)
+}
+
+/// Appends the outcome at a place of a list, if there is one.
+fn put_outcome_at(
+    alloc: Global,
+    out: &mut Vec<u8>,
+    program: &Program,
+    found: &[Finding],
+    at: usize,
+) -> Result<(), AllocError>
+    requires { at + 1 < 2 ^ 64 }
+    ensures { OnOk result (out.new.items
+        ≡ out.old.items ++ outcome_if program.now at (slice_get found.now at)) }
+{
+    match found.get(at) {
+        Some(finding) => put_outcome(alloc, out, program, at, finding),
+        None => Ok(()),
+    }
+}
+
+/// Appends outcomes, one after the other.
+pub fn put_outcomes(
+    alloc: Global,
+    out: &mut Vec<u8>,
+    program: &Program,
+    found: &[Finding],
+) -> Result<(), AllocError>
+    ensures { OnOk result (out.new.items ≡ out.old.items ++ outcomes_text program.now found.now) }
+{
+    for at in 0..found.len() {
+        put_outcome_at(alloc, out, program, found, at)?;
+    }
+    Ok(())
+}

@@ -1,0 +1,144 @@
+//! A program's run, from the bytes that are read to the bytes that are written.
+ghost use Rattle.std.specs.Prelude.{◌≡◌, ◌≢◌, ◌↔◌, true, false, ◌<◌, length, IfOk, IfErr, IfSome};
+ghost use Rattle.jc_litmus.specs.Judging.{end_of};
+ghost use Rattle.jc_litmus.specs.Outcomes.{answer_text};
+ghost use Rattle.jc_litmus.specs.Running.{Answers, Broke, IsAnswer, IsExplored, Ran};
+
+use crate::answer::{answer, complaint};
+use crate::judge::end_of;
+use crate::program::{Litmus, ProgramFault};
+use crate::reading::read_program;
+use jc_explore::{Explored, explore};
+use jc_script::input::{InputFault, read_all, write_out};
+use jc_script::noted::Noted;
+use jc_types::SCRIPT_MAX;
+use std::alloc::{AllocError, Global};
+use std::io::{Read, Write};
+use thiserror::Error;
+
+/// How the run of a program ended.
+#[derive(Clone, Copy, Debug, PartialEq, Eq)]
+pub enum LitmusEnd {
+    /// All outcomes were found, and each expectation holds.
+    Holds,
+    /// A line of the program is at fault.
+    LineFault,
+    /// An expectation fails.
+    Fails,
+    /// No expectation fails by the outcomes that were found, and there may be others.
+    Open,
+}
+
+/// Why a run could not be made.
+#[derive(Clone, Copy, Debug, PartialEq, Eq, Error)]
+pub enum LitmusFault {
+    /// The reader failed. Nothing was written.
+    #[error("read failed")]
+    Read,
+    /// The program has more than [`SCRIPT_MAX`] bytes. Nothing was written.
+    #[error("input too long")]
+    TooLong,
+    /// An allocation failed. Nothing was written.
+    #[error("out of memory")]
+    OutOfMemory,
+    /// The writer failed. A prefix of the answer was written.
+    #[error("write failed")]
+    Write,
+}
+
+/// The text of the answer to a program that was read, and explored with this budget of states.
+fn text_of(
+    alloc: Global,
+    states: usize,
+    litmus: &Litmus,
+    explored: &Explored,
+) -> Result<Vec<u8>, AllocError>
+    ensures { IfOk result (λ out. out.items
+        ≡ answer_text states litmus.now.program explored.now litmus.now.expectations.items) }
+{
+    let (program, expectations) = (&litmus.program, litmus.expectations.as_slice());
+    answer(alloc, states, program, explored, expectations)
+}
+
+/// How the run of such a program ends.
+fn end_with(litmus: &Litmus, explored: &Explored) -> LitmusEnd
+    ensures { result ≡ end_of explored.now litmus.now.expectations.items }
+{
+    end_of(explored, &litmus.expectations)
+}
+
+/// The answer to a program that was read, and explored.
+fn answer_to(
+    alloc: Global,
+    states: usize,
+    litmus: &Litmus,
+    explored: &Explored,
+) -> Result<(Vec<u8>, LitmusEnd), AllocError>
+    requires { IsExplored litmus.now.program states explored.now }
+    ensures { IfOk result (λ r. IsAnswer states litmus.now r.0.items r.1) }
+{
+    let out = text_of(alloc, states, litmus, explored)?;
+    Ok((out, end_with(litmus, explored)))
+}
+
+/// The answer to a program that was read.
+fn answer_to_read(
+    alloc: Global,
+    litmus: &Litmus,
+    states: usize,
+) -> Result<(Vec<u8>, LitmusEnd), AllocError>
+    ensures { IfOk result (λ r. IsAnswer states litmus.now r.0.items r.1) }
+{
+    match explore(alloc, &litmus.program, states) {
+        Ok(explored) => answer_to(alloc, states, litmus, &explored),
+        Err(_) => Err(AllocError),
+    }
+}
+
+/// The answer to a program's text.
+fn answered(alloc: Global, input: &[u8], states: usize) -> Result<(Vec<u8>, LitmusEnd), AllocError>
+    ensures { IfOk result (λ r. Answers states input.now r.0.items r.1) }
+{
+    match read_program(alloc, input) {
+        Ok(litmus) => answer_to_read(alloc, &litmus, states),
+        Err(ProgramFault::OutOfMemory) => Err(AllocError),
+        Err(ProgramFault::Line(line, fault)) => {
+            Ok((complaint(alloc, line, fault)?, LitmusEnd::LineFault))
+        }
+    }
+}
+
+/// Reads a program to its end, explores it, and writes the answer, which is made whole before the first write.
+pub fn run<R: Read, W: Write>(
+    alloc: Global,
+    reader: &mut Noted<R>,
+    writer: &mut Noted<W>,
+    states: usize,
+) -> Result<LitmusEnd, LitmusFault>
+    // What was written is the answer to what was read.
+    ensures ran { IfOk result (λ end. Ran states (R.remaining reader.old.inner) (R.remaining reader.new.inner) (W.contents writer.old.inner) (W.contents writer.new.inner) end) }
+    // After a failed write, a prefix of it.
+    ensures broke { result ≡ Err LitmusFault.Write → Broke states (R.remaining reader.old.inner) (R.remaining reader.new.inner) (W.contents writer.old.inner) (W.contents writer.new.inner) }
+    // Any other fault writes nothing.
+    ensures silent { IfErr result (λ e. e ≢ LitmusFault.Write → writer.new ≡ writer.old) }
+    // A program is too long only over the limit.
+    ensures long { result ≡ Err LitmusFault.TooLong → IfSome (R.remaining reader.old.inner) (λ xs. SCRIPT_MAX < length xs) }
+    // Reading failed exactly if the reader did, and writing exactly if the writer did, in this call.
+    ensures read_failed { reader.old.failed ≡ false → (result ≡ Err LitmusFault.Read ↔ reader.new.failed ≡ true) }
+    ensures write_failed { writer.old.failed ≡ false → (result ≡ Err LitmusFault.Write ↔ writer.new.failed ≡ true) }
+{
+    let input = match read_all(alloc, reader) {
+        Ok(input) => input,
+        Err(InputFault::Read) => return Err(LitmusFault::Read),
+        Err(InputFault::TooLong) => return Err(LitmusFault::TooLong),
+        Err(InputFault::OutOfMemory) => return Err(LitmusFault::OutOfMemory),
+    };
+    let (out, end) = match answered(alloc, &input, states) {
+        Ok(made) => made,
+        Err(_) => return Err(LitmusFault::OutOfMemory),
+    };
+    match write_out(writer, &out) {
+        Ok(()) => Ok(end),
+        Err(_) => Err(LitmusFault::Write),
+    }
+}

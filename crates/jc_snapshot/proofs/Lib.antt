@@ -1,0 +1,6 @@
+mod FlatRows
+mod JoinKeys
+mod OrderedEntries
+mod SnapshotLaws
+mod StripeRows
+mod TableNumbers

@@ -1,0 +1,180 @@
+//! Snapshots of worlds.
+ghost use Rattle.std.specs.Prelude.{◌≡◌, ◌==◌, ◌↔◌, IsTrue, IfOk};
+ghost use Rattle.std.specs.FinMap as map;
+ghost use Rattle.std.specs.Cmp.Lexicographic.{pointwise};
+ghost use Rattle.std.specs.Cmp.Rules.{comparing};
+ghost use Rattle.std.proofs.Common.{rules};
+ghost use Rattle.jc_world.specs.Essence.{essence_of_world};
+ghost use Rattle.jc_snapshot.specs.Fingerprint.{fingerprint_of};
+ghost use Rattle.jc_snapshot.specs.Numbers.{AreNumbers, Extends};
+ghost use Rattle.jc_snapshot.specs.Rows.{flat};
+ghost use Rattle.jc_snapshot.specs.Snapshot.{IsSnapshot, GrowsTo, OwnRows, own_rows, HasOwnRows, last_row};
+
+use crate::calls::call_rows;
+use crate::rows::{five_rows, push_row};
+use crate::seen::Seen;
+use crate::sorted::sorted;
+use crate::stripes::{bit, stripe_rows};
+use crate::table::{Table, numbers_of};
+use jc_types::{Key, Value};
+use jc_world::{JoinedLoad, Part, World};
+use std::alloc::{AllocError, Global};
+use std::marker::Model;
+
+// The start and the factor of the FNV-1a hash, of 64 bits.
+const FINGERPRINT_START: u64 = 14695981039346656037;
+
+const FINGERPRINT_FACTOR: u64 = 1099511628211;
+
+/// What decides how a world goes on, as numbers: all of it but the events themselves. Each thing in it is named by its number in the
+/// tables of a [`Seen`], so that two snapshots over the same tables are equal exactly if their worlds go on alike by what they keep.
+#[derive(Drop)]
+pub struct Snapshot {
+    words: Vec<u64>,
+}
+
+impl Model for Snapshot {
+    ghost use Rattle.std.specs.Prelude.{List, ℕ};
+
+    ghost Value = { List ℕ };
+
+    ghost view = { λ s. s.words.items };
+}
+
+impl PartialEq for Snapshot {
+    ghost eq = { pointwise ◌==◌ };
+
+    ghost laws = { Prim.search (comparing, rules) };
+
+    fn eq(&self, other: &Snapshot) -> bool {
+        self.words.as_slice() == other.words.as_slice()
+    }
+}
+
+impl Eq for Snapshot {
+    ghost laws = { Prim.search (comparing, rules) };
+}
+
+impl Snapshot {
+    /// The snapshot of a world. What the tables haven't met gets the next numbers in them. An `Err` says that an allocation failed; what
+    /// the tables have got by then they keep.
+    #[tactic(auto, using(crate::proofs::StripeRows::grows_twice))]
+    pub fn of(alloc: Global, world: &World, seen: &mut Seen) -> Result<Snapshot, AllocError>
+        ensures snapshot { IfOk result (λ s. IsSnapshot (essence_of_world world.now.world) seen.new s) }
+        ensures grows { GrowsTo seen.old seen.new }
+    {
+        let stripes = stripe_rows(alloc, world.stripe_list(), seen)?;
+        let calls = call_rows(alloc, world.calls(), seen)?;
+        let mut words = own_words(alloc, world, seen)?;
+        push_row(&mut words, &stripes)?;
+        push_row(&mut words, &calls)?;
+        Ok(Snapshot { words })
+    }
+
+    /// Its numbers.
+    pub fn words(&self) -> &[u64]
+        ensures { result.now ≡ self.now }
+    {
+        &self.words
+    }
+
+    /// Whether the two are equal.
+    pub fn is_same(&self, other: &Snapshot) -> bool
+        ensures { IsTrue result ↔ (self.now ≡ other.now) }
+    {
+        *self == *other
+    }
+
+    /// A number of its numbers, by which snapshots may be looked up: two that are equal have one.
+    pub fn fingerprint(&self) -> u64
+        ensures { result ≡ fingerprint_of self.now }
+    {
+        fingerprint_of(&self.words)
+    }
+}
+
+/// The rows of what a world has beside its stripes and calls.
+fn own_words(alloc: Global, world: &World, seen: &mut Seen) -> Result<Vec<u64>, AllocError>
+    ensures rows { IfOk result (λ words. (n : OwnRows)
+        × (words.items ≡ flat (own_rows n world.now.world)) × HasOwnRows seen.new world.now.world n) }
+    ensures grows { GrowsTo seen.old seen.new }
+{
+    let config = seen.configs.number_of(world.config())?;
+    let premises = seen.premises.number_of(&world.premises())?;
+    let store = store_numbers(alloc, world, &mut seen.entries)?;
+    let parts = part_numbers(alloc, world, &mut seen.parts)?;
+    let joins = join_numbers(alloc, world, &mut seen.joins)?;
+    let last = last_row(alloc, world.last())?;
+    let scalars = [config, premises, bit(world.is_fresh())];
+    let words = five_rows(alloc, &scalars, &last, &store, &parts, &joins)?;
+    Ok(words)
+}
+
+/// The numbers of what the store holds.
+fn store_numbers(
+    alloc: Global,
+    world: &World,
+    table: &mut Table<(Key, Value)>,
+) -> Result<Vec<u64>, AllocError>
+    ensures numbers { IfOk result (λ numbers.
+        AreNumbers table.new (map.entries world.now.world.store) numbers.items) }
+    ensures grows { Extends table.old table.new }
+{
+    let entries = world.stored_entries(alloc)?;
+    let numbers = numbers_of(alloc, table, &entries)?;
+    Ok(numbers)
+}
+
+/// The numbers of what calls have asked and heard for the keys that they have reserved, in the order of the keys.
+fn part_numbers(
+    alloc: Global,
+    world: &World,
+    table: &mut Table<(Key, Part)>,
+) -> Result<Vec<u64>, AllocError>
+    ensures numbers { IfOk result (λ numbers.
+        AreNumbers table.new (map.entries world.now.world.parts) numbers.items) }
+    ensures grows { Extends table.old table.new }
+{
+    let parts = world.parts(alloc)?;
+    let parts = sorted(alloc, &parts)?;
+    let numbers = numbers_of(alloc, table, &parts)?;
+    Ok(numbers)
+}
+
+/// The numbers of the joins, in the order of calls and keys.
+fn join_numbers(
+    alloc: Global,
+    world: &World,
+    table: &mut Table<((u64, Key), JoinedLoad)>,
+) -> Result<Vec<u64>, AllocError>
+    ensures numbers { IfOk result (λ numbers.
+        AreNumbers table.new (map.entries world.now.world.joins) numbers.items) }
+    ensures grows { Extends table.old table.new }
+{
+    let joins = world.joins(alloc)?;
+    let joins = sorted(alloc, &joins)?;
+    let numbers = numbers_of(alloc, table, &joins)?;
+    Ok(numbers)
+}
+
+/// The highest number of a call so far, as a row.
+fn last_row(alloc: Global, last: Option<u64>) -> Result<Vec<u64>, AllocError>
+    ensures { IfOk result (λ row. row.items ≡ last_row last) }
+{
+    let mut row = Vec::new(alloc);
+    if let Some(last) = last {
+        row.push(last)?;
+    }
+    Ok(row)
+}
+
+/// Numbers folded to one.
+fn fingerprint_of(words: &[u64]) -> u64
+    ensures { result ≡ fingerprint_of words.now }
+{
+    let mut print = FINGERPRINT_START;
+    for word in words {
+        print = (print ^ *word).wrapping_mul(FINGERPRINT_FACTOR);
+    }
+    print
+}

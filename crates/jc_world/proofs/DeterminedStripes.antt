@@ -1,0 +1,170 @@
+-- A phase of a stripe is determined, but for insertions that are out of memory.
+use Rattle.std.proofs.Common.{◌≡◌, ℕ, List, [], length, Bool, true, false, ◌&&◌, Option, None, Some, is_some, is_none, option_map, if◌then◌else◌, sym, refl, ap, ◌∙◌, true≢false}
+use Rattle.jc_types.specs.declared.caller.Caller.{Caller}
+use Rattle.jc_types.specs.declared.refusal.Refusal.{Refusal}
+use Rattle.jc_model.specs.declared.event.Op.{Op}
+use Rattle.jc_model.specs.declared.event.Op.TheVariants.{Get, ContainsKey, Put, GetAndPut, PutIfAbsent, Remove, RemoveIf, GetAndRemove, Replace, ReplaceIf, GetAndReplace, Clear, LoadAll, Invoke}
+use Rattle.jc_model.specs.declared.event.Out.{Out}
+use Rattle.jc_model.specs.declared.event.Reply.{Reply}
+use Rattle.jc_model.specs.declared.event.Cause.{Cause}
+use Rattle.jc_model.specs.Cache.{Bytes, entry_at}
+use Rattle.jc_model.specs.Table.{reply_after}
+use Rattle.jc_model.specs.Group.{Group, step_place, nothing_said}
+use Rattle.jc_inflight.specs.Joining.{callers_of}
+use Rattle.jc_stripe.specs.State.{State, new_reservation, with_reservation}
+use Rattle.jc_stripe.specs.Tickets.{TicketClaim, JoinClaim, asks_loader}
+use Rattle.jc_stripe.specs.declared.begun.Begun.{Begun}
+use Rattle.jc_stripe.specs.declared.begun.Begun.TheVariants as begun
+use Rattle.jc_stripe.specs.declared.begun.StepDone.{StepDone}
+use Rattle.jc_stripe.specs.declared.begun.Eviction.{Eviction}
+use Rattle.jc_stripe.specs.declared.ticket.First.{First}
+use Rattle.jc_stripe.specs.declared.ticket.First.TheVariants.{Nobody}
+use Rattle.jc_stripe.specs.declared.ticket.Reservation.{Reservation}
+use Rattle.jc_stripe.specs.Refusals.{first_asked, first_by, load_joined, reserves}
+use Rattle.jc_model.specs.Table.{loader_ask}
+use Rattle.jc_model.specs.declared.event.Change.{Change}
+use Rattle.jc_stripe.specs.Phases.{Steps, Begins, Commits, with_joiner, new_group, own_cause, own_eviction, inserts_here, overflows, victim, after_group, after_commit}
+use Rattle.jc_world.specs.Determinism.{eviction_has_memory}
+
+-- 1. The group of a step.
+
+-- without an eviction for want of memory its cause is the one that it has with ample memory
+ample-cause : (place : ℕ) (inserts full has short : Bool)
+    → eviction_has_memory (option_map (λ cause. record { cause = cause; place = place }) (own_cause inserts full has short)) ≡ true
+    → own_cause inserts full has short ≡ own_cause inserts full has false
+ample-cause place inserts full has false ample = refl
+ample-cause place false full has true ample = refl
+ample-cause place true true true true ample = absurd (true≢false (sym ample))
+ample-cause place true true false true ample = refl
+ample-cause place true false has true ample = absurd (true≢false (sym ample))
+
+ample-group : (old : State) (caller : Caller) (key : Bytes) (op : Op) (out : Out) (callers : List Caller) (short : Bool)
+    → eviction_has_memory (own_eviction (length old.history) (new_group old caller key op out callers short)) ≡ true
+    → new_group old caller key op out callers short ≡ new_group old caller key op out callers false
+ample-group old caller key op out callers short ample =
+    ap (λ (cause : Option Cause). record (new_group old caller key op out callers false) { evicted = cause })
+    (ample-cause _ (inserts_here old key op out) (overflows old key op out) (is_some (victim old key op out)) short ample)
+
+-- a step with ample memory is that of the group with ample memory
+abbrev done_of : State → Bytes → Op → Out → Group → StepDone
+done_of old key op out group =
+    record {
+      reply = reply_after op (entry_at old.cache key) out;
+      place = step_place (length old.history) group;
+      victim = victim old key op out;
+      evicted = own_eviction (length old.history) group;
+    }
+
+done-is : (a : StepDone) (reply : Reply) (place : ℕ) (victim : Option Bytes) (evicted : Option Eviction)
+    → a.reply ≡ reply → a.place ≡ place → a.victim ≡ victim → a.evicted ≡ evicted
+    → a ≡ record { reply = reply; place = place; victim = victim; evicted = evicted }
+done-is a reply place victim evicted r p v e =
+    ap (λ (x : Reply). record a { reply = x }) r
+    ∙ ap (λ (x : ℕ). record a { reply = reply; place = x }) p
+    ∙ ap (λ (x : Option Bytes). record a { reply = reply; place = place; victim = x }) v
+    ∙ ap (λ (x : Option Eviction). record { reply = reply; place = place; victim = victim; evicted = x }) e
+
+abbrev ample_group : State → Caller → Bytes → Op → Out → List Caller → Group
+ample_group old caller key op out callers = new_group old caller key op out callers false
+
+steps-as : (old new : State) (caller : Caller) (key : Bytes) (op : Op) (out : Out) (callers : List Caller) (done : StepDone)
+    → Steps old caller key op out callers done new → eviction_has_memory done.evicted ≡ true
+    → (done ≡ done_of old key op out (ample_group old caller key op out callers)) × (new ≡ after_group old (ample_group old caller key op out callers))
+steps-as old new caller key op out callers done steps ample =
+    let same : new_group old caller key op out callers steps.short ≡ ample_group old caller key op out callers =
+    ample-group old caller key op out callers steps.short (ap eviction_has_memory (sym steps.evicted) ∙ ample) in (
+      done-is done _ _ _ _ steps.reply (steps.place ∙ ap (λ (g : Group). step_place (length old.history) g) same) steps.victim_is (steps.evicted ∙ ap (λ (g : Group). own_eviction (length old.history) g) same),
+      steps.after ∙ ap (λ (g : Group). after_group old g) same,
+    )
+
+pub steps-determined : (old n m : State) (caller : Caller) (key : Bytes) (op : Op) (out : Out) (callers : List Caller) (a b : StepDone)
+    → Steps old caller key op out callers a n → eviction_has_memory a.evicted ≡ true
+    → Steps old caller key op out callers b m → eviction_has_memory b.evicted ≡ true
+    → (a ≡ b) × (n ≡ m)
+steps-determined old n m caller key op out callers a b one ample other ample_too =
+    let x = steps-as old n caller key op out callers a one ample in
+    let y = steps-as old m caller key op out callers b other ample_too in
+    (x.0 ∙ sym y.0, x.1 ∙ sym y.1)
+
+-- 2. The first phase.
+
+abbrev pub begun_amply : Begun → Bool
+begun_amply (begun.Done done) = eviction_has_memory done.evicted
+begun_amply (begun.Asks ticket) = true
+begun_amply (begun.Joined join) = true
+begun_amply (begun.Refused refusal) = true
+
+pub none_some : {A : Type 0} {x : A} {o : Option A} → o ≡ None → o ≡ Some x → ⊥
+none_some n s = true≢false (ap is_some (sym s) ∙ ap is_some n)
+
+abbrev or_this : {A : Type 0} → A → Option A → A
+or_this x None = x
+or_this x (Some y) = y
+
+pub some_back : {A : Type 0} (x y : A) → Some x ≡ Some y → x ≡ y
+some_back x y h = ap (λ o. or_this x o) h
+
+get_joins : (through : Bool) (entry : Option Bytes) (o : Option ℕ) (load : ℕ) (change : Option Change)
+    → (if through && is_none entry then o else None) ≡ Some load → first_by (loader_ask through Get entry) change ≡ Nobody → ⊥
+get_joins false entry o load change joins asks = none_some refl joins
+get_joins true (Some e) o load change joins asks = none_some refl joins
+get_joins true None o load change joins asks = true≢false (ap asks_loader asks)
+
+-- who joins a load would ask the loader
+joins_asks : (state : State) (key : Bytes) (op : Op) (load : ℕ) → load_joined state key op ≡ Some load → first_asked state.config op (entry_at state.cache key) ≡ Nobody → ⊥
+joins_asks state key Get load joins asks = get_joins state.config.read_through (entry_at state.cache key) _ load _ joins asks
+joins_asks state key ContainsKey load joins asks = absurd (none_some refl joins)
+joins_asks state key (Put v) load joins asks = absurd (none_some refl joins)
+joins_asks state key (GetAndPut v) load joins asks = absurd (none_some refl joins)
+joins_asks state key (PutIfAbsent v) load joins asks = absurd (none_some refl joins)
+joins_asks state key Remove load joins asks = absurd (none_some refl joins)
+joins_asks state key (RemoveIf v) load joins asks = absurd (none_some refl joins)
+joins_asks state key GetAndRemove load joins asks = absurd (none_some refl joins)
+joins_asks state key (Replace v) load joins asks = absurd (none_some refl joins)
+joins_asks state key (ReplaceIf u v) load joins asks = absurd (none_some refl joins)
+joins_asks state key (GetAndReplace v) load joins asks = absurd (none_some refl joins)
+joins_asks state key Clear load joins asks = absurd (none_some refl joins)
+joins_asks state key (LoadAll v) load joins asks = absurd (none_some refl joins)
+joins_asks state key Invoke load joins asks = absurd (none_some refl joins)
+
+pub begins-determined : (old n m : State) (caller : Caller) (key : Bytes) (op : Op) (a b : Begun)
+    → Begins old caller key op a n → begun_amply a ≡ true
+    → Begins old caller key op b m → begun_amply b ≡ true
+    → (a ≡ b) × (n ≡ m)
+begins-determined old n m caller key op (begun.Refused r) (begun.Refused q) one _ other _ =
+    (ap (λ (x : Refusal). begun.Refused x) (some_back r q (sym one.0 ∙ other.0)), one.1 ∙ sym other.1)
+begins-determined old n m caller key op (begun.Refused r) (begun.Done b) one _ other _ = absurd (none_some other.0 one.0)
+begins-determined old n m caller key op (begun.Refused r) (begun.Asks b) one _ other _ = absurd (none_some other.0 one.0)
+begins-determined old n m caller key op (begun.Refused r) (begun.Joined b) one _ other _ = absurd (none_some other.0 one.0)
+begins-determined old n m caller key op (begun.Done a) (begun.Refused q) one _ other _ = absurd (none_some one.0 other.0)
+begins-determined old n m caller key op (begun.Done a) (begun.Done b) one ample other ample_too =
+    let same = steps-determined old n m caller key op nothing_said [] a b one.2 ample other.2 ample_too in
+    (ap (λ (x : StepDone). begun.Done x) same.0, same.1)
+begins-determined old n m caller key op (begun.Done a) (begun.Asks b) one _ other _ = absurd (true≢false (sym other.3 ∙ ap reserves (sym other.2 ∙ one.1)))
+begins-determined old n m caller key op (begun.Done a) (begun.Joined b) one _ other _ = absurd (joins_asks old key op b.load other.1 one.1)
+begins-determined old n m caller key op (begun.Asks a) (begun.Refused q) one _ other _ = absurd (none_some one.0 other.0)
+begins-determined old n m caller key op (begun.Asks a) (begun.Done b) one _ other _ = absurd (true≢false (sym one.3 ∙ ap reserves (sym one.2 ∙ other.1)))
+begins-determined old n m caller key op (begun.Asks a) (begun.Asks b) one _ other _ =
+    let first : a.reservation.first ≡ b.reservation.first = sym one.2 ∙ other.2 in
+    let same : a ≡ b = one.4 ∙ ap (λ (f : First). record { reservation = new_reservation old caller key op f; asked = false; writer_asked = false }) first ∙ sym other.4 in
+    (ap (λ (t : TicketClaim). begun.Asks t) same, one.5 ∙ ap (λ (t : TicketClaim). with_reservation old t.reservation) same ∙ sym other.5)
+begins-determined old n m caller key op (begun.Asks a) (begun.Joined b) one _ other _ = absurd (none_some one.1 other.1)
+begins-determined old n m caller key op (begun.Joined a) (begun.Refused q) one _ other _ = absurd (none_some one.0 other.0)
+begins-determined old n m caller key op (begun.Joined a) (begun.Done b) one _ other _ = absurd (joins_asks old key op a.load one.1 other.1)
+begins-determined old n m caller key op (begun.Joined a) (begun.Asks b) one _ other _ = absurd (none_some other.1 one.1)
+begins-determined old n m caller key op (begun.Joined a) (begun.Joined b) one _ other _ =
+    let load : a.load ≡ b.load = some_back a.load b.load (sym one.1 ∙ other.1) in
+    let same : a ≡ b = one.2 ∙ ap (λ (l : ℕ). record { caller = caller; key = key; load = l }) load ∙ sym other.2 in
+    (ap (λ (j : JoinClaim). begun.Joined j) same, one.3 ∙ ap (λ (j : JoinClaim). with_joiner old j) same ∙ sym other.3)
+
+-- 3. The last phase. Its joiners' answers name the place of its step, which doesn't depend on them.
+
+pub commits-determined : (old n m : State) (r : Reservation) (out : Out) (a b : StepDone)
+    → Commits old r out a n → eviction_has_memory a.evicted ≡ true
+    → Commits old r out b m → eviction_has_memory b.evicted ≡ true
+    → (a ≡ b) × (n ≡ m)
+commits-determined old n m r out a b one ample other ample_too =
+    let x = steps-as (after_commit old r a.place) n r.caller r.key r.op out (callers_of r.number old.joiners) a one.1 ample in
+    let y = steps-as (after_commit old r b.place) m r.caller r.key r.op out (callers_of r.number old.joiners) b other.1 ample_too in
+    let place : a.place ≡ b.place = ap (λ (d : StepDone). d.place) x.0 ∙ sym (ap (λ (d : StepDone). d.place) y.0) in
+    (x.0 ∙ sym y.0, x.1 ∙ ap (λ (p : ℕ). after_group (after_commit old r p) (ample_group (after_commit old r p) r.caller r.key r.op out (callers_of r.number old.joiners))) place ∙ sym y.1)
