@@ -50,8 +50,8 @@ pub(crate) fn run_rounds<R: Wait>(
     unreachable!()
 }
 
-/// One round: each key that can is begun, the loader or the writer is asked once for those that were reserved, if any were, and what
-/// follows. It returns what the next round is to ask outside with, unless it has handed that to the writer.
+/// One round: it starts every key that it can, asks the loader or the writer once for those that were reserved, if any were, and
+/// ends them. It returns what the next round is to ask outside with, unless it has handed that to the writer.
 fn run_round<R: Wait>(
     rt: &R,
     cache: &Cache,

@@ -8,7 +8,7 @@
 //! Others may call the cache meanwhile. So a call may wait: while another phase is made on the key's stripe, until a key that
 //! another call has reserved is free (`Busy`), until less than `RESERVATIONS_MAX` keys of the stripe are reserved
 //! (`TooManyInFlight`), or less than `JOINERS_MAX` calls have joined a load there (`TooManyJoiners`), and for the answer of a
-//! load that it has joined. Nothing says that a call that waits returns, nor in which order those who wait are served.
+//! load that it has joined. Neither progress nor fairness is promised: a call that waits may wait for ever.
 //!
 //! After a call its session has seen the key's stripe up to there: its whole history, all generations in a row, which begins with
 //! what it had seen before and has the call's own step behind that. Each generation is legal, from what the one before left. The

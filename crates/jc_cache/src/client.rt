@@ -70,7 +70,7 @@ impl<'a> Client<'a> {
         self.session.caller()
     }
 
-    /// Has the next call begin by the number `n`, as by [`Session::skip_to`]: if its number is below that.
+    /// Raises the number of the next call to `n`, as [`Session::skip_to`] does; does nothing if it is already `n` or more.
     pub fn skip_to(&mut self, n: u64)
         ensures { OnSameCache self.old.cache self.new.cache (self.new.session ≡ record self.old.session {
           agent = record self.old.session.agent {

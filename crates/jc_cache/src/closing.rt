@@ -175,8 +175,8 @@ impl CacheOwner {
     }
 
     /// Ends the cache without its sessions, which may be gone: as [`CacheOwner::close`] does, but their loaders and writers don't come
-    /// back, and nothing is said of what the sessions have seen. It is for who had clients of the cache, and doesn't ask for their
-    /// sessions.
+    /// back, and nothing is said of what the sessions have seen. Use it if the cache had clients, and you don't need their sessions
+    /// back.
     ///
     /// It is refused, and hands the owner back, if a reservation or an answer that was not picked up is out (`StillReserved`), and if an
     /// allocation failed (`OutOfMemory`), tested in this order; or as `Busy`, see there. It never waits.

@@ -21,7 +21,7 @@ impl Cache {
     /// generations of the stripe had ended before. None says that there is nothing to end: nothing has happened in it, the answer of
     /// a load is there that nobody has picked up, or the cache doesn't live on; then nothing changes.
     ///
-    /// It is for who keeps a record of all that was done: a generation is whole and legal, and leaves what the next one opens with. A
+    /// Use it to archive the history: a generation is whole and legal, and leaves what the next one opens with. A
     /// generation that was full before ended without it, and its events are gone: then a number is missing between two that it says.
     /// So a record is whole if each stripe is asked for more often than its history is filled.
     ///

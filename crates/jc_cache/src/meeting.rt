@@ -11,8 +11,8 @@ use std::sync::Wait;
 
 impl Cache {
     /// Two sessions meet: after it the hearer knows all that the teller knows of the cache. Of each stripe in order, the teller's
-    /// front is brought up to date, and is a prefix of the hearer's from then on. It is for those who hand work on: what the teller
-    /// has seen, the hearer's next calls come behind.
+    /// front is brought up to date, and is a prefix of the hearer's from then on. Use it to hand work on: the hearer's next calls are
+    /// ordered after everything that the teller has seen.
     ///
     /// It may wait for a stripe while a phase is made there. It appends nothing to a history and takes no memory: the own steps of
     /// both sessions, their counts and their numbers stay.

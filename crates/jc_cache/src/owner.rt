@@ -23,7 +23,7 @@ use jc_types::{Config, Key, Refusal, SESSIONS_MAX, Value};
 use std::alloc::{AllocError, Global};
 use std::marker::Model;
 
-/// Who owns a cache: makes it, gives its sessions out, lends it to threads, and closes it.
+/// The owner of a cache: creates it, hands out sessions, lends it to threads, and closes it.
 ///
 /// It has a seat of its own at each lock, which gives the numbers of sessions out. A seat isn't shared between threads, so an owner
 /// isn't; its cache is.
@@ -83,7 +83,7 @@ fn locks(
     Ok((locks, seats))
 }
 
-/// Lets each of these stripes live on.
+/// Makes each of these stripes begin a new generation when its history is full.
 fn live_on(stripes: &mut [Stripe])
     ensures { stripes.new ≡ map live_on stripes.old }
 {

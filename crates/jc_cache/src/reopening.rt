@@ -81,7 +81,7 @@ impl CacheOwner {
     }
 }
 
-/// Who owns a cache of this shape that opens with what these stripes have cached, and the entries that were dropped.
+/// The owner of a cache of this shape that opens with what these stripes have cached, and the entries that were dropped.
 fn open_again(
     alloc: Global,
     stripes: &[ClosedStripe],

@@ -21,8 +21,8 @@ pub trait Service<R: Wait, X> {
     /// One call of `work`: the client's state before it, what is returned, the client's state after it.
     ghost works: { Self → ClientState → X → ClientState → Type 0 } = { λ service before returned after. Unit {0} };
 
-    /// The work of one client, on a thread of its own. Which one it is, its session's number says (`client.caller().session`). What is
-    /// returned comes back to who has the service [served](serve).
+    /// The work of one client, on a thread of its own. Which one it is, its session's number says (`client.caller().session`).
+    /// [`serve`] returns the result to its caller.
     fn work(&self, rt: &R, client: &mut Client<'_>) -> X
         requires { Unit {0} }
         ensures { works self.now (client_state client.old.session) result (client_state client.new.session) };

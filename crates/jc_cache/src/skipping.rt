@@ -7,7 +7,7 @@ ghost use Rattle.jc_cache.specs.Sessions.{IsOf, MayCall};
 use crate::session::Session;
 
 impl Session {
-    /// Has the next call begin by the number `n`, if its number is below that. Else nothing changes: the numbers of a session's
+    /// Raises the number of the next call to `n`; does nothing if it is already `n` or more, since the numbers of a session's
     /// calls never fall. A call by the last number, `u64::MAX`, is refused (`HistoryFull`).
     pub fn skip_to(&mut self, n: u64)
         requires { Unit {0} }

@@ -36,16 +36,16 @@ pub trait Phase {
     /// It can be made on a stripe in this state.
     ghost due: { Self → State → Type 0 };
 
-    /// It isn't made on a stripe in this state, though it can be: what would be answered is waited out.
+    /// It isn't made on a stripe in this state, though it can be: the refusal isn't returned, the call waits and tries again.
     ghost puts_off: { Self → State → Type 0 };
 
     /// What it gives of the one state, the reply that it writes, if it has one, and what it leaves.
     ghost makes: { Self → State → Self.Answer → Replied → State → Type 0 };
 
-    /// What it changes of its session's counts.
+    /// What it adds to its session's counts, or takes off them.
     ghost counts: { Self.Answer → CountedBy };
 
-    /// Whether it can be made on this stripe.
+    /// Whether the phase may run now, on this stripe.
     fn is_due(&self, stripe: &Stripe) -> bool
         ensures { IsTrue result ↔ due self.now stripe.now };
 
@@ -58,7 +58,7 @@ pub trait Phase {
             × IsCounted (counts answer) (who self) stripe.old stripe.new) }
         ensures back { IfErr result (λ back. (back ≡ self) × (stripe.new ≡ stripe.old) × puts_off self stripe.old) };
 
-    /// What it changes of its session's counts.
+    /// What it adds to its session's counts, or takes off them.
     fn counted(answer: &Self::Answer) -> Counted
         ensures { result ≡ counts answer.now };
 

@@ -11,7 +11,7 @@ use jc_stripe::phase_laws::caller_numbers;
 use jc_stripe::{Started, Stripe};
 use jc_types::{Caller, Key};
 
-/// How a first phase goes about what stands in its way.
+/// What a first phase does if it is blocked.
 #[derive(Clone, Copy, Debug, PartialEq, Eq)]
 pub enum How {
     /// It waits out `Busy`, `TooManyInFlight` and `TooManyJoiners`.
@@ -55,7 +55,7 @@ fn is_waited_out(started: &Started) -> bool
     }
 }
 
-/// The first phase of a call. It can be made if the stripe is clear for it and need not end its generation first.
+/// The first phase of a call. It runs once nothing on the stripe blocks it, and no generation has to end before it.
 #[derive(Drop)]
 pub struct First<'a> {
     /// The call.
@@ -64,12 +64,12 @@ pub struct First<'a> {
     pub key: &'a Key,
     /// What is called.
     pub op: &'a Op,
-    /// What it does about what stands in its way.
+    /// What it does if it is blocked.
     pub how: How,
 }
 
 impl<'a> First<'a> {
-    /// Whether it can be made on this stripe.
+    /// Whether the phase may run now, on this stripe.
     fn can_start(&self, stripe: &Stripe) -> bool
         ensures { result ≡ can_start self.now.how stripe.now self.now.caller self.now.key.now self.now.op.now }
     {

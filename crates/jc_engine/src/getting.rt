@@ -110,7 +110,7 @@ fn hit<G: Gate, R: Wait>(
     is_hit
 }
 
-/// The same on a stripe.
+/// Answers a hit from a stripe that was taken.
 fn hit_on(stripe: &mut Stripe, caller: Caller, key: &Key, value: &mut Value) -> bool
     requires { BeginsIfClear caller key.now stripe.old }
     ensures made { Hits caller key.now result value.new stripe.old stripe.new }
@@ -124,7 +124,7 @@ fn hit_on(stripe: &mut Stripe, caller: Caller, key: &Key, value: &mut Value) -> 
     stripe.hit_into(caller, key, value)
 }
 
-/// What it changes of its session's counts.
+/// What it adds to its session's counts.
 fn counted_hit(is_hit: bool) -> Counted
     ensures { result ≡ counted_hit is_hit }
 {

@@ -13,8 +13,8 @@ pub fn one_lending()
     renewal();
 }
 
-/// Of a key at which each event of a stripe's whole history is a processor's step that sets the next value of the entry on which it
-/// was made, the entry is that of the first opening, followed by as many next values as there are events. So no update is lost.
+/// If each event of a key, in a stripe's whole history, is a processor's step that sets the next value of the entry on which it was
+/// made, then the entry is that of the first opening, followed by as many next values as there are events. So no update is lost.
 pub fn leaves_next()
     ensures { LeavesNext }
 {}

@@ -83,7 +83,7 @@ fn load_by_team<T: Send, F: Fn(&IndexSet<Key>, &mut T) -> PieceResult + Sync, R:
     }
 }
 
-/// So many workers who have loaded nothing, with room for so many notes each. An `Err` says that an allocation failed.
+/// Creates the workers, who have loaded nothing yet, each with room for its notes. An `Err` says that an allocation failed.
 fn hire<'a, F>(
     alloc: Global,
     load: &'a F,

@@ -14,7 +14,7 @@ use jc_pool::WorkWith;
 use jc_types::Key;
 use std::alloc::{AllocError, Global};
 
-/// One who loads pieces, with the tool that it is lent: a session.
+/// A worker that loads pieces with the tool that it is lent: a session or a client.
 #[derive(Drop)]
 pub(crate) struct Worker<'a, F> {
     /// Loads the keys of one piece with a tool.

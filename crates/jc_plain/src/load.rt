@@ -64,13 +64,13 @@ fn put_found(answers: &mut Answers, key: &Key, found: &Option<Value>)
     }
 }
 
-/// The loader of a cache that reads by `L`.
+/// Makes a [`CacheLoader`] of a [`Load`].
 ///
 /// It hands each call on, once, and answers what `L` answers: its relations are those of `L`. Whoever wants to state more implements
 /// [`jc_outside::CacheLoader`].
 #[derive(Drop)]
 pub struct Loading<L: Load + Drop> {
-    /// Who reads.
+    /// The loader that it wraps.
     pub loader: L,
 }
 

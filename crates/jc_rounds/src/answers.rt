@@ -98,7 +98,7 @@ impl Answers {
         }
     }
 
-    /// Ends answers of which none is left.
+    /// Drops an empty list of answers.
     pub fn end(self)
         requires { (config : Config) × (round : Round) × AreAnswers config round self [] }
     {

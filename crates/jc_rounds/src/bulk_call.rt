@@ -27,7 +27,7 @@ pub struct BulkCall<'a> {
     pub(crate) progress: Vec<Progress>,
     /// How many keys a round may reserve.
     pub(crate) most: usize,
-    /// The tickets of the keys that a round has reserved, in their order. Each asks once; only the call takes one out or puts one in.
+    /// The tickets of the keys that a round has reserved, in their order. Each is used for one call outside.
     pub tickets: Vec<Ticket>,
     /// The joins of the keys that have joined a load, in their order.
     pub(crate) joins: Vec<Join>,

@@ -10,8 +10,8 @@
 //! Why it is so:
 //! - Rounds are a struct, not a trait: a trait for what comes between would carry the processor's relations into calls without one.
 //!   Tickets and joins are two vectors with room for what all stripes may have out.
-//! - A round's room is for all its keys, or one more than all stripes may have reserved. What is asked outside is said twice: by the
-//!   steps, and by the rounds.
+//! - A round's room is for all its keys, or one more than all stripes may have reserved. Contracts state the calls outside by
+//!   step and by round.
 #![tactic(auto)]
 
 mod answers;

@@ -1,11 +1,11 @@
-//! How far a call with many keys is at one of them.
+//! The state of one key of a call with many keys.
 ghost use Rattle.std.specs.Prelude.{◌≡◌};
 ghost use Rattle.jc_rounds.specs.KeyProgress.{failure_at, is_joined, is_reserved, is_waiting, refused_if_waiting};
 
 use jc_model::Reply;
 use jc_types::Refusal;
 
-/// How far a call with many keys is at one of them.
+/// The state of one key of a call with many keys.
 #[derive(Clone, Copy)]
 pub enum Progress {
     /// The key waits for a round: its first phase hasn't been made yet, or has put it off.

@@ -83,7 +83,7 @@ impl<'a> BulkCall<'a> {
         self.tickets.len() < self.most && self.joins.len() < self.joins.capacity()
     }
 
-    /// How far a key is after its first phase. What is out of it is kept.
+    /// The state of a key after its first phase. Its ticket or join, if there is one, is kept in the call.
     fn keep(&mut self, started: Started, reply: &Reply) -> Progress
         requires tickets { length self.old.tickets.items < vec_capacity self.old.tickets }
         requires joins { length self.old.joins.items < vec_capacity self.old.joins }

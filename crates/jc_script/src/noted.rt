@@ -25,7 +25,7 @@ impl<S> Model for Noted<S> {
 }
 
 impl<S> Noted<S> {
-    /// One of which no call has failed.
+    /// A stream none of whose calls has failed yet.
     pub fn new(inner: S) -> Self
         ensures { result ≡ record { inner = inner; failed = false } }
     {

@@ -15,8 +15,7 @@ pub struct Eviction {
     pub place: u32,
 }
 
-/// What of an appended step is beside its reply, which a phase writes where its caller wants it: a reply may have a value, and a value
-/// shouldn't be copied on the way.
+/// An appended step without its reply. The phase writes the reply into the caller's room, so that a value isn't copied on the way.
 #[derive(Clone, Copy, Debug, PartialEq, Eq)]
 pub struct Appended {
     /// The place of the step in the stripe's history, from 0.
@@ -54,11 +53,11 @@ pub struct StepDone {
     pub evicted: Option<Eviction>,
 }
 
-/// What a first phase gives that writes its reply where its caller wants it.
+/// The outcome of a first phase. The reply, if there is one, is in the caller's room.
 pub enum Started {
     /// The call is done, and its reply is written.
     Done(Appended),
-    /// The key is reserved, and the one is to be asked whom the ticket's reservation asks first.
+    /// The key is reserved, and the ticket's reservation says who is to be asked next.
     Asks(Ticket),
     /// The key is being loaded by another call: the call has joined that load, and its answer is to be picked up.
     Joined(Join),
@@ -84,7 +83,7 @@ impl Started {
 pub enum Begun {
     /// The call is done.
     Done(StepDone),
-    /// The key is reserved, and the one is to be asked whom the ticket's reservation asks first.
+    /// The key is reserved, and the ticket's reservation says who is to be asked next.
     Asks(Ticket),
     /// The key is being loaded by another call: the call has joined that load, and its answer is to be picked up.
     Joined(Join),
@@ -92,7 +91,7 @@ pub enum Begun {
     Refused(Refusal),
 }
 
-/// What a joiner is told that asks for its answer.
+/// The answer to a joiner that polls.
 pub enum Picked {
     /// The load was committed.
     Answer {

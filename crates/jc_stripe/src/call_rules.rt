@@ -1,5 +1,5 @@
 //! The rules by which a first phase decides: whether a call answers at once or may join a load, whom it asks first, what it needs.
-//! Those that give a value are in line, so that it isn't cleared and copied once more.
+//! Functions that return a value are inlined, to save a copy of it.
 ghost use Rattle.std.specs.Prelude.{◌≡◌, option_map};
 ghost use Rattle.jc_model.specs.Table.{to_change};
 ghost use Rattle.jc_model.specs.declared.event.ProcessAnswer.TheVariants.{NotAsked};

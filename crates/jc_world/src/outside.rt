@@ -73,7 +73,7 @@ pub(crate) fn entry_after(change: &Change) -> Option<Value>
     }
 }
 
-/// What holds further: what held so far, and this.
+/// Whether a premise still holds: it held so far, and holds now.
 pub(crate) fn and_now(former: bool, now: bool) -> bool
     ensures { result ≡ (former && now) }
 {

@@ -239,7 +239,7 @@ pub(crate) fn is_free_at(call: u64, key: &Key, held: &HeldKeys, joins: &Joins) -
     held_by(held, call, key).is_none() && !has_joined(joins, call, key)
 }
 
-/// The same of each key that is open.
+/// Whether the call has neither reserved nor joined any of these keys that are open.
 pub(crate) fn are_free(
     call: u64,
     ops: &IndexMap<Key, Option<Op>>,
@@ -324,7 +324,7 @@ pub(crate) fn push_reported(
     Ok(())
 }
 
-/// The same of each key.
+/// Appends for each of these keys what [`push_reported`] appends.
 pub(crate) fn push_each(
     reported: &mut Vec<ReportedKey>,
     call: u64,

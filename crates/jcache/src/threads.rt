@@ -102,7 +102,7 @@ pub fn count_on_threads<R: Threads + Wait + Sync>(
     count(rt, alloc, owner, &store, team, plan)
 }
 
-/// So many workers, and one more, each with a session of its own.
+/// Creates the workers, and one more, each with a session of its own.
 fn hire(
     alloc: Global,
     owner: &mut CacheOwner,

@@ -54,7 +54,7 @@ fn idle(rt: &impl Abort, alloc: Global, pieces: usize) -> Tally
     }
 }
 
-/// So many workers, each with room for all pieces.
+/// Creates the workers, each with room for all pieces.
 fn team(rt: &impl Abort, alloc: Global, workers: usize, pieces: usize) -> Vec<Tally>
     ensures len { vec_len result ≡ workers }
     ensures able { All (CanDoAll (λ t piece. (vec_len t.done ≤ piece) × (piece < vec_capacity t.done)) pieces) result.items }
