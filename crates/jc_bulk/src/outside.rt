@@ -16,7 +16,7 @@ use std::alloc::{AllocError, Global};
 use std::marker::Model;
 use std::sync::Wait;
 
-/// Whom a bulk call asks, and for what.
+/// What a bulk call asks, and for what.
 #[derive(Clone, Copy)]
 pub(crate) enum Kind {
     /// The loader.
@@ -32,7 +32,7 @@ pub(crate) struct OutsideCall {
     of: CallOf,
 }
 
-/// Who is called.
+/// What is called: the loader or the writer.
 enum CallOf {
     /// The loader.
     Loads(LoadCall),
@@ -66,7 +66,7 @@ impl Kind {
 }
 
 impl OutsideCall {
-    /// Whom it asks, and for what.
+    /// What it asks, and for what.
     pub(crate) fn kind(&self) -> Kind
         ensures { result ≡ self.now.kind }
     {

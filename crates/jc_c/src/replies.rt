@@ -138,7 +138,7 @@ pub(crate) fn show_done(
     );
 }
 
-/// Whom to ask.
+/// What to ask: the loader, the writer or the processor.
 fn show_first(
     first: &First,
     next: &mut u32,

@@ -21,7 +21,7 @@ use jc_types::Caller;
 use std::alloc::AllocError;
 use std::sync::Wait;
 
-/// Who calls a cache: a session, beside the cache that it may call. That it may is a fact of the type, so no call of a client has a
+/// A caller of a cache: a session, beside the cache that it may call. That it may is a fact of the type, so no call of a client has a
 /// condition, and who has one states nothing. One thread at a time has it.
 ///
 /// Calls for which it has no method, as those with many keys, take `client.cache` and `&mut client.session`. Afterwards the session has
@@ -63,7 +63,7 @@ impl<'a> Client<'a> {
         self.session.own()
     }
 
-    /// Who makes the call that was begun last: the session's number, and the call's.
+    /// The caller of the call that was begun last: the session's number, and the call's.
     pub fn caller(&self) -> Caller
         ensures { result ≡ self.now.session.agent.caller }
     {

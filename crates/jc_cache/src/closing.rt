@@ -133,7 +133,7 @@ pub struct Closed {
 pub struct CloseFault {
     /// Why: `StillReserved` or `OutOfMemory`; or `Busy`, see [`CacheOwner::close`].
     pub refusal: Refusal,
-    /// Who owns the cache.
+    /// The owner of the cache.
     pub owner: CacheOwner,
     /// The sessions.
     pub sessions: Vec<Session>,

@@ -1,4 +1,4 @@
-//! Who owns a cache.
+//! The owner of a cache.
 ghost use Rattle.std.specs.Prelude.{◌≡◌, ◌⊎◌, ◌+◌, ◌++◌, ◌≤◌, Bool, true, false, List, [], Ok, Err, Some, None, IfOk, IfErr, is_some, map, length, replicate, vec_len, vec_capacity};
 ghost use Rattle.atomic_table.specs.Seated.{TableId};
 ghost use Rattle.jc_types.specs.Limits.{check};
@@ -92,7 +92,7 @@ fn live_on(stripes: &mut [Stripe])
     }
 }
 
-/// Who owns a cache of this shape that opens with these entries, and lives on or doesn't, and those for which it had no room. An
+/// The owner of a cache of this shape that opens with these entries, and lives on or doesn't, and those for which it had no room. An
 /// `Err` says that an allocation failed.
 ///
 /// Conditions: `config.check()` is `Ok`; each key is there once.

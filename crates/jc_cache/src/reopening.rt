@@ -19,7 +19,7 @@ use thiserror::Error;
 /// A cache that was opened again.
 #[derive(Drop)]
 pub struct Reopened {
-    /// Who owns the cache.
+    /// The owner of the cache.
     pub owner: CacheOwner,
     /// The entries for which the stripe of their key had no room, old stripe by old stripe, the most recently used first.
     pub dropped: Vec<(Key, Value)>,

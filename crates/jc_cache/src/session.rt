@@ -16,7 +16,7 @@ use jc_stripe::Ask;
 use jc_types::{Caller, Value};
 use std::sync::Wait;
 
-/// Who calls a cache: an agent, with a seat at the lock of each stripe. One thread at a time has it.
+/// A caller of a cache: an agent, with a seat at the lock of each stripe. One thread at a time has it.
 ///
 /// Contracts see what the session has seen of each stripe, its own steps there, its calls' numbers, and its loader and writer.
 #[derive(Drop)]
@@ -34,7 +34,7 @@ impl Session {
         self.agent.own()
     }
 
-    /// Who makes the call that was begun last: the session's number, and the call's.
+    /// The caller of the call that was begun last: the session's number, and the call's.
     pub fn caller(&self) -> Caller
         ensures { result ≡ self.now.agent.caller }
     {

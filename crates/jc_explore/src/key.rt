@@ -1,4 +1,4 @@
-//! What of a scene decides what may come.
+//! The part of a scene that decides what may come.
 ghost use Rattle.std.specs.Prelude.{◌≡◌, true, false, IfOk};
 ghost use Rattle.std.specs.List.{fold};
 ghost use Rattle.jc_snapshot.specs.Snapshot.{GrowsTo};
@@ -16,12 +16,12 @@ use std::alloc::{AllocError, Global};
 /// By what a fingerprint is multiplied with each further number: that of FNV-1a for 64 bits.
 const PRINT_FACTOR: u64 = 1099511628211;
 
-/// What of a scene decides what may come.
+/// The part of a scene that decides what may come.
 #[derive(Drop)]
 pub struct StateKey {
     /// The snapshot of its world.
     pub snapshot: Snapshot,
-    /// How far each thread is.
+    /// The state of each thread.
     pub positions: Vec<Position>,
     /// What the threads were answered.
     pub replies: Vec<ThreadReply>,

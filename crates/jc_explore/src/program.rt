@@ -29,7 +29,7 @@ pub enum Item {
     },
 }
 
-/// Who may fail, at each of its calls, with which code. One without a code never fails.
+/// Which of loader, writer and processor may fail, at each of its calls, with which code. One without a code never fails.
 #[derive(Clone, Copy, Debug, PartialEq, Eq)]
 pub struct Faults {
     /// The loader.
@@ -51,6 +51,6 @@ pub struct Program {
     pub stored: Vec<(Key, Value)>,
     /// What each thread does, in its order. There are at most [`SESSIONS_MAX`](jc_types::SESSIONS_MAX).
     pub threads: Vec<Vec<Item>>,
-    /// Who may fail.
+    /// Which of them may fail.
     pub faults: Faults,
 }

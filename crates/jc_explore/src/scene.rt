@@ -18,7 +18,7 @@ use jc_world::{Outcome, Shown, World, WorldEvent};
 use std::alloc::{AllocError, Global};
 use std::mem;
 
-/// How far a thread is.
+/// The state of a thread.
 #[derive(Clone, Copy, Debug, PartialEq, Eq)]
 pub struct Position {
     /// How many items it has begun.
@@ -29,7 +29,7 @@ pub struct Position {
 pub struct Scene {
     /// The world.
     pub world: World,
-    /// How far each thread is.
+    /// The state of each thread.
     pub positions: Vec<Position>,
     /// What the threads were answered, thread by thread.
     pub replies: Vec<ThreadReply>,
@@ -112,14 +112,14 @@ fn have_memory(shown: &[Shown]) -> bool
     shown.iter().all(|s| has_memory(&s.outcome))
 }
 
-/// How far a thread is, if there is one with this number.
+/// The state of a thread, if there is one with this number.
 fn position_at(positions: &[Position], thread: usize) -> Option<Position>
     ensures { result ≡ slice_get positions.now thread }
 {
     positions.get(thread).copied()
 }
 
-/// How far a thread is after an act.
+/// The state of a thread after an act.
 fn position_after(last: Option<u64>, act: Act, position: Position) -> Position
     requires { may_begin last position act ≡ true }
     ensures { result ≡ position_after act position }

@@ -1,6 +1,6 @@
-//! Who lends a stripe, for one phase at a time.
+//! Gates: each lends a stripe, for one phase at a time.
 //!
-//! A gate has one stripe, and lends it to the holders of its tokens. The plain owner lends to whoever the owner itself is lent to,
+//! A gate has one stripe, and lends it to the holders of its tokens. The plain owner lends to whatever the owner itself is lent to,
 //! and always has its stripe; a gate that threads share may have to say that the stripe is out.
 //!
 //! Why it is so:

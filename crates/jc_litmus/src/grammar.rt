@@ -135,7 +135,7 @@ pub(crate) fn entry_calls(alloc: Global, words: &[&[u8]]) -> Result<EntryCalls, 
     line_calls(alloc, &line)
 }
 
-/// Who may fail, and how.
+/// Which of loader, writer and processor may fail, and how.
 #[derive(Clone, Copy)]
 pub(crate) enum WhoFails {
     /// The loader.
@@ -148,7 +148,7 @@ pub(crate) enum WhoFails {
     Process,
 }
 
-/// Who may fail, and how, from the words that name them.
+/// Which of them may fail, and how, from the words that name it.
 fn failing_named(who: &[u8], how: &[u8]) -> Option<WhoFails>
     ensures { result ≡ failing_named who.now how.now }
 {
@@ -161,7 +161,7 @@ fn failing_named(who: &[u8], how: &[u8]) -> Option<WhoFails>
     }
 }
 
-/// Who may fail, and with which code, from the words of a line.
+/// Which of them may fail, and with which code, from the words of a line.
 pub(crate) fn may_fail(words: &[&[u8]]) -> Result<(WhoFails, u32), Fault>
     ensures { result ≡ may_fail (map (λ w. w.now) words.now) }
 {

@@ -292,7 +292,7 @@ impl Reading {
         self.add(item)
     }
 
-    /// Who may fail.
+    /// Which of loader, writer and processor may fail.
     #[tactic(auto, unfolding(crate::specs::Program::after_failing))]
     fn failing(&mut self, words: &[&[u8]]) -> Result<(), LineError>
         ensures { Reads (ok_with self.new result) (after_failing self.old (map (λ w. w.now) words.now)) }

@@ -19,7 +19,7 @@ use jc_types::{Key, NUMBER_MAX, Value};
 use jc_world::LoadSource;
 use std::alloc::{AllocError, Global};
 
-/// How far a thread is.
+/// The state of a thread.
 #[derive(Clone, Copy)]
 pub struct Progress {
     /// How many of its items have begun.
@@ -220,7 +220,7 @@ fn put_line_at(
     }
 }
 
-/// How far a thread is after an item began.
+/// The state of a thread after an item began.
 fn begun_by(last: u64, progress: &Progress, item: &Item) -> Progress
     requires last { last + 1 < 2 ^ 64 }
     requires begun { progress.now.begun + 1 < 2 ^ 64 }
@@ -265,7 +265,7 @@ fn begun_item<'a>(
     }
 }
 
-/// How far a thread is after a move of it.
+/// The state of a thread after a move of it.
 fn progress_at(program: &Program, last: u64, step: Move, progress: &Progress) -> Progress
     ensures { result ≡ progress_at program.now last step progress.now }
 {

@@ -1,4 +1,4 @@
-//! Workers, each of whom loads pieces by a session.
+//! Workers, each of which loads pieces by a session.
 ghost use Rattle.std.specs.Prelude.{◌≡◌, ◌==◌, ◌+◌, ◌≤◌, ◌<◌, map, length, vec_len, vec_capacity, IfOk, All, IfSome, IfNone, None, Some, [], List};
 ghost use Rattle.std.specs.List.{IsDistinct, flat_map};
 ghost use Rattle.std.specs.Cmp.Lexicographic.{pointwise};
@@ -28,7 +28,7 @@ pub(crate) struct Worker<'a, F> {
 }
 
 impl<'a, F> Worker<'a, F> {
-    /// One who has loaded nothing, with room for so many notes.
+    /// A worker that has loaded nothing, with room for its notes.
     pub(crate) fn new(
         alloc: Global,
         load: &'a F,

@@ -30,11 +30,11 @@ pub trait Listen {
 
 /// The completion listener of a `loadAll` that tells `L`.
 ///
-/// It hands each call on, once: its relation is that of `L`. Whoever wants to state more implements
+/// It hands each call on, once: its relation is that of `L`. To state more, implement
 /// [`jc_outside::CompletionListener`].
 #[derive(Drop)]
 pub struct Listening<L: Listen + Drop> {
-    /// Who listens.
+    /// The listener that it wraps.
     pub listener: L,
 }
 

@@ -66,7 +66,7 @@ fn put_found(answers: &mut Answers, key: &Key, found: &Option<Value>)
 
 /// Makes a [`CacheLoader`] of a [`Load`].
 ///
-/// It hands each call on, once, and answers what `L` answers: its relations are those of `L`. Whoever wants to state more implements
+/// It hands each call on, once, and answers what `L` answers: its relations are those of `L`. To state more, implement
 /// [`jc_outside::CacheLoader`].
 #[derive(Drop)]
 pub struct Loading<L: Load + Drop> {

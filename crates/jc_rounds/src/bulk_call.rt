@@ -23,7 +23,7 @@ use std::sync::Wait;
 pub struct BulkCall<'a> {
     /// Its keys, and what it does at each of them.
     pub(crate) targets: &'a Targets<'a>,
-    /// How far each key is.
+    /// The state of each key.
     pub(crate) progress: Vec<Progress>,
     /// How many keys a round may reserve.
     pub(crate) most: usize,
@@ -200,7 +200,7 @@ fn room_for(most: usize, keys: usize, stripes: usize) -> usize
     }
 }
 
-/// So many keys that wait, before the first round.
+/// The states of all keys, which wait, before the first round.
 fn all_waiting(alloc: Global, keys: usize) -> Result<Vec<Progress>, AllocError>
     ensures { IfOk result (λ progress. progress.items ≡ all_waiting keys) }
 {

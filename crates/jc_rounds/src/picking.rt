@@ -71,7 +71,7 @@ impl<'a> BulkCall<'a> {
     }
 }
 
-/// How far a key is after a pick-up that wasn't too early.
+/// The state of a key after a pick-up that wasn't too early.
 fn after_pick_up(picked: Picked) -> Progress
     requires { IsPickedUp picked }
     ensures { IsPicked picked result }

@@ -25,7 +25,7 @@ use std::sync::Wait;
 /// processor to another thread.
 const PAUSE_STEPS: u32 = 11;
 
-/// Who calls a cache: the numbers of its calls, what it has begun and not ended, and its hands. A session is an agent beside a seat
+/// A caller of a cache: the numbers of its calls, what it has begun and not ended, and its hands. A session is an agent beside a seat
 /// on every stripe.
 ///
 /// An agent reaches its loader and its writer only by its hands, which count the stripes that it has taken and not given back.
@@ -81,7 +81,7 @@ impl Agent {
         self.caller.call = self.caller.call.max(n.saturating_sub(1));
     }
 
-    /// Who makes the call that was begun last: the session's number, and the call's.
+    /// The caller of the call that was begun last: the session's number, and the call's.
     pub fn caller(&self) -> Caller
         ensures { result ≡ self.now.caller }
     {

@@ -9,7 +9,7 @@ use jc_world::{CallKind, OpenCall};
 /// A call under way without its lists.
 #[derive(Clone, Copy, Debug, PartialEq, Eq)]
 pub struct CallHead {
-    /// Who calls.
+    /// The caller.
     pub caller: Caller,
     /// How the call takes its keys.
     pub kind: CallKind,

@@ -24,7 +24,7 @@ pub struct Seen {
     pub entries: Table<(Key, Value)>,
     /// Reservations.
     pub reservations: Table<Reservation>,
-    /// Who has joined a load.
+    /// The joiners of loads.
     pub joiners: Table<Joiner>,
     /// What joiners are answered.
     pub answers: Table<Option<Event>>,

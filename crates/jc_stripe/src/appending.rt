@@ -23,7 +23,7 @@ use std::marker::Model;
 /// A step, and what is evicted before and after it: a group without those that share its load. What the step is made of is lent.
 #[derive(Drop)]
 pub(crate) struct NewGroup<'a> {
-    /// Who calls.
+    /// The caller.
     pub(crate) caller: Caller,
     /// At which key.
     pub(crate) key: &'a Key,
@@ -33,7 +33,7 @@ pub(crate) struct NewGroup<'a> {
     pub(crate) out: &'a Out,
     /// What is replied.
     pub(crate) reply: &'a Reply,
-    /// Who was evicted before the step, since the stripe was full.
+    /// The key that was evicted before the step, since the stripe was full.
     pub(crate) victim: Option<Key>,
     /// Why the step's own key was evicted after it, if it was.
     pub(crate) evicted: Option<Cause>,

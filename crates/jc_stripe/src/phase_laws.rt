@@ -17,7 +17,7 @@ pub fn stays_reached()
     ensures { StaysReached }
 {}
 
-/// A stripe's history is legal from its opening: what whoever takes a stripe from a lock may rest on.
+/// A stripe's history is legal from its opening: anyone who takes a stripe from a lock may rest on that.
 pub fn is_legal()
     ensures { ReachedIsLegal }
 {}
@@ -72,7 +72,7 @@ pub fn lives_on()
     ensures { LivesOn }
 {}
 
-/// A step that may still come after a history is not in it: whoever finds it later finds it behind.
+/// A step that may still come after a history is not in it: it is found later behind it.
 pub fn steps_behind()
     ensures { StepsBehind }
 {}

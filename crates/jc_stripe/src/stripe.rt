@@ -387,7 +387,7 @@ impl Stripe {
         self.boxes.give_back(reservation);
     }
 
-    /// How far a joiner is. It is a joiner no more if its load is over.
+    /// The state of a joiner's load. It is a joiner no more if that is over.
     fn take(&mut self, join: &Join) -> JoinState
         requires { IsJoined self.old join.now }
         ensures told { told_to self.old join.now ≡ Some result }

@@ -202,7 +202,7 @@ impl StripeJoiners {
         self.only[0].waiting(load)
     }
 
-    /// How far the load is that a call has joined at a key, and takes the joiner out of the table if it is over.
+    /// The state of the load that a call has joined at a key. If it is over, the joiner is taken out of the table.
     pub(crate) fn take(&mut self, caller: Caller, key: &Key) -> Option<JoinState>
         ensures state { result ≡ join_state_of caller key.now self.old }
         ensures left { self.new ≡ after_take caller key.now self.old }

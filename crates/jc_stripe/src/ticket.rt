@@ -16,7 +16,7 @@ use jc_reserve::Reserved;
 use jc_types::{Caller, Key, Value};
 use std::marker::Model;
 
-/// Whom a call asks first.
+/// What a call asks first.
 #[derive(Clone, Copy, Debug, PartialEq, Eq)]
 pub enum First {
     /// Nobody: the call is done at once.
@@ -37,7 +37,7 @@ pub enum First {
 /// A key that a call has reserved.
 #[derive(Clone, Copy, Debug, PartialEq, Eq)]
 pub struct Reservation {
-    /// Who reserved the key.
+    /// The caller that reserved the key.
     pub caller: Caller,
     /// The key.
     pub key: Key,
@@ -45,7 +45,7 @@ pub struct Reservation {
     pub op: Op,
     /// The reservation's number. A stripe's numbers rise and are never used again.
     pub number: u64,
-    /// Whom the call asks first.
+    /// What the call asks first.
     pub first: First,
 }
 

@@ -94,7 +94,7 @@ impl OpenCall {
         put_one(&mut self.tasks, key, op);
     }
 
-    /// Who calls: a session, from 1 to [`SESSIONS_MAX`](jc_types::SESSIONS_MAX), and the call's number.
+    /// The caller: a session, from 1 to [`SESSIONS_MAX`](jc_types::SESSIONS_MAX), and the call's number.
     pub fn caller(&self) -> Caller
         ensures { result ≡ self.now.caller }
     {

@@ -1,4 +1,4 @@
-//! How far a reserved key is as it is reserved and once its entry processor has run, and the last phase behind a processor.
+//! The state of a reserved key as it is reserved and once its entry processor has run, and the last phase behind a processor.
 ghost use Rattle.std.specs.Prelude.{◌≡◌, true, false, None, is_some, not, ◌&&◌};
 ghost use Rattle.jc_stripe.specs.State.{IsOut};
 ghost use Rattle.jc_stripe.specs.Phases.{Commits, with_reply};
@@ -36,7 +36,7 @@ pub(crate) fn asks_as(first: &First) -> Outcome
     }
 }
 
-/// How far a key is that was just reserved.
+/// The state of a key that was just reserved.
 pub(crate) fn new_progress(first: &First) -> PartProgress
     ensures { result ≡ new_progress first.now }
 {
@@ -68,7 +68,7 @@ pub(crate) fn change_due(config: &Config, done: &ProcDone<Ask>) -> Option<Change
     }
 }
 
-/// How far a key is once its processor has run, by what the writer is then asked for.
+/// The state of a key once its processor has run, by what the writer is then asked for.
 pub(crate) fn progress_after(change: &Option<Change>, done: &ProcDone<Ask>) -> PartProgress
     ensures { result ≡ progress_after change.now done.now }
 {

@@ -6,7 +6,7 @@ use jc_model::Op;
 use std::alloc::{AllocError, Global};
 use std::marker::Model;
 
-/// How far a call is that takes the keys that are cached: it looks at each stripe once, in any order. There are at most
+/// The state of a call that takes the keys that are cached: it looks at each stripe once, in any order. There are at most
 /// [`STRIPES_MAX`](jc_types::STRIPES_MAX), so a list of their numbers is short.
 #[derive(Drop)]
 pub(crate) struct Sweep {

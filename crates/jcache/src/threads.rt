@@ -45,7 +45,7 @@ fn shape(history: usize) -> Config {
     }
 }
 
-/// Who owns the cache of a plan: it lives on, or has room for each increment in its history.
+/// The owner of the cache of a plan: it lives on, or has room for each increment in its history.
 fn owner_for(alloc: Global, plan: &Plan) -> Result<CacheOwner, Refusal> {
     match plan.history {
         Some(events) => CacheOwner::living(alloc, &shape(events as usize)),

@@ -21,7 +21,7 @@ use jc_loadall::load_all;
 use std::thread;
 use std::thread::Threads;
 
-/// Who owns a cache, and sessions that may call it.
+/// The owner of a cache, and sessions that may call it.
 #[derive(Drop)]
 pub struct Stage {
     owner: CacheOwner,
@@ -243,7 +243,7 @@ impl Stage {
         play_lines(rt, alloc, outside, self.owner.cache(), sessions, text);
     }
 
-    /// Who owns the cache, and its sessions.
+    /// The owner of the cache, and its sessions.
     pub fn into_parts(self) -> (CacheOwner, Vec<Session>)
         requires { All (MayCall self.owner.cache) self.sessions.items }
         ensures { All (MayCall result.0.cache) result.1.items }

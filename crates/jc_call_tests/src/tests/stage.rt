@@ -19,7 +19,7 @@ pub type Loader = Option<Box<dyn CacheLoader + Send + Drop>>;
 
 pub type Writer = Option<Box<dyn CacheWriter + Send + Drop>>;
 
-/// Who owns a cache, and sessions that may call it.
+/// The owner of a cache, and sessions that may call it.
 #[derive(Drop)]
 pub struct Stage {
     owner: CacheOwner,
@@ -228,7 +228,7 @@ impl Stage {
         closed(rt, alloc, owner, sessions)
     }
 
-    /// Who owns the cache, and its sessions.
+    /// The owner of the cache, and its sessions.
     pub fn into_parts(self) -> (CacheOwner, Vec<Session>)
         requires { All (MayCall self.owner.cache) self.sessions.items }
         ensures { All (MayCall result.0.cache) result.1.items }

@@ -23,7 +23,7 @@ impl Stripe {
         self.reservations.list()
     }
 
-    /// Who has joined a load, and hasn't picked up its answer, in the order of joining.
+    /// The joiners that haven't picked up their answer, in the order of joining.
     pub fn joiners(&self) -> &[Joiner]
         ensures { result.now ≡ self.now.joiners }
     {
