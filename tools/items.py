@@ -144,7 +144,8 @@ def read_function(item, start, name_end):
     depth = len(source.text[:start].split("\n")[-1])
     item.signature = "\n".join(line[depth:] if not line[:depth].strip() else line for line in signature.split("\n"))
     if first is not None:
-        item.contract = clauses_text(source.text[first:end])
+        line = source.text.rfind("\n", 0, first) + 1
+        item.contract = clauses_text(source.text[line if not source.text[line:first].strip() else first:end])
         item.cited = cites(source, item.contract)
     return part.group() == "{"
 
