@@ -71,7 +71,8 @@ class Item:
         self.source, self.kind, self.name = source, kind, name
         self.crate, self.module, self.line = source.crate, source.module, source.line_of(at)
         self.doc, attributes = doc_before(source.text, at)
-        self.derives = [name.strip() for listed in re.findall(r"#\[derive\(([^)]*)\)\]", attributes) for name in listed.split(",") if name.strip()]
+        derived = ",".join(re.findall(r"#\[derive\(([^)]*)\)\]", attributes))
+        self.derives = [name.strip() for name in derived.split(",") if name.strip()]
         text = re.search(r'#\[error\("((?:\\.|[^"\\])*)"', attributes)
         self.error = text.group(1) if text else ""  # the text that `Display` of `thiserror` writes
         self.has_default = False                    # of a method of a trait
@@ -81,6 +82,7 @@ class Item:
         self.members = []    # fields, variants, methods of a trait
         self.groups = []     # of a type: (the comment of their file, methods), file by file
         self.impls = []      # of a type: implementations of traits
+        self.module_shown = False  # whether its name on the page begins with its module
 
 
 class Impl:
@@ -153,7 +155,7 @@ def read_function(item, start, name_end):
 def clauses_text(text):
     """Clauses, the first at the first column and the others below it."""
     lines = text.strip("\n").rstrip().split("\n")
-    depth = min((len(line) - len(line.lstrip()) for line in lines if re.match(r"\s*(requires|ensures|//)", line) and line[0] == " "), default=0)
+    depth = min((len(line) - len(line.lstrip()) for line in lines if re.match(r"\s*(requires|ensures|//)", line)), default=0)
     return "\n".join(line[depth:] if not line[:depth].strip() else line for line in lines).strip("\n")
 
 
@@ -234,6 +236,7 @@ def read_fields(item, start, end):
 
 
 def read_variants(item, start, end):
+    """The variants of an enum, and their fields."""
     source = item.source
     for begin, stop in parts_of(source, start, end):
         text = source.text[begin:stop]
@@ -333,6 +336,7 @@ class Crate:
         return sorted(self.sources, key=lambda source: source.module.split("::"))
 
     def find_public_modules(self):
+        """The modules that a crate above can name."""
         found = set()
         for source in self.in_order():
             if source.module == "" or source.module in found:
@@ -341,6 +345,7 @@ class Crate:
         return found
 
     def read_impl(self, source, at, methods, impls):
+        """An `impl`: its public methods, or what it implements."""
         stop = source.plain.index("{", at.end())
         head, end = source.text[at.end():stop], block_end(source.plain, stop)
         trait, target = impl_head(head)

@@ -1,4 +1,4 @@
-"""The pages of the reference: docs/reference/NAME.md of each public crate, its index, and the definitions that contracts cite.
+"""The pages of the reference: docs/reference/NAME.md of each public crate, an index, and the definitions that contracts cite.
 
 `reference_pages()` makes them all, by their paths; nothing is written here.
 """
@@ -8,44 +8,39 @@ import re
 from items import Crate
 from sources import ALL, LISTED, SPECS, TOP, about, bare, cell, home_of
 
-# The public crates: who needs them, and which of their public modules have a page. What a crate passes on at its root always has.
-PUBLIC = {
-    "jc_types": ("keys, values, the shape of a cache, and refusals: what every call takes and returns", []),
-    "jc_model": ("operations, events and counts; `legal`, to check a history yourself", []),
-    "jc_outside": ("the full traits of loaders, writers and listeners, for an author who states what they answer", []),
-    "jc_mutentry": ("the full trait of entry processors", []),
-    "jc_stripe": ("tickets, joins and asks of a cache's phase calls; one stripe alone, and the desk of which the C library is made", []),
-    "jc_explore": ("every outcome of a program of threads, as a call", []),
-    "jc_script": ("the run of a script, as a call", ["fault", "run"]),
-    "jc_litmus": ("the run of a program of threads that is text, as a call", ["run"]),
-    "jc_plain": ("loaders, writers, processors and listeners with plain methods", []),
-    "jc_store": ("the store of the examples, and what tests of a service need", []),
-    "jc_sqlite": ("a store in a SQLite file", ["code", "table"]),
-    "jc_cache": ("caches, sessions, clients, calls of one key, services", ["laws"]),
-    "jc_bulk": ("calls of many keys", []),
-    "jc_invoke": ("`invoke_all`", []),
-    "jc_pool": ("the pool of workers of `load_all`, for jobs of your own", []),
-    "jc_loadall": ("`load_all` by many sessions or clients", []),
-}
+# Why a crate has a page: docs/EMBEDDING.md has its reader list it, jc_cache passes types of it on, or it is of use by itself.
+LISTED_BY_GUIDE = ["jc_types", "jc_plain", "jc_store", "jc_sqlite", "jc_cache", "jc_bulk", "jc_invoke", "jc_loadall"]
+PASSED_ON = ["jc_model", "jc_outside", "jc_mutentry", "jc_stripe"]
+BY_THEMSELVES = ["jc_script", "jc_explore", "jc_litmus", "jc_pool"]
+PUBLIC = LISTED_BY_GUIDE + PASSED_ON + BY_THEMSELVES
 
-# What the programs of docs/EMBEDDING.md use of the toolchain's macros.
+# Which public modules are on the page, beside what a crate's root passes on: the others are for the crates above.
+MODULES = {"jc_script": ["fault", "run"], "jc_litmus": ["run"], "jc_sqlite": ["code", "table"], "jc_cache": ["laws"]}
+
+# The macros and attributes of the toolchain that the guide's programs and the crates use.
 MACROS = [
-    ("println!(rt; \"{page:?}\")", "Prints a line on standard output. `rt` is lent first: a function that prints takes one with `R: Print`. "
-     "It is a `Result`, since writing may fail."),
-    ("format!(in alloc; \"{n}\")", "Makes a `String` in memory of `alloc`. It is a `Result` whose error is `AllocError`."),
+    ("println!(rt; \"{page:?}\")?", "prints a line to standard output, by an `rt` with `Print`. It is a `Result`, since writing may fail"),
+    ("format!(in alloc; \"{n}\")?", "makes a `String`; its error is `AllocError`"),
+    ("vec![in alloc; 0u64; 8]?", "makes a `Vec`; its error is `AllocError`"),
+    ("unreachable!()", "an arm that the prover shows to be unreachable; no assertion at run time"),
+    ("assert!(rt; ..)`, `assert_eq!(rt; ..)`, `panic!(rt; ..)`, `.expect(&rt, ..)", "in tests alone: they end the program, by an `rt` with `Abort`"),
+    ("#[derive(Drop)]", "lets values of a type be dropped, which isn't so by itself"),
+    ("#![tactic(auto)]", "at the head of a crate: the prover tries its tactics on every goal"),
+    ("requires`, `ensures`, `ghost", "for the prover alone; `requires { Unit {0} }` is a condition that always holds"),
 ]
-# The same of its types and traits.
+# The types and traits of the toolchain that signatures name.
 TOOLCHAIN = [
-    ("`Global`", "`std::alloc`", "what allocates; `main` has it from `rt.alloc()`, and hands it on"),
-    ("`AllocError`", "`std::alloc`", "an allocation failed; it has no more to say"),
-    ("`HostRuntime`", "the prelude", "all that a program may do; only `main` is given it"),
-    ("`Wait`", "`std::sync`", "what lets a function wait, as for a lock. A call that may wait takes an `rt` with it"),
-    ("`Threads`", "`std::thread`", "what lets a function start threads"),
-    ("`Print`, `Eprint`", "the prelude", "what lets a function print, to standard output or to standard error"),
-    ("`Drop`", "the prelude", "of a type: its values may be dropped. Those of a type without it have to be handed on, or taken apart"),
-    ("`IndexMap`, `IndexSet`", "`indexmap`", "a map and a set that keep the order of insertion; an insertion is a `Result`"),
+    ("`HostRuntime`", "the prelude", "all that a program may do; `main` alone is given it, as its `rt`"),
+    ("`Print`, `Eprint`", "the prelude", "who has it may print, to standard output or to standard error"),
+    ("`Wait`", "`std::sync`", "who has it may wait, as for a lock. A call that may wait takes an `rt` with it"),
+    ("`Threads`", "`std::thread`", "who has it may start threads"),
+    ("`Send`, `Sync`, `Drop`", "the prelude", "of a type: it may go to another thread, be shared with one, be dropped"),
+    ("`Global`", "`std::alloc`", "takes memory: `rt.alloc()`, which `main` hands on. It is `Copy`"),
+    ("`AllocError`", "`std::alloc`", "an allocation failed"),
+    ("`IndexMap`, `IndexSet`", "`indexmap`", "a map and a set in the order of insertion. `insert` and `clone` are a `Result`"),
     ("`Read`, `Write`", "`std::io`", "streams of bytes"),
-    ("`Connection`, `Error`", "`sqlite`", "an open SQLite file, and what its calls fail with"),
+    ("`Duration`", "`std::time`", "a span of time"),
+    ("`Connection`, `Alter`, `Error`", "`sqlite`", "a SQLite file that is open, the right to change one, and why a statement failed"),
 ]
 
 KINDS = [("Traits", ("trait",)), ("Types", ("struct", "enum", "type")), ("Functions", ("fn",)), ("Constants", ("const",))]
@@ -75,7 +70,8 @@ class Library:
 
     def own_items(self, name):
         """The public items of a crate: those that its root passes on, and those of the modules that have a page."""
-        crate, modules = self.crates[name], PUBLIC[name][1]
+        crate = self.crates[name]
+        modules = [module for module in MODULES.get(name, []) if module in crate.public_modules]
         root = {id(self.named(crate, path)) for path, _as in crate.root.passed_on}
         return [item for item in crate.items if id(item) in root or item.module in modules or item.module == ""]
 
@@ -248,11 +244,12 @@ def find(library, source, parts):
     return id(item) if item and id(item) in library.places else None
 
 
-def put_doc(page, source, doc, item=None, indent=""):
-    lines, code = paragraphs(doc), False
-    for line in lines:
+def put_doc(page, source, doc, item=None):
+    """A doc comment, with its links."""
+    code = False
+    for line in paragraphs(doc):
         code = not code if line.startswith("```") else code
-        page.put((indent + (line if code else linked(page, source, line, item))).rstrip())
+        page.put(line if code else linked(page, source, line, item))
     page.put("")
 
 
@@ -288,10 +285,12 @@ def put_types(page, part, apart_from=None):
 
 
 def title_of(item):
+    """An item's name on its page."""
     return "::".join(([item.module] if item.module_shown else []) + [item.name])
 
 
 def put_method(page, owner, method):
+    """A method of a type or a trait."""
     page.heading(4, "%s::%s" % (title_of(owner), method.name), id(method))
     page.put("```rust", method.signature, "```", "")
     put_doc(page, method.source, method.doc, owner)
@@ -320,6 +319,7 @@ def put_members(page, item):
 
 
 def member_line(page, member, item, indent):
+    """A field or a variant, as an entry of a list."""
     text = in_line(page, member.source, member.doc, item)
     if re.search(r"\w\w", member.error):  # `{0}` says nothing: it is the text of what is in it
         text += " Its text is \"%s\"." % member.error
@@ -349,6 +349,7 @@ def trait_link(page, item, name):
 
 
 def put_item(page, item):
+    """An item with its members, its traits, its contract and its methods."""
     page.heading(3, title_of(item), id(item))
     page.put("```rust", item.signature, "```", "")
     put_doc(page, item.source, item.doc, item)
@@ -374,6 +375,7 @@ def put_item(page, item):
 
 
 def put_constants(page, items):
+    """Constants, as a table."""
     page.put("| Constant | What it is |", "|---|---|")
     for item in items:
         anchor = slug(title_of(item), page.taken)
@@ -405,7 +407,7 @@ def put_kinds(page, items, level):
 def crate_page(library, name):
     """The page of a crate."""
     page, crate = Page(library, FOLDER + name + ".md"), library.crates[name]
-    shown, modules = library.shown[name], PUBLIC[name][1]
+    shown, modules = library.shown[name], MODULES.get(name, [])
     for item in shown + library.adopted[name]:
         item.module_shown = item.crate == name and item.module in modules and item not in passed_by_root(library, crate)
     page.heading(1, name)
@@ -434,6 +436,7 @@ def crate_page(library, name):
 
 
 def passed_by_root(library, crate):
+    """The items that the root of a crate passes on, its own and others."""
     return [library.named(crate, path) for path, _as in crate.root.passed_on]
 
 
@@ -471,26 +474,33 @@ def cited_by(at):
 
 
 def definitions_page(library, crate, wanted):
-    """The definitions of a crate that contracts of public items cite, file by file."""
+    """The definitions of a crate that contracts of public items cite, file by file, and the sentences of the others beside them."""
     page = Page(library, FOLDER + "definitions/" + crate + ".md")
     page.heading(1, "Definitions of " + crate)
-    page.put("Made by `tools/reference` of [its definitions](../../../crates/%s/specs): those that contracts of the [reference](../README.md) "
-             "cite. What these cite in turn is linked, to a page as this one or to its file." % crate, "")
+    page.put("Made by `tools/reference` of [its definitions](../../../crates/%s/specs). Those that contracts of the [reference](../README.md) cite "
+             "have their text; the others of their files have the sentence alone, since *the same* speaks of the one before. What a "
+             "text cites is linked: to a page as this one, or to the file that has it." % crate, "")
     for file in sorted({file for file, _name in wanted}):
+        specs = SPECS[file]
         page.heading(2, file.split("/specs/")[1])
-        if SPECS[file].title:
-            page.put(cell(SPECS[file].title), "")
-        for name in SPECS[file].definitions:
+        page.put("[The file](../../../crates/%s). %s" % (file, escaped(specs.title)), "")
+        for name in dict.fromkeys(list(specs.sentences) + list(specs.definitions)):
             if (file, name) in wanted:
                 put_definition(page, file, name)
+            elif specs.sentences.get(name):
+                page.put("`%s`: %s" % (name, escaped(specs.sentences[name])), "")
     return page
 
 
+def escaped(sentence):
+    """A sentence of a file of specs/, in which signs stand for themselves."""
+    return re.sub(r"([<*_|])", r"\\\1", re.sub(r"\s+", " ", sentence).strip())
+
+
 def put_definition(page, file, name):
+    """A definition: its sentence, and its text folded behind it."""
     page.heading(3, name, (file, name))
-    sentence = SPECS[file].sentences.get(name, "").strip()
-    if sentence:
-        page.put(cell(sentence).replace("<", "\\<"), "")
+    page.put(escaped(SPECS[file].sentences.get(name, "")), "")
     page.put("<details><summary>definition</summary>", "", "```text", SPECS[file].text_of(name), "```", "")
     links = [definition_link(page, home, word) for home, word in cited_by((file, name))]
     if links:
@@ -507,27 +517,56 @@ def definition_link(page, file, name):
 # The index.
 
 def index_page(library, with_definitions):
+    """The page with which a reader begins."""
     page = Page(library, FOLDER + "README.md")
     page.heading(1, "Reference")
-    page.put("Made by `tools/reference` of the sources: one page for each crate that a program of yours may need. An item has its "
-             "signature, what it is for, its errors, its conditions and whether it waits; behind *contract* are its clauses, word for word, "
-             "which are proved. How to read them is in [PROOFS](../PROOFS.md). Where to begin is in [EMBEDDING](../EMBEDDING.md).", "")
+    page.put("One page for each crate that a program of yours may need, made by `tools/reference` of the sources. An item has its signature, and what "
+             "its author says of it: what it is for, its limits, its errors, its conditions, what it may wait for. Behind *contract* are "
+             "its clauses, word for word, which are proved; [PROOFS](../PROOFS.md) says how to read them. Begin with "
+             "[EMBEDDING](../EMBEDDING.md).", "")
     put_rings(page)
-    page.put("", "A crate has a page if [EMBEDDING](../EMBEDDING.md) or [BINDINGS](../BINDINGS.md) names it or what it has, or if a call "
-             "of these takes or returns its types; beside them `jc_script`, `jc_litmus`, `jc_explore` and `jc_pool`, which can be used "
-             "by themselves. The tables of a stripe, its lock, gates, sessions, phases and rounds have none: a program has no use for them, and "
-             "types of them that a signature names are on the page that does. What `jc_c` exports is in its "
+    page.put("", "A crate has a page",
+             "",
+             "- if [EMBEDDING](../EMBEDDING.md#which-crates-to-list) has you list it: %s;" % named(LISTED_BY_GUIDE),
+             "- if `jc_cache` passes types of it on: %s. The desk of `jc_stripe` is also what the library of [BINDINGS](../BINDINGS.md) is "
+             "made of;" % named(PASSED_ON),
+             "- if it is of use by itself: %s, for scripts, for programs of threads, for jobs of workers." % named(BY_THEMSELVES),
+             "",
+             "No other crate has: a program has no use for the tables of a stripe, its lock, gates, phases and rounds, nor for worlds. If a "
+             "signature names a type of them all the same, it is on the page of the first crate that does. What `jc_c` exports is in its "
              "[header](../../crates/jc_c/include/jcache_core.h). All crates are in [crates](../matrix/crates.md).", "")
-    page.heading(2, "What the toolchain gives")
-    page.put("Signatures name these types and traits, and the guide's programs these macros. `rt doc` prints where the toolchain's own guide is.",
-             "", "| Macro | What it does |", "|---|---|")
+    page.heading(2, "All items")
+    put_names(page)
+    page.heading(2, "Of the toolchain")
+    page.put("`rt doc` prints where its own guide is. Its macros and attributes, as programs here use them:", "",
+             "| | What it does |", "|---|---|")
     page.put(*["| `%s` | %s |" % (cell(form), text) for form, text in MACROS])
-    page.put("", "| Name | From | What it is |", "|---|---|---|")
+    page.put("", "Signatures name these types and traits:", "", "| Name | From | What it is |", "|---|---|---|")
     page.put(*["| %s | %s | %s |" % row for row in TOOLCHAIN])
     page.heading(2, "Definitions")
     page.put("What the names in contracts mean, crate by crate: " + ", ".join(
         "[%s](definitions/%s.md)" % (crate, crate) for crate in with_definitions) + ".")
     return page
+
+
+def put_names(page):
+    """All items by their names, letter by letter; the methods of a type are listed where it is."""
+    library = page.library
+    items = [item for name in library.shown for item in library.shown[name] + library.adopted[name]]
+    count = {}
+    for item in items:
+        count[item.name] = count.get(item.name, 0) + 1
+    letters = {}
+    for item in sorted(items, key=lambda item: (item.name.lower(), library.home[id(item)])):
+        link = page.link("`%s`" % item.name, id(item))
+        letters.setdefault(item.name[0].upper(), []).append(link if count[item.name] == 1 else "%s of `%s`" % (link, library.home[id(item)]))
+    for letter, links in letters.items():
+        page.put("**%s** %s" % (letter, ", ".join(links)), "")
+
+
+def named(crates):
+    """These crates, each a link to its page."""
+    return ", ".join("[`%s`](%s.md)" % (crate, crate) for crate in crates)
 
 
 def put_rings(page):
@@ -539,11 +578,12 @@ def put_rings(page):
         if ring != ring_before:
             ring_before = ring
             page.heading(2, ring.capitalize())
-            page.put("| Crate | What it is | Needed for |", "|---|---|---|")
-        page.put("| [`%s`](%s.md) | %s | %s |" % (crate, crate, cell(about(crate)), PUBLIC[crate][0]))
+            page.put("| Crate | What it is |", "|---|---|")
+        page.put("| [`%s`](%s.md) | %s |" % (crate, crate, cell(about(crate))))
 
 
 def made_once(library):
+    """All pages, by the anchors that are known so far."""
     pages = [crate_page(library, crate) for crate in library.shown]
     wanted = {at for page in pages for at in page.cited}
     with_definitions = [crate for crate in ALL if any(file.startswith(crate + "/") for file, _name in wanted)]
