@@ -8,7 +8,7 @@ import re
 from sources import CRATES, bare, block_end, files_of, imports_of_code, own_comment, read
 
 ITEM = re.compile(r"^(pub )?(?:unsafe )?(?:(struct|enum|trait|impl|type|fn)|const(?! fn)|const fn|static)\b", re.M)
-MEMBER = re.compile(r"^    (pub )?(?:const )?(?:unsafe )?fn (\w+)", re.M)
+MEMBER = re.compile(r"^    (pub )?(?:(?:const )?(?:unsafe )?(fn)|type|const) (\w+)", re.M)
 
 
 class Source:
@@ -160,33 +160,41 @@ def clauses_text(text):
 
 
 def methods_in(source, start, end, of_trait):
-    """The public methods of a block. Those of a trait are public by themselves."""
+    """The public methods of a block, and its types and constants. Those of a trait are public by themselves."""
     found = []
     for at in MEMBER.finditer(source.plain, start, end):
         if at.group(1) or of_trait:
             begin = at.start() + 4
-            method = Item(source, "method", at.group(2), begin)
-            method.has_default = read_function(method, begin, at.end()) and of_trait
-            found.append(method)
+            member = Item(source, "method" if at.group(2) else "associated", at.group(3), begin)
+            if at.group(2):
+                member.has_default = read_function(member, begin, at.end()) and of_trait
+            else:
+                member.signature = dedented(source.text[begin:end_of_line(source, begin)])
+            found.append(member)
     return found
+
+
+def end_of_line(source, start):
+    """The index of the semicolon that ends what begins here."""
+    stop, depth = start, 0
+    while source.plain[stop] != ";" or depth:
+        depth += {"{": 1, "}": -1}.get(source.plain[stop], 0)
+        stop += 1
+    return stop
 
 
 def ghost_lines(source, start, end, names=None):
     """The ghost lines of a block, word for word, with the comments above them: all but imports, or those of these names."""
     found = []
-    for at in re.finditer(r"^    ghost (also_owns|\w+)\b[^\n]*", source.plain[:end], re.M):
+    for at in re.finditer(r"^    ghost (\w+)", source.plain[:end], re.M):
         if at.start() < start or at.group(1) == "use" or names and at.group(1) not in names:
             continue
-        stop, depth = at.start(), 0
-        while source.plain[stop] != ";" or depth:
-            depth += {"{": 1, "}": -1}.get(source.plain[stop], 0)
-            stop += 1
         comments = []
         for line in reversed(source.text[:at.start()].split("\n")[:-1]):
             if not line.strip().startswith("//"):
                 break
             comments.insert(0, line.strip())
-        body = source.text[at.start():stop + 1].split("\n")
+        body = source.text[at.start():end_of_line(source, at.start()) + 1].split("\n")
         found.append("\n".join(comments + [line[4:] for line in body]))
     return "\n".join(found)
 
@@ -276,7 +284,7 @@ def read_item(source, at):
             elif keyword == "enum":
                 read_variants(item, stop + 1, end - 1)
             else:
-                item.members = methods_in(source, stop, end, True)
+                item.members = methods_in(source, stop, end, of_trait=True)
                 item.contract = ghost_lines(source, stop, end)
                 item.cited = cites(source, item.contract)
         return item
@@ -315,6 +323,7 @@ class Crate:
         self.name = name
         self.sources = [Source(name, file) for file in files_of(name, "src", ".rt")]
         self.root = next((source for source in self.sources if source.module == ""), None)
+        self.module_names = {part for source in self.sources for part in source.module.split("::") if part}
         self.public_modules = self.find_public_modules()
         self.items = []
         methods, impls = [], []
@@ -350,7 +359,7 @@ class Crate:
         head, end = source.text[at.end():stop], block_end(source.plain, stop)
         trait, target = impl_head(head)
         if trait is None:
-            methods.append((target, source, methods_in(source, stop, end, False)))
+            methods.append((target, source, methods_in(source, stop, end, of_trait=False)))
             return
         impl = Impl(source, at.start(), (trait, target))
         last = re.sub(r"<.*", "", trait).split("::")[-1]

@@ -102,28 +102,21 @@ class Library:
         return crate.item_at(path)
 
     def resolve(self, source, name):
-        """The item that a name means in a source."""
-        crate = self.crates[source.crate]
-        if name in source.imports:
-            path = source.imports[name]
-            return self.named(crate, path) if path.split("::")[0] in ("crate", "self", "super") or path.split("::")[0] in self.crates \
-                or source.module == "" and not path.startswith("std::") else self.local(crate, source, path)
-        found = [item for item in crate.by_name.get(name, []) if item.module == source.module]
-        return found[0] if found else crate.best(crate.by_name.get(name, []), source.module.split("::"))
-
-    @staticmethod
-    def local(crate, source, path):
-        """An item of this crate that a source names from where it is, as `answers::OpenFault`."""
-        inside = crate.best([item for item in crate.by_name.get(path.split("::")[-1], [])
-                             if item.module.endswith("::".join(path.split("::")[:-1]))], source.module.split("::"))
-        return inside if path.split("::")[0] not in ("std", "core") else None
+        """The item that a name means in a source; none if it is of no crate here."""
+        crate, path = self.crates[source.crate], source.imports.get(name)
+        if path is None:
+            here = [item for item in crate.by_name.get(name, []) if item.module == source.module]
+            return here[0] if here else crate.best(crate.by_name.get(name, []), source.module.split("::"))
+        first = path.split("::")[0]
+        is_ours = first in self.crates or first in crate.module_names or first in ("crate", "self", "super")
+        return self.named(crate, path) if is_ours else None
 
     def adopt(self, name):
         """Gives items of crates without a page to the first page that passes them on, or whose signatures name them."""
         todo = list(self.passed_on[name]) + [item for shown in self.shown[name] for item in self.named_by(shown)]
         while todo:
             item = todo.pop(0)
-            if id(item) in self.home or item.kind == "trait" and item.crate not in PUBLIC and not item.doc:
+            if id(item) in self.home:
                 continue
             owner = item.crate if item.crate in PUBLIC else name
             self.home[id(item)] = owner
@@ -162,12 +155,13 @@ class Page:
     def __init__(self, library, path):
         self.library, self.path = library, path
         self.lines, self.taken = [], {}
-        self.cited = []
+        self.cited = []  # the definitions that its contracts cite
 
     def put(self, *lines):
         self.lines += lines
 
     def heading(self, level, text, key=None):
+        """A heading, and from now on the place of whatever has this key."""
         anchor = slug(text, self.taken)
         if key is not None:
             self.library.places[key] = (self.path, anchor)
@@ -302,7 +296,7 @@ def put_method(page, owner, method):
 
 def put_members(page, item):
     """The fields of a struct, or the variants of an enum with theirs."""
-    members = [member for member in item.members if member.kind != "method"]
+    members = [member for member in item.members if member.kind in ("field", "variant")]
     if not members:
         return
     page.put("Fields:" if members[0].kind == "field" else "Variants:", "")
@@ -359,11 +353,11 @@ def put_item(page, item):
     put_traits(page, item)
     title = {"trait": "relations", "struct": "ghost fields"}.get(item.kind, "contract")
     put_contract(page, title, item.contract, item.cited)
-    methods = [member for member in item.members if member.kind == "method"]
+    methods = [member for member in item.members if member.kind in ("method", "associated")]
     groups = sorted(item.groups, key=lambda group: group[2] is not item.source)
     names = methods + [method for _comment, found, _source in groups for method in found]
     if len(names) > 3:
-        page.put("Methods: " + ", ".join(page.link("`%s`" % method.name, id(method)) for method in names) + ".", "")
+        page.put("It has " + ", ".join(page.link("`%s`" % method.name, id(method)) for method in names) + ".", "")
     for method in methods:
         put_method(page, item, method)
     for comment, found, source in groups:
