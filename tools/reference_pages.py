@@ -1,6 +1,6 @@
 """The pages of the reference: docs/reference/NAME.md of each public crate, an index, and the definitions that contracts cite.
 
-`reference_pages()` makes them all, by their paths; nothing is written here.
+`reference_pages()` makes them all, and `write_reference()` writes them.
 """
 import os
 import re
@@ -588,10 +588,12 @@ def made_once(library):
 
 
 def reference_pages():
-    """All pages of the reference: {path: text}."""
+    """All pages of the reference, {path: text}, and each item of them that has no comment, as `FILE:LINE: NAME`."""
     library = Library()
     made_once(library)  # finds the anchors; the second time each link knows its own
-    return {page.path: page.text() for page in made_once(library)}
+    pages = {page.path: page.text() for page in made_once(library)}
+    items = [part for name in library.shown for item in library.shown[name] + library.adopted[name] for part in all_parts(item)]
+    return pages, ["crates/%s:%d: %s" % (part.source.file, part.line, part.name) for part in items if not part.doc]
 
 
 def stray_pages(pages):
