@@ -1,0 +1,73 @@
+"""The text form of the sequence diagram of a script and its transcript, as code hosts draw it: Mermaid's `sequenceDiagram`."""
+import re
+
+from diagram import LEGEND, asked_together, session_number, with_shared_steps
+
+
+def participants(rows):
+    """The lanes, each with its name in the text."""
+    sessions = dict.fromkeys(row.session for row in sorted(rows, key=session_number) if row.session)
+    stripes = sorted({row.place[0] for row in rows if row.place})
+    return [*sessions, *[f'stripe{stripe}' for stripe in stripes], 'store']
+
+
+def text_of(rows, title):
+    """The whole text. A message has the words of a row; what one answer or one ask says of several keys is one message."""
+    lanes = participants(rows)
+    lines = ['sequenceDiagram', f'    accTitle: {re.sub("[;#]", ",", title)}']
+    for lane in lanes:
+        lines.append(f'    participant {lane}' + (f' as stripe {lane[6:]}' if lane.startswith('stripe') else ''))
+    rows = with_shared_steps(rows)
+    asks = {at: group for group in asked_together(rows) for at in group}
+    whole = f'{lanes[0]},{lanes[-1]}' if len(lanes) > 1 else lanes[0]
+    for at, row in enumerate(rows):
+        lines += [f'    {line}' for line in row_lines(rows, at, asks.get(at), whole)]
+    return '\n'.join(lines) + '\n'
+
+
+def row_lines(rows, at, group, whole):
+    """The lines of a row."""
+    row = rows[at]
+    text = row.text.replace('\n', '<br/>')
+    if row.kind in ('open', 'audit', 'reopened', 'fault'):
+        yield f'Note over {whole}: {text}'
+    elif row.kind == 'shared' and not row.session:
+        yield f'Note over stripe{row.place[0]}: {row.place[0]}.{row.place[1]}, {LEGEND["shared"][1]}'
+    elif row.kind == 'evict':
+        yield f'Note over stripe{row.place[0]}: {text}'
+    elif row.kind in ('set', 'foreign'):
+        yield f'Note over store: {text}{"<br/>" if text else ""}{held_text(row)}'
+    else:
+        yield from session_lines(rows, at, group, text)
+
+
+def session_lines(rows, at, group, text):
+    """Those of a row of a session: where its reservations begin and end, and between them what is said to whom."""
+    row = rows[at]
+    if group is not None and at == group[-1]:
+        asked = '<br/>'.join(rows[other].text for other in group)
+        yield f'{row.session}->>store: {asked}'
+    elif row.kind == 'joined':
+        loader = next(other.session for other in rows if other.call == row.joins and other.session)
+        yield f'{row.session}->>{loader}: {text}'
+    elif row.kind in ('reads', 'says', 'written', 'deleted'):
+        yield f'store-->>{row.session}: {text}'
+    elif row.kind == 'left':
+        yield f'store--x{row.session}: {text}'
+    elif row.kind == 'step':
+        yield f'{row.session}->>stripe{row.place[0]}: {text}'
+    elif row.kind == 'shared':
+        yield f'stripe{row.place[0]}-->>{row.session}: {text}'
+    elif row.kind == 'refused':
+        yield f'{row.session}-x{row.session}: {text}'
+    elif group is None:
+        yield f'Note over {row.session}: {text}'
+    if row.starts:
+        yield f'activate {row.session}'
+    yield from [f'deactivate {row.session}'] * len(row.ends)
+    if row.held is not None:
+        yield f'Note over store: {held_text(row)}'
+
+
+def held_text(row):
+    return ' '.join(row.held) if row.held else 'empty'
