@@ -1,7 +1,8 @@
 """Lays out the rows of a script and its transcript as a sequence diagram: time goes downwards.
 
-A lane each have the sessions, the history of each stripe that has a step, and the store. A lane has its line on the left and its words to
-the right of it; a row has words in one lane alone, so no arrow meets a word."""
+There is a lane for each session, for the history of each stripe that has a step, and for the store. A lane has its line on the left and its
+words to the right of it. A row has words in one lane alone, beside what the store has and a place in the history, so no arrow meets a
+word."""
 import dataclasses
 
 import svg
@@ -11,11 +12,13 @@ MARGIN, GAP = 20, 26      # around the picture; between two lanes
 ROW, BEFORE_CALL = 18, 7  # the height of a row; the room before a call begins
 TRACK, BAR = 18, 14       # from bar to bar of a session; the width of one
 HEADER, BAND = 22, 22     # the height of a lane's name; of the first line of a band
-WRAP = 38                 # characters of a line of words; what is longer is broken at spaces
+BETWEEN_TEXTS = 18        # from a text of a band to the one beside it
+WRAP, HELD = 38, 26       # characters of a line of words, and of what the store has; what is longer is broken at spaces
 WORD, ROWS, BARS = 60, 400, 16  # what is longer, or more, isn't drawn
 LEAST = 600               # the width of the narrowest picture, with two columns of what its marks mean
 
-ANSWERS = {'reads': svg.read, 'says': svg.other_answer, 'written': svg.change, 'deleted': svg.change, 'left': svg.cross}
+# The answers from outside, and their marks at the store.
+ANSWERS = {'reads': 'reads', 'says': 'says', 'written': 'changed', 'deleted': 'changed', 'left': 'cross'}
 BAND_KINDS = ('open', 'audit', 'reopened', 'fault')
 # What a mark means, for those that a picture has.
 LEGEND = {
@@ -83,9 +86,7 @@ class Diagram:
         self.rows = with_shared_steps(rows)
         self.canvas, self.used = svg.Canvas(), set()
         self.bars = bars_of(self.rows)
-        self.lanes = {row.session: Lane(row.session) for row in sorted(rows, key=session_number) if row.session}
-        self.lanes.update({place: Lane(f'stripe {place}') for place in sorted({row.place[0] for row in rows if row.place})})
-        self.lanes['store'] = Lane('store')
+        self.lanes = {lane: Lane(name) for lane, name in lanes_of(rows).items()}
         self.lines = [wrapped(row.text, WRAP) for row in self.rows]
         self.place_lanes()
         self.place_rows()
@@ -143,16 +144,15 @@ class Diagram:
         return row.session or row.place[0]
 
     def band_lines(self, row):
-        """The lines of a band: each has texts that stand beside each other."""
+        """The lines of a band: each has texts that stand beside each other, with their colours."""
         room, lines, used = self.right - 2 * MARGIN - 16, [], 0
-        for text in row.text.split('\n'):
+        for text, fill in band_texts(row):
             for part in wrapped(text, int(room / svg.width('x'))):
-                if lines and used + svg.width(part) <= room:
-                    lines[-1].append(part)
-                else:
-                    lines.append([part])
+                if not lines or used + svg.width(part) > room:
+                    lines.append([])
                     used = 0
-                used += svg.width(part) + 18
+                lines[-1].append((part, fill))
+                used += svg.width(part) + BETWEEN_TEXTS
         return lines
 
     def mark(self, kind, x, y):
@@ -179,15 +179,14 @@ class Diagram:
 
     def draw_band(self, row, y):
         lines = self.band_lines(row)
-        self.canvas.box(svg.BANDS, MARGIN - 8, y - BAND / 2, self.right - 2 * MARGIN + 16, BAND + svg.LEADING * (len(lines) - 1), 'band',
+        high = BAND + svg.LEADING * (len(lines) - 1)
+        self.canvas.box(svg.BANDS, MARGIN - 8, y - BAND / 2, self.right - 2 * MARGIN + 16, high, 'band',
                         'bad' if row.kind == 'fault' else 'rule')
         for count, texts in enumerate(lines):
             x = MARGIN
-            for text in texts:
-                bad = row.failed and (row.kind == 'fault' or text.startswith('differs'))
-                own = row.text.partition('\n')[2] if row.kind in ('open', 'reopened', 'fault') else ''
-                self.canvas.text(x, y + 4 + count * svg.LEADING, text, 'bad' if bad and text != own else 'dim' if text == own else 'ink')
-                x += svg.width(text) + 18
+            for text, fill in texts:
+                self.canvas.text(x, y + 4 + count * svg.LEADING, text, fill)
+                x += svg.width(text) + BETWEEN_TEXTS
 
     def draw_row(self, at, row):
         y, lane = self.tops[at], self.lanes[self.lane_of(row)]
@@ -208,46 +207,44 @@ class Diagram:
 
     def draw_held(self, row, y):
         """What the store has, beside its line; below the words of another program, if it has changed it."""
-        lane, lines = self.lanes['store'], held_lines(row.held)
         y += svg.LEADING if row.kind == 'foreign' else 0
-        self.canvas.text(lane.words, y + 4, lines if len(lines) > 1 else lines[0], 'ink' if row.held else 'dim')
+        self.canvas.text(self.lanes['store'].words, y + 4, held_lines(row.held), 'ink' if row.held else 'dim')
 
     def draw_links(self, at, row, y):
         """What leads from the words of a row to another lane, and the marks there."""
-        end = self.end_of_words(at)
-        store = self.lanes['store'].x
+        end, store = self.end_of_words(at), self.lanes['store'].x
         if row.kind in ANSWERS:
             self.canvas.arrow(store - 8, end, y, '4 3')
             self.used.add('answer')
-            kind = {'left': 'cross', 'written': 'changed', 'deleted': 'changed'}.get(row.kind, row.kind)
-            self.mark(kind, store - 9 if row.kind in ('left', 'says') else store, y)
-        elif row.kind == 'step':
+            self.mark(ANSWERS[row.kind], store - 9 if row.kind in ('left', 'says') else store, y)
+        elif row.kind in ('step', 'shared'):
             self.draw_step(row, end, y)
-        elif row.kind == 'shared' and row.session:
-            self.canvas.arrow(self.lanes[row.place[0]].x - 3, end, y, '1 3')
-        elif row.kind == 'shared':
-            self.mark('shared', self.lanes[row.place[0]].x, y)
-            self.canvas.text(self.lanes[row.place[0]].words, y + 4, place_text(row), size=svg.SMALL)
         elif row.kind == 'joined':
-            self.draw_join(row, end, y)
+            self.draw_join(at, row, y)
         elif row.kind == 'refused':
             self.mark('refused', end + 6, y)
         elif row.kind in ('fails', 'dropped'):
             self.mark('cross', end + 6, y)
 
     def draw_step(self, row, end, y):
+        """A step, at its place. A shared one has its place in a row of its own, and is picked up in another."""
         lane = self.lanes[row.place[0]]
-        self.canvas.path(svg.ARROWS, [(end, y), (lane.x - 8, y)], stroke='line', dash='1 3')
-        self.mark('failed' if row.failed else 'step', lane.x, y)
+        if row.kind == 'shared' and row.session:
+            self.canvas.arrow(lane.x - 3, end, y, '1 3')
+            return
+        if row.kind == 'step':
+            self.canvas.path(svg.ARROWS, [(end, y), (lane.x - 8, y)], dash='1 3')
+        self.mark('shared' if row.kind == 'shared' else 'failed' if row.failed else 'step', lane.x, y)
         self.canvas.text(lane.words, y + 4, place_text(row), size=svg.SMALL)
 
-    def draw_join(self, row, end, y):
-        bar = next(bar for bar in self.bars if bar.call == row.joins and bar.key == row.key)
+    def draw_join(self, at, row, y):
+        """An arrow to the reservation whose load is joined."""
+        bar = next(bar for bar in reversed(self.bars) if bar.call == row.joins and bar.key == row.key and bar.first < at)
         x, own = self.lanes[bar.session].x + bar.track * TRACK, self.lanes[row.session]
         if x < own.x:
             self.canvas.arrow(own.x, x + BAR / 2 + 1, y, stroke='edge')
         else:
-            self.canvas.arrow(end, x - BAR / 2 - 1, y, stroke='edge')
+            self.canvas.arrow(self.end_of_words(at), x - BAR / 2 - 1, y, stroke='edge')
         self.used.add('join')
 
     def end_of_words(self, at):
@@ -255,7 +252,7 @@ class Diagram:
         return self.lanes[self.lane_of(row)].words + svg.width(self.lines[at][0]) + 6
 
     def draw_bar(self, bar):
-        """A reservation, with its key inside if there is room; open below, if the script ends before it does."""
+        """A reservation, with its key inside if there is room. If the script ends before it does, it goes down to the end of the lanes."""
         x, top = self.lanes[bar.session].x + bar.track * TRACK - BAR / 2, self.tops[bar.first] - 8
         bottom = self.tops[bar.last] + 8 if bar.last >= 0 else self.end - 4
         self.canvas.box(svg.BARS, x, top, BAR, bottom - top, 'bar', 'edge')
@@ -306,17 +303,28 @@ class Diagram:
             self.canvas.arrow(x - 11, x + 11, y, stroke='edge' if kind == 'join' else 'line')
 
 
+def band_texts(row):
+    """The texts of a row that is about all lanes, with their colours: what the transcript says, and then what the script asks for."""
+    first, *others = row.text.split('\n')
+    if row.kind == 'audit':
+        return [(text, 'bad' if text.startswith('differs') else 'ink') for text in (first, *others)]
+    return [(first, 'bad' if row.kind == 'fault' else 'ink'), *[(text, 'dim') for text in others]]
+
+
+def lanes_of(rows):
+    """The lanes and their names: sessions, stripes by their numbers, and the store."""
+    sessions = sorted({row.session for row in rows if row.session}, key=lambda session: int(session[1:]))
+    stripes = sorted({row.place[0] for row in rows if row.place})
+    return {**{session: session for session in sessions}, **{stripe: f'stripe {stripe}' for stripe in stripes}, 'store': 'store'}
+
+
 def place_text(row):
     return f'{row.place[0]}.{row.place[1]}'
 
 
-def session_number(row):
-    return int(row.session[1:] or 0)
-
-
 def held_lines(held):
     """What the store has, in lines of the picture."""
-    return wrapped(' '.join(held), 26) if held else ['empty']
+    return wrapped(' '.join(held), HELD) if held else ['empty']
 
 
 def with_shared_steps(rows):

@@ -1,26 +1,19 @@
 """The text form of the sequence diagram of a script and its transcript, as code hosts draw it: Mermaid's `sequenceDiagram`."""
 import re
 
-from diagram import LEGEND, asked_together, session_number, with_shared_steps
-
-
-def participants(rows):
-    """The lanes, each with its name in the text."""
-    sessions = dict.fromkeys(row.session for row in sorted(rows, key=session_number) if row.session)
-    stripes = sorted({row.place[0] for row in rows if row.place})
-    return [*sessions, *[f'stripe{stripe}' for stripe in stripes], 'store']
+from diagram import BAND_KINDS, LEGEND, asked_together, lanes_of, place_text, with_shared_steps
 
 
 def text_of(rows, title):
-    """The whole text. A message has the words of a row; what one answer or one ask says of several keys is one message."""
-    lanes = participants(rows)
+    """The whole text. A message has the words of a row; what one ask of the loader or the writer says of several keys is one message."""
+    lanes = [f'stripe{lane}' if isinstance(lane, int) else lane for lane in lanes_of(rows)]
     lines = ['sequenceDiagram', f'    accTitle: {re.sub("[;#]", ",", title)}']
-    for lane in lanes:
-        lines.append(f'    participant {lane}' + (f' as stripe {lane[6:]}' if lane.startswith('stripe') else ''))
+    for lane, name in zip(lanes, lanes_of(rows).values()):
+        lines.append(f'    participant {lane}' + (f' as {name}' if name != lane else ''))
     rows = with_shared_steps(rows)
     asks = {at: group for group in asked_together(rows) for at in group}
     whole = f'{lanes[0]},{lanes[-1]}' if len(lanes) > 1 else lanes[0]
-    for at, row in enumerate(rows):
+    for at in range(len(rows)):
         lines += [f'    {line}' for line in row_lines(rows, at, asks.get(at), whole)]
     return '\n'.join(lines) + '\n'
 
@@ -29,10 +22,10 @@ def row_lines(rows, at, group, whole):
     """The lines of a row."""
     row = rows[at]
     text = row.text.replace('\n', '<br/>')
-    if row.kind in ('open', 'audit', 'reopened', 'fault'):
+    if row.kind in BAND_KINDS:
         yield f'Note over {whole}: {text}'
     elif row.kind == 'shared' and not row.session:
-        yield f'Note over stripe{row.place[0]}: {row.place[0]}.{row.place[1]}, {LEGEND["shared"][1]}'
+        yield f'Note over stripe{row.place[0]}: {place_text(row)}, {LEGEND["shared"][1]}'
     elif row.kind == 'evict':
         yield f'Note over stripe{row.place[0]}: {text}'
     elif row.kind in ('set', 'foreign'):

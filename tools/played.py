@@ -210,7 +210,7 @@ class Reader:
 
     def on_audit(self, _words):
         lines = [self.takes(pattern)[0] for pattern in ('cache.*', 'store.*', 'coherent|differs.*', 'history .*')]
-        self.add('audit', '\n'.join(lines), failed=lines[2] != 'coherent')
+        self.add('audit', '\n'.join(lines))
 
     # What several lines print.
 
