@@ -10,7 +10,7 @@ from played import ASKS, Mismatch
 
 MARGIN, GAP = 20, 26      # around the picture; between two lanes
 ROW, BEFORE_CALL = 18, 7  # the height of a row; the room before a call begins
-TRACK, BAR = 18, 14       # from bar to bar of a session; the width of one
+TRACK, BAR = 22, 14       # from bar to bar of a session, with room for the head of an arrow between them; the width of one
 HEADER, BAND = 22, 22     # the height of a lane's name; of the first line of a band
 BETWEEN_TEXTS = 18        # from a text of a band to the one beside it
 WRAP, HELD = 38, 26       # characters of a line of words, and of what the store has; what is longer is broken at spaces
