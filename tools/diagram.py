@@ -82,7 +82,7 @@ class Diagram:
 
     def __init__(self, rows):
         if len(rows) > ROWS:
-            raise Mismatch(f'more than {ROWS} rows')
+            raise Mismatch(f'more than {ROWS} lines')
         self.rows = with_shared_steps(rows)
         self.canvas, self.used = svg.Canvas(), set()
         self.bars = bars_of(self.rows)
