@@ -4,6 +4,10 @@ import re
 from diagram import BAND_KINDS, LEGEND, asked_together, lanes_of, place_text, with_shared_steps
 
 
+# What would end a message, or begin something else in it. Only a line with a fault has such characters.
+CODES = str.maketrans({'#': '#35;', ';': '#59;', '<': '#lt;', '>': '#gt;'})
+
+
 def text_of(rows, title):
     """The whole text. A message has the words of a row; what one ask of the loader or the writer says of several keys is one message."""
     lanes = [f'stripe{lane}' if isinstance(lane, int) else lane for lane in lanes_of(rows)]
@@ -21,7 +25,7 @@ def text_of(rows, title):
 def row_lines(rows, at, group, whole):
     """The lines of a row."""
     row = rows[at]
-    text = row.text.replace('\n', '<br/>')
+    text = row.text.translate(CODES).replace('\n', '<br/>')
     if row.kind in BAND_KINDS:
         yield f'Note over {whole}: {text}'
     elif row.kind == 'shared' and not row.session:

@@ -49,8 +49,14 @@ def chosen():
 
 
 def differing():
-    """The files of docs/pictures, and whether they are what their examples say. One that isn't there differs, and so does any other file."""
-    wanted = {file_name: text for name in chosen() for file_name, text in example(name).items()}
+    """The files that docs/pictures has or lacks, and what is wrong with each: nothing, if it is what its example says."""
+    wanted, faults = {}, {}
+    for name in chosen():
+        try:
+            wanted.update(example(name))
+        except (Mismatch, OSError) as error:
+            faults[f'{name}.svg'] = str(error)
     for file_name in sorted(wanted.keys() | set(os.listdir(PICTURES))):
         path = os.path.join(PICTURES, file_name)
-        yield file_name, not (os.path.exists(path) and read(path) == wanted.get(file_name))
+        is_right = os.path.exists(path) and read(path) == wanted.get(file_name)
+        yield file_name, '' if is_right else faults.get(file_name, 'it isn\'t what its example says: tools/picture --write makes it anew')

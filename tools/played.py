@@ -67,7 +67,8 @@ class Reader:
         for self.line, text in enumerate(self.script, 1):
             begun = len(self.rows)
             if self.finds(rf'line {self.line}: .*'):
-                self.add('fault', f'{self.takes("line .*")[0]}\n{text}', failed=True)
+                shown = ''.join(each if ' ' <= each <= '~' else '?' for each in text)
+                self.add('fault', f'{self.takes("line .*")[0]}\n{shown}', failed=True)
                 break
             if text and not text.startswith('#'):
                 self.play(text.split(' '))
