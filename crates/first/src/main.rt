@@ -1,4 +1,4 @@
-//! Four workers count the visits of a page, in a cache before a store of record.
+//! Four workers count the visits of a page, in a cache in front of a store of record.
 #![tactic(auto)]
 
 use jc_cache::{

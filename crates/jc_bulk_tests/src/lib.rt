@@ -1,4 +1,4 @@
-//! Tests of calls with many keys, before a store whose calls are counted. The crate has nothing but tests.
+//! Tests of calls with many keys, in front of a store whose calls are counted. The crate has nothing but tests.
 #![tactic(auto)]
 
 #[cfg(test)]

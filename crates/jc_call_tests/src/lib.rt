@@ -1,4 +1,4 @@
-//! Tests of whole calls: sessions on a cache, before a store whose calls are counted. The crate has nothing but tests.
+//! Tests of whole calls: sessions on a cache, in front of a store whose calls are counted. The crate has nothing but tests.
 #![tactic(auto)]
 
 #[cfg(test)]

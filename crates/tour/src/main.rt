@@ -1,5 +1,5 @@
-//! A tour: a store, a cache before it that threads share, and clients of the cache. One is a guide's, who makes one call after another;
-//! the others are of workers, each on a thread of its own.
+//! A tour: a store, a cache in front of it that threads share, and clients of the cache. One is a guide's, who makes
+//! one call after another; the others are of workers, each on a thread of its own.
 #![tactic(auto)]
 
 mod ending;

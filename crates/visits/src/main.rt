@@ -1,5 +1,5 @@
-//! A service that counts how often each user came. Four workers count side by side, each on a thread of its own, through a cache before a
-//! SQLite file, which is the store of record. Started again, the service goes on from what the file has.
+//! A service that counts how often each user came. Four workers count side by side, each on a thread of its own, through a cache
+//! in front of a SQLite file, which is the store of record. Started again, the service goes on from what the file has.
 #![tactic(auto)]
 
 mod counting;

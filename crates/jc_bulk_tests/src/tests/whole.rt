@@ -1,4 +1,4 @@
-//! Calls with many keys, whole: before a store, and before writers that do their work in part.
+//! Calls with many keys, whole: in front of a store, and of writers that do their work in part.
 
 /// Each call with many keys, one after another.
 pub const TOUR: &str = "\

@@ -1,4 +1,4 @@
-//! Entry processors in whole calls, before a store whose calls are counted. A line says the key, the processor's calls, what the
+//! Entry processors in whole calls, in front of a store whose calls are counted. A line says the key, the processor's calls, what the
 //! call is to answer, and how often, by then, the loader was called, and the writer to write and to delete.
 //!
 //!     invoke a get set=2 get = 2 | 1 1 0

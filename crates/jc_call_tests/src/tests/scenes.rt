@@ -1,4 +1,4 @@
-//! Whole calls before a store, in texts. A text begins with the shape of its cache, which has one stripe if it says nothing else:
+//! Whole calls in front of a store, in texts. A text begins with the shape of its cache, which has one stripe if it says nothing else:
 //!
 //!     open 1 4 100 read write     stripes, capacity, history, and the options that are on
 //!     store a=1 b=2               what the store has; without this line a=1
