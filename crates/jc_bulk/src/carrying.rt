@@ -38,7 +38,7 @@ impl Room {
     ghost use Rattle.std.specs.Prelude.{IfOk};
     ghost use Rattle.jc_bulk.specs.Carrying.{IsRoomOf};
 
-    /// Room for so many keys, in a cache of so many stripes. An `Err` says that an allocation failed.
+    /// Room for `keys` keys, in a cache of `stripes` stripes. An `Err` says that an allocation failed.
     pub(crate) fn new(
         alloc: Global,
         kind: Kind,

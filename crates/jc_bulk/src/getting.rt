@@ -73,8 +73,8 @@ pub fn get_all<R: Wait>(
     }
 }
 
-/// What a call that gets so many keys takes in memory before its first phase, in a cache of so many stripes: room for the call, and for
-/// the values.
+/// What a call that gets `keys` keys takes in memory before its first phase, in a cache of `stripes` stripes: room for the call, and
+/// for the values.
 fn get_room(
     alloc: Global,
     keys: usize,

@@ -247,7 +247,7 @@ impl CacheOwner {
     }
 }
 
-/// All stripes, if nothing is out at any, and a list with room for what so many sessions bring. An `Err` leaves all at their locks.
+/// All stripes, if nothing is out at any, and a list with room for what the sessions bring. An `Err` leaves all at their locks.
 fn take_stripes(
     alloc: Global,
     locks: &[HistLock],

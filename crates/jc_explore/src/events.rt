@@ -282,7 +282,7 @@ pub(crate) fn may_begin(last: Option<u64>, position: &Position, act: Act) -> boo
     !act.is_begin() || (is_small(last) && (position.begun as u64) < NUMBER_MAX)
 }
 
-/// Appends the events of a move of a thread that has begun so many items.
+/// Appends the events of a move of a thread at this position.
 pub(crate) fn put_events(
     alloc: Global,
     events: &mut Vec<WorldEvent>,

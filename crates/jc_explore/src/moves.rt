@@ -100,7 +100,7 @@ fn put_moves(moves: &mut Vec<Move>, thread: usize) -> Result<(), AllocError>
     Ok(())
 }
 
-/// Each move that a program of so many threads can have, thread by thread.
+/// Each move that a program of `threads` threads can have, thread by thread.
 pub(crate) fn moves_up_to(alloc: Global, threads: usize) -> Result<Vec<Move>, AllocError>
     ensures { IfOk result (λ moves. moves.items ≡ moves_up_to threads) }
 {

@@ -313,7 +313,7 @@ fn has_too_many(found: &[Finding]) -> bool
     found.len() > OUTCOMES_MAX
 }
 
-/// Follows states that are known, up to so many, and says whether it followed each.
+/// Follows at most `states` of the states that are known, and says whether it followed each.
 fn visit_all(
     alloc: Global,
     program: &Program,
@@ -392,7 +392,7 @@ fn search_anew(alloc: Global, program: &Program, states: usize) -> Result<Explor
 
 /// Explores a program: each final state that it can have, with a schedule that leads there.
 ///
-/// It follows at most so many states, and stops once it has found more than [`OUTCOMES_MAX`] final states: each one that it has found
+/// It follows at most `states` states, and stops once it has found more than [`OUTCOMES_MAX`] final states: each one that it has found
 /// is real even then. A program with too many threads, or a shape that `Config::check` refuses, is refused.
 pub fn explore(alloc: Global, program: &Program, states: usize) -> Result<Explored, ExploreFault>
     ensures witnessed { IfOk result (λ r. AreWitnessed program.now r.found.items) }

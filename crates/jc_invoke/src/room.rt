@@ -3,7 +3,7 @@ use jc_rounds::{Answers, WriteCall};
 use jc_stripe::{Ask, ProcDone};
 use std::alloc::{AllocError, Global};
 
-/// What a round takes in memory for what it asks outside, before its first phase: room for so many keys, and nothing in it yet. It can't
+/// What a round takes in memory for what it asks outside, before its first phase: room for its keys, and nothing in it yet. It can't
 /// be dropped.
 pub(crate) struct RoundRoom {
     /// Whether the cache writes through.
@@ -31,7 +31,7 @@ impl RoundRoom {
     ghost use Rattle.jc_rounds.specs.Rounds.{ProcessAll, ProcessRound};
     ghost use Rattle.jc_invoke.specs.RoundRooms.{IsRoomFor, IsNextRoom};
 
-    /// Room for so many keys, in a cache that writes through or doesn't. An `Err` says that an allocation failed.
+    /// Room for `keys` keys, in a cache that writes through or doesn't. An `Err` says that an allocation failed.
     pub(crate) fn new(alloc: Global, through: bool, keys: usize) -> Result<RoundRoom, AllocError>
         ensures { IfOk result (λ room. IsRoomFor keys through room) }
     {

@@ -35,7 +35,7 @@ fn put_whole_line(out: &mut Vec<u8>, outcomes: usize, states: u64) -> Result<(),
     Ok(())
 }
 
-/// Appends that an exploration has stopped after so many outcomes.
+/// Appends that an exploration has stopped after this number of outcomes.
 #[tactic(auto, unfolding(crate::specs::Outcomes::outcomes_line))]
 fn put_outcomes_line(out: &mut Vec<u8>, outcomes: usize) -> Result<(), AllocError>
     ensures { OnOk result (out.new.items ≡ out.old.items ++ outcomes_line outcomes) }
@@ -50,7 +50,7 @@ fn put_outcomes_line(out: &mut Vec<u8>, outcomes: usize) -> Result<(), AllocErro
     )
 }
 
-/// Appends that an exploration has stopped after so many states.
+/// Appends that an exploration has stopped after this number of states.
 #[tactic(auto, unfolding(crate::specs::Outcomes::budget_line))]
 fn put_budget_line(out: &mut Vec<u8>, states: usize) -> Result<(), AllocError>
     ensures { OnOk result (out.new.items ≡ out.old.items ++ budget_line states) }

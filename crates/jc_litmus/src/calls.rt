@@ -34,7 +34,7 @@ fn calls_in(items: &[Item]) -> usize
     items.iter().filter(|item| is_call(item)).count()
 }
 
-/// The first items, so many, or all.
+/// The first `count` items, or all if there are fewer.
 fn front(items: &[Item], count: usize) -> &[Item]
     ensures { result.now ≡ take count items.now }
 {

@@ -344,7 +344,7 @@ fn put_stored(out: &mut Vec<u8>, stored: &[(Key, Value)]) -> Result<(), AllocErr
     Ok(())
 }
 
-/// Threads that have begun nothing, so many.
+/// The states of `threads` threads that have begun nothing.
 fn unbegun(alloc: Global, threads: usize) -> Result<Vec<Progress>, AllocError>
     ensures { IfOk result (λ v. v.items ≡ replicate threads no_progress) }
 {

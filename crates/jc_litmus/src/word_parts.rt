@@ -17,7 +17,7 @@ fn begins(first: &[u8], bytes: &[u8]) -> bool
     first.len() <= bytes.len() && &bytes[..first.len()] == first
 }
 
-/// What follows so many bytes of a word.
+/// What follows the first `count` bytes of a word.
 pub(crate) fn behind(count: usize, word: &[u8]) -> &[u8]
     ensures { result.now ≡ drop count word.now }
 {

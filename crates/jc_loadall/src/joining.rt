@@ -17,10 +17,10 @@ use indexmap::IndexMap;
 use jc_batch::insert_new;
 use jc_types::{Key, Refusal};
 
-/// Joins what is noted of so many pieces: the first cause; and each key that ended in a fault or a refusal, in the order of the
+/// Joins what is noted of all pieces: the first cause; and each key that ended in a fault or a refusal, in the order of the
 /// keys. It takes no memory.
 ///
-/// Conditions: the keys are cut into so many pieces, and they all differ; there is room for all, and none is there yet.
+/// Conditions: the keys are cut into `pieces` pieces, and they all differ; there is room for all, and none is there yet.
 pub(crate) fn join_notes<F>(
     workers: &[Worker<'_, F>],
     keys: &[Key],

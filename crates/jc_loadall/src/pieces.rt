@@ -12,7 +12,7 @@ use indexmap::IndexSet;
 use jc_types::Key;
 use std::ops::Range;
 
-/// How many pieces so many keys are cut into.
+/// Into how many pieces `keys` keys are cut.
 pub(crate) fn piece_count(keys: usize) -> usize
     requires { keys < 2 ^ 63 }
     ensures { result ≡ piece_count keys }
@@ -20,7 +20,7 @@ pub(crate) fn piece_count(keys: usize) -> usize
     (keys + (PIECE_KEYS - 1)) / PIECE_KEYS
 }
 
-/// The places of a piece's keys, among so many keys.
+/// The places of a piece's keys, among `keys` keys.
 pub(crate) fn places_of(keys: usize, piece: usize) -> Range<usize>
     requires few { keys < 2 ^ 63 }
     requires there { piece < piece_count keys }

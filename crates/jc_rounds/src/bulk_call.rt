@@ -145,7 +145,7 @@ impl Rooms {
     ghost use Rattle.std.specs.Prelude.{◌≡◌, IfOk};
     ghost use Rattle.jc_rounds.specs.Underway.{AreRooms};
 
-    /// The memory of a call with so many keys in a cache of so many stripes. An `Err` says that an allocation failed.
+    /// The memory of a call with `keys` keys in a cache of `stripes` stripes. An `Err` says that an allocation failed.
     pub fn new(alloc: Global, keys: usize, stripes: usize) -> Result<Rooms, AllocError>
         ensures { IfOk result (λ rooms. AreRooms keys stripes rooms) }
     {

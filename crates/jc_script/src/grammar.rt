@@ -177,7 +177,7 @@ fn coded_line(coded: Coded, words: &[&[u8]], line: &mut Line) -> Result<(), Faul
     }
 }
 
-/// Whether nothing follows what the writer does, or `but` and at least so many words.
+/// Whether nothing follows what the writer does, or `but` and at least `least` words.
 fn has_but_shape(least: usize, words: &[&[u8]]) -> bool
     ensures { result ≡ has_but_shape least (map (λ w. w.now) words.now) }
 {

@@ -96,7 +96,7 @@ pub fn read_source(words: &[&[u8]]) -> Result<LoadSource, Fault>
     }
 }
 
-/// What follows so many bytes of a word.
+/// What follows the first `count` bytes of a word.
 fn behind(count: usize, word: &[u8]) -> &[u8]
     ensures { result.now ≡ drop count word.now }
 {

@@ -232,7 +232,7 @@ pub(crate) fn meet(calls: &mut Vec<OpenCall>, call: u64, met: Option<Refusal>)
     }
 }
 
-/// A call takes these keys, which are those of a stripe, one of so many. It is taken out if it is over with that. Gives its end, if it
+/// A call takes these keys, which are those of one of the stripes. It is taken out if it is over with that. Gives its end, if it
 /// is over. An `Err` says that an allocation failed, and then nothing has changed.
 pub(crate) fn look(
     calls: &mut Vec<OpenCall>,

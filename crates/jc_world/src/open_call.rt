@@ -295,7 +295,7 @@ impl OpenCall {
         Ok(reported)
     }
 
-    /// Takes these keys, which are those of a stripe, one of so many. An `Err` says that an allocation failed, and then nothing has
+    /// Takes these keys, which are those of one of the stripes. An `Err` says that an allocation failed, and then nothing has
     /// changed.
     pub(crate) fn look(
         &mut self,

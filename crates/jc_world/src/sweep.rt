@@ -54,7 +54,7 @@ impl Sweep {
         self.looked.contains(&stripe)
     }
 
-    /// The sweep of so many stripes behind a look at one more: none once it has looked at each. An `Err` says that an allocation
+    /// The sweep of all stripes behind a look at one more: none once it has looked at each. An `Err` says that an allocation
     /// failed.
     pub(crate) fn next(&self, stripes: usize, stripe: usize) -> Result<Option<Sweep>, AllocError>
         ensures { IfOk result (λ next. next ≡ next_sweep stripes stripe self.now) }
@@ -71,7 +71,7 @@ impl Sweep {
     }
 }
 
-/// Whether each of so many stripes is among these.
+/// Whether each stripe is among these, of which there are `stripes`.
 fn has_looked_at_each(looked: &[usize], stripes: usize) -> bool
     ensures { result ≡ has_looked_at_each looked.now stripes }
 {

@@ -159,7 +159,7 @@ fn status_of_end(end: LitmusEnd) -> u8
     }
 }
 
-/// Writes the outcomes of a program of threads, of which at most so many states are followed, and answers the status.
+/// Writes the outcomes of a program of threads, of which at most `states` states are followed, and answers the status.
 fn explore_and_show<R: Read, W: Write, E: Write>(
     alloc: Global,
     states: u32,

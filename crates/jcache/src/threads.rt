@@ -34,7 +34,7 @@ pub struct Worker {
     increment: Box<dyn EntryProcessor + Send + Drop>,
 }
 
-/// The shape of a cache of one stripe that reads and writes through, with room for so many events in its history.
+/// The shape of a cache of one stripe that reads and writes through, with room for `history` events in its history.
 fn shape(history: usize) -> Config {
     Config {
         stripes: 1,
@@ -203,7 +203,7 @@ fn work_side_by_side<R: Threads + Wait + Sync>(
     )
 }
 
-/// What one thread does: so many increments. It returns how many steps its session has made.
+/// What one thread does: `rounds` increments. It returns how many steps its session has made.
 fn work<R: Wait>(rt: &R, cache: &Cache, worker: Worker, key: &Key, rounds: u32) -> u64
     requires { HasCounted cache.now 0 worker.session }
     ensures { result ≤ rounds }
@@ -215,7 +215,7 @@ fn work<R: Wait>(rt: &R, cache: &Cache, worker: Worker, key: &Key, rounds: u32) 
     worker.session.own()
 }
 
-/// One increment, of a thread that has made so many. If it is refused or fails, it shows in the end.
+/// One increment, of a thread that has made `made`. If it is refused or fails, it shows in the end.
 fn increment<R: Wait>(rt: &R, cache: &Cache, worker: &mut Worker, key: &Key, made: u32)
     requires { HasCounted cache.now made worker.old.session }
     ensures { HasCounted cache.now (made + 1) worker.new.session }

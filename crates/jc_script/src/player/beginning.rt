@@ -189,7 +189,7 @@ fn put_opening(
     Ok(())
 }
 
-/// The looks of a call at each of so many stripes.
+/// Appends the looks of a call at each of the stripes.
 fn put_looks(events: &mut Vec<WorldEvent>, call: u64, stripes: usize) -> Result<(), AllocError>
     ensures { OnOk result (events.new.items ≡ events.old.items ++ looks call 0 stripes) }
 {

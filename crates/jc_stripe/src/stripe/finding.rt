@@ -67,7 +67,7 @@ impl Stripe {
         }
     }
 
-    /// Whether so many places of the history are free, and the numbers aren't at their end.
+    /// Whether the needed places of the history are free, and the numbers aren't at their end.
     pub(super) fn has_room(&self, call: u64, needed: usize) -> bool
         ensures { result ≡ has_room self.now call needed }
     {
