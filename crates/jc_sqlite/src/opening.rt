@@ -50,7 +50,8 @@ pub(crate) trait Opening {
         ensures { pauses self.old self.new };
 }
 
-/// Opens it. While it is locked, it tries again, at most `retries` times, with a pause between two tries. It answers what the last try does.
+/// Opens it. While it is locked, it tries again, at most `retries` times, with a pause between two tries. It answers what the last
+/// try does.
 pub(crate) fn open_in_turns<O: Opening>(
     opening: &mut O,
     retries: u32,
