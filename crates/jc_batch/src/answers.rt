@@ -48,7 +48,7 @@ impl Answers {
         Ok(Answers { answers, room })
     }
 
-    /// The answers of a map from each key that is asked to its answer, which has memory for `room` keys.
+    /// The answers of a map from each key that is asked to its answer, which has memory for so many keys.
     pub(crate) fn of(answers: IndexMap<Key, Option<Value>>, room: usize) -> Self
         requires { room ≤ index_map_len answers + spare answers }
         ensures { result ≡ record { by_key = from_entries {R = key_cmp} answers.entries; room = room } }

@@ -33,8 +33,8 @@ pub enum Inserted {
     ///   entries are as they were.
     /// - [`Cause::Memory`]: the new entry has a new key, and an allocation for it failed. If there was
     ///   no room, the entry of the key beside the cause was evicted before that was known; otherwise
-    ///   there is no key beside it. The other entries are as they were, in their order. Nothing is
-    ///   promised about when an allocation fails.
+    ///   there is no key beside it. The other entries are as they were, in their order. It isn't
+    ///   promised when memory is short, and not that it never is.
     NotKept(Cause, Option<Key>),
 }
 

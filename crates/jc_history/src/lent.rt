@@ -11,7 +11,7 @@ use std::marker::Model;
 /// A step has room for six values inline, so to build an event only to store it costs time.
 #[derive(Drop)]
 pub struct LentStep<'a> {
-    /// The caller.
+    /// Who called.
     pub caller: &'a Caller,
     /// The operation.
     pub op: &'a Op,

@@ -4,7 +4,7 @@ ghost use Rattle.jc_inflight.specs.Joining.{belongs_to, is_waiting, waits_for};
 
 use jc_types::{Caller, Key};
 
-/// The state of a joiner's load.
+/// How far the load of a joiner is.
 #[derive(Clone, Copy, Debug, PartialEq, Eq)]
 pub enum JoinState {
     /// The load isn't over.
@@ -35,13 +35,13 @@ impl JoinState {
 /// A call that has joined the load of its key.
 #[derive(Clone, Copy, Debug, PartialEq, Eq)]
 pub struct Joiner {
-    /// The caller.
+    /// Who calls.
     pub caller: Caller,
     /// The key.
     pub key: Key,
     /// The load that it joined: the number of the reservation that loads.
     pub load: u64,
-    /// The state of that load.
+    /// How far that load is.
     pub state: JoinState,
 }
 

@@ -105,7 +105,7 @@ impl Joiners {
         self.joiners.iter().filter(|j| j.waits_for(load)).count() as u32
     }
 
-    /// The state of the load that a call has joined at a key. If it is over, the joiner is taken out of the table.
+    /// How far the load is that a call has joined at a key, and takes the joiner out of the table if it is over.
     ///
     /// A `None`, if the call hasn't joined or has taken its answer, leaves the table as it was. So does
     /// [`JoinState::Waiting`].

@@ -1,7 +1,7 @@
 //! The operation table: what an [`Op`] asks of the loader and the writer, which entry it leaves, and what it
 //! replies (JSR 107, "Integration", whose two tables are the first two of these; "Entry Processors").
 //!
-//! The rows that a call's path reads are inlined: otherwise each value that one returns would be cleared and copied once more.
+//! The rows that a call's path reads are in line: out of line, each value that one gives would be cleared and copied once more.
 ghost use Rattle.std.specs.Prelude.{◌≡◌, ◌↔◌, IsTrue, is_some, is_none, option_map, unwrap_or, Some, if◌then◌else◌};
 ghost use Rattle.std.specs.Option.{option_copied};
 ghost use Rattle.jc_model.specs.Table.{holds, entry_after_replace, value_after_load, loader_ask, always_if, wanted_if, load_fits};

@@ -1,4 +1,4 @@
-//! Loaders, writers, entry processors and listeners that are implemented without contracts (JSR 107, "Integration" and "Entry
+//! Loaders, writers, entry processors and listeners of which their author states nothing (JSR 107, "Integration" and "Entry
 //! Processors").
 //!
 //! [`Load`], [`Write`], [`Update`] and [`Listen`] have plain methods alone. A wrapper makes of each what a cache calls: [`Loading`] a

@@ -30,11 +30,11 @@ pub trait Listen {
 
 /// The completion listener of a `loadAll` that tells `L`.
 ///
-/// It hands each call on, once: its relation is that of `L`. To state more, implement
+/// It hands each call on, once: its relation is that of `L`. Whoever wants to state more implements
 /// [`jc_outside::CompletionListener`].
 #[derive(Drop)]
 pub struct Listening<L: Listen + Drop> {
-    /// The listener that it wraps.
+    /// Who listens.
     pub listener: L,
 }
 

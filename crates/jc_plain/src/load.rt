@@ -64,13 +64,13 @@ fn put_found(answers: &mut Answers, key: &Key, found: &Option<Value>)
     }
 }
 
-/// Makes a [`CacheLoader`] of a [`Load`].
+/// The loader of a cache that reads by `L`.
 ///
-/// It hands each call on, once, and answers what `L` answers: its relations are those of `L`. To state more, implement
+/// It hands each call on, once, and answers what `L` answers: its relations are those of `L`. Whoever wants to state more implements
 /// [`jc_outside::CacheLoader`].
 #[derive(Drop)]
 pub struct Loading<L: Load + Drop> {
-    /// The loader that it wraps.
+    /// Who reads.
     pub loader: L,
 }
 

@@ -47,11 +47,11 @@ pub trait Update {
 /// the call fails with `LoaderFailed`. Then it lets `U` change the value, and sets or removes it if it has changed; if it hasn't,
 /// what was loaded is cached. It may wait, as long as the loader and `U` do.
 ///
-/// It asks `U` once, and answers what `U` answers; its relation says so by that of `U`. To state more, implement
+/// It asks `U` once, and answers what `U` answers; its relation says so by that of `U`. Whoever wants to state more implements
 /// [`jc_mutentry::EntryProcessor`].
 #[derive(Drop)]
 pub struct Updating<U: Update + Drop> {
-    /// The processor that it wraps.
+    /// Who changes the value.
     pub processor: U,
 }
 

@@ -83,11 +83,11 @@ pub trait Write {
 
 /// The writer of a cache that writes by `W`.
 ///
-/// It hands each call on, once, and answers and leaves what `W` does: its relations are those of `W`. To state more,
-/// implement [`jc_outside::CacheWriter`].
+/// It hands each call on, once, and answers and leaves what `W` does: its relations are those of `W`. Whoever wants to state more
+/// implements [`jc_outside::CacheWriter`].
 #[derive(Drop)]
 pub struct Writing<W: Write + Drop> {
-    /// The writer that it wraps.
+    /// Who writes.
     pub writer: W,
 }
 

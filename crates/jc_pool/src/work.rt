@@ -20,7 +20,7 @@ pub trait Work {
 
     /// Does one piece, and notes that it did it. It may wait.
     ///
-    /// Doing a piece never makes a later piece impossible.
+    /// A later piece that it could do before it can do afterwards.
     ///
     /// Condition: it can do the piece.
     fn piece(&mut self, piece: usize)
@@ -51,7 +51,7 @@ pub trait WorkWith<T> {
 
     /// Does one piece, and notes that it did it. It may wait.
     ///
-    /// Doing a piece never makes a later piece impossible.
+    /// A later piece that it could do before it can do afterwards.
     ///
     /// Condition: it can do the piece.
     fn piece_with(&mut self, tool: &mut T, piece: usize)

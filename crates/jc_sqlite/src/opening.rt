@@ -50,8 +50,7 @@ pub(crate) trait Opening {
         ensures { pauses self.old self.new };
 }
 
-/// Opens it. While it is locked, it tries again, at most `retries` times, with a pause between two tries. It answers what the last
-/// try does.
+/// Tries it until it isn't locked, at most so many times again, with a pause between two tries. It answers what the last try does.
 pub(crate) fn open_in_turns<O: Opening>(
     opening: &mut O,
     retries: u32,

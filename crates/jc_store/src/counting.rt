@@ -36,7 +36,7 @@ impl SharedCounts {
     }
 }
 
-/// A loader or a writer that counts each call and forwards it to `inner`, whatever that answers.
+/// A loader or a writer that counts each call, and then makes it of another (`inner`), whatever that one answers.
 ///
 /// Its relations are those of the other: only the counts know of it.
 #[derive(Drop)]

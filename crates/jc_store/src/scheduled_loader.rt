@@ -38,7 +38,7 @@ impl LoadFault {
     }
 }
 
-/// A loader that forwards each call to `inner`, but for one, at which it has a fault.
+/// A loader that makes each call of another (`inner`), but for one, at which it has a fault.
 ///
 /// Its relations say which call that is: its state is how many calls are left up to the scheduled one, before the other's state.
 #[derive(Drop)]

@@ -42,7 +42,7 @@ impl WriteFault {
     }
 }
 
-/// A writer that forwards each call to `inner`, but for one, at which it has a fault.
+/// A writer that makes each call of another (`inner`), but for one, at which it has a fault.
 ///
 /// Its relations say which call that is: its state is how many calls are left up to the scheduled one, before the other's state.
 #[derive(Drop)]
