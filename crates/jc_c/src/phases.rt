@@ -32,6 +32,7 @@ pub extern "C" fn jc_begin(
         (may_call_next h.old.desk session key.now) JC_MISUSE }
     ensures begins { result ≡ JC_OK → BeginsForC h.old.desk session op key.now value.now other.now out.new h.new.desk }
     ensures refused { (result ≡ JC_OK) ⊎ (h.new.desk ≡ h.old.desk) }
+    ensures untouched { (result ≡ JC_OK) ⊎ (result ≡ JC_MISUSE) ⊎ (out.new ≡ out.old) }
     ensures is_open { h.new.is_open ≡ h.old.is_open }
 {
     if !h.is_open() {
@@ -88,7 +89,7 @@ pub extern "C" fn jc_commit_load(
     ensures code { result ≡ export_code h.old.is_open (value_fits value.now && load_number_fits answer)
         (takes_load h.old.desk.stripe number (load_of_number answer code value.now)) JC_MISUSE }
     ensures commits { result ≡ JC_OK → CommitsForC h.old.desk number (load_only (load_of_number answer code value.now)) out.new h.new.desk }
-    ensures refused { (result ≡ JC_OK) ⊎ (h.new.desk ≡ h.old.desk) }
+    ensures refused { (result ≡ JC_OK) ⊎ ((h.new.desk ≡ h.old.desk) × (out.new ≡ out.old)) }
     ensures is_open { h.new.is_open ≡ h.old.is_open }
 {
     if !h.is_open() {
@@ -120,7 +121,7 @@ pub extern "C" fn jc_commit_write(
     ensures code { result ≡ export_code h.old.is_open (write_number_fits answer)
         (takes_write h.old.desk.stripe number (write_of_number answer code)) JC_MISUSE }
     ensures commits { result ≡ JC_OK → CommitsForC h.old.desk number (write_only (write_of_number answer code)) out.new h.new.desk }
-    ensures refused { (result ≡ JC_OK) ⊎ (h.new.desk ≡ h.old.desk) }
+    ensures refused { (result ≡ JC_OK) ⊎ ((h.new.desk ≡ h.old.desk) × (out.new ≡ out.old)) }
     ensures is_open { h.new.is_open ≡ h.old.is_open }
 {
     if !h.is_open() {
@@ -149,7 +150,7 @@ pub extern "C" fn jc_commit_process(
     ensures code { result ≡ export_code h.old.is_open (processed_fits processed.now)
         (takes_process h.old.desk.stripe number (processor_out processed.now)) JC_MISUSE }
     ensures commits { result ≡ JC_OK → CommitsForC h.old.desk number (processor_out processed.now) out.new h.new.desk }
-    ensures refused { (result ≡ JC_OK) ⊎ (h.new.desk ≡ h.old.desk) }
+    ensures refused { (result ≡ JC_OK) ⊎ ((h.new.desk ≡ h.old.desk) × (out.new ≡ out.old)) }
     ensures is_open { h.new.is_open ≡ h.old.is_open }
 {
     if !h.is_open() {
@@ -196,6 +197,7 @@ pub extern "C" fn jc_pick_up(
         (is_join_out h.old.desk.stripe (join_named session call key.now load)) JC_MISUSE }
     ensures picks_up { result ≡ JC_OK → PicksUpForC h.old.desk (join_named session call key.now load) out.new h.new.desk }
     ensures refused { (result ≡ JC_OK) ⊎ (h.new.desk ≡ h.old.desk) }
+    ensures untouched { (result ≡ JC_OK) ⊎ (result ≡ JC_MISUSE) ⊎ (out.new ≡ out.old) }
     ensures is_open { h.new.is_open ≡ h.old.is_open }
 {
     if !h.is_open() {

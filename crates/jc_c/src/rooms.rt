@@ -67,6 +67,7 @@ impl DeskRooms {
         ensures code { result ≡ export_code true (op_fits op value.now other.now) (may_call_next self.old session key.now) JC_MISUSE }
         ensures begins { result ≡ JC_OK → BeginsForC self.old session op key.now value.now other.now out.new self.new }
         ensures refused { (result ≡ JC_OK) ⊎ (self.new ≡ self.old) }
+        ensures untouched { (result ≡ JC_OK) ⊎ (result ≡ JC_MISUSE) ⊎ (out.new ≡ out.old) }
     {
         if !write_op(op, value, other, &mut self.op) {
             return JC_BAD_ARGUMENT;
@@ -97,7 +98,7 @@ impl DeskRooms {
     pub(crate) fn commit_load(&mut self, number: u64, answer: LoadAnswer, out: &mut PhaseOut) -> u32
         ensures code { result ≡ (if takes_load self.old.stripe number answer then JC_OK else JC_MISUSE) }
         ensures commits { result ≡ JC_OK → CommitsForC self.old number (load_only answer) out.new self.new }
-        ensures refused { (result ≡ JC_OK) ⊎ (self.new ≡ self.old) }
+        ensures refused { (result ≡ JC_OK) ⊎ ((self.new ≡ self.old) × (out.new ≡ out.old)) }
     {
         let done = self
             .desk
@@ -119,7 +120,7 @@ impl DeskRooms {
     ) -> u32
         ensures code { result ≡ (if takes_write self.old.stripe number answer then JC_OK else JC_MISUSE) }
         ensures commits { result ≡ JC_OK → CommitsForC self.old number (write_only answer) out.new self.new }
-        ensures refused { (result ≡ JC_OK) ⊎ (self.new ≡ self.old) }
+        ensures refused { (result ≡ JC_OK) ⊎ ((self.new ≡ self.old) × (out.new ≡ out.old)) }
     {
         let done = self
             .desk
@@ -136,7 +137,7 @@ impl DeskRooms {
     pub(crate) fn commit_process(&mut self, number: u64, said: Out, out: &mut PhaseOut) -> u32
         ensures code { result ≡ (if takes_process self.old.stripe number said then JC_OK else JC_MISUSE) }
         ensures commits { result ≡ JC_OK → CommitsForC self.old number said out.new self.new }
-        ensures refused { (result ≡ JC_OK) ⊎ (self.new ≡ self.old) }
+        ensures refused { (result ≡ JC_OK) ⊎ ((self.new ≡ self.old) × (out.new ≡ out.old)) }
     {
         let done = self.desk.commit_process(
             number,
