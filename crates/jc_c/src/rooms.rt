@@ -2,7 +2,7 @@
 ghost use Rattle.std.specs.Prelude.{◌≡◌, ◌⊎◌, true, if◌then◌else◌};
 ghost use Rattle.jc_model.specs.Group.{load_only, write_only};
 ghost use Rattle.jc_stripe.specs.DeskState.{may_call_next};
-ghost use Rattle.jc_stripe.specs.DeskPhases.{StaysOrRenewsFull, hits_next, takes_load, takes_write, takes_process, is_join_out};
+ghost use Rattle.jc_stripe.specs.DeskPhases.{hits_next, without_hit, takes_load, takes_write, takes_process, is_join_out};
 ghost use Rattle.jc_c.specs.declared.codes.TheConstants.{JC_OK, JC_MISUSE, JC_NONE};
 ghost use Rattle.jc_c.specs.Requests.{op_fits};
 ghost use Rattle.jc_c.specs.Exports.{export_code, BeginsForC, CommitsForC, PicksUpForC, HitsForC};
@@ -84,7 +84,7 @@ impl DeskRooms {
     pub(crate) fn hit(&mut self, session: u32, key: &Key, out: &mut InlineValue) -> u32
         ensures code { result ≡ (if hits_next self.old session key.now then JC_OK else JC_NONE) }
         ensures hit { result ≡ JC_OK → HitsForC self.old session key.now out.new self.new }
-        ensures none { (result ≡ JC_OK) ⊎ ((out.new ≡ out.old) × StaysOrRenewsFull self.old self.new) }
+        ensures none { (result ≡ JC_OK) ⊎ ((out.new ≡ out.old) × (self.new ≡ without_hit self.old session key.now)) }
     {
         let Some(_call) = self.desk.hit(session, key, &mut self.value) else {
             return JC_NONE;
