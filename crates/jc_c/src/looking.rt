@@ -1,6 +1,7 @@
 //! What a desk has, for C.
 ghost use Rattle.std.specs.Prelude.{◌≡◌, ◌↔◌, ◌⊎◌, true, false, length, Some, is_some, if◌then◌else◌};
 ghost use Rattle.jc_model.specs.Cache.{entry_at};
+ghost use Rattle.jc_model.specs.Legal.{Legal};
 ghost use Rattle.jc_model.specs.Statistics.{statistics_of};
 ghost use Rattle.jc_stripe.specs.Occurrences.{all_occurrences};
 ghost use Rattle.jc_stripe.specs.OrderOfUse.{by_use};
@@ -113,6 +114,8 @@ pub extern "C" fn jc_entries(
 #[unsafe(no_mangle)]
 pub extern "C" fn jc_events_len(h: &mut Handle, alloc: Global) -> usize
     ensures len { result ≡ (if h.old.is_open then length h.old.desk.stripe.history else 0) }
+    ensures legal { h.old.is_open ≡ true → Legal h.old.desk.stripe.config h.old.desk.stripe.opening h.old.desk.stripe.history }
+    ensures lives { h.old.is_open ≡ true → h.old.desk.stripe.lives ≡ true }
     ensures same { (h.new.is_open ≡ h.old.is_open) × (h.new.desk ≡ h.old.desk) }
 {
     if !h.is_open() {

@@ -233,6 +233,7 @@ impl Desk {
         ensures len { result ≡ length self.now.stripe.history }
         ensures legal { Legal self.now.stripe.config self.now.stripe.opening self.now.stripe.history }
         ensures reached { IsReached self.now.stripe }
+        ensures lives { self.now.stripe.lives ≡ true }
     {
         self.stripe.events_len()
     }
