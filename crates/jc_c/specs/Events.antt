@@ -1,15 +1,18 @@
 -- Events of a history, as flat structs.
---     read_cause        why an entry was evicted, by its number
---     process_if_run    what a processor did, if one ran
---     read_outside      what was answered outside for a step
---     shared_in         the place of the step whose load is shared, if it is
---     ShowsEvent        an event, by the fields of a struct that count of it
---     read_reply        a reply, by its number, its code and its value
---     read_step         the step at this key that a struct says
---     read_event        the event that a struct says
---     outside_fits      what is said of the outside answers of a step fits
---     step_fits         what is said of a step fits
---     event_fits        what is said of an event fits
+--     read_cause         why an entry was evicted, by its number
+--     process_if_run     what a processor did, if one ran
+--     read_outside       what was answered outside for a step
+--     shared_in          the place of the step whose load is shared, if it is
+--     ShowsEvent         an event, by the fields of a struct that count of it
+--     HasKnownNumbers    the numbers of a step's operation and of its outside answers are ones that there are
+--     HasOutsideLengths  the lengths of the values of what was answered outside fit
+--     HasLengths         the lengths of all values of an event fit
+--     read_reply         a reply, by its number, its code and its value
+--     read_step          the step at this key that a struct says
+--     read_event         the event that a struct says
+--     outside_fits       what is said of the outside answers of a step fits
+--     step_fits          what is said of a step fits
+--     event_fits         what is said of an event fits
 use Rattle.std.specs.Prelude.{◌≡◌, ◌==◌, ◌&&◌, ◌||◌, ℕ, Bool, true, false, nat_le, Option, None, Some, if◌then◌else◌}
 use Rattle.jc_types.specs.declared.refusal.Refusal.TheVariants as refusal
 use Rattle.jc_model.specs.declared.event.Cause.{Cause}
@@ -22,11 +25,11 @@ use Rattle.jc_model.specs.declared.event.Reply.TheVariants as reply
 use Rattle.jc_model.specs.declared.event.Event.{Event}
 use Rattle.jc_model.specs.declared.event.Event.TheVariants.{Step, Evict}
 use Rattle.jc_model.specs.Cache.{Bytes}
-use Rattle.jc_c.specs.declared.codes.TheConstants.{JC_EVICTION, JC_FOR_MEMORY, JC_FOR_ROOM, JC_LOADER_FAILED, JC_NO, JC_NOT_RUN, JC_NULL, JC_PROCESSOR_FAILED, JC_STEP, JC_UNIT, JC_VALUE, JC_WRITER_FAILED, JC_YES}
+use Rattle.jc_c.specs.declared.codes.TheConstants.{JC_EVICTION, JC_FOR_MEMORY, JC_FOR_ROOM, JC_LOADER_FAILED, JC_NO, JC_NOT_ASKED, JC_NOT_RUN, JC_NULL, JC_PROCESSOR_FAILED, JC_STEP, JC_UNIT, JC_VALUE, JC_WRITER_FAILED, JC_YES}
 use Rattle.jc_c.specs.declared.layouts.FlatEvent.{FlatEvent}
 use Rattle.jc_c.specs.declared.layouts.ProcessorAnswers.{ProcessorAnswers}
-use Rattle.jc_c.specs.Layouts.{inline_value, inline_key, is_inline_value, is_inline_key}
-use Rattle.jc_c.specs.Requests.{op_of_number, op_fits, answers_beside, read_process, process_fits, others_fit}
+use Rattle.jc_c.specs.Layouts.{inline_value, inline_key, is_inline_value, is_inline_key, HoldsKey}
+use Rattle.jc_c.specs.Requests.{op_of_number, op_number_fits, load_number_fits, write_number_fits, effect_number_fits, op_fits, answers_beside, read_process, process_fits, others_fit}
 use Rattle.jc_c.specs.Replies.{ShowsReply}
 
 -- 1. An event that is written.
@@ -43,11 +46,22 @@ read_outside p = answers_beside p (process_if_run p)
 abbrev pub shared_in : FlatEvent → Option ℕ
 shared_in f = if f.is_shared then Some f.shared_with else None
 
+abbrev pub HasKnownNumbers : FlatEvent → Type 0
+HasKnownNumbers f =
+    (op_number_fits f.op ≡ true) × (((f.outside.load == JC_NOT_ASKED) || load_number_fits f.outside.load) ≡ true)
+    × (((f.outside.write == JC_NOT_ASKED) || write_number_fits f.outside.write) ≡ true) × (((f.outside.effect == JC_NOT_RUN) || effect_number_fits f.outside.effect) ≡ true)
+
+abbrev pub HasOutsideLengths : ProcessorAnswers → Type 0
+HasOutsideLengths p = (is_inline_value p.loaded ≡ true) × (is_inline_value p.set ≡ true) × (is_inline_value p.outcome ≡ true)
+
+abbrev pub HasLengths : FlatEvent → Type 0
+HasLengths f = (is_inline_value f.value ≡ true) × (is_inline_value f.other ≡ true) × (is_inline_value f.replied ≡ true) × HasOutsideLengths f.outside
+
 abbrev pub ShowsEvent : Event → FlatEvent → Type 0
 ShowsEvent (Step caller op key out shared reply) f =
     (f.kind ≡ JC_STEP) × (f.session ≡ caller.session) × (f.call ≡ caller.call) × (op_of_number f.op (inline_value f.value) (inline_value f.other) ≡ op)
-    × (inline_key f.key ≡ key) × (read_outside f.outside ≡ out) × (shared_in f ≡ shared) × ShowsReply reply f.reply f.reply_code f.replied
-ShowsEvent (Evict key cause) f = (f.kind ≡ JC_EVICTION) × (inline_key f.key ≡ key) × (read_cause f.cause ≡ cause)
+    × HoldsKey f.key key × (read_outside f.outside ≡ out) × (shared_in f ≡ shared) × ShowsReply reply f.reply f.reply_code f.replied × HasKnownNumbers f
+ShowsEvent (Evict key cause) f = (f.kind ≡ JC_EVICTION) × HoldsKey f.key key × (read_cause f.cause ≡ cause) × (nat_le f.cause JC_FOR_MEMORY ≡ true)
 
 -- 2. An event that is read.
 

@@ -9,7 +9,7 @@
 --     counts_written    what was counted
 --     opens_fit         what a desk is to open with fits
 --     ListsEntries      these entries are written in their order, as far as there is room, and what is behind them stays
-use Rattle.std.specs.Prelude.{◌≡◌, ◌&&◌, ℕ, List, map, take, drop, length, Bool, if◌then◌else◌}
+use Rattle.std.specs.Prelude.{◌≡◌, ◌&&◌, true, ℕ, List, map, take, drop, length, Bool, if◌then◌else◌}
 use Rattle.std.specs.List.{list_all}
 use Rattle.jc_model.specs.declared.event.Out.{Out}
 use Rattle.jc_model.specs.declared.event.Reply.{Reply}
@@ -28,7 +28,7 @@ use Rattle.jc_c.specs.declared.layouts.CacheShape.{CacheShape}
 use Rattle.jc_c.specs.declared.layouts.InlineEntry.{InlineEntry}
 use Rattle.jc_c.specs.declared.layouts.InlineValue.{InlineValue}
 use Rattle.jc_c.specs.declared.layouts.CountsOut.{CountsOut}
-use Rattle.jc_c.specs.Layouts.{inline_value, inline_entry, inline_entries, config_of}
+use Rattle.jc_c.specs.Layouts.{inline_value, is_inline_value, inline_entry, inline_entries, config_of}
 use Rattle.jc_c.specs.Requests.{op_of_number, entry_fits}
 use Rattle.jc_c.specs.Replies.{ShowsFirstAnswer, ShowsDone, ShowsPickUp}
 
@@ -47,6 +47,7 @@ pub record BeginsForC (old : DeskState) (session number : ℕ) (key value other 
 pub record HitsForC (old : DeskState) (session : ℕ) (key : Bytes) (out : InlineValue) (new : DeskState) : Type 0 where
   pub call : ℕ
   pub hits : HitsAtDesk old session key (inline_value out) call new
+  pub fits : is_inline_value out ≡ true
 
 pub record CommitsForC (old : DeskState) (number : ℕ) (answers : Out) (out : PhaseOut) (new : DeskState) : Type 0 where
   pub reply : Reply
@@ -75,4 +76,5 @@ opens_fit shape number entries =
 
 pub record ListsEntries (entries : List (Bytes × Bytes)) (old new : List InlineEntry) : Type 0 where
   pub written : map inline_entry (take (length entries) new) ≡ take (length new) entries
+  pub fit : list_all entry_fits (take (length entries) new) ≡ true
   pub stays : drop (length entries) new ≡ drop (length entries) old

@@ -3,10 +3,12 @@
 --     is_inline_value    as many bytes count as a value may have
 --     inline_key         the bytes that count of an inline key
 --     is_inline_key      as many bytes count as a key may have
+--     HoldsValue         an inline value holds these bytes, and no more count than it has
+--     HoldsKey           the same of an inline key
 --     inline_entry       an inline entry
 --     inline_entries     inline entries, in their order
 --     config_of          the shape of a cache
-use Rattle.std.specs.Prelude.{◌&&◌, List, map, take, Bool, nat_le, nat_lt}
+use Rattle.std.specs.Prelude.{◌≡◌, ◌&&◌, true, List, map, take, Bool, nat_le, nat_lt}
 use Rattle.jc_types.specs.declared.config.Config.{Config}
 use Rattle.jc_types.specs.declared.limits.TheConstants.{KEY_MAX, VALUE_MAX}
 use Rattle.jc_model.specs.Cache.{Bytes}
@@ -26,6 +28,12 @@ inline_key r = take r.len r.bytes
 
 abbrev pub is_inline_key : InlineKey → Bool
 is_inline_key r = nat_lt 0 r.len && nat_le r.len KEY_MAX
+
+abbrev pub HoldsValue : InlineValue → Bytes → Type 0
+HoldsValue r value = (inline_value r ≡ value) × (is_inline_value r ≡ true)
+
+abbrev pub HoldsKey : InlineKey → Bytes → Type 0
+HoldsKey r key = (inline_key r ≡ key) × (is_inline_key r ≡ true)
 
 abbrev pub inline_entry : InlineEntry → Bytes × Bytes
 inline_entry e = (inline_key e.key, inline_value e.value)

@@ -10,7 +10,7 @@
 --     refusal_number      a refusal, by its number
 --     ShowsReservation    whom a reservation asks first, if there is one
 --     ShowsFirstAnswer    what a first phase gave, and of a key that was reserved whom its reservation asks
---     ShowsPickUp         what a joiner was told
+--     ShowsPickUp         what a joiner was told: no value came or went
 use Rattle.std.specs.Prelude.{◌≡◌, ◌+◌, ℕ, true, false, Option, None, Some, is_some, if◌then◌else◌}
 use Rattle.jc_types.specs.declared.refusal.Refusal.{Refusal}
 use Rattle.jc_types.specs.declared.refusal.Refusal.TheVariants as refusal
@@ -32,7 +32,7 @@ use Rattle.jc_c.specs.declared.codes.TheConstants.{JC_AGAIN, JC_ASK_LOADER, JC_B
 use Rattle.jc_c.specs.declared.layouts.InlineValue.{InlineValue}
 use Rattle.jc_c.specs.declared.layouts.InlineKey.{InlineKey}
 use Rattle.jc_c.specs.declared.layouts.PhaseOut.{PhaseOut}
-use Rattle.jc_c.specs.Layouts.{inline_value, inline_key}
+use Rattle.jc_c.specs.Layouts.{HoldsValue, HoldsKey}
 
 abbrev pub ShowsFault : Refusal → ℕ → ℕ → Type 0
 ShowsFault (refusal.LoaderFailed code) number shown = (number ≡ JC_LOADER_FAILED) × (shown ≡ code)
@@ -56,16 +56,16 @@ ShowsReply reply.Unit number code value = number ≡ JC_UNIT
 ShowsReply (reply.Flag false) number code value = number ≡ JC_NO
 ShowsReply (reply.Flag true) number code value = number ≡ JC_YES
 ShowsReply (reply.Value None) number code value = number ≡ JC_NULL
-ShowsReply (reply.Value (Some v)) number code value = (number ≡ JC_VALUE) × (inline_value value ≡ v)
+ShowsReply (reply.Value (Some v)) number code value = (number ≡ JC_VALUE) × HoldsValue value v
 ShowsReply (reply.Fault fault) number code value = ShowsFault fault number code
 
 abbrev pub ShowsValue : Option Bytes → InlineValue → Type 0
 ShowsValue None r = Unit {0}
-ShowsValue (Some value) r = inline_value r ≡ value
+ShowsValue (Some value) r = HoldsValue r value
 
 abbrev pub ShowsVictim : Option (Bytes × Bytes) → InlineKey → InlineValue → Type 0
 ShowsVictim None victim evicted = Unit {0}
-ShowsVictim (Some gone) victim evicted = (inline_key victim ≡ gone.0) × (inline_value evicted ≡ gone.1)
+ShowsVictim (Some gone) victim evicted = HoldsKey victim gone.0 × HoldsValue evicted gone.1
 
 abbrev pub own_number : Option Cause → ℕ
 own_number None = 0
@@ -87,10 +87,10 @@ pub record ShowsDone (place shared : ℕ) (reply : Reply) (moves : MovesMade) (o
 abbrev pub ShowsFirst : First → ℕ → ℕ → ℕ → InlineValue → Type 0
 ShowsFirst first.Nobody next number code value = next ≡ JC_DONE
 ShowsFirst first.Loader next number code value = next ≡ JC_ASK_LOADER
-ShowsFirst (first.Writer (change.Write v)) next number code value = (next ≡ JC_HAVE_WRITTEN) × (inline_value value ≡ v)
+ShowsFirst (first.Writer (change.Write v)) next number code value = (next ≡ JC_HAVE_WRITTEN) × HoldsValue value v
 ShowsFirst (first.Writer change.Delete) next number code value = next ≡ JC_HAVE_DELETED
 ShowsFirst (first.Processor None may_load) next number code value = (next ≡ JC_RUN_PROCESSOR) × (number ≡ JC_NULL) × (code ≡ (if may_load then 1 else 0))
-ShowsFirst (first.Processor (Some v) may_load) next number code value = (next ≡ JC_RUN_PROCESSOR) × (number ≡ JC_VALUE) × (code ≡ (if may_load then 1 else 0)) × (inline_value value ≡ v)
+ShowsFirst (first.Processor (Some v) may_load) next number code value = (next ≡ JC_RUN_PROCESSOR) × (number ≡ JC_VALUE) × (code ≡ (if may_load then 1 else 0)) × HoldsValue value v
 
 abbrev pub refusal_number : Refusal → ℕ
 refusal_number refusal.HistoryFull = JC_HISTORY_FULL
@@ -122,7 +122,7 @@ ShowsFirstAnswer first_answer.Full newest reply moves out = (out.next ≡ JC_FUL
 ShowsFirstAnswer first_answer.Misuse newest reply moves out = ⊥
 
 abbrev pub ShowsPickUp : PickUpAnswer → Reply → PhaseOut → Type 0
-ShowsPickUp (pick_up_answer.Answer place shared_with) reply out = (out.next ≡ JC_DONE) × (out.place ≡ place) × ShowsReply reply out.reply out.code out.value
-ShowsPickUp pick_up_answer.Again reply out = out.next ≡ JC_AGAIN
-ShowsPickUp pick_up_answer.NotYet reply out = out.next ≡ JC_NOT_YET
+ShowsPickUp (pick_up_answer.Answer place shared_with) reply out = (out.next ≡ JC_DONE) × (out.place ≡ place) × (out.moves ≡ 0) × ShowsReply reply out.reply out.code out.value
+ShowsPickUp pick_up_answer.Again reply out = (out.next ≡ JC_AGAIN) × (out.moves ≡ 0)
+ShowsPickUp pick_up_answer.NotYet reply out = (out.next ≡ JC_NOT_YET) × (out.moves ≡ 0)
 ShowsPickUp pick_up_answer.Misuse reply out = ⊥

@@ -4,6 +4,7 @@
 --     takes_no_value        an operation, by its number, that has no value of its own
 --     takes_value           an operation, by its number, that has one
 --     op_fits               the number is that of an operation, and the values that it has fit
+--     op_number_fits        the number is that of an operation
 --     op_of_number          the operation with this number and these values, of those that it has
 --     load_of_number        what a loader answered, by its number, its code and its value
 --     load_number_fits      a number of a loader's answer, if it was asked
@@ -58,6 +59,9 @@ takes_value n = (n == JC_PUT) || (n == JC_GET_AND_PUT) || (n == JC_PUT_IF_ABSENT
 
 abbrev pub op_fits : ℕ → Bytes → Bytes → Bool
 op_fits n value other = takes_no_value n || (takes_value n && value_fits value) || ((n == JC_REPLACE_IF) && value_fits value && value_fits other)
+
+abbrev pub op_number_fits : ℕ → Bool
+op_number_fits n = takes_no_value n || takes_value n || (n == JC_REPLACE_IF)
 
 abbrev pub op_of_number : ℕ → Bytes → Bytes → Op
 op_of_number n value other =

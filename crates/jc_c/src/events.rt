@@ -5,10 +5,10 @@ ghost use Rattle.jc_model.specs.Cache.{Bytes};
 ghost use Rattle.jc_model.specs.declared.event.Event.{Event};
 ghost use Rattle.jc_model.specs.declared.event.ProcessAnswer.TheVariants.{Ended};
 ghost use Rattle.jc_model.specs.Legal.{Legal};
-ghost use Rattle.jc_c.specs.declared.codes.TheConstants.{JC_OK, JC_NONE, JC_NO_MEMORY, JC_BAD_ARGUMENT, JC_NOT_RUN, JC_FOR_MEMORY, JC_PROCESSOR_FAILED};
-ghost use Rattle.jc_c.specs.Layouts.{inline_value, inline_entries, config_of};
-ghost use Rattle.jc_c.specs.Requests.{op_of_number, load_of_number, write_of_number, process_answer_of, read_outcome, entry_fits};
-ghost use Rattle.jc_c.specs.Events.{read_cause, process_if_run, read_outside, shared_in, read_reply, step_fits, read_step, outside_fits, event_fits, read_event, ShowsEvent};
+ghost use Rattle.jc_c.specs.declared.codes.TheConstants.{JC_OK, JC_NONE, JC_NO_MEMORY, JC_BAD_ARGUMENT, JC_NOT_ASKED, JC_NOT_RUN, JC_FOR_MEMORY, JC_PROCESSOR_FAILED};
+ghost use Rattle.jc_c.specs.Layouts.{inline_value, is_inline_value, inline_entries, config_of};
+ghost use Rattle.jc_c.specs.Requests.{op_of_number, op_number_fits, load_number_fits, write_number_fits, effect_number_fits, load_of_number, write_of_number, process_answer_of, read_outcome, entry_fits};
+ghost use Rattle.jc_c.specs.Events.{read_cause, process_if_run, read_outside, shared_in, read_reply, step_fits, read_step, outside_fits, event_fits, read_event, HasOutsideLengths, HasLengths, ShowsEvent};
 ghost use Rattle.jc_c.specs.Exports.{export_code};
 
 use crate::codes::{
@@ -33,7 +33,10 @@ use std::alloc::{AllocError, Global};
 
 /// An operation: its number, and the values that it has.
 fn show_op(op: &Op, number: &mut u32, value: &mut InlineValue, other: &mut InlineValue)
-    ensures { op_of_number number.new (inline_value value.new) (inline_value other.new) ≡ op.now }
+    ensures op { op_of_number number.new (inline_value value.new) (inline_value other.new) ≡ op.now }
+    ensures number { op_number_fits number.new ≡ true }
+    ensures value { is_inline_value value.old ≡ true → is_inline_value value.new ≡ true }
+    ensures other { is_inline_value other.old ≡ true → is_inline_value other.new ≡ true }
 {
     match op {
         Op::Get => *number = JC_GET,
@@ -59,7 +62,9 @@ fn show_op(op: &Op, number: &mut u32, value: &mut InlineValue, other: &mut Inlin
 
 /// A number, and a value beside it.
 fn show_with(value: &Value, is: u32, number: &mut u32, room: &mut InlineValue)
-    ensures { (number.new ≡ is) × (inline_value room.new ≡ value.now) }
+    ensures number { number.new ≡ is }
+    ensures value { inline_value room.new ≡ value.now }
+    ensures fits { is_inline_value room.new ≡ true }
 {
     *number = is;
     show_value(value, room);
@@ -67,7 +72,9 @@ fn show_with(value: &Value, is: u32, number: &mut u32, room: &mut InlineValue)
 
 /// What a loader answered.
 fn show_load(load: &LoadAnswer, number: &mut u32, code: &mut u32, room: &mut InlineValue)
-    ensures { load_of_number number.new code.new (inline_value room.new) ≡ load.now }
+    ensures load { load_of_number number.new code.new (inline_value room.new) ≡ load.now }
+    ensures number { ((number.new == JC_NOT_ASKED) || load_number_fits number.new) ≡ true }
+    ensures fits { is_inline_value room.old ≡ true → is_inline_value room.new ≡ true }
 {
     match load {
         LoadAnswer::NotAsked => *number = JC_NOT_ASKED,
@@ -82,7 +89,8 @@ fn show_load(load: &LoadAnswer, number: &mut u32, code: &mut u32, room: &mut Inl
 
 /// What a writer answered.
 fn show_write(write: &WriteAnswer, number: &mut u32, code: &mut u32)
-    ensures { write_of_number number.new code.new ≡ write.now }
+    ensures write { write_of_number number.new code.new ≡ write.now }
+    ensures number { ((number.new == JC_NOT_ASKED) || write_number_fits number.new) ≡ true }
 {
     match write {
         WriteAnswer::NotAsked => *number = JC_NOT_ASKED,
@@ -97,6 +105,8 @@ fn show_write(write: &WriteAnswer, number: &mut u32, code: &mut u32)
 /// What a processor did to its entry.
 fn show_effect(effect: &Effect, number: &mut u32, room: &mut InlineValue)
     ensures number { (number.new == JC_NOT_RUN) ≡ false }
+    ensures known { effect_number_fits number.new ≡ true }
+    ensures fits { is_inline_value room.old ≡ true → is_inline_value room.new ≡ true }
     ensures effect { (code : ℕ) (outcome : Option Bytes) → process_answer_of number.new code (inline_value room.new) outcome ≡ Ended effect.now outcome }
 {
     match effect {
@@ -108,7 +118,8 @@ fn show_effect(effect: &Effect, number: &mut u32, room: &mut InlineValue)
 
 /// What a processor returned, if it did.
 fn show_outcome(outcome: &Option<Value>, has: &mut bool, room: &mut InlineValue)
-    ensures { read_outcome has.new (inline_value room.new) ≡ outcome.now }
+    ensures outcome { read_outcome has.new (inline_value room.new) ≡ outcome.now }
+    ensures fits { is_inline_value room.old ≡ true → is_inline_value room.new ≡ true }
 {
     match outcome {
         None => *has = false,
@@ -122,6 +133,9 @@ fn show_outcome(outcome: &Option<Value>, has: &mut bool, room: &mut InlineValue)
 /// What a processor did, if one ran.
 fn show_process(process: &ProcessAnswer, out: &mut ProcessorAnswers)
     ensures process { process_if_run out.new ≡ process.now }
+    ensures number { ((out.new.effect == JC_NOT_RUN) || effect_number_fits out.new.effect) ≡ true }
+    ensures set { is_inline_value out.old.set ≡ true → is_inline_value out.new.set ≡ true }
+    ensures outcome { is_inline_value out.old.outcome ≡ true → is_inline_value out.new.outcome ≡ true }
     ensures load { (out.new.load ≡ out.old.load) × (out.new.load_code ≡ out.old.load_code) × (out.new.loaded ≡ out.old.loaded) }
     ensures write { (out.new.write ≡ out.old.write) × (out.new.write_code ≡ out.old.write_code) }
 {
@@ -140,7 +154,11 @@ fn show_process(process: &ProcessAnswer, out: &mut ProcessorAnswers)
 
 /// What was answered outside.
 fn show_outside(answers: &Out, out: &mut ProcessorAnswers)
-    ensures { read_outside out.new ≡ answers.now }
+    ensures answers { read_outside out.new ≡ answers.now }
+    ensures load { ((out.new.load == JC_NOT_ASKED) || load_number_fits out.new.load) ≡ true }
+    ensures write { ((out.new.write == JC_NOT_ASKED) || write_number_fits out.new.write) ≡ true }
+    ensures effect { ((out.new.effect == JC_NOT_RUN) || effect_number_fits out.new.effect) ≡ true }
+    ensures fits { HasOutsideLengths out.old → HasOutsideLengths out.new }
 {
     show_load(
         &answers.load,
@@ -154,7 +172,8 @@ fn show_outside(answers: &Out, out: &mut ProcessorAnswers)
 
 /// An event.
 fn show_event(event: &Event, out: &mut FlatEvent)
-    ensures { ShowsEvent event.now out.new }
+    ensures shown { ShowsEvent event.now out.new }
+    ensures fits { HasLengths out.old → HasLengths out.new }
 {
     match event {
         Event::Step {
@@ -203,6 +222,7 @@ fn show_shared(shared: Option<u32>, is_shared: &mut bool, place: &mut u32)
 pub extern "C" fn jc_event(h: &mut Handle, alloc: Global, place: usize, out: &mut FlatEvent) -> u32
     ensures code { result ≡ export_code h.old.is_open true (nat_lt place (length h.old.desk.stripe.history)) JC_NONE }
     ensures shown { result ≡ JC_OK → (event : Event) × (slice_get h.old.desk.stripe.history place ≡ Some event) × ShowsEvent event out.new }
+    ensures fits { result ≡ JC_OK → HasLengths out.old → HasLengths out.new }
     ensures none { (result ≡ JC_OK) ⊎ (out.new ≡ out.old) }
     ensures same { (h.new.is_open ≡ h.old.is_open) × (h.new.desk ≡ h.old.desk) }
 {
@@ -355,6 +375,7 @@ pub extern "C" fn jc_legal(
     ensures told { result ≡ JC_OK → (IsTrue is_legal.new ↔ Legal (config_of shape.now) (inline_entries opening.now) (map read_event events.now)) }
     ensures bad { (result ≡ JC_BAD_ARGUMENT) ↔ ((list_all entry_fits opening.now && list_all event_fits events.now) ≡ false) }
     ensures codes { (result ≡ JC_OK) ⊎ (result ≡ JC_BAD_ARGUMENT) ⊎ (result ≡ JC_NO_MEMORY) }
+    ensures none { (result ≡ JC_OK) ⊎ (is_legal.new ≡ is_legal.old) }
 {
     if !entries_fit(opening) || !flat_events_fit(events) {
         return JC_BAD_ARGUMENT;

@@ -199,7 +199,8 @@ impl InlineKey {
 
     /// Writes a key.
     pub(crate) fn set(&mut self, key: &Key)
-        ensures { inline_key self.new ≡ key.now }
+        ensures key { inline_key self.new ≡ key.now }
+        ensures fits { is_inline_key self.new ≡ true }
     {
         let bytes = key.bytes();
         self.bytes[..bytes.len()].copy_from_slice(bytes);
@@ -223,7 +224,8 @@ impl InlineEntry {
 
     /// Writes an entry.
     pub(crate) fn set(&mut self, entry: &(Key, Value))
-        ensures { inline_entry self.new ≡ entry.now }
+        ensures entry { inline_entry self.new ≡ entry.now }
+        ensures fits { entry_fits self.new ≡ true }
     {
         self.key.set(&entry.0);
         show_value(&entry.1, &mut self.value);

@@ -1,12 +1,14 @@
 //! What a desk has, for C.
 ghost use Rattle.std.specs.Prelude.{◌≡◌, ◌↔◌, ◌⊎◌, true, false, length, Some, is_some, if◌then◌else◌};
 ghost use Rattle.jc_model.specs.Cache.{entry_at};
+ghost use Rattle.jc_model.specs.Legal.{Legal};
 ghost use Rattle.jc_model.specs.Statistics.{statistics_of};
 ghost use Rattle.jc_stripe.specs.Occurrences.{all_occurrences};
 ghost use Rattle.jc_stripe.specs.OrderOfUse.{by_use};
-ghost use Rattle.jc_stripe.specs.Renewal.{Renews, can_renew};
+ghost use Rattle.jc_stripe.specs.Generations.{after_renewal};
+ghost use Rattle.jc_stripe.specs.Renewal.{can_renew};
 ghost use Rattle.jc_c.specs.declared.codes.TheConstants.{JC_OK, JC_WRONG_HANDLE, JC_NO_MEMORY, JC_NONE, JC_IN_USE};
-ghost use Rattle.jc_c.specs.Layouts.{inline_value};
+ghost use Rattle.jc_c.specs.Layouts.{inline_value, is_inline_value};
 ghost use Rattle.jc_c.specs.Requests.{key_fits};
 ghost use Rattle.jc_c.specs.Exports.{export_code, counts_written, ListsEntries};
 
@@ -23,7 +25,8 @@ use std::alloc::Global;
 #[unsafe(no_mangle)]
 pub extern "C" fn jc_peek(h: &mut Handle, alloc: Global, key: &[u8], out: &mut InlineValue) -> u32
     ensures code { result ≡ export_code h.old.is_open (key_fits key.now) (is_some (entry_at h.old.desk.stripe.cache key.now)) JC_NONE }
-    ensures peeked { result ≡ JC_OK → entry_at h.old.desk.stripe.cache key.now ≡ Some (inline_value out.new) }
+    ensures peeked { result ≡ JC_OK → (entry_at h.old.desk.stripe.cache key.now ≡ Some (inline_value out.new)) × (is_inline_value out.new ≡ true) }
+    ensures none { (result ≡ JC_OK) ⊎ (out.new ≡ out.old) }
     ensures same { (h.new.is_open ≡ h.old.is_open) × (h.new.desk ≡ h.old.desk) }
 {
     if !h.is_open() {
@@ -48,6 +51,7 @@ pub extern "C" fn jc_peek(h: &mut Handle, alloc: Global, key: &[u8], out: &mut I
 #[unsafe(no_mangle)]
 pub extern "C" fn jc_statistics_of(h: &mut Handle, alloc: Global, out: &mut CountsOut) -> u32
     ensures code { result ≡ export_code h.old.is_open true true JC_OK }
+    ensures none { (result ≡ JC_OK) ⊎ (out.new ≡ out.old) }
     ensures counted { result ≡ JC_OK → out.new ≡ counts_written (statistics_of (all_occurrences h.old.desk.stripe)) }
     ensures same { (h.new.is_open ≡ h.old.is_open) × (h.new.desk ≡ h.old.desk) }
 {
@@ -87,6 +91,7 @@ pub extern "C" fn jc_entries(
     ensures wrong { (result ≡ JC_WRONG_HANDLE) ↔ (h.old.is_open ≡ false) }
     ensures codes { (result ≡ JC_OK) ⊎ (result ≡ JC_WRONG_HANDLE) ⊎ (result ≡ JC_NO_MEMORY) }
     ensures listed { result ≡ JC_OK → ListsEntries (by_use h.old.desk.stripe.opening h.old.desk.stripe.history) out.old out.new }
+    ensures none { (result ≡ JC_OK) ⊎ ((out.new ≡ out.old) × (count.new ≡ count.old)) }
     ensures count { result ≡ JC_OK → count.new ≡ length (by_use h.old.desk.stripe.opening h.old.desk.stripe.history) }
     ensures same { (h.new.is_open ≡ h.old.is_open) × (h.new.desk ≡ h.old.desk) }
 {
@@ -109,6 +114,8 @@ pub extern "C" fn jc_entries(
 #[unsafe(no_mangle)]
 pub extern "C" fn jc_events_len(h: &mut Handle, alloc: Global) -> usize
     ensures len { result ≡ (if h.old.is_open then length h.old.desk.stripe.history else 0) }
+    ensures legal { h.old.is_open ≡ true → Legal h.old.desk.stripe.config h.old.desk.stripe.opening h.old.desk.stripe.history }
+    ensures lives { h.old.is_open ≡ true → h.old.desk.stripe.lives ≡ true }
     ensures same { (h.new.is_open ≡ h.old.is_open) × (h.new.desk ≡ h.old.desk) }
 {
     if !h.is_open() {
@@ -124,7 +131,7 @@ pub extern "C" fn jc_events_len(h: &mut Handle, alloc: Global) -> usize
 #[unsafe(no_mangle)]
 pub extern "C" fn jc_end_generation(h: &mut Handle, alloc: Global) -> u32
     ensures code { result ≡ export_code h.old.is_open true (can_renew h.old.desk.stripe) JC_IN_USE }
-    ensures ended { result ≡ JC_OK → Renews h.old.desk.stripe h.new.desk.stripe }
+    ensures ended { result ≡ JC_OK → h.new.desk ≡ record h.old.desk { stripe = after_renewal h.old.desk.stripe } }
     ensures refused { (result ≡ JC_OK) ⊎ (h.new.desk ≡ h.old.desk) }
     ensures is_open { h.new.is_open ≡ h.old.is_open }
 {

@@ -1,8 +1,8 @@
 //! The phases of calls, for C.
-ghost use Rattle.std.specs.Prelude.{◌≡◌, ◌&&◌, ◌⊎◌, true, is_some};
+ghost use Rattle.std.specs.Prelude.{◌≡◌, ◌&&◌, ◌⊎◌, true, is_some, if◌then◌else◌};
 ghost use Rattle.jc_model.specs.Group.{load_only, write_only};
 ghost use Rattle.jc_stripe.specs.DeskState.{may_call_next};
-ghost use Rattle.jc_stripe.specs.DeskPhases.{WithdrawsAtDesk, StaysOrRenewsFull, hits_next, takes_load, takes_write, takes_process, ticket_of, is_join_out};
+ghost use Rattle.jc_stripe.specs.DeskPhases.{WithdrawsAtDesk, hits_next, without_hit, takes_load, takes_write, takes_process, ticket_of, is_join_out};
 ghost use Rattle.jc_c.specs.declared.codes.TheConstants.{JC_OK, JC_MISUSE, JC_NONE};
 ghost use Rattle.jc_c.specs.Requests.{key_fits, value_fits, op_fits, load_of_number, load_number_fits, write_of_number, write_number_fits, processor_out, processed_fits};
 ghost use Rattle.jc_c.specs.Exports.{export_code, join_named, BeginsForC, CommitsForC, PicksUpForC, HitsForC};
@@ -32,6 +32,7 @@ pub extern "C" fn jc_begin(
         (may_call_next h.old.desk session key.now) JC_MISUSE }
     ensures begins { result ≡ JC_OK → BeginsForC h.old.desk session op key.now value.now other.now out.new h.new.desk }
     ensures refused { (result ≡ JC_OK) ⊎ (h.new.desk ≡ h.old.desk) }
+    ensures untouched { (result ≡ JC_OK) ⊎ (result ≡ JC_MISUSE) ⊎ (out.new ≡ out.old) }
     ensures is_open { h.new.is_open ≡ h.old.is_open }
 {
     if !h.is_open() {
@@ -47,7 +48,7 @@ pub extern "C" fn jc_begin(
 }
 
 /// A `get` that finds its entry, and nothing else: its value is written. `JC_NONE` says that no call was made: there is no entry, the
-/// generation is full, or the call may not begin. A full generation may have ended then.
+/// generation is full, or the call may not begin. A full generation may have ended then, but none whose events are to be taken.
 #[unsafe(no_mangle)]
 pub extern "C" fn jc_hit(
     h: &mut Handle,
@@ -58,7 +59,8 @@ pub extern "C" fn jc_hit(
 ) -> u32
     ensures code { result ≡ export_code h.old.is_open (key_fits key.now) (hits_next h.old.desk session key.now) JC_NONE }
     ensures hit { result ≡ JC_OK → HitsForC h.old.desk session key.now out.new h.new.desk }
-    ensures none { (result ≡ JC_OK) ⊎ ((out.new ≡ out.old) × StaysOrRenewsFull h.old.desk h.new.desk) }
+    ensures none { (result ≡ JC_OK) ⊎ ((out.new ≡ out.old)
+        × (h.new.desk ≡ (if h.old.is_open && key_fits key.now then without_hit h.old.desk session key.now else h.old.desk))) }
     ensures is_open { h.new.is_open ≡ h.old.is_open }
 {
     if !h.is_open() {
@@ -88,7 +90,7 @@ pub extern "C" fn jc_commit_load(
     ensures code { result ≡ export_code h.old.is_open (value_fits value.now && load_number_fits answer)
         (takes_load h.old.desk.stripe number (load_of_number answer code value.now)) JC_MISUSE }
     ensures commits { result ≡ JC_OK → CommitsForC h.old.desk number (load_only (load_of_number answer code value.now)) out.new h.new.desk }
-    ensures refused { (result ≡ JC_OK) ⊎ (h.new.desk ≡ h.old.desk) }
+    ensures refused { (result ≡ JC_OK) ⊎ ((h.new.desk ≡ h.old.desk) × (out.new ≡ out.old)) }
     ensures is_open { h.new.is_open ≡ h.old.is_open }
 {
     if !h.is_open() {
@@ -120,7 +122,7 @@ pub extern "C" fn jc_commit_write(
     ensures code { result ≡ export_code h.old.is_open (write_number_fits answer)
         (takes_write h.old.desk.stripe number (write_of_number answer code)) JC_MISUSE }
     ensures commits { result ≡ JC_OK → CommitsForC h.old.desk number (write_only (write_of_number answer code)) out.new h.new.desk }
-    ensures refused { (result ≡ JC_OK) ⊎ (h.new.desk ≡ h.old.desk) }
+    ensures refused { (result ≡ JC_OK) ⊎ ((h.new.desk ≡ h.old.desk) × (out.new ≡ out.old)) }
     ensures is_open { h.new.is_open ≡ h.old.is_open }
 {
     if !h.is_open() {
@@ -149,7 +151,7 @@ pub extern "C" fn jc_commit_process(
     ensures code { result ≡ export_code h.old.is_open (processed_fits processed.now)
         (takes_process h.old.desk.stripe number (processor_out processed.now)) JC_MISUSE }
     ensures commits { result ≡ JC_OK → CommitsForC h.old.desk number (processor_out processed.now) out.new h.new.desk }
-    ensures refused { (result ≡ JC_OK) ⊎ (h.new.desk ≡ h.old.desk) }
+    ensures refused { (result ≡ JC_OK) ⊎ ((h.new.desk ≡ h.old.desk) × (out.new ≡ out.old)) }
     ensures is_open { h.new.is_open ≡ h.old.is_open }
 {
     if !h.is_open() {
@@ -196,6 +198,7 @@ pub extern "C" fn jc_pick_up(
         (is_join_out h.old.desk.stripe (join_named session call key.now load)) JC_MISUSE }
     ensures picks_up { result ≡ JC_OK → PicksUpForC h.old.desk (join_named session call key.now load) out.new h.new.desk }
     ensures refused { (result ≡ JC_OK) ⊎ (h.new.desk ≡ h.old.desk) }
+    ensures untouched { (result ≡ JC_OK) ⊎ (result ≡ JC_MISUSE) ⊎ (out.new ≡ out.old) }
     ensures is_open { h.new.is_open ≡ h.old.is_open }
 {
     if !h.is_open() {

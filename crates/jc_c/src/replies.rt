@@ -1,9 +1,9 @@
 //! What is told to C.
-ghost use Rattle.std.specs.Prelude.{◌≡◌, ◌≤◌, if◌then◌else◌};
+ghost use Rattle.std.specs.Prelude.{◌≡◌, ◌≤◌, true, if◌then◌else◌};
 ghost use Rattle.std.specs.Option.{option_copied};
 ghost use Rattle.jc_stripe.specs.DeskPhases.{is_first_misuse, is_pick_up_misuse};
 ghost use Rattle.jc_c.specs.declared.codes.TheConstants.{JC_OK, JC_MISUSE, JC_OWN_EVICTED_MEMORY};
-ghost use Rattle.jc_c.specs.Layouts.{inline_value};
+ghost use Rattle.jc_c.specs.Layouts.{inline_value, is_inline_value};
 ghost use Rattle.jc_c.specs.Replies.{ShowsFault, ShowsReply, ShowsMoves, own_number, ShowsDone, ShowsFirst, refusal_number, ShowsFirstAnswer, ShowsPickUp};
 
 use crate::codes::{
@@ -20,7 +20,8 @@ use jc_types::{Refusal, Value};
 
 /// A value.
 pub(crate) fn show_value(value: &Value, out: &mut InlineValue)
-    ensures { inline_value out.new ≡ value.now }
+    ensures value { inline_value out.new ≡ value.now }
+    ensures fits { is_inline_value out.new ≡ true }
 {
     let bytes = value.bytes();
     out.bytes[..bytes.len()].copy_from_slice(bytes);
@@ -61,7 +62,8 @@ fn show_fault(fault: &Refusal, number: &mut u32, code: &mut u32)
 
 /// A reply.
 pub(crate) fn show_reply(reply: &Reply, number: &mut u32, code: &mut u32, out: &mut InlineValue)
-    ensures { ShowsReply reply.now number.new code.new out.new }
+    ensures reply { ShowsReply reply.now number.new code.new out.new }
+    ensures fits { is_inline_value out.old ≡ true → is_inline_value out.new ≡ true }
 {
     match reply {
         Reply::Unit => *number = JC_UNIT,

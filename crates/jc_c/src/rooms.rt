@@ -2,7 +2,7 @@
 ghost use Rattle.std.specs.Prelude.{◌≡◌, ◌⊎◌, true, if◌then◌else◌};
 ghost use Rattle.jc_model.specs.Group.{load_only, write_only};
 ghost use Rattle.jc_stripe.specs.DeskState.{may_call_next};
-ghost use Rattle.jc_stripe.specs.DeskPhases.{StaysOrRenewsFull, hits_next, takes_load, takes_write, takes_process, is_join_out};
+ghost use Rattle.jc_stripe.specs.DeskPhases.{hits_next, without_hit, takes_load, takes_write, takes_process, is_join_out};
 ghost use Rattle.jc_c.specs.declared.codes.TheConstants.{JC_OK, JC_MISUSE, JC_NONE};
 ghost use Rattle.jc_c.specs.Requests.{op_fits};
 ghost use Rattle.jc_c.specs.Exports.{export_code, BeginsForC, CommitsForC, PicksUpForC, HitsForC};
@@ -67,6 +67,7 @@ impl DeskRooms {
         ensures code { result ≡ export_code true (op_fits op value.now other.now) (may_call_next self.old session key.now) JC_MISUSE }
         ensures begins { result ≡ JC_OK → BeginsForC self.old session op key.now value.now other.now out.new self.new }
         ensures refused { (result ≡ JC_OK) ⊎ (self.new ≡ self.old) }
+        ensures untouched { (result ≡ JC_OK) ⊎ (result ≡ JC_MISUSE) ⊎ (out.new ≡ out.old) }
     {
         if !write_op(op, value, other, &mut self.op) {
             return JC_BAD_ARGUMENT;
@@ -83,7 +84,7 @@ impl DeskRooms {
     pub(crate) fn hit(&mut self, session: u32, key: &Key, out: &mut InlineValue) -> u32
         ensures code { result ≡ (if hits_next self.old session key.now then JC_OK else JC_NONE) }
         ensures hit { result ≡ JC_OK → HitsForC self.old session key.now out.new self.new }
-        ensures none { (result ≡ JC_OK) ⊎ ((out.new ≡ out.old) × StaysOrRenewsFull self.old self.new) }
+        ensures none { (result ≡ JC_OK) ⊎ ((out.new ≡ out.old) × (self.new ≡ without_hit self.old session key.now)) }
     {
         let Some(_call) = self.desk.hit(session, key, &mut self.value) else {
             return JC_NONE;
@@ -97,7 +98,7 @@ impl DeskRooms {
     pub(crate) fn commit_load(&mut self, number: u64, answer: LoadAnswer, out: &mut PhaseOut) -> u32
         ensures code { result ≡ (if takes_load self.old.stripe number answer then JC_OK else JC_MISUSE) }
         ensures commits { result ≡ JC_OK → CommitsForC self.old number (load_only answer) out.new self.new }
-        ensures refused { (result ≡ JC_OK) ⊎ (self.new ≡ self.old) }
+        ensures refused { (result ≡ JC_OK) ⊎ ((self.new ≡ self.old) × (out.new ≡ out.old)) }
     {
         let done = self
             .desk
@@ -119,7 +120,7 @@ impl DeskRooms {
     ) -> u32
         ensures code { result ≡ (if takes_write self.old.stripe number answer then JC_OK else JC_MISUSE) }
         ensures commits { result ≡ JC_OK → CommitsForC self.old number (write_only answer) out.new self.new }
-        ensures refused { (result ≡ JC_OK) ⊎ (self.new ≡ self.old) }
+        ensures refused { (result ≡ JC_OK) ⊎ ((self.new ≡ self.old) × (out.new ≡ out.old)) }
     {
         let done = self
             .desk
@@ -136,7 +137,7 @@ impl DeskRooms {
     pub(crate) fn commit_process(&mut self, number: u64, said: Out, out: &mut PhaseOut) -> u32
         ensures code { result ≡ (if takes_process self.old.stripe number said then JC_OK else JC_MISUSE) }
         ensures commits { result ≡ JC_OK → CommitsForC self.old number said out.new self.new }
-        ensures refused { (result ≡ JC_OK) ⊎ (self.new ≡ self.old) }
+        ensures refused { (result ≡ JC_OK) ⊎ ((self.new ≡ self.old) × (out.new ≡ out.old)) }
     {
         let done = self.desk.commit_process(
             number,

@@ -8,7 +8,8 @@
 --     is_first_misuse    a first phase was answered that the call may not begin
 --     HitsAtDesk         a get that found its entry, as the desk's next call
 --     hits_next          a get finds its entry, as the desk's next call
---     StaysOrRenewsFull  the desk stays as it was, or its generation has ended, if it was full and might end
+--     without_hit        the desk, if a get finds no entry: its generation has ended, if it was full and might end, the call might be
+--                        made, and no events were to be taken first; else it is as it was
 --     ticket_of          the reservation with this number that is out, if there is one
 --     asks_first         a reservation is there, and asks this one first
 --     AnswersTicket      a reservation with this number is out, and these are the answers of whom it asks first
@@ -24,7 +25,7 @@
 --     WithdrawsAtDesk    the reservation with this number is given back
 --     PicksUpAtDesk      a joiner asks for its answer; or no such join is out, and nothing was done
 --     is_pick_up_misuse  it was answered that no such join is out
-use Rattle.std.specs.Prelude.{◌≡◌, ◌==◌, ◌&&◌, ◌⊎◌, ◌+◌, ◌-◌, ℕ, Bool, true, false, not, Option, None, Some, is_some, find, length, slice_get}
+use Rattle.std.specs.Prelude.{◌≡◌, ◌==◌, ◌&&◌, ◌+◌, ◌-◌, ℕ, Bool, true, false, not, Option, None, Some, is_some, find, length, slice_get, if◌then◌else◌}
 use Rattle.std.specs.Bool.{beq}
 use Rattle.jc_types.specs.declared.caller.Caller.{Caller}
 use Rattle.jc_types.specs.declared.config.Config.{Config}
@@ -109,8 +110,9 @@ abbrev pub hits_next : DeskState → ℕ → Bytes → Bool
 hits_next desk session key =
     may_call_next desk session key && not (awaits_end desk) && has_room (renewed_if_full desk.stripe) desk.next HIT_PLACES && is_some (entry_at desk.stripe.cache key)
 
-abbrev pub StaysOrRenewsFull : DeskState → DeskState → Type 0
-StaysOrRenewsFull old new = (new ≡ old) ⊎ (new ≡ record old { stripe = renewed_if_full old.stripe })
+abbrev pub without_hit : DeskState → ℕ → Bytes → DeskState
+without_hit desk session key =
+    if may_call_next desk session key && not (awaits_end desk) then record desk { stripe = renewed_if_full desk.stripe } else desk
 
 -- 2. Which answers a desk takes.
 

@@ -22,7 +22,7 @@ ghost use Rattle.jc_stripe.specs.Reached.{IsReached};
 ghost use Rattle.jc_stripe.specs.Generations.{after_renewal};
 ghost use Rattle.jc_stripe.specs.Renewal.{can_renew};
 ghost use Rattle.jc_stripe.specs.DeskState.{opened_desk, is_open_shape, are_contents, may_call_next, nothing_is_out, OpenFails};
-ghost use Rattle.jc_stripe.specs.DeskPhases.{BeginsAtDesk, is_first_misuse, newest, HitsAtDesk, hits_next, StaysOrRenewsFull};
+ghost use Rattle.jc_stripe.specs.DeskPhases.{BeginsAtDesk, is_first_misuse, newest, HitsAtDesk, hits_next, without_hit};
 
 mod answers;
 mod last_phases;
@@ -170,11 +170,11 @@ impl Desk {
 
     /// A `get` that finds its entry, as a session's next call: its value is written, and its number given. None says that no call was
     /// made: the call may not begin, its key has no entry, or the generation is full and its events are to be taken, or an answer that is
-    /// parked keeps it from ending. A full generation may have ended then.
+    /// parked keeps it from ending. If the call may begin, a full generation may have ended then, but none whose events are to be taken.
     pub fn hit(&mut self, session: u32, key: &Key, value: &mut Value) -> Option<u64>
         ensures found { is_some result ≡ hits_next self.old session key.now }
         ensures some { IfSome result (λ call. HitsAtDesk self.old session key.now value.new call self.new) }
-        ensures none { IfNone result ((value.new ≡ value.old) × StaysOrRenewsFull self.old self.new) }
+        ensures none { IfNone result ((value.new ≡ value.old) × (self.new ≡ without_hit self.old session key.now)) }
     {
         let call = self.next_call;
         let caller = Caller { session, call };
@@ -233,6 +233,7 @@ impl Desk {
         ensures len { result ≡ length self.now.stripe.history }
         ensures legal { Legal self.now.stripe.config self.now.stripe.opening self.now.stripe.history }
         ensures reached { IsReached self.now.stripe }
+        ensures lives { self.now.stripe.lives ≡ true }
     {
         self.stripe.events_len()
     }

@@ -89,7 +89,9 @@ fn note_victim(
 
 impl ValueMoves {
     /// Nothing came, and nothing left.
-    pub fn new() -> ValueMoves {
+    pub fn new() -> ValueMoves
+        ensures { result ≡ nothing_moved }
+    {
         ValueMoves {
             is_kept: false,
             has_left: false,
