@@ -95,6 +95,22 @@ pub struct Beginning {
     pub session: u64,
 }
 
+/// Appends the line by which a session begins an operation that has no name: one of a bulk call.
+fn put_nameless(out: &mut Vec<u8>, beginning: Beginning) -> Result<(), AllocError>
+    ensures { OnOk result (out.new.items
+        ≡ out.old.items ++ begin_text beginning.call beginning.session []) }
+{
+    put_pieces(
+        out,
+        &[
+            Piece::Text("begin "),
+            Piece::Number(beginning.call),
+            Piece::Text(" s"),
+            Piece::Number(beginning.session),
+        ],
+    )
+}
+
 /// Appends the line by which a session begins an operation of this name.
 fn put_named<'a>(
     out: &mut Vec<u8>,
@@ -105,13 +121,10 @@ fn put_named<'a>(
     ensures { OnOk result (out.new.items
         ≡ out.old.items ++ begin_text beginning.call beginning.session (name.now ∷ key.now ∷ [])) }
 {
+    put_nameless(out, beginning)?;
     put_pieces(
         out,
         &[
-            Piece::Text("begin "),
-            Piece::Number(beginning.call),
-            Piece::Text(" s"),
-            Piece::Number(beginning.session),
             Piece::Text(" "),
             Piece::Text(name),
             Piece::Text(" "),
@@ -131,21 +144,8 @@ fn put_valued<'a>(
     ensures { OnOk result (out.new.items ≡ out.old.items
         ++ begin_text beginning.call beginning.session (name.now ∷ key.now ∷ value_text value.now ∷ [])) }
 {
-    put_pieces(
-        out,
-        &[
-            Piece::Text("begin "),
-            Piece::Number(beginning.call),
-            Piece::Text(" s"),
-            Piece::Number(beginning.session),
-            Piece::Text(" "),
-            Piece::Text(name),
-            Piece::Text(" "),
-            Piece::Key(key),
-            Piece::Text(" "),
-            Piece::Value(value),
-        ],
-    )
+    put_named(out, beginning, name, key)?;
+    put_pieces(out, &[Piece::Text(" "), Piece::Value(value)])
 }
 
 /// Appends the line by which a session begins a `replaceif`.
@@ -159,37 +159,8 @@ fn put_replace_if<'a>(
     ensures { OnOk result (out.new.items ≡ out.old.items ++ begin_text beginning.call beginning.session
         (codes "replaceif" ∷ key.now ∷ value_text old.now ∷ value_text new.now ∷ [])) }
 {
-    put_pieces(
-        out,
-        &[
-            Piece::Text("begin "),
-            Piece::Number(beginning.call),
-            Piece::Text(" s"),
-            Piece::Number(beginning.session),
-            Piece::Text(" replaceif "),
-            Piece::Key(key),
-            Piece::Text(" "),
-            Piece::Value(old),
-            Piece::Text(" "),
-            Piece::Value(new),
-        ],
-    )
-}
-
-/// Appends the line by which a session begins an operation that has no name: one of a bulk call.
-fn put_nameless(out: &mut Vec<u8>, beginning: Beginning) -> Result<(), AllocError>
-    ensures { OnOk result (out.new.items
-        ≡ out.old.items ++ begin_text beginning.call beginning.session []) }
-{
-    put_pieces(
-        out,
-        &[
-            Piece::Text("begin "),
-            Piece::Number(beginning.call),
-            Piece::Text(" s"),
-            Piece::Number(beginning.session),
-        ],
-    )
+    put_valued(out, beginning, "replaceif", key, old)?;
+    put_pieces(out, &[Piece::Text(" "), Piece::Value(new)])
 }
 
 /// Appends the line by which a session begins a call.
