@@ -18,9 +18,11 @@ mod program;
 mod replies;
 mod scene;
 mod search;
+mod watch;
 
 pub use final_state::FinalState;
 pub use moves::{Act, Move};
 pub use program::{Faults, Item, Program};
 pub use replies::ThreadReply;
 pub use search::{ExploreFault, Explored, Finding, OUTCOMES_MAX, explore};
+pub use watch::{Unwatched, Watch};

@@ -14,6 +14,7 @@ use crate::known::{States, note_next, note_state};
 use crate::moves::{Move, moves_up_to};
 use crate::program::Program;
 use crate::scene::Scene;
+use crate::watch::Watch;
 use jc_snapshot::laws::has_one_snapshot;
 use jc_types::{Refusal, SESSIONS_MAX};
 use jc_world::determinism::runs_are_determined;
@@ -313,20 +314,26 @@ fn has_too_many(found: &[Finding]) -> bool
     found.len() > OUTCOMES_MAX
 }
 
-/// Follows at most `states` of the states that are known, and says whether it followed each.
-fn visit_all(
+/// Tells how far a search is that has followed so many states.
+fn tell<W: Watch>(watch: &mut W, followed: usize, search: &Search) {
+    let (known, found) = (search.known.list.len(), search.found.len());
+    watch.on_states(followed as u64, known as u64, found as u64);
+}
+
+/// Follows at most `states` of the states that are known, and says whether it followed each. Before each one it tells how far it is.
+fn visit_all<W: Watch>(
     alloc: Global,
     program: &Program,
     scene: &mut Scene,
-    moves: &[Move],
     states: usize,
     search: &mut Search,
+    watch: &mut W,
 ) -> Result<bool, AllocError>
     requires accepted { IsAccepted program.now }
-    requires moves { moves.now ≡ moves_up_to (length program.now.threads.items) }
     requires search { Searches program.now search.old }
     ensures { IfOk result (λ whole. Ends program.now states search.new whole) }
 {
+    let moves = moves_up_to(alloc, program.threads.len())?;
     runs_are_determined();
     worlds_go_on_alike();
     essences_tell();
@@ -337,8 +344,9 @@ fn visit_all(
         if has_too_many(&search.found) {
             return Ok(false);
         }
+        tell(watch, place, search);
         let schedule = Vec::from_slice(alloc, &search.known.list[place].schedule)?;
-        visit(alloc, program, scene, moves, &schedule, search)?;
+        visit(alloc, program, scene, &moves, &schedule, search)?;
     }
     let count = search.known.list.len();
     Ok(count == states)
@@ -356,19 +364,19 @@ fn begin(alloc: Global, program: &Program, scene: &Scene) -> Result<Search, Allo
 }
 
 /// Searches with a scene that is at the opening.
-fn search_with(
+fn search_with<W: Watch>(
     alloc: Global,
     program: &Program,
     scene: &mut Scene,
     states: usize,
+    watch: &mut W,
 ) -> Result<Explored, AllocError>
     requires accepted { IsAccepted program.now }
     requires opened { state_of scene.old ≡ opening program.now }
     ensures { IfOk result (λ r. HasExplored program.now states r) }
 {
     let mut search = begin(alloc, program, scene)?;
-    let moves = moves_up_to(alloc, program.threads.len())?;
-    let is_whole = visit_all(alloc, program, scene, &moves, states, &mut search)?;
+    let is_whole = visit_all(alloc, program, scene, states, &mut search, watch)?;
     runs_are_determined();
     has_one_snapshot(&search.known.seen);
     let Search { known, found } = search;
@@ -380,12 +388,17 @@ fn search_with(
 }
 
 /// Searches from a new scene.
-fn search_anew(alloc: Global, program: &Program, states: usize) -> Result<Explored, AllocError>
+fn search_anew<W: Watch>(
+    alloc: Global,
+    program: &Program,
+    states: usize,
+    watch: &mut W,
+) -> Result<Explored, AllocError>
     requires accepted { IsAccepted program.now }
     ensures { IfOk result (λ r. HasExplored program.now states r) }
 {
     let mut scene = Scene::open(alloc, program)?;
-    let explored = search_with(alloc, program, &mut scene, states);
+    let explored = search_with(alloc, program, &mut scene, states, watch);
     scene.close();
     explored
 }
@@ -394,7 +407,15 @@ fn search_anew(alloc: Global, program: &Program, states: usize) -> Result<Explor
 ///
 /// It follows at most `states` states, and stops once it has found more than [`OUTCOMES_MAX`] final states: each one that it has found
 /// is real even then. A program with too many threads, or a shape that `Config::check` refuses, is refused.
-pub fn explore(alloc: Global, program: &Program, states: usize) -> Result<Explored, ExploreFault>
+///
+/// `watch` is told how far the search is before each state that is followed, and that it is over once, also if an allocation has
+/// failed. A program that is refused isn't searched, and nothing is told. What a watch does changes nothing of what is answered.
+pub fn explore<W: Watch>(
+    alloc: Global,
+    program: &Program,
+    states: usize,
+    watch: &mut W,
+) -> Result<Explored, ExploreFault>
     ensures witnessed { IfOk result (λ r. AreWitnessed program.now r.found.items) }
     ensures distinct { IfOk result (λ r. AreDistinct r.found.items) }
     ensures all { IfOk result (λ r. r.is_whole ≡ true → HasEachOutcome program.now r.found.items) }
@@ -409,7 +430,9 @@ pub fn explore(alloc: Global, program: &Program, states: usize) -> Result<Explor
         Ok(()) => {}
         Err(refusal) => return Err(ExploreFault::BadConfig(refusal)),
     }
-    match search_anew(alloc, program, states) {
+    let explored = search_anew(alloc, program, states, watch);
+    watch.on_end();
+    match explored {
         Ok(explored) => Ok(explored),
         Err(_) => Err(ExploreFault::OutOfMemory),
     }

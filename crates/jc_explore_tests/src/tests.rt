@@ -1,6 +1,6 @@
 //! Small programs, with the numbers of their states and of their final states. The numbers are those of a prototype in another language,
 //! which has no code in common with this.
-use jc_explore::{ExploreFault, Explored, Faults, Item, Program, explore};
+use jc_explore::{ExploreFault, Explored, Faults, Item, Program, Unwatched, Watch, explore};
 use jc_model::{EntryCall, Op};
 use jc_types::{Config, Field, Key, Refusal, SESSIONS_MAX, Value};
 use jc_world::EntryCalls;
@@ -143,7 +143,7 @@ fn program_of(rt: &impl Abort, alloc: Global, case: &Case) -> Program {
 
 fn explored(rt: &impl Abort, alloc: Global, case: &Case, states: usize) -> Explored {
     let program = program_of(rt, alloc, case);
-    match explore(alloc, &program, states) {
+    match explore(alloc, &program, states, &mut Unwatched) {
         Ok(explored) => explored,
         Err(_) => panic!(rt; "it is explored"),
     }
@@ -300,6 +300,42 @@ fn stops_at_its_budget(rt: HostRuntime) {
     assert!(rt; !none.is_whole && none.found.len() == 0, "none is");
 }
 
+/// A watch that checks that it is told of the states in their order, and keeps how many those are, and how often a search was over.
+#[derive(Drop)]
+struct Told {
+    states: u64,
+    is_in_order: bool,
+    ends: u64,
+}
+
+impl Watch for Told {
+    fn on_states(&mut self, followed: u64, known: u64, _found: u64) {
+        self.is_in_order &= followed == self.states && followed < known && self.ends == 0;
+        self.states = self.states.saturating_add(1);
+    }
+
+    fn on_end(&mut self) {
+        self.ends = self.ends.saturating_add(1);
+    }
+}
+
+#[test]
+fn tells_of_each_state(rt: HostRuntime) {
+    let alloc = rt.alloc();
+    let program = program_of(&rt, alloc, &CASES[0]);
+    let mut told = Told {
+        states: 0,
+        is_in_order: true,
+        ends: 0,
+    };
+    let explored = explore(alloc, &program, 1000, &mut told);
+    assert!(&rt; explored.is_ok(), "it is explored");
+    assert!(&rt;
+        told.is_in_order && told.states == 38 && told.ends == 1,
+        "each state is told of once"
+    );
+}
+
 #[test]
 fn refuses_programs(rt: HostRuntime) {
     let alloc = rt.alloc();
@@ -308,18 +344,19 @@ fn refuses_programs(rt: HostRuntime) {
         program.threads.push(Vec::new(alloc)).expect(&rt, "memory");
     }
     assert!(rt;
-        explore(alloc, &program, 1000).is_ok(),
+        explore(alloc, &program, 1000, &mut Unwatched).is_ok(),
         "each thread has a session"
     );
     program.threads.push(Vec::new(alloc)).expect(&rt, "memory");
     let refused = matches!(
-        explore(alloc, &program, 1000),
+        explore(alloc, &program, 1000, &mut Unwatched),
         Err(ExploreFault::TooManyThreads)
     );
     assert!(rt; refused, "one has none");
     let mut shapeless = program_of(&rt, alloc, &CASES[1]);
     shapeless.config.stripes = 0;
     let fault = ExploreFault::BadConfig(Refusal::BadConfig(Field::Stripes));
-    let refused = matches!(explore(alloc, &shapeless, 1000), Err(other) if other == fault);
+    let refused =
+        matches!(explore(alloc, &shapeless, 1000, &mut Unwatched), Err(other) if other == fault);
     assert!(rt; refused, "no cache has such a shape");
 }

@@ -21,7 +21,7 @@ use Rattle.std.specs.List.{list_all, list_any}
 use Rattle.std.specs.Cmp.Lexicographic.{pointwise}
 use Rattle.std.specs.Str.{bytes_eq}
 use Rattle.jc_types.specs.declared.refusal.Refusal.{Refusal}
-use Rattle.jc_types.specs.declared.refusal.Refusal.TheVariants.{HistoryFull, Busy, TooManyInFlight, TooManyJoiners, LoaderFailed, WriterFailed, ProcessorFailed, OutOfMemory, TooManyKeys, BadConfig, NoLoader, NoWriter, TooManySessions, StillReserved, RepeatedKey}
+use Rattle.jc_types.specs.declared.refusal.Refusal.TheVariants.{LoaderFailed, WriterFailed, ProcessorFailed}
 use Rattle.jc_types.specs.Refusals.{refusal_name}
 use Rattle.jc_model.specs.Cache.{Bytes}
 use Rattle.jc_model.specs.declared.event.Reply.{Reply}
@@ -67,18 +67,7 @@ abbrev pub code_of : Refusal → Option ℕ
 code_of (LoaderFailed code) = Some code
 code_of (WriterFailed code) = Some code
 code_of (ProcessorFailed code) = Some code
-code_of HistoryFull = None
-code_of Busy = None
-code_of TooManyInFlight = None
-code_of TooManyJoiners = None
-code_of OutOfMemory = None
-code_of TooManyKeys = None
-code_of (BadConfig field) = None
-code_of NoLoader = None
-code_of NoWriter = None
-code_of TooManySessions = None
-code_of StillReserved = None
-code_of RepeatedKey = None
+code_of other = None
 
 abbrev pub same_code : Option ℕ → Option ℕ → Bool
 same_code None None = true

@@ -1,6 +1,7 @@
 //! Lines of a program that scripts spell otherwise.
 ghost use Rattle.std.specs.Prelude.{◌≡◌, ◌++◌, codes, map, OnOk, IfOk};
 ghost use Rattle.std.specs.List.{flat_map};
+ghost use Rattle.jc_script.specs.Lines.{ok_with};
 ghost use Rattle.jc_litmus.specs.Reads.{Reads};
 ghost use Rattle.jc_litmus.specs.Grammar.{after_space, begin_text, process_text, made_line, operation_in, plain_calls, act_calls, line_calls, calls_of_text};
 ghost use Rattle.jc_litmus.specs.Grammar.{failing_named, may_fail, with_fault, quantifier_named};
@@ -56,25 +57,24 @@ fn process_text(alloc: Global, words: &[&[u8]]) -> Result<Vec<u8>, AllocError>
     Ok(text)
 }
 
-/// What a line of a script asks for. It asks for something.
-fn made_line(alloc: Global, text: &[u8]) -> Result<Line, LineError>
-    ensures { Reads result (made_line text.now) }
+/// Leaves in `line` what a line of a script asks for. It asks for something.
+fn made_line(alloc: Global, text: &[u8], line: &mut Line) -> Result<(), LineError>
+    ensures { Reads (ok_with line.new result) (made_line text.now) }
 {
     let mut words = Vec::new(alloc);
-    let mut line = Line::Audit;
-    match read(alloc, text, &mut words, &mut line) {
-        Ok(true) => Ok(line),
+    match read(alloc, text, &mut words, line) {
+        Ok(true) => Ok(()),
         Ok(false) => Err(LineError::Fault(LineFault::Script(Fault::BadLine))),
         Err(error) => Err(LineError::from(error)),
     }
 }
 
-/// The line of a script that begins the call of this line.
-pub(crate) fn begin_line(alloc: Global, call: &[u8]) -> Result<Line, LineError>
-    ensures { Reads result (made_line (begin_text call.now)) }
+/// Leaves in `line` the line of a script that begins the call of this line.
+pub(crate) fn begin_line(alloc: Global, call: &[u8], line: &mut Line) -> Result<(), LineError>
+    ensures { Reads (ok_with line.new result) (made_line (begin_text call.now)) }
 {
     let text = begin_text(alloc, call)?;
-    made_line(alloc, &text)
+    made_line(alloc, &text, line)
 }
 
 /// The operation that a line of a script begins.
@@ -125,14 +125,18 @@ fn line_calls(alloc: Global, line: &Line) -> Result<EntryCalls, LineError>
     }
 }
 
-/// The calls that an entry processor makes, from their words.
-pub(crate) fn entry_calls(alloc: Global, words: &[&[u8]]) -> Result<EntryCalls, LineError>
+/// The calls that an entry processor makes, from their words. `line` is room for a line.
+pub(crate) fn entry_calls(
+    alloc: Global,
+    words: &[&[u8]],
+    line: &mut Line,
+) -> Result<EntryCalls, LineError>
     ensures { Reads result (
         calls_of_text (process_text (flat_map after_space (map (λ w. w.now) words.now)))) }
 {
     let text = process_text(alloc, words)?;
-    let line = made_line(alloc, &text)?;
-    line_calls(alloc, &line)
+    made_line(alloc, &text, line)?;
+    line_calls(alloc, line)
 }
 
 /// Which of loader, writer and processor may fail, and how.

@@ -75,18 +75,7 @@ fn code_of(refusal: &Refusal) -> Option<u32>
         Refusal::LoaderFailed(code)
         | Refusal::WriterFailed(code)
         | Refusal::ProcessorFailed(code) => Some(*code),
-        Refusal::HistoryFull
-        | Refusal::Busy
-        | Refusal::TooManyInFlight
-        | Refusal::TooManyJoiners
-        | Refusal::OutOfMemory
-        | Refusal::TooManyKeys
-        | Refusal::BadConfig(_)
-        | Refusal::NoLoader
-        | Refusal::NoWriter
-        | Refusal::TooManySessions
-        | Refusal::StillReserved
-        | Refusal::RepeatedKey => None,
+        _ => None,
     }
 }
 

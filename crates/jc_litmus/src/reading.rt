@@ -80,9 +80,9 @@ fn bad_line() -> LineError
     LineError::Fault(LineFault::Script(Fault::BadLine))
 }
 
-/// An entry processor on a key, with the calls that it makes there.
+/// An entry processor on a key, with the calls that it makes there. `line` is room for a line.
 #[tactic(auto, unfolding(crate::specs::Program::invocation))]
-fn invocation(alloc: Global, words: &[&[u8]]) -> Result<Item, LineError>
+fn invocation(alloc: Global, words: &[&[u8]], line: &mut Line) -> Result<Item, LineError>
     ensures { Reads result (invocation (map (λ w. w.now) words.now)) }
 {
     match words {
@@ -91,7 +91,7 @@ fn invocation(alloc: Global, words: &[&[u8]]) -> Result<Item, LineError>
                 return Err(bad_line());
             }
             let key = key(k)?;
-            let calls = entry_calls(alloc, rest)?;
+            let calls = entry_calls(alloc, rest, line)?;
             Ok(Item::Invoke { key, calls })
         }
         _ => Err(bad_line()),
@@ -274,21 +274,21 @@ impl Reading {
 
     /// A call of one key.
     #[tactic(auto, unfolding(crate::specs::Program::after_call))]
-    fn call(&mut self, alloc: Global, text: &[u8]) -> Result<(), LineError>
+    fn call(&mut self, alloc: Global, text: &[u8], line: &mut Line) -> Result<(), LineError>
         ensures { Reads (ok_with self.new result) (after_call self.old text.now) }
     {
-        let line = begin_line(alloc, text)?;
+        begin_line(alloc, text, line)?;
         self.check_open()?;
-        let Operation { op, key } = operation_in(&line)?;
+        let Operation { op, key } = operation_in(line)?;
         self.add(Item::Call { op, key })
     }
 
     /// An entry processor on a key, with the calls that it makes there.
     #[tactic(auto, unfolding(crate::specs::Program::after_invoke))]
-    fn invoke(&mut self, alloc: Global, words: &[&[u8]]) -> Result<(), LineError>
+    fn invoke(&mut self, alloc: Global, words: &[&[u8]], line: &mut Line) -> Result<(), LineError>
         ensures { Reads (ok_with self.new result) (after_invoke self.old (map (λ w. w.now) words.now)) }
     {
-        let item = invocation(alloc, words)?;
+        let item = invocation(alloc, words, line)?;
         self.add(item)
     }
 
@@ -340,6 +340,7 @@ impl Reading {
         text: &[u8],
         first: &[u8],
         words: &[&[u8]],
+        line: &mut Line,
     ) -> Result<(), LineError>
         ensures { Reads (ok_with self.new result) (after_own_line self.old text.now first.now (map (λ w. w.now) words.now) (quantifier_named first.now)) }
     {
@@ -347,15 +348,21 @@ impl Reading {
             Some(quantifier) => self.expect(alloc, quantifier, text, words),
             None => match first {
                 _ if is(first, "thread") => self.thread(alloc, words),
-                _ if is(first, "invoke") => self.invoke(alloc, words),
-                _ => self.call(alloc, text),
+                _ if is(first, "invoke") => self.invoke(alloc, words, line),
+                _ => self.call(alloc, text, line),
             },
         }
     }
 
     /// A line that no script has, from its words.
     #[tactic(auto, unfolding(crate::specs::Program::after_other_line))]
-    fn other_line(&mut self, alloc: Global, text: &[u8], words: &[&[u8]]) -> Result<(), LineError>
+    fn other_line(
+        &mut self,
+        alloc: Global,
+        text: &[u8],
+        words: &[&[u8]],
+        line: &mut Line,
+    ) -> Result<(), LineError>
         ensures { Reads (ok_with self.new result) (after_other_line self.old text.now (map (λ w. w.now) words.now)) }
     {
         if !none_empty(words) {
@@ -364,7 +371,7 @@ impl Reading {
         match words {
             [] => Err(bad_line()),
             [first, ..] if is_outside(first) => self.failing(words),
-            [first, rest @ ..] => self.own_line(alloc, text, first, rest),
+            [first, rest @ ..] => self.own_line(alloc, text, first, rest, line),
         }
     }
 
@@ -383,7 +390,7 @@ impl Reading {
             Ok(true) => self.script_line(&room.line),
             Err(ReadError::Fault(Fault::BadLine)) => {
                 split(text, &mut room.words)?;
-                self.other_line(alloc, text, &room.words)
+                self.other_line(alloc, text, &room.words, &mut room.line)
             }
             Err(error) => Err(LineError::from(error)),
         }

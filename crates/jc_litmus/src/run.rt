@@ -8,7 +8,7 @@ use crate::answer::{answer, complaint};
 use crate::judge::end_of;
 use crate::program::{Litmus, ProgramFault};
 use crate::reading::read_program;
-use jc_explore::{Explored, explore};
+use jc_explore::{Explored, Watch, explore};
 use jc_script::input::{InputFault, read_all, write_out};
 use jc_script::noted::Noted;
 use jc_types::SCRIPT_MAX;
@@ -82,25 +82,31 @@ fn answer_to(
 }
 
 /// The answer to a program that was read.
-fn answer_to_read(
+fn answer_to_read<H: Watch>(
     alloc: Global,
     litmus: &Litmus,
     states: usize,
+    watch: &mut H,
 ) -> Result<(Vec<u8>, LitmusEnd), AllocError>
     ensures { IfOk result (λ r. IsAnswer states litmus.now r.0.items r.1) }
 {
-    match explore(alloc, &litmus.program, states) {
+    match explore(alloc, &litmus.program, states, watch) {
         Ok(explored) => answer_to(alloc, states, litmus, &explored),
         Err(_) => Err(AllocError),
     }
 }
 
 /// The answer to a program's text.
-fn answered(alloc: Global, input: &[u8], states: usize) -> Result<(Vec<u8>, LitmusEnd), AllocError>
+fn answered<H: Watch>(
+    alloc: Global,
+    input: &[u8],
+    states: usize,
+    watch: &mut H,
+) -> Result<(Vec<u8>, LitmusEnd), AllocError>
     ensures { IfOk result (λ r. Answers states input.now r.0.items r.1) }
 {
     match read_program(alloc, input) {
-        Ok(litmus) => answer_to_read(alloc, &litmus, states),
+        Ok(litmus) => answer_to_read(alloc, &litmus, states, watch),
         Err(ProgramFault::OutOfMemory) => Err(AllocError),
         Err(ProgramFault::Line(line, fault)) => {
             Ok((complaint(alloc, line, fault)?, LitmusEnd::LineFault))
@@ -108,12 +114,14 @@ fn answered(alloc: Global, input: &[u8], states: usize) -> Result<(Vec<u8>, Litm
     }
 }
 
-/// Reads a program to its end, explores it, and writes the answer, which is made whole before the first write.
-pub fn run<R: Read, W: Write>(
+/// Reads a program to its end, explores it, and writes the answer, which is made whole before the first write. `watch` is told how far
+/// the search is, and that it is over before anything is written.
+pub fn run<R: Read, W: Write, H: Watch>(
     alloc: Global,
     reader: &mut Noted<R>,
     writer: &mut Noted<W>,
     states: usize,
+    watch: &mut H,
 ) -> Result<LitmusEnd, LitmusFault>
     // What was written is the answer to what was read.
     ensures ran { IfOk result (λ end. Ran states (R.remaining reader.old.inner) (R.remaining reader.new.inner) (W.contents writer.old.inner) (W.contents writer.new.inner) end) }
@@ -133,7 +141,7 @@ pub fn run<R: Read, W: Write>(
         Err(InputFault::TooLong) => return Err(LitmusFault::TooLong),
         Err(InputFault::OutOfMemory) => return Err(LitmusFault::OutOfMemory),
     };
-    let (out, end) = match answered(alloc, &input, states) {
+    let (out, end) = match answered(alloc, &input, states, watch) {
         Ok(made) => made,
         Err(_) => return Err(LitmusFault::OutOfMemory),
     };

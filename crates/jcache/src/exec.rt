@@ -13,6 +13,7 @@ use clap::Error;
 use clap::error::ErrorKind;
 use jc_commands::commands::{Task, read_task};
 use jc_commands::plan::{INCREMENTS_MAX, Plan};
+use jc_explore::Watch;
 use jc_litmus::run::run as explore;
 use jc_litmus::{LitmusEnd, LitmusFault};
 use jc_script::run::run;
@@ -52,6 +53,15 @@ The script ./jcache of the repository builds this program if it has to, and has 
 For example: ./jcache run examples/put_seen_after_commit.script
 The words of a script, and all limits: docs/SCRIPT.md; of a program of threads: docs/EXPLORE.md
 ";
+
+/// Who hears what is said beside the answer.
+#[derive(Drop)]
+pub struct Listeners<E, H> {
+    /// Gets what is wrong: standard error.
+    pub err: E,
+    /// Is told how far a search is.
+    pub watch: H,
+}
 
 /// Says what failed. Nobody is left to hear of it if that fails, too.
 fn complain<E: Write>(err: &mut E, text: &str) {
@@ -160,27 +170,27 @@ fn status_of_end(end: LitmusEnd) -> u8
 }
 
 /// Writes the outcomes of a program of threads, of which at most `states` states are followed, and answers the status.
-fn explore_and_show<R: Read, W: Write, E: Write>(
+fn explore_and_show<R: Read, W: Write, E: Write, H: Watch>(
     alloc: Global,
     states: u32,
     reader: &mut Noted<R>,
     out: &mut Noted<W>,
-    err: &mut E,
+    listeners: &mut Listeners<E, H>,
 ) -> u8
     ensures explored { ExitOfExplore states result (R.remaining reader.old.inner) (R.remaining reader.new.inner)
         (W.contents out.old.inner) (W.contents out.new.inner) (out.new ≡ out.old) }
     ensures streams { reader.old.failed ≡ false → out.old.failed ≡ false
         → FailsByStreams result reader.new.failed out.new.failed (R.remaining reader.old.inner) (out.new ≡ out.old) }
 {
-    match explore(alloc, reader, out, states as usize) {
+    match explore(alloc, reader, out, states as usize, &mut listeners.watch) {
         Ok(end) => status_of_end(end),
         Err(LitmusFault::Read) => {
-            complain_of(reader, err, "read failed");
+            complain_of(reader, &mut listeners.err, "read failed");
             STREAMS
         }
-        Err(LitmusFault::Write) => end_of_output(out, err),
-        Err(LitmusFault::TooLong) => end_of_long_input(err),
-        Err(LitmusFault::OutOfMemory) => end_without_memory(err),
+        Err(LitmusFault::Write) => end_of_output(out, &mut listeners.err),
+        Err(LitmusFault::TooLong) => end_of_long_input(&mut listeners.err),
+        Err(LitmusFault::OutOfMemory) => end_without_memory(&mut listeners.err),
     }
 }
 
@@ -298,13 +308,13 @@ fn count_and_show<F: FnOnce(&Plan) -> Result<Report, AllocError>, W: Write, E: W
 }
 
 /// Carries a task out, and answers the status.
-fn carry_out<F: FnOnce(&Plan) -> Result<Report, AllocError>, R: Read, W: Write, E: Write>(
+fn carry_out<F: FnOnce(&Plan) -> Result<Report, AllocError>, R: Read, W: Write, E: Write, H: Watch>(
     alloc: Global,
     count: F,
     task: &Task,
     reader: &mut Noted<R>,
     out: &mut Noted<W>,
-    err: &mut E,
+    listeners: &mut Listeners<E, H>,
 ) -> u8
     requires callable { (plan : _) → F.pre count plan }
     requires reports { (plan : _) (r : _) → F.post count plan r → IfOk r (IsReportOf plan.now) }
@@ -319,20 +329,20 @@ fn carry_out<F: FnOnce(&Plan) -> Result<Report, AllocError>, R: Read, W: Write, 
         → FailsByStreams result reader.new.failed out.new.failed (R.remaining reader.old.inner) (out.new ≡ out.old) }
 {
     match task {
-        Task::Run => play(alloc, reader, out, err),
-        Task::Explore { states } => explore_and_show(alloc, *states, reader, out, err),
-        Task::Threads(plan) => count_and_show(alloc, count, plan, out, err),
+        Task::Run => play(alloc, reader, out, &mut listeners.err),
+        Task::Explore { states } => explore_and_show(alloc, *states, reader, out, listeners),
+        Task::Threads(plan) => count_and_show(alloc, count, plan, out, &mut listeners.err),
     }
 }
 
 /// Does what these words ask for, and answers the status.
-fn do_words<F: FnOnce(&Plan) -> Result<Report, AllocError>, R: Read, W: Write, E: Write>(
+fn do_words<F: FnOnce(&Plan) -> Result<Report, AllocError>, R: Read, W: Write, E: Write, H: Watch>(
     alloc: Global,
     count: F,
     words: &[String],
     reader: &mut Noted<R>,
     out: &mut Noted<W>,
-    err: &mut E,
+    listeners: &mut Listeners<E, H>,
 ) -> u8
     requires callable { (plan : _) → F.pre count plan }
     requires reports { (plan : _) (r : _) → F.post count plan r → IfOk r (IsReportOf plan.now) }
@@ -349,35 +359,36 @@ fn do_words<F: FnOnce(&Plan) -> Result<Report, AllocError>, R: Read, W: Write, E
         → FailsByStreams result reader.new.failed out.new.failed (R.remaining reader.old.inner) (out.new ≡ out.old) }
 {
     match read_task(alloc, words) {
-        Ok(task) => carry_out(alloc, count, &task, reader, out, err),
+        Ok(task) => carry_out(alloc, count, &task, reader, out, listeners),
         Err(error) => {
             if error.kind() == ErrorKind::OutOfMemory {
-                return end_without_memory(err);
+                return end_without_memory(&mut listeners.err);
             }
-            answer(alloc, &error, out, err)
+            answer(alloc, &error, out, &mut listeners.err)
         }
     }
 }
 
 /// Does what the words of a command line ask for, and answers the status: 0 if the script was played to its end, if all outcomes of
 /// a program of threads were written and each expectation holds, if threads counted right, or if a text was asked for and shown, as
-/// by `--help` and `--version`; 1 if the transcript ends with a line's fault, of which `err` gets the column and the word, or a line
-/// of the program of threads has one; 2 if the words are none of this program's, ask for too much work or aren't UTF-8, which is
-/// written to `err`; 3 if the input or output failed, or the input is too long; 4 if an allocation failed; 5 if the report that was
-/// written shows a wrong number, or that the history isn't legal, or an expectation fails; 6 if no expectation fails, and not all
-/// outcomes are known.
+/// by `--help` and `--version`; 1 if the transcript ends with a line's fault, of which standard error gets the column and the word, or
+/// a line of the program of threads has one; 2 if the words are none of this program's, ask for too much work or aren't UTF-8, which
+/// is written to standard error; 3 if the input or output failed, or the input is too long; 4 if an allocation failed; 5 if the report
+/// that was written shows a wrong number, or that the history isn't legal, or an expectation fails; 6 if no expectation fails, and not
+/// all outcomes are known.
 ///
 /// `count` has threads count by a plan. It is called once if the words ask for it and it isn't too much work, else never, so what
-/// threads need is made only then. While it is at work, this waits. Nothing else waits.
+/// threads need is made only then. While it is at work, this waits. Nothing else waits. The watch is told how far the search is while
+/// outcomes are looked for.
 ///
 /// Conditions: `count` may be called, and what it reports is on the plan that it was given.
-pub fn exec<F: FnOnce(&Plan) -> Result<Report, AllocError>, R: Read, W: Write, E: Write>(
+pub fn exec<F: FnOnce(&Plan) -> Result<Report, AllocError>, R: Read, W: Write, E: Write, H: Watch>(
     alloc: Global,
     count: F,
     words: io::Result<Vec<String>>,
     reader: &mut Noted<R>,
     out: &mut Noted<W>,
-    err: &mut E,
+    listeners: &mut Listeners<E, H>,
 ) -> u8
     requires callable { (plan : _) → F.pre count plan }
     requires reports { (plan : _) (r : _) → F.post count plan r → IfOk r (IsReportOf plan.now) }
@@ -399,7 +410,7 @@ pub fn exec<F: FnOnce(&Plan) -> Result<Report, AllocError>, R: Read, W: Write, E
         → FailsByStreams result reader.new.failed out.new.failed (R.remaining reader.old.inner) (out.new ≡ out.old) }
 {
     match words {
-        Ok(words) => do_words(alloc, count, &words, reader, out, err),
-        Err(error) => end_without_words(error.kind(), err),
+        Ok(words) => do_words(alloc, count, &words, reader, out, listeners),
+        Err(error) => end_without_words(error.kind(), &mut listeners.err),
     }
 }

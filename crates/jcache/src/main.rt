@@ -11,19 +11,22 @@ ghost use Rattle.std.specs.Prelude.{IfOk};
 ghost use Rattle.jcache.specs.Reports.{IsReportOf};
 
 mod exec;
+mod progress;
 mod report;
 #[cfg(test)]
 mod tests;
 mod threads;
 
+use exec::Listeners;
 use jc_cache::{CacheLoader, CacheWriter, EntryProcessor};
 use jc_commands::plan::Plan;
 use jc_script::Noted;
 use jc_store::{Increment, SharedStore, Store};
+use progress::ProgressLine;
 use report::Report;
 use std::alloc::AllocError;
 use std::env::{self, Env};
-use std::io;
+use std::io::{self, IsTerminal};
 use std::process::ExitCode;
 use threads::{Crew, OUTFITS, Outfit, count_on_threads};
 
@@ -51,13 +54,18 @@ fn main(rt: HostRuntime) -> ExitCode {
         }
         count_on_threads(&rt, alloc, Crew { store, outfits }, plan)
     };
+    let err = rt.stderr();
+    let mut listeners = Listeners {
+        err,
+        watch: ProgressLine::new(err, err.is_terminal()),
+    };
     let status = exec::exec(
         alloc,
         count,
         words(&rt),
         &mut Noted::new(rt.reader()),
         &mut Noted::new(io::writer(&rt)),
-        &mut rt.stderr(),
+        &mut listeners,
     );
     ExitCode::from(status)
 }

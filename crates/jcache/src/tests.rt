@@ -2,11 +2,13 @@
 ghost use Rattle.std.specs.Prelude.{Result, IfOk};
 ghost use Rattle.jcache.specs.Reports.{IsReportOf};
 
-use crate::exec::exec;
+use crate::exec::{Listeners, exec};
+use crate::progress::ProgressLine;
 use crate::report::Report;
 use crate::threads::{Crew, Outfit, count_on_threads};
 use jc_cache::{CacheLoader, CacheWriter, EntryProcessor, Value};
 use jc_commands::plan::Plan;
+use jc_explore::{Unwatched, Watch};
 use jc_script::Noted;
 use jc_store::{Increment, SharedStore, Store};
 use std::alloc::{AllocError, Global};
@@ -39,6 +41,14 @@ fn words(rt: &impl Abort, alloc: Global, text: &str) -> Vec<String> {
     all
 }
 
+/// Standard error, and nobody who is told how far a search is.
+fn unwatched(alloc: Global) -> Listeners<Vec<u8>, Unwatched> {
+    Listeners {
+        err: Vec::new(alloc),
+        watch: Unwatched,
+    }
+}
+
 /// Has these words done, with this script on standard input.
 fn ends<F: FnOnce(&Plan) -> Result<Report, AllocError>>(
     rt: &impl Abort,
@@ -51,18 +61,19 @@ fn ends<F: FnOnce(&Plan) -> Result<Report, AllocError>>(
     requires callable { (plan : _) → F.pre count plan }
     requires reports { (plan : _) (r : _) → F.post count plan r → IfOk r (IsReportOf plan.now) }
 {
-    let (mut out, mut err) = (Vec::new(alloc), Vec::new(alloc));
+    let mut out = Vec::new(alloc);
+    let mut listeners = unwatched(alloc);
     let status = exec(
         alloc,
         count,
         Ok(words(rt, alloc, text)),
         &mut Noted::new(script),
         &mut Noted::new(&mut out),
-        &mut err,
+        &mut listeners,
     );
     assert_eq!(rt; status, wanted.status, "{text}");
     assert_eq!(rt; out.as_slice(), wanted.out.as_bytes(), "{text}");
-    assert_eq!(rt; err.as_slice(), wanted.err.as_bytes(), "{text}");
+    assert_eq!(rt; listeners.err.as_slice(), wanted.err.as_bytes(), "{text}");
 }
 
 /// The same, of words that don't have threads count.
@@ -138,6 +149,99 @@ fn stops_after_its_states(rt: HostRuntime) {
     ends_alone(&rt, rt.alloc(), words, PROGRAM.as_bytes(), wanted);
 }
 
+/// A watch that keeps the last numbers that it was told, and how often it was told some, and that a search is over.
+#[derive(Drop)]
+struct Told {
+    numbers: (u64, u64, u64),
+    times: u64,
+    ends: u64,
+}
+
+impl Watch for Told {
+    fn on_states(&mut self, followed: u64, known: u64, found: u64) {
+        self.numbers = (followed, known, found);
+        self.times = self.times.saturating_add(1);
+    }
+
+    fn on_end(&mut self) {
+        self.ends = self.ends.saturating_add(1);
+    }
+}
+
+/// What a watch is told of these words, with this text on standard input: the last numbers, how often, and how many searches are over.
+fn is_told(
+    rt: &impl Abort,
+    alloc: Global,
+    text: &str,
+    input: &[u8],
+    wanted: ((u64, u64, u64), u64, u64),
+) {
+    let count = |plan: &Plan| -> Result<Report, AllocError>
+        ensures { IfOk result (IsReportOf plan.entry.now) }
+    { Err(AllocError) };
+    let mut out = Vec::new(alloc);
+    let mut listeners = Listeners {
+        err: Vec::new(alloc),
+        watch: Told {
+            numbers: (0, 0, 0),
+            times: 0,
+            ends: 0,
+        },
+    };
+    let _status = exec(
+        alloc,
+        count,
+        Ok(words(rt, alloc, text)),
+        &mut Noted::new(input),
+        &mut Noted::new(&mut out),
+        &mut listeners,
+    );
+    let told = &listeners.watch;
+    let found = (told.numbers, told.times, told.ends);
+    assert!(rt; found == wanted, "{text}");
+    assert_eq!(rt; listeners.err.len(), 0, "{text}");
+}
+
+#[test]
+fn tells_how_far_a_search_is(rt: HostRuntime) {
+    let alloc = rt.alloc();
+    let program = PROGRAM.as_bytes();
+    is_told(&rt, alloc, "jcache explore", program, ((1, 2, 0), 2, 1));
+    let one_state = "jcache explore --states 1";
+    is_told(&rt, alloc, one_state, program, ((0, 1, 0), 1, 1));
+    is_told(&rt, alloc, "jcache explore", b"get a\n", ((0, 0, 0), 0, 0));
+    is_told(
+        &rt,
+        alloc,
+        "jcache run",
+        b"open 1 2 100\n",
+        ((0, 0, 0), 0, 0),
+    );
+}
+
+/// What a line of progress writes of a search, in which it is told of each state from the first one on.
+fn shows(rt: &impl Abort, alloc: Global, is_terminal: bool, states: u64, wanted: &str) {
+    let mut text = Vec::new(alloc);
+    let mut line = ProgressLine::new(&mut text, is_terminal);
+    for followed in 0..states {
+        line.on_states(followed, states, 3);
+    }
+    line.on_end();
+    assert_eq!(rt; text.as_slice(), wanted.as_bytes());
+}
+
+#[test]
+fn shows_a_line_of_progress(rt: HostRuntime) {
+    let alloc = rt.alloc();
+    let erased = "\r                                                            \r";
+    let text = format!(in alloc;
+        "\r4096 of 8193 states followed, 3 outcomes\r8192 of 8193 states followed, 3 outcomes{erased}"
+    ).expect(&rt, "memory");
+    shows(&rt, alloc, true, 8193, &text);
+    shows(&rt, alloc, true, 4096, "");
+    shows(&rt, alloc, false, 8193, "");
+}
+
 #[test]
 fn tells_a_fault_of_a_program(rt: HostRuntime) {
     let wanted = Wanted {
@@ -202,7 +306,7 @@ impl io::Write for Broken {
 #[test]
 fn says_why_a_read_failed(rt: HostRuntime) {
     let alloc = rt.alloc();
-    let (mut out, mut err) = (Vec::new(alloc), Vec::new(alloc));
+    let (mut out, mut listeners) = (Vec::new(alloc), unwatched(alloc));
     let count = |plan: &Plan| -> Result<Report, AllocError>
         ensures { IfOk result (IsReportOf plan.entry.now) }
     { Err(AllocError) };
@@ -212,17 +316,17 @@ fn says_why_a_read_failed(rt: HostRuntime) {
         Ok(words(&rt, alloc, "jcache run")),
         &mut Noted::new(Broken(io::ErrorKind::IsADirectory)),
         &mut Noted::new(&mut out),
-        &mut err,
+        &mut listeners,
     );
     assert_eq!(&rt; status, 3);
     assert_eq!(&rt; out.len(), 0);
     let said = "jcache: read failed: is a directory\n";
-    assert_eq!(&rt; err.as_slice(), said.as_bytes());
+    assert_eq!(&rt; listeners.err.as_slice(), said.as_bytes());
 }
 
 /// Shows the version on a standard output that fails so.
 fn write_fails(rt: &impl Abort, alloc: Global, why: io::ErrorKind, said: &str) {
-    let mut err = Vec::new(alloc);
+    let mut listeners = unwatched(alloc);
     let count = |plan: &Plan| -> Result<Report, AllocError>
         ensures { IfOk result (IsReportOf plan.entry.now) }
     { Err(AllocError) };
@@ -232,10 +336,10 @@ fn write_fails(rt: &impl Abort, alloc: Global, why: io::ErrorKind, said: &str) {
         Ok(words(rt, alloc, "jcache --version")),
         &mut Noted::new(io::empty()),
         &mut Noted::new(Broken(why)),
-        &mut err,
+        &mut listeners,
     );
     assert_eq!(rt; status, 3, "{said}");
-    assert_eq!(rt; err.as_slice(), said.as_bytes(), "{said}");
+    assert_eq!(rt; listeners.err.as_slice(), said.as_bytes(), "{said}");
 }
 
 #[test]
@@ -251,7 +355,7 @@ fn says_nothing_to_a_closed_pipe(rt: HostRuntime) {
 
 /// The command line without its words.
 fn has_no_words(rt: &impl Abort, alloc: Global, why: io::ErrorKind, status: u8, said: &str) {
-    let (mut out, mut err) = (Vec::new(alloc), Vec::new(alloc));
+    let (mut out, mut listeners) = (Vec::new(alloc), unwatched(alloc));
     let count = |plan: &Plan| -> Result<Report, AllocError>
         ensures { IfOk result (IsReportOf plan.entry.now) }
     { Err(AllocError) };
@@ -261,11 +365,11 @@ fn has_no_words(rt: &impl Abort, alloc: Global, why: io::ErrorKind, status: u8, 
         Err(io::Error::from(why)),
         &mut Noted::new(io::empty()),
         &mut Noted::new(&mut out),
-        &mut err,
+        &mut listeners,
     );
     assert_eq!(rt; found, status, "{said}");
     assert_eq!(rt; out.len(), 0, "{said}");
-    assert_eq!(rt; err.as_slice(), said.as_bytes(), "{said}");
+    assert_eq!(rt; listeners.err.as_slice(), said.as_bytes(), "{said}");
 }
 
 #[test]

@@ -4,9 +4,9 @@ use Rattle.jc_explore.proofs.Counting.{are-counted}
 use Rattle.jc_explore.proofs.search.search_with.Goals as goal
 
 pub returns : goal.returns
-returns c =
+returns g c =
     let e = c.in_ok-is_whole.ensures in
-    let count = c.len-2.ensures ∙ c.visit_all.new.search.known.list.ok.0 in
+    let count = c.len.ensures ∙ c.visit_all.new.search.known.list.ok.0 in
     record {
       witnessed = e.witnessed;
       distinct = e.distinct;

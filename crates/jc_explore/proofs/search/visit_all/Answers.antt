@@ -11,7 +11,7 @@ use Rattle.jc_explore.proofs.Searching.{known-grown, same-at}
 use Rattle.jc_explore.proofs.search.visit_all.Goals as goal
 
 pub returns-then-place-len : goal.returns-then-place-len
-returns-then-place-len c =
+returns-then-place-len g c =
     let p = c.args.program.now in
     let i = c.loop-place.invariant in
     let known = c.loop-place.search.known.list.items in
@@ -19,14 +19,14 @@ returns-then-place-len c =
     record {
       witnessed = i.search.witnessed;
       distinct = i.search.distinct;
-      all = λ _. has-each p known found (subst (λ (n : ℕ). IsClosedUpTo p known found n) (c.if-place-len.true ∙ c.len.ensures ∙ c.loop-place.search.known.list.ok.0) i.closed) i.opening;
+      all = λ _. has-each p known found (subst (λ (n : ℕ). IsClosedUpTo p known found n) (c.if-place-len.true ∙ c.len-in-loop-place.ensures ∙ c.loop-place.search.known.list.ok.0) i.closed) i.opening;
       known = i.search.known;
-      scenes = λ _. each-known p known found (subst (λ (n : ℕ). IsClosedUpTo p known found n) (c.if-place-len.true ∙ c.len.ensures ∙ c.loop-place.search.known.list.ok.0) i.closed) i.opening;
+      scenes = λ _. each-known p known found (subst (λ (n : ℕ). IsClosedUpTo p known found n) (c.if-place-len.true ∙ c.len-in-loop-place.ensures ∙ c.loop-place.search.known.list.ok.0) i.closed) i.opening;
       tried = λ f. absurd (true≢false f);
     }
 
 pub returns-then-has_too_many : goal.returns-then-has_too_many
-returns-then-has_too_many c =
+returns-then-has_too_many g c =
     let i = c.loop-place.invariant in
     record {
       witnessed = i.search.witnessed;
@@ -38,7 +38,7 @@ returns-then-has_too_many c =
     }
 
 pub loop-place-preserved : goal.loop-place-preserved
-loop-place-preserved c =
+loop-place-preserved g c =
     let p = c.args.program.now in
     let i = c.loop-place.invariant in
     let e = c.in_ok-visit.ensures in
@@ -46,19 +46,19 @@ loop-place-preserved c =
     let was = c.loop-place.search.known.list.items in
     let now = c.visit.new.search.known.list.items in
     let apart = c.if-place-len.false in
-    let h : place < length was = omega (arith, i.within, apart, c.len.ensures, c.loop-place.search.known.list.ok.0) in
+    let h : place < length was = omega (arith, i.within, apart, c.len-in-loop-place.ensures, c.loop-place.search.known.list.ok.0) in
     record {
       search = e.search;
       opening = known-grown p was now (opening p) e.known_kept i.opening;
       closed = closed-more p was now c.loop-place.search.found.items c.visit.new.search.found.items place e.known_kept e.found_kept h i.closed
           (λ m at. subst (λ (ms : List Move). IsClosedAt p now c.visit.new.search.found.items ms)
-          (c.deref-in-loop-place-2.ensures.value ∙ c.in_ok-schedule.ensures.items ∙ c.deref-in-loop-place.ensures.value ∙ ap (λ (x : KnownState). x.schedule.items) (c.index.ensures ∙ same-at was place c.index.result.now m h at))
+          (c.deref-in-loop-place-3.ensures.value ∙ c.in_ok-schedule.ensures.items ∙ c.deref-in-loop-place.ensures.value ∙ ap (λ (x : KnownState). x.schedule.items) (c.index.ensures ∙ same-at was place c.index.result.now m h at))
           e.closed);
       within = omega (arith, h, length-append was e.known_kept.0, ap (λ (ks : List KnownState). length ks) e.known_kept.1);
     }
 
 pub returns : goal.returns
-returns c =
+returns g c =
     let p = c.args.program.now in
     let i = c.loop-place.invariant in
     let known = c.loop-place.search.known.list.items in

@@ -6,7 +6,7 @@ use Rattle.jc_explore.proofs.Closing.{IsClosedUpTo}
 use Rattle.jc_explore.proofs.search.visit_all.Given as goal
 
 abbrev pub invariant-loop-place : goal.invariant-loop-place
-invariant-loop-place l = record {
+invariant-loop-place g l = record {
   search : IsSearchOf l.program l.search.known l.search.found.items;
   opening : IsKnown l.program l.search.known.list.items (opening l.program);
   closed : IsClosedUpTo l.program l.search.known.list.items l.search.found.items l.place;

@@ -1,0 +1,56 @@
+//! How far a search is, on a terminal.
+
+use jc_explore::Watch;
+use std::io::Write;
+
+/// After how many states the line is written again: a few times in a second.
+const STATES: u64 = 4096;
+
+/// What is written over the line at last: 60 spaces. The line has at most 49 letters, since at most 1,000,000 states are followed, with
+/// at most 88 moves each.
+const BLANK: &str = "\r                                                            \r";
+
+/// A line on a terminal that says how far a search is, written over itself. It is erased when the search is over.
+#[derive(Drop)]
+pub struct ProgressLine<E> {
+    err: E,
+    is_terminal: bool,
+    is_shown: bool,
+}
+
+impl<E: Write> ProgressLine<E> {
+    /// A line that is shown only if this is a terminal, and after some thousand states.
+    pub fn new(err: E, is_terminal: bool) -> ProgressLine<E> {
+        ProgressLine {
+            err,
+            is_terminal,
+            is_shown: false,
+        }
+    }
+
+    /// Whether the line is to be written after so many states.
+    fn is_due(&self, followed: u64) -> bool {
+        self.is_terminal && followed > 0 && followed % STATES == 0
+    }
+}
+
+impl<E: Write> Watch for ProgressLine<E> {
+    fn on_states(&mut self, followed: u64, known: u64, found: u64) {
+        if !self.is_due(followed) {
+            return;
+        }
+        self.is_shown = true;
+        // No number gets smaller, so the line gets no shorter. If it can't be written, nobody misses it.
+        let err = &mut self.err;
+        let _ = write!(
+            err,
+            "\r{followed} of {known} states followed, {found} outcomes"
+        );
+    }
+
+    fn on_end(&mut self) {
+        if self.is_shown {
+            let _ = self.err.write_all(BLANK.as_bytes());
+        }
+    }
+}
