@@ -15,11 +15,11 @@ use Rattle.jc_explore.specs.declared.moves.Move.{Move}
 use Rattle.jc_explore.specs.declared.places.Places.{Places}
 use Rattle.jc_explore.specs.declared.program.Program.{Program}
 use Rattle.jc_explore.specs.declared.search.Finding.{Finding}
-use Rattle.jc_explore.specs.Explored.{AreKnown, HavePlaces, HavePrints, IsFound, LeadsLike, IsKnown, IsKnownBy}
+use Rattle.jc_explore.specs.Explored.{IsFound}
 use Rattle.jc_explore.specs.Final.{FinalValue, final_of}
 use Rattle.jc_explore.specs.Keys.{ScenesAlike, IsKeyOf, HaveOneKey, HasPlace, fingerprint_of_key, fingerprint_of_value}
 use Rattle.jc_explore.specs.Schedule.{SceneState, Moves, Plays, opening, has_session, have_sessions}
-use Rattle.jc_explore.specs.Search.{Grows, IsAmong, IsKeyAt, WasFollowed, StaysAt, kept_if}
+use Rattle.jc_explore.specs.Search.{AreKnown, Grows, HavePlaces, HavePrints, IsAmong, IsKeyAt, IsKnown, IsKnownBy, LeadsLike, StaysAt, WasFollowed, kept_if}
 use Rattle.jc_snapshot.specs.declared.seen.Seen.{Seen}
 use Rattle.jc_snapshot.specs.Laws.{SnapshotsTell}
 use Rattle.jc_explore.proofs.Keys.{tell-alike}

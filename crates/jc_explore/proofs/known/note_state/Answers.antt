@@ -4,8 +4,8 @@ use Rattle.std.proofs.lemmas.List.Elements.{All-push}
 use Rattle.std.proofs.lemmas.List.Quantifiers.{all_pairs_push}
 use Rattle.jc_explore.specs.declared.known.KnownState.{KnownState}
 use Rattle.jc_explore.specs.Schedule.{state_of}
-use Rattle.jc_explore.specs.Explored.{IsKnown, IsKnownBy}
 use Rattle.jc_explore.specs.Keys.{HaveOneKey}
+use Rattle.jc_explore.specs.Search.{IsKnown, IsKnownBy}
 use Rattle.jc_explore.proofs.Keys.{known-stay}
 use Rattle.jc_explore.proofs.Searching.{known-before, known-last, grows-refl, places-push, prints-push}
 use Rattle.jc_explore.proofs.known.note_state.Goals as goal

@@ -1,7 +1,8 @@
 use Rattle.std.proofs.Common.{[], List, sym, subst, arith}
 use Rattle.jc_explore.specs.declared.program.Program.{Program}
 use Rattle.jc_explore.specs.declared.search.Finding.{Finding}
-use Rattle.jc_explore.specs.Explored.{AreDistinct, AreWitnessed, IsKnown}
+use Rattle.jc_explore.specs.Explored.{AreDistinct, AreWitnessed}
+use Rattle.jc_explore.specs.Search.{IsKnown}
 use Rattle.jc_explore.proofs.Searching.{none-known}
 use Rattle.jc_explore.proofs.search.begin.Goals as goal
 

@@ -1,7 +1,6 @@
 use Rattle.std.proofs.Common.{◌≡◌, ◌<◌, ℕ, true, false}
-use Rattle.jc_explore.specs.Explored.{AreKnown}
 use Rattle.jc_explore.specs.Schedule.{Plays, opening, state_of}
-use Rattle.jc_explore.specs.Search.{GoesOn, Grows, StaysAt, WasFollowed}
+use Rattle.jc_explore.specs.Search.{AreKnown, GoesOn, Grows, StaysAt, WasFollowed}
 use Rattle.jc_explore.proofs.search.expand.Given as goal
 
 abbrev pub invariant-loop-step : goal.invariant-loop-step

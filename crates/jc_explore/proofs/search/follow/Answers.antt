@@ -1,6 +1,6 @@
 use Rattle.std.proofs.Common.{◌++◌, ◌∷◌, [], sym, subst, true≢false}
-use Rattle.jc_explore.specs.Explored.{IsKnown}
 use Rattle.jc_explore.specs.Schedule.{opening, state_of}
+use Rattle.jc_explore.specs.Search.{IsKnown}
 use Rattle.jc_explore.proofs.AllMoves.{sessions-push}
 use Rattle.jc_explore.proofs.Runs.{plays-determined}
 use Rattle.jc_explore.proofs.Searching.{grows-refl}

@@ -4,9 +4,10 @@ use Rattle.std.proofs.Common.{length-append}
 use Rattle.jc_explore.specs.declared.known.KnownState.{KnownState}
 use Rattle.jc_explore.specs.declared.moves.Move.{Move}
 use Rattle.jc_explore.specs.declared.search.Finding.{Finding}
-use Rattle.jc_explore.specs.Explored.{IsClosedAt}
+use Rattle.jc_explore.specs.declared.search.TheConstants.{OUTCOMES_MAX}
 use Rattle.jc_explore.specs.Schedule.{opening}
-use Rattle.jc_explore.proofs.Closing.{IsClosedUpTo, closed-more, each-known, has-each}
+use Rattle.jc_explore.specs.Search.{IsClosedAt, IsClosedUpTo}
+use Rattle.jc_explore.proofs.Closing.{closed-more, each-known, has-each}
 use Rattle.jc_explore.proofs.Searching.{known-grown, same-at}
 use Rattle.jc_explore.proofs.search.visit_all.Goals as goal
 
@@ -22,19 +23,25 @@ returns-then-place-len g c =
       all = λ _. has-each p known found (subst (λ (n : ℕ). IsClosedUpTo p known found n) (c.if-place-len.true ∙ c.len-in-loop-place.ensures ∙ c.loop-place.search.known.list.ok.0) i.closed) i.opening;
       known = i.search.known;
       scenes = λ _. each-known p known found (subst (λ (n : ℕ). IsClosedUpTo p known found n) (c.if-place-len.true ∙ c.len-in-loop-place.ensures ∙ c.loop-place.search.known.list.ok.0) i.closed) i.opening;
+      within = λ _. omega (arith, c.loop-place-test.true, c.if-place-len.true, c.len-in-loop-place.ensures, c.loop-place.search.known.list.ok.0);
       tried = λ f. absurd (true≢false f);
+      stopped = λ f. absurd (true≢false f);
     }
 
 pub returns-then-has_too_many : goal.returns-then-has_too_many
 returns-then-has_too_many g c =
     let i = c.loop-place.invariant in
+    let many : OUTCOMES_MAX < length c.loop-place.search.found.items =
+    subst (λ (xs : List Finding). OUTCOMES_MAX < length xs) c.deref.ensures.value (c.has_too_many.ensures c.if-has_too_many.true) in
     record {
       witnessed = i.search.witnessed;
       distinct = i.search.distinct;
       all = λ t. absurd (true≢false (sym t));
       known = i.search.known;
       scenes = λ t. absurd (true≢false (sym t));
-      tried = λ _. inr (subst (λ (xs : List Finding). _ < length xs) c.deref.ensures.value (c.has_too_many.ensures c.if-has_too_many.true));
+      within = λ t. absurd (true≢false (sym t));
+      tried = λ _. inr many;
+      stopped = λ _. inl many;
     }
 
 pub loop-place-preserved : goal.loop-place-preserved
@@ -73,7 +80,9 @@ returns g c =
       all = λ whole. has-each p known found (subst (λ (n : ℕ). IsClosedUpTo p known found n) (at_end whole) i.closed) i.opening;
       known = i.search.known;
       scenes = λ whole. each-known p known found (subst (λ (n : ℕ). IsClosedUpTo p known found n) (at_end whole) i.closed) i.opening;
+      within = λ whole. let same = eqb-true c.len-count.result c.args.states whole in omega (arith, same, count);
       tried = λ f.
           let apart = eqb-false c.len-count.result c.args.states f in
           inl (omega (arith, b, i.within, apart, count));
+      stopped = λ _. inr (λ k m h at. i.closed k m (omega (arith, b, h)) at);
     }

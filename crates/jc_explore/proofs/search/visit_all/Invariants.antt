@@ -1,8 +1,6 @@
 use Rattle.std.proofs.Common.{◌≤◌, length}
 use Rattle.jc_explore.specs.Schedule.{opening}
-use Rattle.jc_explore.specs.Explored.{IsKnown}
-use Rattle.jc_explore.specs.Search.{IsSearchOf}
-use Rattle.jc_explore.proofs.Closing.{IsClosedUpTo}
+use Rattle.jc_explore.specs.Search.{IsClosedUpTo, IsKnown, IsSearchOf}
 use Rattle.jc_explore.proofs.search.visit_all.Given as goal
 
 abbrev pub invariant-loop-place : goal.invariant-loop-place
