@@ -31,7 +31,7 @@ use Rattle.jc_explore.proofs.AlikeScenes.{scenes-refl, scenes-sym, scenes-trans}
 any-more : {X : Type 0} (P : X → Type 0) (xs ys : List X) → Any P xs → Any P (xs ++ ys)
 any-more P xs ys h = (h.0, h.1, omega (arith, length-append xs ys, h.2), get_or_append_left xs ys h.1 h.0 h.2 ∙ h.3, h.4)
 
-any-grown : {X : Type 0} (P : X → Type 0) (xs zs : List X) → Grows xs zs → Any P xs → Any P zs
+pub any-grown : {X : Type 0} (P : X → Type 0) (xs zs : List X) → Grows xs zs → Any P xs → Any P zs
 any-grown P xs zs grown h = subst (Any P) (sym grown.1) (any-more P xs grown.0 h)
 
 pub grows-refl : {X : Type 0} (xs : List X) → Grows xs xs

@@ -4,6 +4,8 @@
 --     IsFound          a final state is among those that were found
 --     AreWitnessed     each that was found has a schedule that is whole and ends there
 --     AreDistinct      no two are the same
+--     IsShortest       no whole schedule that ends with the final state that was found is shorter than its own
+--     AreShortest      that is so of each
 --     HasEachOutcome   the final state of each whole schedule is among them
 --     IsReached        a schedule leads to a scene
 --     AreUnlike        no two scenes are alike
@@ -53,6 +55,13 @@ AreWitnessed p found = All (λ x. IsWhole p x.witness.items (final_of x.state)) 
 
 abbrev pub AreDistinct : List Finding → Type 0
 AreDistinct found = AllPairs (λ x y. final_of x.state ≡ final_of y.state → ⊥) found
+
+abbrev pub IsShortest : Program → Finding → Type 0
+IsShortest p x =
+    (schedule : List Move) → IsWhole p schedule (final_of x.state) → length x.witness.items ≤ length schedule
+
+abbrev pub AreShortest : Program → List Finding → Type 0
+AreShortest p found = All (λ x. IsShortest p x) found
 
 abbrev pub HasEachOutcome : Program → List Finding → Type 0
 HasEachOutcome p found = (schedule : List Move) (f : FinalValue) → IsWhole p schedule f → IsFound f found

@@ -1,5 +1,8 @@
 -- What the functions of a search do. No contract of a public call cites this.
 --     Grows          a list goes on behind another
+--     Adds           what is in a list behind an older one has a property
+--     AreAsLong      the schedules of the known states that were added have this length
+--     AreNew         the final states that were added weren't found before, and have this schedule
 --     LeadsLike      a schedule leads to a scene that is alike
 --     IsKnown        one of the known states is such a schedule's
 --     HasEachKnown   each scene that a schedule leads to is known
@@ -23,10 +26,10 @@
 --     NotesEnd       the final states of a scene are found, and what was found stays
 --     IsSearchOf     what is known and what was found are as they are to be
 --     Visits         a schedule's state was followed: it is closed
---     Searches       a search knows the opening, and is as it is to be
+--     Searches       a search knows the opening alone, has found nothing, and is as it is to be
 --     Ends           a search has ended: what it has found, and that it has found each outcome if it is whole
 --     HasExplored    the same of what an exploration has found
-use Rattle.std.specs.Prelude.{◌≡◌, ℕ, ◌<◌, ◌≤◌, ◌⊎◌, List, [], ◌∷◌, ◌++◌, Bool, true, false, length, map, Some, slice_get}
+use Rattle.std.specs.Prelude.{◌≡◌, ℕ, ◌+◌, ◌<◌, ◌≤◌, ◌⊎◌, List, [], ◌∷◌, ◌++◌, Bool, true, false, length, map, Some, slice_get}
 use Rattle.std.specs.List.{All, Any, AllPairs}
 use Rattle.jc_snapshot.specs.declared.seen.Seen.{Seen}
 use Rattle.jc_explore.specs.declared.key.StateKey.{StateKey}
@@ -38,13 +41,16 @@ use Rattle.jc_explore.specs.declared.search.Explored.{Explored}
 use Rattle.jc_explore.specs.declared.search.Finding.{Finding}
 use Rattle.jc_explore.specs.declared.search.Search.{Search}
 use Rattle.jc_explore.specs.declared.search.TheConstants.{OUTCOMES_MAX}
-use Rattle.jc_explore.specs.Explored.{AreDistinct, AreWitnessed, HasEachOutcome, IsCounted, IsEnd, IsFound, IsReached, IsTried}
-use Rattle.jc_explore.specs.Final.{FinalValue, IsFinal}
+use Rattle.jc_explore.specs.Explored.{AreDistinct, AreShortest, AreWitnessed, HasEachOutcome, IsCounted, IsEnd, IsFound, IsReached, IsTried}
+use Rattle.jc_explore.specs.Final.{FinalValue, IsFinal, final_of}
 use Rattle.jc_explore.specs.Keys.{HasPlace, HaveOneKey, IsKeyOf, ScenesAlike, fingerprint_of_key}
 use Rattle.jc_explore.specs.Schedule.{SceneState, Moves, Plays, have_sessions, opening}
 
 abbrev pub Grows : {A : Type 0} → List A → List A → Type 0
 Grows {A} old new = (more : List A) × (new ≡ old ++ more)
+
+abbrev pub Adds : {A : Type 0} → (A → Type 0) → List A → List A → Type 0
+Adds {A} P old new = (k : ℕ) (x : A) → length old ≤ k → slice_get new k ≡ Some x → P x
 
 -- 1. States that are known.
 
@@ -83,19 +89,24 @@ abbrev pub IsClosedUpTo : Program → List KnownState → List Finding → ℕ �
 IsClosedUpTo p known found count =
     (k : ℕ) (m : KnownState) → k < count → slice_get known k ≡ Some m → IsClosedAt p known found m.schedule.items
 
+abbrev pub AreAsLong : ℕ → List KnownState → List KnownState → Type 0
+AreAsLong moves old new = Adds (λ k. length k.schedule.items ≡ moves) old new
+
 -- 2. States.
 
 abbrev pub IsKeyAt : List KnownState → ℕ → StateKey → Type 0
 IsKeyAt known place key = (k : KnownState) × (slice_get known place ≡ Some k) × HaveOneKey k.key key
 
-pub record Notes (p : Program) (old new : States) (s : SceneState) : Type 0 where
+pub record Notes (p : Program) (schedule : List Move) (old new : States) (s : SceneState) : Type 0 where
   pub known : AreKnown p new
   pub kept : Grows old.list.items new.list.items
+  pub added : AreAsLong (length schedule) old.list.items new.list.items
   pub there : IsKnown p new.list.items s
 
 pub record Follows (p : Program) (schedule : List Move) (m : Move) (old new : States) (moved : Bool) : Type 0 where
   pub known : AreKnown p new
   pub kept : Grows old.list.items new.list.items
+  pub added : AreAsLong (length schedule + 1) old.list.items new.list.items
   pub all : (s : SceneState) → Plays p (opening p) (schedule ++ m ∷ []) s → IsKnown p new.list.items s
   pub goes : moved ≡ true → (s : SceneState) × Plays p (opening p) (schedule ++ m ∷ []) s
   pub stays : moved ≡ false → (s : SceneState) → Plays p (opening p) (schedule ++ m ∷ []) s → ⊥
@@ -128,16 +139,22 @@ pub record GoesOn (p : Program) (moves schedule : List Move) : Type 0 where
 pub record Expands (p : Program) (moves schedule : List Move) (old new : States) (any : Bool) : Type 0 where
   pub known : AreKnown p new
   pub kept : Grows old.list.items new.list.items
+  pub added : AreAsLong (length schedule + 1) old.list.items new.list.items
   pub followed : (k : ℕ) → k < length moves → WasFollowed p moves schedule new.list.items k
   pub on : any ≡ true → GoesOn p moves schedule
   pub none : any ≡ false → (k : ℕ) → k < length moves → StaysAt p moves schedule k
 
 -- 3. Final states.
 
-pub record NotesEnd (p : Program) (old new : List Finding) (s : SceneState) : Type 0 where
+abbrev pub AreNew : List Move → List Finding → List Finding → Type 0
+AreNew schedule old new =
+    Adds (λ x. (x.witness.items ≡ schedule) × (IsFound (final_of x.state) old → ⊥)) old new
+
+pub record NotesEnd (p : Program) (schedule : List Move) (old new : List Finding) (s : SceneState) : Type 0 where
   pub witnessed : AreWitnessed p new
   pub distinct : AreDistinct new
   pub kept : Grows old new
+  pub fresh : AreNew schedule old new
   pub there : (f : FinalValue) → IsFinal s f → IsFound f new
 
 -- 4. Searches.
@@ -151,15 +168,20 @@ pub record Visits (p : Program) (schedule : List Move) (old new : Search) : Type
   pub search : IsSearchOf p new.known new.found.items
   pub known_kept : Grows old.known.list.items new.known.list.items
   pub found_kept : Grows old.found.items new.found.items
+  pub added : AreAsLong (length schedule + 1) old.known.list.items new.known.list.items
+  pub fresh : AreNew schedule old.found.items new.found.items
   pub closed : IsClosedAt p new.known.list.items new.found.items schedule
 
 pub record Searches (p : Program) (s : Search) : Type 0 where
   pub search : IsSearchOf p s.known s.found.items
   pub opening : IsKnown p s.known.list.items (opening p)
+  pub first : AreAsLong 0 [] s.known.list.items
+  pub none : s.found.items ≡ []
 
 pub record Ends (p : Program) (budget : ℕ) (s : Search) (whole : Bool) : Type 0 where
   pub witnessed : AreWitnessed p s.found.items
   pub distinct : AreDistinct s.found.items
+  pub shortest : AreShortest p s.found.items
   pub all : whole ≡ true → HasEachOutcome p s.found.items
   pub known : AreKnown p s.known
   pub scenes : whole ≡ true → HasEachKnown p s.known.list.items
@@ -170,6 +192,7 @@ pub record Ends (p : Program) (budget : ℕ) (s : Search) (whole : Bool) : Type 
 pub record HasExplored (p : Program) (budget : ℕ) (r : Explored) : Type 0 where
   pub witnessed : AreWitnessed p r.found.items
   pub distinct : AreDistinct r.found.items
+  pub shortest : AreShortest p r.found.items
   pub all : r.is_whole ≡ true → HasEachOutcome p r.found.items
   pub within : r.is_whole ≡ true → r.states ≤ budget
   pub tried : r.is_whole ≡ false → IsTried budget r

@@ -132,7 +132,8 @@ pub(crate) fn note_state(
     requires plays { Plays program.now (opening program.now) schedule.items (state_of scene.now) }
     requires sessions { have_sessions schedule.items ≡ true }
     requires known { AreKnown program.now known.old }
-    ensures { OnOk result (Notes program.now known.old known.new (state_of scene.now)) }
+    ensures { OnOk result (
+        Notes program.now schedule.items known.old known.new (state_of scene.now)) }
 {
     snapshots_tell();
     snapshots_stay();
@@ -161,7 +162,8 @@ pub(crate) fn note_next(
     requires plays { Plays program.now (opening program.now) (schedule.now ++ step ∷ []) (state_of scene.now) }
     requires sessions { have_sessions (schedule.now ++ step ∷ []) ≡ true }
     requires known { AreKnown program.now known.old }
-    ensures { OnOk result (Notes program.now known.old known.new (state_of scene.now)) }
+    ensures { OnOk result (
+        Notes program.now (schedule.now ++ step ∷ []) known.old known.new (state_of scene.now)) }
 {
     let mut longer = Vec::from_slice(alloc, schedule)?;
     longer.push(step)?;

@@ -3,7 +3,7 @@ ghost use Rattle.jc_explore.specs.declared.search.TheConstants.{OUTCOMES_MAX};
 ghost use Rattle.std.specs.Prelude.{◌≡◌, ◌||◌, ◌≤◌, ◌<◌, ◌++◌, ◌∷◌, [], List, Ok, length, true, false, IfOk, OnOk};
 ghost use Rattle.std.specs.List.{All};
 ghost use Rattle.jc_types.specs.Limits.{check};
-ghost use Rattle.jc_explore.specs.Explored.{AreDistinct, AreWitnessed, HasEachOutcome, IsCounted, IsEnd, IsFound, IsRefusedAs, IsTried, IsAccepted};
+ghost use Rattle.jc_explore.specs.Explored.{AreDistinct, AreShortest, AreWitnessed, HasEachOutcome, IsCounted, IsEnd, IsFound, IsRefusedAs, IsTried, IsAccepted};
 ghost use Rattle.jc_explore.specs.Final.{FinalValue, IsFinal, final_of};
 ghost use Rattle.jc_explore.specs.Moves.{moves_up_to};
 ghost use Rattle.jc_explore.specs.Schedule.{SceneState, Moves, Plays, has_session, have_sessions, opening, state_of};
@@ -25,7 +25,7 @@ use std::alloc::{AllocError, Global};
 /// whole all the same.
 pub const OUTCOMES_MAX: usize = 4096;
 
-/// A final state, and a schedule that leads to it. The search finds a shortest one; no contract says so.
+/// A final state, and a schedule that leads to it: none with fewer moves ends with this final state.
 #[derive(Drop)]
 pub struct Finding {
     /// The final state.
@@ -267,7 +267,7 @@ fn note_end(
     requires witnessed { AreWitnessed program.now found.old.items }
     requires distinct { AreDistinct found.old.items }
     ensures { OnOk result (
-        NotesEnd program.now found.old.items found.new.items (state_of scene.now)) }
+        NotesEnd program.now schedule.now found.old.items found.new.items (state_of scene.now)) }
 {
     let _threads = program.threads.len();
     let state = FinalState::of(alloc, scene)?;
@@ -359,7 +359,8 @@ fn begin(alloc: Global, program: &Program, scene: &Scene) -> Result<Search, Allo
     ensures { IfOk result (λ search. Searches program.now search) }
 {
     let mut known = States::new(alloc);
-    note_state(alloc, program, scene, Vec::new(alloc), &mut known)?;
+    let schedule = Vec::new(alloc);
+    note_state(alloc, program, scene, schedule, &mut known)?;
     let found = Vec::new(alloc);
     Ok(Search { known, found })
 }
@@ -423,6 +424,7 @@ pub fn explore<W: Watch>(
 ) -> Result<Explored, ExploreFault>
     ensures witnessed { IfOk result (λ r. AreWitnessed program.now r.found.items) }
     ensures distinct { IfOk result (λ r. AreDistinct r.found.items) }
+    ensures shortest { IfOk result (λ r. AreShortest program.now r.found.items) }
     ensures all { IfOk result (λ r. r.is_whole ≡ true → HasEachOutcome program.now r.found.items) }
     ensures budget { IfOk result (λ r. r.is_whole ≡ true → r.states ≤ states) }
     ensures tried { IfOk result (λ r. r.is_whole ≡ false → IsTried states r) }

@@ -10,6 +10,7 @@ returns g c =
     record {
       witnessed = e.witnessed;
       distinct = e.distinct;
+      shortest = e.shortest;
       all = e.all;
       within = λ whole. subst (λ (n : ℕ). n ≤ c.args.states) (sym count) (e.within whole);
       tried = λ not_whole. subst (λ (n : ℕ). (c.args.states < n) ⊎ (OUTCOMES_MAX < length c.visit_all.new.search.found.items)) (sym count) (e.tried not_whole);
