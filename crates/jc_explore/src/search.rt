@@ -409,9 +409,10 @@ fn search_anew<W: Watch>(
 ///
 /// It follows at most so many states, those of short schedules first, and no further one once it has found more than [`OUTCOMES_MAX`]
 /// final states. If states are left then, it isn't whole: each final state that it has found is real even so, and if it stopped for its
-/// budget alone, the final state of each end that it followed is among them. It keeps some 2,500 bytes a state.
+/// budget alone, those of the states that it followed, and after which nothing can happen, are all among them. It keeps some 2,500
+/// bytes a state.
 ///
-/// `OutOfMemory` says that an allocation failed. What it had found is gone then, and all memory is given back. A program with too many
+/// `OutOfMemory` says that an allocation failed. What it had found is gone then, and a later call begins anew. A program with too many
 /// threads, or a shape that `Config::check` refuses, is refused before anything is searched. The call doesn't wait.
 ///
 /// `watch` is told how far the search is before each state that is followed, and that it is over once, also if an allocation has
