@@ -21,7 +21,7 @@ eq_or_less (suc t) (suc n) h = elim (eq_or_less t n (omega arith)) [ inl less �
 
 -- 1. Elements of lists.
 
-get-front : {X : Type 0} (xs ys : List X) (k : ℕ) (x : X) → slice_get xs k ≡ Some x → slice_get (xs ++ ys) k ≡ Some x
+pub get-front : {X : Type 0} (xs ys : List X) (k : ℕ) (x : X) → slice_get xs k ≡ Some x → slice_get (xs ++ ys) k ≡ Some x
 get-front [] ys k x is = absurd (true≢false (ap is_some (sym is)))
 get-front (y ∷ xs) ys zero x is = is
 get-front (y ∷ xs) ys (suc k) x is = get-front xs ys k x is
@@ -71,7 +71,7 @@ is-among (suc n) m h = go (eq_or_less m.thread n (omega (arith, h))) (is-among n
         let at = here m.act n in
         get-behind (moves_up_to n) (moves_of_thread n) at.0 m (at.1 ∙ ap (λ (t : ℕ). Some (record { thread = t; act = m.act })) (sym same))
 
-lt_or_le : (a b : ℕ) → (a < b) ⊎ (b ≤ a)
+pub lt_or_le : (a b : ℕ) → (a < b) ⊎ (b ≤ a)
 lt_or_le zero zero = inr (omega arith)
 lt_or_le zero (suc b) = inl (omega arith)
 lt_or_le (suc a) zero = inr (omega arith)

@@ -8,12 +8,12 @@ use Rattle.jc_explore.specs.declared.known.KnownState.{KnownState}
 use Rattle.jc_explore.specs.declared.moves.Move.{Move}
 use Rattle.jc_explore.specs.declared.program.Program.{Program}
 use Rattle.jc_explore.specs.declared.search.Finding.{Finding}
-use Rattle.jc_explore.specs.Explored.{IsEnd, IsFound, HasEachKnown, HasEachOutcome, LeadsLike, IsKnown, IsClosedAt}
+use Rattle.jc_explore.specs.Explored.{IsEnd, IsFound, HasEachOutcome}
 use Rattle.jc_explore.specs.Final.{FinalValue, IsFinal}
 use Rattle.jc_explore.specs.Keys.{ScenesAlike}
 use Rattle.jc_explore.specs.Moves.{moves_up_to}
 use Rattle.jc_explore.specs.Schedule.{SceneState, Moves, Plays, opening}
-use Rattle.jc_explore.specs.Search.{Grows, KeepsMoves, WasFollowed, StaysAt, GoesOn}
+use Rattle.jc_explore.specs.Search.{GoesOn, Grows, HasEachKnown, IsClosedAt, IsClosedUpTo, IsKnown, KeepsMoves, LeadsLike, StaysAt, WasFollowed}
 use Rattle.jc_explore.proofs.AlikeScenes.{scenes-sym, moves-alike}
 use Rattle.jc_explore.proofs.AllMoves.{eq_or_less, moves-among}
 use Rattle.jc_explore.proofs.Finals.{final-alike}
@@ -80,10 +80,6 @@ closed-grown p was known before found schedule a b h =
       goes = λ s leads m new moves. known-grown p was known new a (h.goes s leads m new moves);
       ends = λ s f leads end final. found-grown before found f b (h.ends s f leads end final);
     }
-
--- each state that is known up to here has been followed
-abbrev pub IsClosedUpTo : Program → List KnownState → List Finding → ℕ → Type 0
-IsClosedUpTo p known found k = (i : ℕ) (m : KnownState) → i < k → slice_get known i ≡ Some m → IsClosedAt p known found m.schedule.items
 
 pub closed-more : (p : Program) (was now : List KnownState) (before found : List Finding) (k : ℕ) → Grows was now → Grows before found → k < length was
     → IsClosedUpTo p was before k → ((m : KnownState) → slice_get was k ≡ Some m → IsClosedAt p now found m.schedule.items)

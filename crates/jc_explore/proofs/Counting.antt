@@ -1,5 +1,6 @@
 -- The states that are known are as many scenes, no two of them alike.
-use Rattle.std.proofs.Common.{◌≡◌, ℕ, zero, suc, ◌<◌, List, [], ◌∷◌, length, Some, slice_get, get_or, sym, refl, ap, ◌∙◌, subst, arith, true}
+use Rattle.std.proofs.Common.{◌≡◌, ℕ, zero, suc, ◌<◌, ◌⊎◌, List, [], ◌∷◌, length, Some, slice_get, get_or, sym, refl, ap, ◌∙◌, subst, arith, true, false, inl, inr}
+use Rattle.std.proofs.lemmas.Option.{slice_get_within}
 use Rattle.std.specs.List.{All, AllPairs}
 use Rattle.jc_world.specs.Determinism.{RunsAreDetermined}
 use Rattle.jc_world.specs.Essence.{WorldEssence, essence_of_world}
@@ -11,9 +12,13 @@ use Rattle.jc_explore.specs.declared.known.KnownState.{KnownState}
 use Rattle.jc_explore.specs.declared.known.States.{States}
 use Rattle.jc_explore.specs.declared.program.Program.{Program}
 use Rattle.jc_explore.specs.declared.search.Explored.{Explored}
-use Rattle.jc_explore.specs.Explored.{AreKnown, AreUnlike, HasEachKnown, HasEachScene, IsCounted, IsKnownBy, IsMet}
+use Rattle.jc_explore.specs.declared.search.Finding.{Finding}
+use Rattle.jc_explore.specs.declared.search.TheConstants.{OUTCOMES_MAX}
+use Rattle.jc_explore.specs.Explored.{AreFollowed, AreUnlike, HasEachScene, IsAmongScenes, IsCounted, IsReached}
 use Rattle.jc_explore.specs.Keys.{ScenesAlike, IsKeyOf, HaveOneKey}
 use Rattle.jc_explore.specs.Schedule.{SceneState, Plays, opening}
+use Rattle.jc_explore.specs.Search.{AreKnown, HasEachKnown, IsClosedUpTo, IsKnown, IsKnownBy, LeadsLike}
+use Rattle.jc_explore.proofs.AlikeScenes.{scenes-refl}
 use Rattle.jc_explore.proofs.Runs.{plays-determined}
 use Rattle.jc_explore.proofs.Searching.{same-at, there-at}
 
@@ -74,14 +79,15 @@ scenes-unlike p states scenes only known are i j e below inside like =
     apart-at known_list i j a.0 b.0 below within a.1 b.1 known.apart
     (one-key states.seen only a.0.key b.0.key (get_or scenes i e) (get_or scenes j e) a.2.key b.2.key like)
 
-scenes-met : (p : Program) (seen : Seen) (known : List KnownState) (scenes : List SceneState) → AreScenesOf p seen known scenes → All (λ (s : SceneState). IsMet p s) scenes
-scenes-met p seen known scenes are i e h =
+scenes-reached : (p : Program) (seen : Seen) (known : List KnownState) (scenes : List SceneState) → AreScenesOf p seen known scenes → All (λ (s : SceneState). IsReached p s) scenes
+scenes-reached p seen known scenes are i e h =
     let a = are.at i e (omega (arith, h, are.as_many)) in
     (a.0.schedule.items, a.2.plays)
 
-scenes-each : RunsAreDetermined → (p : Program) (seen : Seen) (known : List KnownState) (scenes : List SceneState) → AreScenesOf p seen known scenes → HasEachKnown p known → HasEachScene p scenes
-scenes-each det p seen known scenes are each s met =
-    let h = each s met in
+-- what is known is like one of the scenes
+known-among : RunsAreDetermined → (p : Program) (seen : Seen) (known : List KnownState) (scenes : List SceneState) → AreScenesOf p seen known scenes
+    → (s : SceneState) → IsKnown p known s → IsAmongScenes scenes s
+known-among det p seen known scenes are s h =
     let a = are.at h.0 s h.2 in
     let inside : h.0 < length scenes = omega (arith, h.2, are.as_many) in
     let here : SceneState = get_or scenes h.0 s in
@@ -90,14 +96,36 @@ scenes-each det p seen known scenes are each s met =
     let same : h.4.0 ≡ here = plays-determined det p (opening p) h.4.0 here h.1.schedule.items h.4.1 plays in
     (h.0, here, inside, same-at scenes h.0 here here inside (there-at scenes h.0 s inside), subst (λ (t : SceneState). ScenesAlike s t) same h.4.2)
 
-pub are-counted : RunsAreDetermined → (p : Program) (states : States) (r : Explored) → HasOneSnapshot states.seen → AreKnown p states → r.states ≡ length states.list.items
-    → (r.is_whole ≡ true → HasEachKnown p states.list.items) → IsCounted p r
-are-counted det p states r only known count each =
+scenes-each : RunsAreDetermined → (p : Program) (seen : Seen) (known : List KnownState) (scenes : List SceneState) → AreScenesOf p seen known scenes → HasEachKnown p known → HasEachScene p scenes
+scenes-each det p seen known scenes are each s reached = known-among det p seen known scenes are s (each s reached)
+
+scenes-followed : RunsAreDetermined → (p : Program) (seen : Seen) (known : List KnownState) (scenes : List SceneState) (found : List Finding) (count : ℕ) → AreScenesOf p seen known scenes
+    → IsClosedUpTo p known found count → AreFollowed p count scenes found
+scenes-followed det p seen known scenes found count are closed k s below at =
+    let inside : k < length scenes = slice_get_within scenes k s at in
+    let a = are.at k s (omega (arith, inside, are.as_many)) in
+    let plays : Plays p (opening p) a.0.schedule.items s = subst (λ (t : SceneState). Plays p (opening p) a.0.schedule.items t) (same-at scenes k s s inside at) a.2.plays in
+    let leads : LeadsLike p a.0.schedule.items s = (s, plays, scenes-refl s) in
+    let here = closed k a.0 below a.1 in
+    record {
+      goes = λ m new moves. known-among det p seen known scenes are new (here.goes s leads m new moves);
+      ends = λ f end final. here.ends s f leads end final;
+    }
+
+pub are-counted : RunsAreDetermined → (p : Program) (budget : ℕ) (states : States) (r : Explored) → HasOneSnapshot states.seen → AreKnown p states → r.states ≡ length states.list.items
+    → (r.is_whole ≡ true → HasEachKnown p states.list.items)
+    → (r.is_whole ≡ false → (OUTCOMES_MAX < length r.found.items) ⊎ IsClosedUpTo p states.list.items r.found.items budget)
+    → IsCounted p budget r
+are-counted det p budget states r only known count each closed =
     let made = scenes-of p states.seen states.list.items known.each in
     record {
       scenes = made.0;
       count_is = count ∙ sym made.1.as_many;
-      met = scenes-met p states.seen states.list.items made.0 made.1;
+      reached = scenes-reached p states.seen states.list.items made.0 made.1;
       unlike = scenes-unlike p states made.0 only known made.1;
       each = λ whole. scenes-each det p states.seen states.list.items made.0 made.1 (each whole);
+      stopped = λ stops. elim (closed stops) [
+        | inl many ↦ inl many
+        | inr up_to ↦ inr (scenes-followed det p states.seen states.list.items made.0 r.found.items budget made.1 up_to)
+      ];
     }

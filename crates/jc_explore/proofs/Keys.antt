@@ -8,9 +8,9 @@ use Rattle.jc_snapshot.specs.Snapshot.{IsSnapshot, GrowsTo}
 use Rattle.jc_explore.specs.declared.key.StateKey.{StateKey}
 use Rattle.jc_explore.specs.declared.known.KnownState.{KnownState}
 use Rattle.jc_explore.specs.declared.program.Program.{Program}
-use Rattle.jc_explore.specs.Explored.{IsKnownBy}
 use Rattle.jc_explore.specs.Keys.{ScenesAlike, IsKeyOf, HaveOneKey, KeyValue}
 use Rattle.jc_explore.specs.Schedule.{SceneState}
+use Rattle.jc_explore.specs.Search.{IsKnownBy}
 
 pub tell-alike : SnapshotsTell → (seen : Seen) (a b : StateKey) (s t : SceneState) → HaveOneKey a b → IsKeyOf seen a s → IsKeyOf seen b t → ScenesAlike s t
 tell-alike tell seen a b s t one x y =

@@ -8,3 +8,4 @@ mod Finals
 mod Searching
 mod Closing
 mod Counting
+mod Shortest

@@ -9,7 +9,7 @@ use Rattle.jc_world.specs.World.{WorldState}
 use Rattle.jc_explore.specs.declared.moves.Move.{Move}
 use Rattle.jc_explore.specs.declared.program.Program.{Program}
 use Rattle.jc_explore.specs.declared.scene.Position.{Position}
-use Rattle.jc_explore.specs.Schedule.{SceneState, may_begin, events_at, events_of, is_proper, position_after, positions_at, positions_after, replies_after, Moves}
+use Rattle.jc_explore.specs.Schedule.{SceneState, has_number_for, events_at, events_of, is_proper, position_after, positions_at, positions_after, replies_after, Moves}
 use Rattle.std.proofs.Common.{inl, inr, ◌&&◌, nat_lt, length}
 
 -- what was shown of its events decides whether it is one
@@ -44,12 +44,12 @@ pub nothing-moves : (p : Program) (old : SceneState) (m : Move) → events_of p 
 nothing-moves p old m is new moves =
     true≢false (sym moves.proper ∙ nothing-runs old.world new.world moves.seen (subst (λ (es : List WorldEvent). Run old.world es moves.seen new.world) is moves.runs))
 
-no-number : (p : Program) (w : WorldState) (m : Move) (position : Position) → may_begin w.last position m.act ≡ false → events_at p w m (Some position) ≡ []
+no-number : (p : Program) (w : WorldState) (m : Move) (position : Position) → has_number_for w.last position m.act ≡ false → events_at p w m (Some position) ≡ []
 no-number p w m position none = rw none refl
 
 -- nor is there one if there is no number for it
 pub no-number-moves : (p : Program) (old : SceneState) (m : Move) (position : Position) → slice_get old.positions m.thread ≡ Some position
-    → may_begin old.world.last position m.act ≡ false → (new : SceneState) → Moves p old m new → ⊥
+    → has_number_for old.world.last position m.act ≡ false → (new : SceneState) → Moves p old m new → ⊥
 no-number-moves p old m position at none =
     nothing-moves p old m (ap (λ (o : Option Position). events_at p old.world m o) at ∙ no-number p old.world m position none)
 

@@ -15,11 +15,11 @@ use Rattle.jc_explore.specs.declared.moves.Move.{Move}
 use Rattle.jc_explore.specs.declared.places.Places.{Places}
 use Rattle.jc_explore.specs.declared.program.Program.{Program}
 use Rattle.jc_explore.specs.declared.search.Finding.{Finding}
-use Rattle.jc_explore.specs.Explored.{AreKnown, HavePlaces, HavePrints, IsFound, LeadsLike, IsKnown, IsKnownBy}
+use Rattle.jc_explore.specs.Explored.{IsFound}
 use Rattle.jc_explore.specs.Final.{FinalValue, final_of}
 use Rattle.jc_explore.specs.Keys.{ScenesAlike, IsKeyOf, HaveOneKey, HasPlace, fingerprint_of_key, fingerprint_of_value}
 use Rattle.jc_explore.specs.Schedule.{SceneState, Moves, Plays, opening, has_session, have_sessions}
-use Rattle.jc_explore.specs.Search.{Grows, IsAmong, IsKeyAt, WasFollowed, StaysAt, kept_if}
+use Rattle.jc_explore.specs.Search.{AreKnown, Grows, HavePlaces, HavePrints, IsAmong, IsKeyAt, IsKnown, IsKnownBy, LeadsLike, StaysAt, WasFollowed, kept_if}
 use Rattle.jc_snapshot.specs.declared.seen.Seen.{Seen}
 use Rattle.jc_snapshot.specs.Laws.{SnapshotsTell}
 use Rattle.jc_explore.proofs.Keys.{tell-alike}
@@ -31,7 +31,7 @@ use Rattle.jc_explore.proofs.AlikeScenes.{scenes-refl, scenes-sym, scenes-trans}
 any-more : {X : Type 0} (P : X → Type 0) (xs ys : List X) → Any P xs → Any P (xs ++ ys)
 any-more P xs ys h = (h.0, h.1, omega (arith, length-append xs ys, h.2), get_or_append_left xs ys h.1 h.0 h.2 ∙ h.3, h.4)
 
-any-grown : {X : Type 0} (P : X → Type 0) (xs zs : List X) → Grows xs zs → Any P xs → Any P zs
+pub any-grown : {X : Type 0} (P : X → Type 0) (xs zs : List X) → Grows xs zs → Any P xs → Any P zs
 any-grown P xs zs grown h = subst (Any P) (sym grown.1) (any-more P xs grown.0 h)
 
 pub grows-refl : {X : Type 0} (xs : List X) → Grows xs xs

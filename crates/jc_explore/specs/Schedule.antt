@@ -3,7 +3,7 @@
 --     state_of         the state of a scene
 --     next_number      the number of the next call: they rise from 1
 --     has_number_left  both the next call's number and a count of items are below the largest number that a script names
---     may_begin        an act begins no item, or there is a number for one
+--     has_number_for   an act begins no item, or there is a number for one
 --     call_of          the call that a session has under way
 --     if_idle          events, if no call is under way
 --     item_at          what a thread does at a place of its list
@@ -150,13 +150,13 @@ abbrev pub has_number_left : Option ℕ → Position → Bool
 has_number_left last position =
     nat_lt (next_number last) NUMBER_MAX && nat_lt position.begun NUMBER_MAX
 
-abbrev pub may_begin : Option ℕ → Position → Act → Bool
-may_begin last position a = not (is_begin a) || has_number_left last position
+abbrev pub has_number_for : Option ℕ → Position → Act → Bool
+has_number_for last position a = not (is_begin a) || has_number_left last position
 
 abbrev pub events_at : Program → WorldState → Move → Option Position → List WorldEvent
 events_at p w m None = []
 events_at p w m (Some position) =
-    if may_begin w.last position m.act
+    if has_number_for w.last position m.act
     then (if is_begin m.act
     then if_idle (call_of w (m.thread + 1)) (begin_events (next_number w.last) (m.thread + 1) (item_at p m.thread position.begun))
     else under_way p.faults (call_of w (m.thread + 1)) (item_at p m.thread (position.begun - 1)) m.act)

@@ -1,5 +1,18 @@
 -- What the functions of a search do. No contract of a public call cites this.
 --     Grows          a list goes on behind another
+--     Adds           what is in a list behind an older one has a property
+--     AreAsLong      the schedules of the known states that were added have this length
+--     AreNew         the final states that were added weren't found before, and have this schedule
+--     LeadsLike      a schedule leads to a scene that is alike
+--     IsKnown        one of the known states is such a schedule's
+--     HasEachKnown   each scene that a schedule leads to is known
+--     IsKnownBy      a known state's schedule leads to a scene of which its key is the key
+--     HavePrints     the fingerprints are those of the known states' keys
+--     HavePlaces     each fingerprint has a place to look at
+--     AreKnown       so do all of them, no two have one key, and their fingerprints are noted, each with a place
+--     IsClosedAt     wherever a move leads from a scene like that of this schedule, one of the known schedules leads, and the final
+--                    state of such a scene is found if it is an end
+--     IsClosedUpTo   so many of the known states, the first ones, are closed
 --     IsKeyAt        the state at a place has this key
 --     Notes          a scene is known, and what was known stays
 --     Follows        one move after a schedule was followed: it is one or not, and to where it leads is known
@@ -13,10 +26,12 @@
 --     NotesEnd       the final states of a scene are found, and what was found stays
 --     IsSearchOf     what is known and what was found are as they are to be
 --     Visits         a schedule's state was followed: it is closed
---     Searches       a search knows the opening, and is as it is to be
+--     Searches       a search knows the opening alone, has found nothing, and is as it is to be
 --     Ends           a search has ended: what it has found, and that it has found each outcome if it is whole
 --     HasExplored    the same of what an exploration has found
-use Rattle.std.specs.Prelude.{◌≡◌, ℕ, ◌<◌, ◌⊎◌, List, [], ◌∷◌, ◌++◌, Bool, true, false, length, Some, slice_get}
+use Rattle.std.specs.Prelude.{◌≡◌, ℕ, ◌+◌, ◌<◌, ◌≤◌, ◌⊎◌, List, [], ◌∷◌, ◌++◌, Bool, true, false, length, map, Some, slice_get}
+use Rattle.std.specs.List.{All, Any, AllPairs}
+use Rattle.jc_snapshot.specs.declared.seen.Seen.{Seen}
 use Rattle.jc_explore.specs.declared.key.StateKey.{StateKey}
 use Rattle.jc_explore.specs.declared.known.KnownState.{KnownState}
 use Rattle.jc_explore.specs.declared.known.States.{States}
@@ -26,27 +41,72 @@ use Rattle.jc_explore.specs.declared.search.Explored.{Explored}
 use Rattle.jc_explore.specs.declared.search.Finding.{Finding}
 use Rattle.jc_explore.specs.declared.search.Search.{Search}
 use Rattle.jc_explore.specs.declared.search.TheConstants.{OUTCOMES_MAX}
-use Rattle.jc_explore.specs.Explored.{AreDistinct, AreKnown, AreWitnessed, HasEachKnown, HasEachOutcome, IsClosedAt, IsCounted, IsFound, IsKnown, IsTried}
-use Rattle.jc_explore.specs.Final.{FinalValue, IsFinal}
-use Rattle.jc_explore.specs.Keys.{HaveOneKey}
+use Rattle.jc_explore.specs.Explored.{AreDistinct, AreShortest, AreWitnessed, HasEachOutcome, IsCounted, IsEnd, IsFound, IsReached, IsTried}
+use Rattle.jc_explore.specs.Final.{FinalValue, IsFinal, final_of}
+use Rattle.jc_explore.specs.Keys.{HasPlace, HaveOneKey, IsKeyOf, ScenesAlike, fingerprint_of_key}
 use Rattle.jc_explore.specs.Schedule.{SceneState, Moves, Plays, have_sessions, opening}
 
 abbrev pub Grows : {A : Type 0} → List A → List A → Type 0
 Grows {A} old new = (more : List A) × (new ≡ old ++ more)
 
--- 1. States.
+abbrev pub Adds : {A : Type 0} → (A → Type 0) → List A → List A → Type 0
+Adds {A} P old new = (k : ℕ) (x : A) → length old ≤ k → slice_get new k ≡ Some x → P x
+
+-- 1. States that are known.
+
+abbrev pub LeadsLike : Program → List Move → SceneState → Type 0
+LeadsLike p schedule s = (w : SceneState) × Plays p (opening p) schedule w × ScenesAlike s w
+
+abbrev pub IsKnown : Program → List KnownState → SceneState → Type 0
+IsKnown p known s = Any (λ k. LeadsLike p k.schedule.items s) known
+
+abbrev pub HasEachKnown : Program → List KnownState → Type 0
+HasEachKnown p known = (s : SceneState) → IsReached p s → IsKnown p known s
+
+pub record IsKnownBy (p : Program) (seen : Seen) (k : KnownState) : Type 0 where
+  pub scene : SceneState
+  pub plays : Plays p (opening p) k.schedule.items scene
+  pub key : IsKeyOf seen k.key scene
+  pub sessions : have_sessions k.schedule.items ≡ true
+
+abbrev pub HavePrints : States → Type 0
+HavePrints states = states.fingerprints.items ≡ map (λ k. fingerprint_of_key k.key) states.list.items
+
+abbrev pub HavePlaces : States → Type 0
+HavePlaces states = All (HasPlace states.places) states.fingerprints.items
+
+pub record AreKnown (p : Program) (states : States) : Type 0 where
+  pub each : All (IsKnownBy p states.seen) states.list.items
+  pub apart : AllPairs (λ a b. HaveOneKey a.key b.key → ⊥) states.list.items
+  pub prints : HavePrints states
+  pub places : HavePlaces states
+
+pub record IsClosedAt (p : Program) (known : List KnownState) (found : List Finding) (schedule : List Move) : Type 0 where
+  pub goes : (s : SceneState) → LeadsLike p schedule s → (m : Move) (new : SceneState) → Moves p s m new → IsKnown p known new
+  pub ends : (s : SceneState) (f : FinalValue) → LeadsLike p schedule s → IsEnd p s → IsFinal s f → IsFound f found
+
+abbrev pub IsClosedUpTo : Program → List KnownState → List Finding → ℕ → Type 0
+IsClosedUpTo p known found count =
+    (k : ℕ) (m : KnownState) → k < count → slice_get known k ≡ Some m → IsClosedAt p known found m.schedule.items
+
+abbrev pub AreAsLong : ℕ → List KnownState → List KnownState → Type 0
+AreAsLong moves old new = Adds (λ k. length k.schedule.items ≡ moves) old new
+
+-- 2. States.
 
 abbrev pub IsKeyAt : List KnownState → ℕ → StateKey → Type 0
 IsKeyAt known place key = (k : KnownState) × (slice_get known place ≡ Some k) × HaveOneKey k.key key
 
-pub record Notes (p : Program) (old new : States) (s : SceneState) : Type 0 where
+pub record Notes (p : Program) (schedule : List Move) (old new : States) (s : SceneState) : Type 0 where
   pub known : AreKnown p new
   pub kept : Grows old.list.items new.list.items
+  pub added : AreAsLong (length schedule) old.list.items new.list.items
   pub there : IsKnown p new.list.items s
 
 pub record Follows (p : Program) (schedule : List Move) (m : Move) (old new : States) (moved : Bool) : Type 0 where
   pub known : AreKnown p new
   pub kept : Grows old.list.items new.list.items
+  pub added : AreAsLong (length schedule + 1) old.list.items new.list.items
   pub all : (s : SceneState) → Plays p (opening p) (schedule ++ m ∷ []) s → IsKnown p new.list.items s
   pub goes : moved ≡ true → (s : SceneState) × Plays p (opening p) (schedule ++ m ∷ []) s
   pub stays : moved ≡ false → (s : SceneState) → Plays p (opening p) (schedule ++ m ∷ []) s → ⊥
@@ -79,19 +139,25 @@ pub record GoesOn (p : Program) (moves schedule : List Move) : Type 0 where
 pub record Expands (p : Program) (moves schedule : List Move) (old new : States) (any : Bool) : Type 0 where
   pub known : AreKnown p new
   pub kept : Grows old.list.items new.list.items
+  pub added : AreAsLong (length schedule + 1) old.list.items new.list.items
   pub followed : (k : ℕ) → k < length moves → WasFollowed p moves schedule new.list.items k
   pub on : any ≡ true → GoesOn p moves schedule
   pub none : any ≡ false → (k : ℕ) → k < length moves → StaysAt p moves schedule k
 
--- 2. Final states.
+-- 3. Final states.
 
-pub record NotesEnd (p : Program) (old new : List Finding) (s : SceneState) : Type 0 where
+abbrev pub AreNew : List Move → List Finding → List Finding → Type 0
+AreNew schedule old new =
+    Adds (λ x. (x.witness.items ≡ schedule) × (IsFound (final_of x.state) old → ⊥)) old new
+
+pub record NotesEnd (p : Program) (schedule : List Move) (old new : List Finding) (s : SceneState) : Type 0 where
   pub witnessed : AreWitnessed p new
   pub distinct : AreDistinct new
   pub kept : Grows old new
+  pub fresh : AreNew schedule old new
   pub there : (f : FinalValue) → IsFinal s f → IsFound f new
 
--- 3. Searches.
+-- 4. Searches.
 
 pub record IsSearchOf (p : Program) (states : States) (found : List Finding) : Type 0 where
   pub known : AreKnown p states
@@ -102,23 +168,32 @@ pub record Visits (p : Program) (schedule : List Move) (old new : Search) : Type
   pub search : IsSearchOf p new.known new.found.items
   pub known_kept : Grows old.known.list.items new.known.list.items
   pub found_kept : Grows old.found.items new.found.items
+  pub added : AreAsLong (length schedule + 1) old.known.list.items new.known.list.items
+  pub fresh : AreNew schedule old.found.items new.found.items
   pub closed : IsClosedAt p new.known.list.items new.found.items schedule
 
 pub record Searches (p : Program) (s : Search) : Type 0 where
   pub search : IsSearchOf p s.known s.found.items
   pub opening : IsKnown p s.known.list.items (opening p)
+  pub first : AreAsLong 0 [] s.known.list.items
+  pub none : s.found.items ≡ []
 
 pub record Ends (p : Program) (budget : ℕ) (s : Search) (whole : Bool) : Type 0 where
   pub witnessed : AreWitnessed p s.found.items
   pub distinct : AreDistinct s.found.items
+  pub shortest : AreShortest p s.found.items
   pub all : whole ≡ true → HasEachOutcome p s.found.items
   pub known : AreKnown p s.known
   pub scenes : whole ≡ true → HasEachKnown p s.known.list.items
+  pub within : whole ≡ true → length s.known.list.items ≤ budget
   pub tried : whole ≡ false → (budget < length s.known.list.items) ⊎ (OUTCOMES_MAX < length s.found.items)
+  pub stopped : whole ≡ false → (OUTCOMES_MAX < length s.found.items) ⊎ IsClosedUpTo p s.known.list.items s.found.items budget
 
 pub record HasExplored (p : Program) (budget : ℕ) (r : Explored) : Type 0 where
   pub witnessed : AreWitnessed p r.found.items
   pub distinct : AreDistinct r.found.items
+  pub shortest : AreShortest p r.found.items
   pub all : r.is_whole ≡ true → HasEachOutcome p r.found.items
+  pub within : r.is_whole ≡ true → r.states ≤ budget
   pub tried : r.is_whole ≡ false → IsTried budget r
-  pub counted : IsCounted p r
+  pub counted : IsCounted p budget r

@@ -1,10 +1,11 @@
 //! The events of a move.
-ghost use Rattle.std.specs.Prelude.{◌≡◌, ◌++◌, ◌∷◌, [], ◌<◌, nat_lt, true, IfOk, OnOk, Some, option_copied};
+ghost use Rattle.std.specs.Prelude.{◌≡◌, ◌++◌, ◌∷◌, [], ◌<◌, nat_lt, true, IfOk, OnOk, None, Some, option_copied};
 ghost use Rattle.jc_types.specs.declared.limits.TheConstants.{NUMBER_MAX, SESSIONS_MAX};
 ghost use Rattle.jc_model.specs.declared.event.LoadAnswer.TheVariants.{Failed};
 ghost use Rattle.jc_world.specs.declared.command.Command.TheVariants.{Single};
 ghost use Rattle.jc_world.specs.declared.event.WorldEvent.TheVariants as event;
-ghost use Rattle.jc_explore.specs.Schedule.{act_events, begin_events, call_events, entry_calls, events_at, item_at, may_begin, next_number, under_way};
+ghost use Rattle.jc_world.specs.declared.process.LoadSource.TheVariants as source;
+ghost use Rattle.jc_explore.specs.Schedule.{act_events, begin_events, call_events, entry_calls, events_at, has_number_for, if_failing, item_at, next_number, run_processor, under_way};
 
 use crate::moves::{Act, Move};
 use crate::program::{Faults, Item, Program};
@@ -101,7 +102,7 @@ fn put_process(
     fail: Option<u32>,
 ) -> Result<(), AllocError>
     ensures { OnOk result (
-        events.new.items ≡ events.old.items ++ event.Process target.call target.key load calls fail ∷ []) }
+        events.new.items ≡ events.old.items ++ run_processor target.call target.key load calls fail) }
 {
     let Target { call, key } = target;
     events.push(WorldEvent::Process {
@@ -114,14 +115,51 @@ fn put_process(
     Ok(())
 }
 
-/// Appends a change of the store by the writer.
-fn put_change(events: &mut Vec<WorldEvent>, target: Target) -> Result<(), AllocError>
-    ensures { OnOk result (
-        events.new.items ≡ events.old.items ++ event.Change target.call target.key ∷ []) }
+/// Appends a processor's run with a loader that fails, if the loader may fail.
+fn put_process_load_failure(
+    events: &mut Vec<WorldEvent>,
+    target: Target,
+    calls: EntryCalls,
+    fault: Option<u32>,
+) -> Result<(), AllocError>
+    ensures { OnOk result (events.new.items ≡ events.old.items
+        ++ if_failing fault (λ code. run_processor target.call target.key (source.Failing code) calls None)) }
+{
+    if let Some(code) = fault {
+        put_process(events, target, LoadSource::Failing(code), calls, None)?;
+    }
+    Ok(())
+}
+
+/// Appends a processor's run that fails after its calls, if it may fail.
+fn put_process_failure(
+    events: &mut Vec<WorldEvent>,
+    target: Target,
+    calls: EntryCalls,
+    fault: Option<u32>,
+) -> Result<(), AllocError>
+    ensures { OnOk result (events.new.items ≡ events.old.items
+        ++ if_failing fault (λ code. run_processor target.call target.key source.Store calls (Some code))) }
+{
+    if let Some(code) = fault {
+        put_process(events, target, LoadSource::Store, calls, Some(code))?;
+    }
+    Ok(())
+}
+
+/// Appends a change of the store by the writer, and its return.
+fn put_write(
+    alloc: Global,
+    events: &mut Vec<WorldEvent>,
+    target: Target,
+    fault: Option<u32>,
+) -> Result<(), AllocError>
+    ensures { OnOk result (events.new.items ≡ events.old.items
+        ++ event.Change target.call target.key ∷ event.Report target.call [] fault ∷ []) }
 {
     let Target { call, key } = target;
     events.push(WorldEvent::Change { call, key })?;
-    Ok(())
+    put_report(alloc, events, call, fault)
 }
 
 /// Appends a return of the writer.
@@ -138,21 +176,55 @@ fn put_report(
     Ok(())
 }
 
-/// Appends a failure of the loader.
+/// Appends a failure of the writer that has changed nothing, if it may fail so.
+fn put_write_failure(
+    alloc: Global,
+    events: &mut Vec<WorldEvent>,
+    call: u64,
+    fault: Option<u32>,
+) -> Result<(), AllocError>
+    ensures { OnOk result (events.new.items ≡ events.old.items
+        ++ if_failing fault (λ code. event.Report call [] (Some code) ∷ [])) }
+{
+    if let Some(code) = fault {
+        put_report(alloc, events, call, Some(code))?;
+    }
+    Ok(())
+}
+
+/// Appends a failure of the writer that has changed the store, if it may fail so.
+fn put_lie(
+    alloc: Global,
+    events: &mut Vec<WorldEvent>,
+    target: Target,
+    fault: Option<u32>,
+) -> Result<(), AllocError>
+    ensures { OnOk result (events.new.items ≡ events.old.items
+        ++ if_failing fault (λ code. event.Change target.call target.key ∷ event.Report target.call [] (Some code) ∷ [])) }
+{
+    if let Some(code) = fault {
+        put_write(alloc, events, target, Some(code))?;
+    }
+    Ok(())
+}
+
+/// Appends a failure of the loader, if it may fail.
 fn put_load_failure(
     events: &mut Vec<WorldEvent>,
     target: Target,
-    code: u32,
+    fault: Option<u32>,
 ) -> Result<(), AllocError>
-    ensures { OnOk result (events.new.items
-        ≡ events.old.items ++ event.Say target.call target.key (Failed code) ∷ []) }
+    ensures { OnOk result (events.new.items ≡ events.old.items
+        ++ if_failing fault (λ code. event.Say target.call target.key (Failed code) ∷ [])) }
 {
     let Target { call, key } = target;
-    events.push(WorldEvent::Say {
-        call,
-        key,
-        answer: LoadAnswer::Failed(code),
-    })?;
+    if let Some(code) = fault {
+        events.push(WorldEvent::Say {
+            call,
+            key,
+            answer: LoadAnswer::Failed(code),
+        })?;
+    }
     Ok(())
 }
 
@@ -172,37 +244,13 @@ fn put_act(
     match act {
         Act::Begin => {}
         Act::Read => events.push(WorldEvent::Read { call, key })?,
-        Act::LoadFails => {
-            if let Some(code) = faults.load {
-                put_load_failure(events, target, code)?;
-            }
-        }
+        Act::LoadFails => put_load_failure(events, target, faults.load)?,
         Act::Process => put_process(events, target, LoadSource::Store, calls, None)?,
-        Act::ProcessLoadFails => {
-            if let Some(code) = faults.load {
-                put_process(events, target, LoadSource::Failing(code), calls, None)?;
-            }
-        }
-        Act::ProcessFails => {
-            if let Some(code) = faults.process {
-                put_process(events, target, LoadSource::Store, calls, Some(code))?;
-            }
-        }
-        Act::Write => {
-            put_change(events, target)?;
-            put_report(alloc, events, call, None)?;
-        }
-        Act::WriteFails => {
-            if let Some(code) = faults.write {
-                put_report(alloc, events, call, Some(code))?;
-            }
-        }
-        Act::WriteLies => {
-            if let Some(code) = faults.lie {
-                put_change(events, target)?;
-                put_report(alloc, events, call, Some(code))?;
-            }
-        }
+        Act::ProcessLoadFails => put_process_load_failure(events, target, calls, faults.load)?,
+        Act::ProcessFails => put_process_failure(events, target, calls, faults.process)?,
+        Act::Write => put_write(alloc, events, target, None)?,
+        Act::WriteFails => put_write_failure(alloc, events, call, faults.write)?,
+        Act::WriteLies => put_lie(alloc, events, target, faults.lie)?,
         Act::Commit => events.push(WorldEvent::Commit { call, key })?,
         Act::PickUp => events.push(WorldEvent::PickUp { call, key })?,
     }
@@ -276,13 +324,14 @@ fn is_small(last: Option<u64>) -> bool
 }
 
 /// Whether an act begins no item, or there is a number for one.
-pub(crate) fn may_begin(last: Option<u64>, position: &Position, act: Act) -> bool
-    ensures { result ≡ may_begin last position.now act }
+pub(crate) fn has_number_for(last: Option<u64>, position: &Position, act: Act) -> bool
+    ensures { result ≡ has_number_for last position.now act }
 {
     !act.is_begin() || (is_small(last) && (position.begun as u64) < NUMBER_MAX)
 }
 
-/// Appends the events of a move of a thread at this position.
+/// Appends the events of a move of a thread that has begun so many items. An `Err` says that an allocation failed; some of them may be
+/// there then.
 pub(crate) fn put_events(
     alloc: Global,
     events: &mut Vec<WorldEvent>,
@@ -296,7 +345,7 @@ pub(crate) fn put_events(
         ≡ events.old.items ++ events_at program.now world.now.world step (Some position)) }
 {
     let last = world.last();
-    if !may_begin(last, &position, step.act) {
+    if !has_number_for(last, &position, step.act) {
         return Ok(());
     }
     let session = step.thread as u32 + 1;

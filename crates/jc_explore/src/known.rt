@@ -3,8 +3,7 @@ ghost use Rattle.std.specs.Prelude.{◌≡◌, ◌<◌, ◌++◌, ◌∷◌, [],
 ghost use Rattle.std.specs.List.{All, Any};
 ghost use Rattle.jc_explore.specs.Schedule.{Plays, have_sessions, opening, state_of};
 ghost use Rattle.jc_explore.specs.Keys.{HaveOneKey, fingerprint_of_key};
-ghost use Rattle.jc_explore.specs.Explored.{AreKnown, HavePlaces, HavePrints};
-ghost use Rattle.jc_explore.specs.Search.{IsKeyAt, Notes};
+ghost use Rattle.jc_explore.specs.Search.{AreKnown, HavePlaces, HavePrints, IsKeyAt, Notes};
 
 use crate::key::StateKey;
 use crate::moves::Move;
@@ -121,7 +120,8 @@ impl States {
     }
 }
 
-/// A schedule has led to a scene. Its state is noted, unless it is known.
+/// A schedule has led to a scene. Its state is noted, unless it is known. An `Err` says that an allocation failed; the states are then
+/// of no more use.
 pub(crate) fn note_state(
     alloc: Global,
     program: &Program,
@@ -132,7 +132,8 @@ pub(crate) fn note_state(
     requires plays { Plays program.now (opening program.now) schedule.items (state_of scene.now) }
     requires sessions { have_sessions schedule.items ≡ true }
     requires known { AreKnown program.now known.old }
-    ensures { OnOk result (Notes program.now known.old known.new (state_of scene.now)) }
+    ensures { OnOk result (
+        Notes program.now schedule.items known.old known.new (state_of scene.now)) }
 {
     snapshots_tell();
     snapshots_stay();
@@ -149,7 +150,7 @@ pub(crate) fn note_state(
     Ok(())
 }
 
-/// The same of a schedule and one more move.
+/// The same of a schedule and one more move, an `Err` too.
 pub(crate) fn note_next(
     alloc: Global,
     program: &Program,
@@ -161,7 +162,8 @@ pub(crate) fn note_next(
     requires plays { Plays program.now (opening program.now) (schedule.now ++ step ∷ []) (state_of scene.now) }
     requires sessions { have_sessions (schedule.now ++ step ∷ []) ≡ true }
     requires known { AreKnown program.now known.old }
-    ensures { OnOk result (Notes program.now known.old known.new (state_of scene.now)) }
+    ensures { OnOk result (
+        Notes program.now (schedule.now ++ step ∷ []) known.old known.new (state_of scene.now)) }
 {
     let mut longer = Vec::from_slice(alloc, schedule)?;
     longer.push(step)?;

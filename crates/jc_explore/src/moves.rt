@@ -1,5 +1,5 @@
 //! What may happen to the threads of a program, one move at a time.
-ghost use Rattle.std.specs.Prelude.{◌≡◌, ◌++◌, IfOk, OnOk};
+ghost use Rattle.std.specs.Prelude.{◌≡◌, ◌++◌, ◌∷◌, [], IfOk, OnOk};
 ghost use Rattle.jc_explore.specs.Moves.{moves_of_thread, moves_up_to, is_begin};
 
 use std::alloc::{AllocError, Global};
@@ -49,54 +49,30 @@ pub struct Move {
     pub act: Act,
 }
 
+/// Appends a move.
+fn put_move(moves: &mut Vec<Move>, thread: usize, act: Act) -> Result<(), AllocError>
+    ensures { OnOk result (
+        moves.new.items ≡ moves.old.items ++ record { thread = thread; act = act } ∷ []) }
+{
+    moves.push(Move { thread, act })?;
+    Ok(())
+}
+
 /// Appends the moves of a thread.
 fn put_moves(moves: &mut Vec<Move>, thread: usize) -> Result<(), AllocError>
     ensures { OnOk result (moves.new.items ≡ moves.old.items ++ moves_of_thread thread) }
 {
-    moves.push(Move {
-        thread,
-        act: Act::Begin,
-    })?;
-    moves.push(Move {
-        thread,
-        act: Act::Read,
-    })?;
-    moves.push(Move {
-        thread,
-        act: Act::LoadFails,
-    })?;
-    moves.push(Move {
-        thread,
-        act: Act::Process,
-    })?;
-    moves.push(Move {
-        thread,
-        act: Act::ProcessLoadFails,
-    })?;
-    moves.push(Move {
-        thread,
-        act: Act::ProcessFails,
-    })?;
-    moves.push(Move {
-        thread,
-        act: Act::Write,
-    })?;
-    moves.push(Move {
-        thread,
-        act: Act::WriteFails,
-    })?;
-    moves.push(Move {
-        thread,
-        act: Act::WriteLies,
-    })?;
-    moves.push(Move {
-        thread,
-        act: Act::Commit,
-    })?;
-    moves.push(Move {
-        thread,
-        act: Act::PickUp,
-    })?;
+    put_move(moves, thread, Act::Begin)?;
+    put_move(moves, thread, Act::Read)?;
+    put_move(moves, thread, Act::LoadFails)?;
+    put_move(moves, thread, Act::Process)?;
+    put_move(moves, thread, Act::ProcessLoadFails)?;
+    put_move(moves, thread, Act::ProcessFails)?;
+    put_move(moves, thread, Act::Write)?;
+    put_move(moves, thread, Act::WriteFails)?;
+    put_move(moves, thread, Act::WriteLies)?;
+    put_move(moves, thread, Act::Commit)?;
+    put_move(moves, thread, Act::PickUp)?;
     Ok(())
 }
 

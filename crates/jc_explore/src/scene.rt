@@ -5,9 +5,9 @@ ghost use Rattle.jc_types.specs.Limits.{check};
 ghost use Rattle.jc_types.specs.declared.limits.TheConstants.{SESSIONS_MAX};
 ghost use Rattle.jc_world.specs.Determinism.{has_memory, have_memory};
 ghost use Rattle.jc_explore.specs.Schedule.{SceneState, Moves, are_going_on, events_of, has_session, is_going_on, is_proper};
-ghost use Rattle.jc_explore.specs.Schedule.{may_begin, opening, position_after, state_of, unbegun, with_all_stored};
+ghost use Rattle.jc_explore.specs.Schedule.{has_number_for, opening, position_after, state_of, unbegun, with_all_stored};
 
-use crate::events::{may_begin, put_events};
+use crate::events::{has_number_for, put_events};
 use crate::moves::{Act, Move};
 use crate::program::Program;
 use crate::replies::{ThreadReply, put_replies};
@@ -121,7 +121,7 @@ fn position_at(positions: &[Position], thread: usize) -> Option<Position>
 
 /// The state of a thread after an act.
 fn position_after(last: Option<u64>, act: Act, position: Position) -> Position
-    requires { may_begin last position act ≡ true }
+    requires { has_number_for last position act ≡ true }
     ensures { result ≡ position_after act position }
 {
     if act.is_begin() {
@@ -241,7 +241,7 @@ impl Scene {
             return Ok(false);
         };
         let last = self.world.last();
-        if !may_begin(last, &position, step.act) {
+        if !has_number_for(last, &position, step.act) {
             return Ok(false);
         }
         self.events.clear();

@@ -3,11 +3,11 @@ ghost use Rattle.jc_explore.specs.declared.search.TheConstants.{OUTCOMES_MAX};
 ghost use Rattle.std.specs.Prelude.{◌≡◌, ◌||◌, ◌≤◌, ◌<◌, ◌++◌, ◌∷◌, [], List, Ok, length, true, false, IfOk, OnOk};
 ghost use Rattle.std.specs.List.{All};
 ghost use Rattle.jc_types.specs.Limits.{check};
-ghost use Rattle.jc_explore.specs.Explored.{AreDistinct, AreKnown, AreWitnessed, HasEachOutcome, IsCounted, IsEnd, IsFound, IsRefusedAs, IsTried, IsAccepted};
+ghost use Rattle.jc_explore.specs.Explored.{AreDistinct, AreShortest, AreWitnessed, HasEachOutcome, IsCounted, IsEnd, IsFound, IsRefusedAs, IsTried, IsAccepted};
 ghost use Rattle.jc_explore.specs.Final.{FinalValue, IsFinal, final_of};
 ghost use Rattle.jc_explore.specs.Moves.{moves_up_to};
 ghost use Rattle.jc_explore.specs.Schedule.{SceneState, Moves, Plays, has_session, have_sessions, opening, state_of};
-ghost use Rattle.jc_explore.specs.Search.{Expands, Follows, Ends, HasExplored, KeepsMoves, kept_if, NotesEnd, IsSearchOf, Searches, Visits};
+ghost use Rattle.jc_explore.specs.Search.{AreKnown, Ends, Expands, Follows, HasExplored, IsSearchOf, KeepsMoves, NotesEnd, Searches, Visits, kept_if};
 
 use crate::final_state::FinalState;
 use crate::known::{States, note_next, note_state};
@@ -21,10 +21,11 @@ use jc_world::determinism::runs_are_determined;
 use jc_world::essence::{essences_tell, worlds_go_on_alike};
 use std::alloc::{AllocError, Global};
 
-/// How many final states an exploration looks for. Once it has found more it stops.
+/// How many final states an exploration looks for. Once it has found more it follows no further state. If none is left to follow, it is
+/// whole all the same.
 pub const OUTCOMES_MAX: usize = 4096;
 
-/// A final state, and a schedule that leads to it: a shortest one.
+/// A final state, and a schedule that leads to it: none with fewer moves ends with this final state.
 #[derive(Drop)]
 pub struct Finding {
     /// The final state.
@@ -266,7 +267,7 @@ fn note_end(
     requires witnessed { AreWitnessed program.now found.old.items }
     requires distinct { AreDistinct found.old.items }
     ensures { OnOk result (
-        NotesEnd program.now found.old.items found.new.items (state_of scene.now)) }
+        NotesEnd program.now schedule.now found.old.items found.new.items (state_of scene.now)) }
 {
     let _threads = program.threads.len();
     let state = FinalState::of(alloc, scene)?;
@@ -358,7 +359,8 @@ fn begin(alloc: Global, program: &Program, scene: &Scene) -> Result<Search, Allo
     ensures { IfOk result (λ search. Searches program.now search) }
 {
     let mut known = States::new(alloc);
-    note_state(alloc, program, scene, Vec::new(alloc), &mut known)?;
+    let schedule = Vec::new(alloc);
+    note_state(alloc, program, scene, schedule, &mut known)?;
     let found = Vec::new(alloc);
     Ok(Search { known, found })
 }
@@ -405,8 +407,13 @@ fn search_anew<W: Watch>(
 
 /// Explores a program: each final state that it can have, with a schedule that leads there.
 ///
-/// It follows at most `states` states, and stops once it has found more than [`OUTCOMES_MAX`] final states: each one that it has found
-/// is real even then. A program with too many threads, or a shape that `Config::check` refuses, is refused.
+/// It follows at most so many states, those of short schedules first, and no further one once it has found more than [`OUTCOMES_MAX`]
+/// final states. If states are left then, it isn't whole: each final state that it has found is real even so, and if it stopped for its
+/// budget alone, those of the states that it followed, and after which nothing can happen, are all among them. It keeps some 2,500
+/// bytes a state.
+///
+/// `OutOfMemory` says that an allocation failed. What it had found is gone then, and a later call begins anew. A program with too many
+/// threads, or a shape that `Config::check` refuses, is refused before anything is searched. The call doesn't wait.
 ///
 /// `watch` is told how far the search is before each state that is followed, and that it is over once, also if an allocation has
 /// failed. A program that is refused isn't searched, and nothing is told. What a watch does changes nothing of what is answered.
@@ -418,9 +425,11 @@ pub fn explore<W: Watch>(
 ) -> Result<Explored, ExploreFault>
     ensures witnessed { IfOk result (λ r. AreWitnessed program.now r.found.items) }
     ensures distinct { IfOk result (λ r. AreDistinct r.found.items) }
+    ensures shortest { IfOk result (λ r. AreShortest program.now r.found.items) }
     ensures all { IfOk result (λ r. r.is_whole ≡ true → HasEachOutcome program.now r.found.items) }
+    ensures budget { IfOk result (λ r. r.is_whole ≡ true → r.states ≤ states) }
     ensures tried { IfOk result (λ r. r.is_whole ≡ false → IsTried states r) }
-    ensures counted { IfOk result (λ r. IsCounted program.now r) }
+    ensures counted { IfOk result (λ r. IsCounted program.now states r) }
     ensures refused { IsRefusedAs program.now result }
 {
     if program.threads.len() > SESSIONS_MAX as usize {

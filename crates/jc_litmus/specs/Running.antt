@@ -1,6 +1,7 @@
 -- Runs: from what a reader gives to what a writer takes.
---     IsExplored   what an exploration with this budget of states has found: outcomes with their schedules, no two the same, and each
---                  one if it is whole; else it has met more states than the budget, or more outcomes than the limit
+--     IsExplored   what an exploration with this budget of states has found: outcomes with shortest schedules of theirs, no two the same,
+--                  and each one if it is whole, with no more states than the budget; else it has come to more states than the budget, or
+--                  found more outcomes than the limit
 --     IsAnswer     an output is the answer of an exploration of a program, and the end is that of its expectations, and means
 --                  what it says of all schedules
 --     IsComplaint  an output names the line of the input that is the first at fault, with its fault, and the end says so
@@ -11,7 +12,7 @@ use Rattle.std.specs.Prelude.{◌≡◌, ◌≤◌, ◌⊎◌, ℕ, List, take, 
 use Rattle.std.specs.Io.KnownBytes.{Appends}
 use Rattle.jc_explore.specs.declared.program.Program.{Program}
 use Rattle.jc_explore.specs.declared.search.Explored.{Explored}
-use Rattle.jc_explore.specs.Explored.{AreDistinct, AreWitnessed, HasEachOutcome, IsCounted, IsTried}
+use Rattle.jc_explore.specs.Explored.{AreDistinct, AreShortest, AreWitnessed, HasEachOutcome, IsCounted, IsTried}
 use Rattle.jc_script.specs.Running.{ReadsAll}
 use Rattle.jc_litmus.specs.declared.run.LitmusEnd.{LitmusEnd}
 use Rattle.jc_litmus.specs.declared.run.LitmusEnd.TheVariants.{LineFault}
@@ -25,9 +26,11 @@ use Rattle.jc_litmus.specs.Program.{program_of, value_of_program}
 pub record IsExplored (p : Program) (budget : ℕ) (r : Explored) : Type 0 where
   pub witnessed : AreWitnessed p r.found.items
   pub distinct : AreDistinct r.found.items
+  pub shortest : AreShortest p r.found.items
   pub all : r.is_whole ≡ true → HasEachOutcome p r.found.items
+  pub within : r.is_whole ≡ true → r.states ≤ budget
   pub tried : r.is_whole ≡ false → IsTried budget r
-  pub counted : IsCounted p r
+  pub counted : IsCounted p budget r
 
 pub record IsAnswer (budget : ℕ) (x : Litmus) (out : List ℕ) (end : LitmusEnd) : Type 0 where
   pub explored : Explored

@@ -1,13 +1,14 @@
-use Rattle.std.proofs.Common.{List, sym, subst}
+use Rattle.std.proofs.Common.{◌≡◌, List, length, refl, sym, subst}
 use Rattle.std.specs.List.{All, AllPairs}
 use Rattle.std.proofs.lemmas.List.Elements.{All-push}
 use Rattle.std.proofs.lemmas.List.Quantifiers.{all_pairs_push}
 use Rattle.jc_explore.specs.declared.known.KnownState.{KnownState}
 use Rattle.jc_explore.specs.Schedule.{state_of}
-use Rattle.jc_explore.specs.Explored.{IsKnown, IsKnownBy}
 use Rattle.jc_explore.specs.Keys.{HaveOneKey}
+use Rattle.jc_explore.specs.Search.{AreAsLong, IsKnown, IsKnownBy}
 use Rattle.jc_explore.proofs.Keys.{known-stay}
 use Rattle.jc_explore.proofs.Searching.{known-before, known-last, grows-refl, places-push, prints-push}
+use Rattle.jc_explore.proofs.Shortest.{adds-none, adds-one}
 use Rattle.jc_explore.proofs.known.note_state.Goals as goal
 
 pub returns-then-has : goal.returns-then-has
@@ -19,6 +20,7 @@ returns-then-has c =
     record {
       known = record { each = stay; apart = c.requires.known.apart; prints = c.requires.known.prints; places = c.requires.known.places };
       kept = grows-refl known;
+      added = adds-none (λ (k : KnownState). length k.schedule.items ≡ length c.args.schedule.items) known;
       there = known-before c.snapshots_tell.ensures p seen known c.in_ok-key.key (state_of c.args.scene.now) stay c.in_ok-key.ensures.key (c.has.ensures.there c.if-has.true);
     }
 
@@ -39,6 +41,7 @@ returns c =
         places = places-push c.args.known.now.places c.note.new.self c.args.known.now.fingerprints.items _ c.fingerprint-print.result c.requires.known.places c.in_ok-note.ensures.others c.in_ok-note.ensures.there c.in_ok-push.ensures.items;
       };
       kept = (_, c.in_ok-push-2.ensures.items);
+      added = subst (λ (ks : List KnownState). AreAsLong (length c.args.schedule.items) known ks) (sym c.in_ok-push-2.ensures.items) (adds-one (λ (k : KnownState). length k.schedule.items ≡ length c.args.schedule.items) known one refl);
       there = subst (λ (ks : List KnownState). IsKnown p ks (state_of c.args.scene.now)) (sym c.in_ok-push-2.ensures.items)
           (known-last p known one (state_of c.args.scene.now) c.requires.plays);
     }

@@ -1,7 +1,10 @@
-use Rattle.std.proofs.Common.{[], List, sym, subst, arith}
+use Rattle.std.proofs.Common.{[], List, length, sym, subst, arith}
+use Rattle.jc_explore.specs.declared.known.KnownState.{KnownState}
+use Rattle.jc_explore.specs.declared.moves.Move.{Move}
 use Rattle.jc_explore.specs.declared.program.Program.{Program}
 use Rattle.jc_explore.specs.declared.search.Finding.{Finding}
-use Rattle.jc_explore.specs.Explored.{AreDistinct, AreWitnessed, IsKnown}
+use Rattle.jc_explore.specs.Explored.{AreDistinct, AreWitnessed}
+use Rattle.jc_explore.specs.Search.{AreAsLong, IsKnown}
 use Rattle.jc_explore.proofs.Searching.{none-known}
 use Rattle.jc_explore.proofs.search.begin.Goals as goal
 
@@ -24,5 +27,8 @@ returns c =
         witnessed = subst (λ (xs : List Finding). AreWitnessed p xs) (sym c.new-found.ensures.items) (none-witnessed p);
         distinct = subst (λ (xs : List Finding). AreDistinct xs) (sym c.new-found.ensures.items) none-distinct;
       };
+      first = subst (λ (ks : List KnownState). AreAsLong 0 ks c.note_state.new.known.list.items) c.new-known.ensures.list
+          (subst (λ (ms : List Move). AreAsLong (length ms) c.new-known.result.list.items c.note_state.new.known.list.items) c.new-schedule.ensures.items n.added);
+      none = c.new-found.ensures.items;
       opening = subst (IsKnown p c.note_state.new.known.list.items) c.requires n.there;
     }

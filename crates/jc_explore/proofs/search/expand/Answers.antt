@@ -1,14 +1,28 @@
-use Rattle.std.proofs.Common.{sym, ◌∙◌, arith, get_or, true≢false}
+use Rattle.std.proofs.Common.{◌≡◌, ◌+◌, length, sym, ◌∙◌, arith, get_or, true≢false}
 use Rattle.std.proofs.lemmas.Bool.{or_parts}
+use Rattle.jc_explore.specs.declared.known.KnownState.{KnownState}
 use Rattle.jc_explore.specs.declared.moves.Act.TheVariants.{Begin}
 use Rattle.jc_explore.specs.declared.moves.Move.{Move}
 use Rattle.jc_explore.specs.Search.{WasFollowed, StaysAt}
-use Rattle.jc_explore.proofs.Searching.{grows-twice, below_one-more, followed-grown, followed-at, stays-at, there-at, or_goes}
+use Rattle.jc_explore.proofs.Searching.{grows-refl, grows-twice, below_one-more, followed-grown, followed-at, stays-at, there-at, or_goes}
+use Rattle.jc_explore.proofs.Shortest.{adds-none, adds-twice}
 use Rattle.jc_explore.proofs.search.expand.Goals as goal
 
 -- where an index is out of range
 abbrev first : Move
 first = record { thread = 0; act = Begin }
+
+pub loop-step-init : goal.loop-step-init
+loop-step-init c =
+    record {
+      known = c.requires.known;
+      kept = grows-refl c.args.known.now.list.items;
+      added = adds-none (λ (k : KnownState). length k.schedule.items ≡ length c.args.schedule.now + 1) c.args.known.now.list.items;
+      there = λ _. c.requires.there;
+      followed = λ k h. absurd (omega (arith, h));
+      on = λ t. absurd (true≢false (sym t));
+      none = λ _ k h. absurd (omega (arith, h));
+    }
 
 pub loop-step-preserved : goal.loop-step-preserved
 loop-step-preserved c =
@@ -24,6 +38,7 @@ loop-step-preserved c =
     record {
       known = e.known;
       kept = grows-twice c.args.known.now.list.items was now i.kept e.kept;
+      added = adds-twice (λ (k : KnownState). length k.schedule.items ≡ length c.args.schedule.now + 1) c.args.known.now.list.items was now e.kept i.added e.added;
       there = λ t. absurd (true≢false (sym t));
       followed = below_one-more (WasFollowed p moves sched now) k (λ j hj. followed-grown p moves sched was now j e.kept (i.followed j hj)) (followed-at p moves sched now k first h e.all);
       on = λ t. or_goes c.loop-step.any c.in_ok-moved.moved (sym c.either-now.ensures ∙ t) i.on
@@ -39,6 +54,7 @@ returns c =
     record {
       known = i.known;
       kept = i.kept;
+      added = i.added;
       followed = λ k h. i.followed k (omega (arith, b, h));
       on = i.on;
       none = λ f k h. i.none f k (omega (arith, b, h));

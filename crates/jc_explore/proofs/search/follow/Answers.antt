@@ -1,9 +1,11 @@
-use Rattle.std.proofs.Common.{◌++◌, ◌∷◌, [], sym, subst, true≢false}
-use Rattle.jc_explore.specs.Explored.{IsKnown}
+use Rattle.std.proofs.Common.{◌≡◌, ℕ, ◌+◌, ◌++◌, ◌∷◌, [], length, length-append, sym, subst, true≢false}
 use Rattle.jc_explore.specs.Schedule.{opening, state_of}
+use Rattle.jc_explore.specs.declared.known.KnownState.{KnownState}
+use Rattle.jc_explore.specs.Search.{AreAsLong, IsKnown}
 use Rattle.jc_explore.proofs.AllMoves.{sessions-push}
 use Rattle.jc_explore.proofs.Runs.{plays-determined}
 use Rattle.jc_explore.proofs.Searching.{grows-refl}
+use Rattle.jc_explore.proofs.Shortest.{adds-none}
 use Rattle.jc_explore.proofs.search.follow.Goals as goal
 
 pub returns-then-not-moved : goal.returns-then-not-moved
@@ -12,6 +14,7 @@ returns-then-not-moved c =
     record {
       known = c.requires.known;
       kept = grows-refl c.args.known.now.list.items;
+      added = adds-none (λ (k : KnownState). length k.schedule.items ≡ length c.args.schedule.now + 1) c.args.known.now.list.items;
       all = λ s plays. absurd (stays s plays);
       goes = λ t. absurd (true≢false (sym t));
       stays = λ _. stays;
@@ -28,6 +31,7 @@ returns c =
     record {
       known = note.known;
       kept = note.kept;
+      added = subst (λ (n : ℕ). AreAsLong n c.args.known.now.list.items c.note_next.new.known.list.items) (length-append c.args.schedule.now (c.args.step ∷ [])) note.added;
       all = λ s plays. subst (IsKnown p c.note_next.new.known.list.items)
           (plays-determined c.runs_are_determined.ensures p (opening p) (state_of c.attempt.new.scene) s (c.args.schedule.now ++ c.args.step ∷ []) here plays) note.there;
       goes = λ _. (state_of c.attempt.new.scene, here);

@@ -1,4 +1,4 @@
-use Rattle.std.proofs.Common.{◌≡◌, List, sym, subst}
+use Rattle.std.proofs.Common.{◌≡◌, ◌∙◌, List, ap, sym, subst}
 use Rattle.std.specs.List.{All}
 use Rattle.std.proofs.lemmas.List.Elements.{All-push}
 use Rattle.std.proofs.lemmas.List.Quantifiers.{Any-push, all_pairs_push}
@@ -7,8 +7,10 @@ use Rattle.jc_explore.specs.declared.search.Finding.{Finding}
 use Rattle.jc_explore.specs.Explored.{IsFound, IsWhole, AreWitnessed, AreDistinct}
 use Rattle.jc_explore.specs.Final.{FinalValue, final_of}
 use Rattle.jc_explore.specs.Schedule.{Plays, opening, state_of}
+use Rattle.jc_explore.specs.Search.{AreNew}
 use Rattle.jc_explore.proofs.Finals.{final-unique}
 use Rattle.jc_explore.proofs.Searching.{grows-refl}
+use Rattle.jc_explore.proofs.Shortest.{adds-none, adds-one}
 use Rattle.jc_explore.proofs.search.note_end.Goals as goal
 
 pub returns-then-is_found : goal.returns-then-is_found
@@ -17,6 +19,7 @@ returns-then-is_found c =
       witnessed = c.requires.witnessed;
       distinct = c.requires.distinct;
       kept = grows-refl c.args.found.now.items;
+      fresh = adds-none (λ (x : Finding). (x.witness.items ≡ c.args.schedule.now) × (IsFound (final_of x.state) c.args.found.now.items → ⊥)) c.args.found.now.items;
       there = λ f final.
           subst (λ (v : FinalValue). IsFound v c.args.found.now.items) (final-unique (state_of c.args.scene.now) (final_of c.in_ok-state.state) f c.in_ok-state.ensures final)
           (subst (λ (xs : List Finding). IsFound (final_of c.in_ok-state.state) xs) c.deref.ensures.value (c.is_found.ensures.there c.if-is_found.true));
@@ -43,6 +46,9 @@ returns c =
       distinct = subst AreDistinct (sym c.in_ok-push.ensures.items)
           (all_pairs_push (λ (x y : Finding). final_of x.state ≡ final_of y.state → ⊥) found one c.requires.distinct none);
       kept = (_, c.in_ok-push.ensures.items);
+      fresh = subst (λ (xs : List Finding). AreNew c.args.schedule.now found xs) (sym c.in_ok-push.ensures.items)
+          (adds-one (λ (x : Finding). (x.witness.items ≡ c.args.schedule.now) × (IsFound (final_of x.state) c.args.found.now.items → ⊥)) found one
+          (c.in_ok-witness.ensures.items, λ h. none h.0 h.1 h.2 (ap (λ (x : Finding). final_of x.state) h.3 ∙ h.4)));
       there = λ f final.
           subst (λ (xs : List Finding). IsFound f xs) (sym c.in_ok-push.ensures.items)
           (Any-push (λ (x : Finding). final_of x.state ≡ f) found one (final-unique s (final_of state) f c.in_ok-state.ensures final));

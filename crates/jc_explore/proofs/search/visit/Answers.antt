@@ -1,10 +1,14 @@
 use Rattle.std.proofs.Common.{◌≡◌, List, length, true, sym, subst}
 use Rattle.jc_explore.specs.declared.moves.Move.{Move}
+use Rattle.jc_explore.specs.declared.search.Finding.{Finding}
+use Rattle.jc_explore.specs.Explored.{IsFound}
+use Rattle.jc_explore.specs.Final.{final_of}
 use Rattle.jc_explore.specs.Schedule.{have_sessions, state_of}
 use Rattle.jc_explore.specs.Search.{KeepsMoves}
 use Rattle.jc_explore.proofs.AllMoves.{sessions-moves}
 use Rattle.jc_explore.proofs.Closing.{Laws, closed-goes, on-no-end, stays-end, end-found}
 use Rattle.jc_explore.proofs.Searching.{grows-refl}
+use Rattle.jc_explore.proofs.Shortest.{adds-none}
 use Rattle.jc_explore.proofs.search.visit.Goals as goal
 
 pub keep_moves-requires : goal.keep_moves-requires
@@ -28,6 +32,8 @@ returns-then-any c =
       search = record { known = e.known; witnessed = c.requires.search.witnessed; distinct = c.requires.search.distinct };
       known_kept = e.kept;
       found_kept = grows-refl c.args.search.now.found.items;
+      added = e.added;
+      fresh = adds-none (λ (x : Finding). (x.witness.items ≡ sched) × (IsFound (final_of x.state) c.args.search.now.found.items → ⊥)) c.args.search.now.found.items;
       closed = record {
         goes = closed-goes laws p sched kept _ w c.in_ok-go_to.ensures keeps e.followed;
         ends = λ s f leads end final. absurd (on-no-end laws p sched kept s (e.on c.if-any.true) leads end);
@@ -57,6 +63,8 @@ returns c =
       search = record { known = e.known; witnessed = n.witnessed; distinct = n.distinct };
       known_kept = e.kept;
       found_kept = n.kept;
+      added = e.added;
+      fresh = n.fresh;
       closed = record {
         goes = closed-goes laws p sched kept _ w c.in_ok-go_to.ensures keeps e.followed;
         ends = λ s f leads end final. end-found laws p sched _ _ s f c.in_ok-go_to-2.ensures n.there leads final;

@@ -1,8 +1,7 @@
 use Rattle.std.proofs.Common.{◌≤◌, length}
 use Rattle.jc_explore.specs.Schedule.{opening}
-use Rattle.jc_explore.specs.Explored.{IsKnown}
-use Rattle.jc_explore.specs.Search.{IsSearchOf}
-use Rattle.jc_explore.proofs.Closing.{IsClosedUpTo}
+use Rattle.jc_explore.specs.Search.{IsClosedUpTo, IsKnown, IsSearchOf}
+use Rattle.jc_explore.proofs.Shortest.{IsBreadthFirst}
 use Rattle.jc_explore.proofs.search.visit_all.Given as goal
 
 abbrev pub invariant-loop-place : goal.invariant-loop-place
@@ -10,5 +9,6 @@ invariant-loop-place g l = record {
   search : IsSearchOf l.program l.search.known l.search.found.items;
   opening : IsKnown l.program l.search.known.list.items (opening l.program);
   closed : IsClosedUpTo l.program l.search.known.list.items l.search.found.items l.place;
+  breadth : IsBreadthFirst l.program l.search.known.list.items l.search.found.items l.place;
   within : l.place ≤ length l.search.known.list.items;
 }

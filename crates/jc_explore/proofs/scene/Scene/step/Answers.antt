@@ -2,14 +2,14 @@ use Rattle.std.proofs.Common.{◌≡◌, ℕ, List, true, false, Some, Option, s
 use Rattle.jc_world.specs.declared.event.Shown.{Shown}
 use Rattle.jc_world.specs.Determinism.{have_memory}
 use Rattle.jc_explore.specs.declared.scene.Position.{Position}
-use Rattle.jc_explore.specs.Schedule.{is_proper, may_begin, state_of, replies_after}
+use Rattle.jc_explore.specs.Schedule.{is_proper, has_number_for, state_of, replies_after}
 use Rattle.jc_explore.proofs.Scenes.{stays, goes, no-number-moves, events-are, ran-as, positions-are}
 use Rattle.jc_explore.proofs.scene.Scene.step.Goals as goal
 
-pub returns-then-not-may_begin-clause-stays : goal.returns-then-not-may_begin-clause-stays
-returns-then-not-may_begin-clause-stays c =
+pub returns-then-not-has_number_for-clause-stays : goal.returns-then-not-has_number_for-clause-stays
+returns-then-not-has_number_for-clause-stays c =
     let at : slice_get c.args.self.now.positions.items c.args.step.thread ≡ Some c.in-Some.position = ap (λ (xs : List Position). slice_get xs c.args.step.thread) (sym c.deref.ensures.value) ∙ sym c.position_at.ensures ∙ c.in-Some.is in
-    λ _. no-number-moves c.args.program.now (state_of c.args.self.now) c.args.step c.in-Some.position at (ap (λ (l : Option ℕ). may_begin l c.in-Some.position c.args.step.act) (sym c.last-last.ensures) ∙ sym c.may_begin.ensures ∙ c.if-not-may_begin.true)
+    λ _. no-number-moves c.args.program.now (state_of c.args.self.now) c.args.step c.in-Some.position at (ap (λ (l : Option ℕ). has_number_for l c.in-Some.position c.args.step.act) (sym c.last-last.ensures) ∙ sym c.has_number_for.ensures ∙ c.if-not-has_number_for.true)
 
 pub returns-then-not-is_proper-clause-stays : goal.returns-then-not-is_proper-clause-stays
 returns-then-not-is_proper-clause-stays c =
