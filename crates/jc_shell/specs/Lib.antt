@@ -1,0 +1,4 @@
+pub mod Saving
+pub mod ShellWords
+pub mod Sessions
+pub mod Holding
