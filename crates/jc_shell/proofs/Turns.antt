@@ -1,11 +1,13 @@
 -- Sessions: what is answered keeps to the transcript of the accepted lines.
-use Rattle.std.proofs.Common.{◌≡◌, ℕ, ◌+◌, Option, List, [], ◌∷◌, ◌++◌, length, None, Some, false, refl, sym, ap, ◌∙◌, append_assoc, append-nil, arith, inl, inr}
+use Rattle.std.proofs.Common.{◌≡◌, ℕ, ◌+◌, Bool, true, cond, take, Option, List, [], ◌∷◌, ◌++◌, length, None, Some, false, refl, sym, ap, ◌∙◌, append_assoc, append-nil, inl, inr}
 use Rattle.std.proofs.lemmas.Grind.{flat_map-append}
+use Rattle.std.proofs.lemmas.Slice.Eq.{bytes_eq-Decides}
+use Rattle.std.specs.Prelude.{codes}
+use Rattle.std.specs.Str.{bytes_eq}
+use Rattle.jc_shell.specs.ShellWords.{word_of}
 use Rattle.std.proofs.lemmas.List.{length-append}
-use Rattle.std.specs.List.{flat_map}
-use Rattle.jc_script.specs.Transcript.{pieces_of, OpenedWorld, Prints, Transcript, IsTranscript, fault_of}
+use Rattle.jc_script.specs.Transcript.{OpenedWorld, Prints, IsTranscript, fault_of}
 use Rattle.jc_script.specs.declared.fault.Fault.{Fault}
-use Rattle.jc_script.specs.declared.run.RunEnd.{RunEnd}
 use Rattle.jc_script.specs.declared.run.RunEnd.TheVariants.{Clean, LineFault}
 use Rattle.jc_script.specs.Places.{complaint}
 use Rattle.jc_script.specs.Printing.{fault_line}
@@ -13,7 +15,7 @@ use Rattle.jc_shell.specs.declared.words.Word.{Word}
 use Rattle.jc_shell.specs.declared.words.Word.TheVariants.{Help, Quit, Save, Line}
 use Rattle.jc_shell.specs.Holding.{GoesOn, Holds}
 use Rattle.jc_shell.specs.Saving.{Saved, Saves}
-use Rattle.jc_shell.specs.Sessions.{Accepted, Answers, AnswersWord, AreAnswered, IsPlayed, IsTold, has_feed, next_number, nobody, script_of, with_line}
+use Rattle.jc_shell.specs.Sessions.{Accepted, AnswersWord, AreAnswered, IsPlayed, IsTold, has_feed, next_number, nobody, script_of, with_line}
 use Rattle.jc_shell.proofs.Lines.{at_fault, at_line}
 
 -- ---- what was shown is the transcript
@@ -101,3 +103,15 @@ saves_then None b c xs ys p q = tt
 saves_then (Some a) None c xs ys p q = absurd p
 saves_then (Some a) (Some b) None xs ys p q = absurd q
 saves_then (Some a) (Some b) (Some c) xs ys p q = q ∙ ap (λ (t : List Saved). t ++ ys) p ∙ append_assoc a xs ys
+
+-- ---- the word that ends a session
+
+word_by : (help quit save : Bool) (line : List ℕ) → (quit ≡ true → line ≡ codes "quit")
+    → cond help Help (cond quit Quit (cond save Save Line)) ≡ Quit → line ≡ codes "quit"
+word_by true quit save line is e = absurd cc
+word_by false true save line is e = is refl
+word_by false false true line is e = absurd cc
+word_by false false false line is e = absurd cc
+
+pub quit_word : (line : List ℕ) → word_of line ≡ Quit → line ≡ codes "quit"
+quit_word line e = word_by (bytes_eq line (codes "help")) (bytes_eq line (codes "quit")) (bytes_eq (take 5 line) (codes "save ")) line (bytes_eq-Decides line (codes "quit")).0 e

@@ -8,9 +8,10 @@
 #![tactic(auto)]
 
 pub mod laws;
+pub mod run;
 pub mod save;
-pub mod session;
+mod session;
 pub mod words;
 
+pub use run::ShellFault;
 pub use save::Save;
-pub use session::Session;

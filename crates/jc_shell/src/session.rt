@@ -18,12 +18,9 @@ use std::alloc::{AllocError, Global};
 
 /// A session: a player, and the script of the lines that it has played.
 pub struct Session {
-    /// Has played these lines.
-    pub player: Player,
-    /// The lines that were accepted, each with its line feed.
-    pub script: Vec<u8>,
-    /// How many they are.
-    pub lines: u64,
+    player: Player,
+    script: Vec<u8>,
+    lines: u64,
     ghost counted: { lines ≤ length script.items },
 }
 
