@@ -117,11 +117,11 @@ Plays (Some w) (Reopen config) text new = PlaysOne w (event.Reopen config) text 
 Plays (Some w) Audit text new = Audited w text × (new ≡ Some w)
 Plays old line text new = ⊥
 
--- printed at the end of what is there already
+-- printed at the end of what is there already; a line with a fault does nothing
 abbrev pub PlaysLine : OpenedWorld → Line → Option Fault → List ℕ → List ℕ → OpenedWorld → Type 0
 PlaysLine old line None before after new =
     (state_fault old line ≡ None) × ((text : List ℕ) × Plays old line text new × (after ≡ before ++ text))
-PlaysLine old line (Some fault) before after new = (state_fault old line ≡ Some fault) × (after ≡ before)
+PlaysLine old line (Some fault) before after new = (state_fault old line ≡ Some fault) × (after ≡ before) × (new ≡ old)
 
 -- a comment prints nothing and changes nothing; other lines are played if they have no fault
 abbrev pub PlaysRead : OpenedWorld → Result (Option Line) Fault → List ℕ → OpenedWorld → Type 0

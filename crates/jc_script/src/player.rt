@@ -36,22 +36,20 @@ struct LineBuffers {
 }
 
 /// A world that is played line by line, and the room that each line uses again.
-pub struct Player<'a> {
+pub struct Player {
     /// The world, once a line has opened it.
     pub world: Option<World>,
-    words: Vec<&'a [u8]>,
     line: Line,
     buffers: LineBuffers,
 }
 
-impl<'a> Player<'a> {
+impl Player {
     /// No world is open.
-    pub fn new(alloc: Global) -> Player<'a>
+    pub fn new(alloc: Global) -> Player
         ensures { result.world ≡ None }
     {
         Player {
             world: None,
-            words: Vec::new(alloc),
             line: Line::Audit,
             buffers: LineBuffers {
                 keys: Vec::new(alloc),
@@ -61,18 +59,23 @@ impl<'a> Player<'a> {
         }
     }
 
-    /// One line: what it prints goes to the end of `out`, or its fault is returned and nothing is done.
-    pub fn play(
+    /// One line: what it prints goes to the end of `out`, or its fault is returned and nothing is done. After an error the player may
+    /// only be closed, and `out` may have more at its end.
+    ///
+    /// `words` is room for the line's words, which may hold those of another line.
+    pub fn play<'a>(
         &mut self,
         alloc: Global,
         text: &'a [u8],
+        words: &mut Vec<&'a [u8]>,
         out: &mut Vec<u8>,
     ) -> Result<Option<Fault>, AllocError>
         ensures { IfOk result (λ r. MatchOption r
             ((printed : List ℕ) × Prints (opened_world self.old.world) text.now printed (opened_world self.new.world) × (out.new.items ≡ out.old.items ++ printed))
-            (λ fault. (fault_of (opened_world self.old.world) text.now ≡ Some fault) × (out.new.items ≡ out.old.items))) }
+            (λ fault. (fault_of (opened_world self.old.world) text.now ≡ Some fault) × (out.new.items ≡ out.old.items)
+            × (opened_world self.new.world ≡ opened_world self.old.world))) }
     {
-        match read(alloc, text, &mut self.words, &mut self.line) {
+        match read(alloc, text, words, &mut self.line) {
             Err(ReadError::Memory) => Err(AllocError),
             Err(ReadError::Fault(fault)) => Ok(Some(fault)),
             Ok(false) => Ok(None),
@@ -84,7 +87,6 @@ impl<'a> Player<'a> {
     pub fn close(self) {
         let Player {
             world,
-            words: _words,
             line,
             buffers: _buffers,
         } = self;
@@ -185,6 +187,7 @@ fn open(
     config: &Config,
     out: &mut Vec<u8>,
 ) -> Result<Option<Fault>, AllocError>
+    requires closed { opened_world world.old ≡ None }
     ensures { IfOk result (λ r. PlaysLine None (lines.Open config.now) r out.old.items out.new.items (opened_world world.new)) }
 {
     if let Some(fault) = fault_of_config(config) {

@@ -63,10 +63,10 @@ pub fn first_line(bytes: &[u8]) -> Option<(&[u8], &[u8])>
 }
 
 /// The transcript of a script, by a player whose world is still to be opened. At a fault `told` gets what is to be said of it.
-fn lines<'a>(
+fn lines(
     alloc: Global,
-    input: &'a [u8],
-    player: &mut Player<'a>,
+    input: &[u8],
+    player: &mut Player,
     told: &mut Vec<u8>,
 ) -> Result<(Vec<u8>, RunEnd), AllocError>
     requires closed { player.old.world ≡ None }
@@ -75,10 +75,11 @@ fn lines<'a>(
     ensures told { IfOk result (λ r. Explains input.now r.0.items told.old.items told.new.items r.1) }
 {
     let mut out = Vec::new(alloc);
+    let mut words = Vec::new(alloc);
     let mut rest = input;
     let mut number: u64 = 1;
     while let Some((text, after)) = first_line(rest) {
-        match player.play(alloc, text, &mut out)? {
+        match player.play(alloc, text, &mut words, &mut out)? {
             None => {}
             Some(fault) => {
                 put_fault(&mut out, number, fault)?;

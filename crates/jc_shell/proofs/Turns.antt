@@ -1,0 +1,117 @@
+-- Sessions: what is answered keeps to the transcript of the accepted lines.
+use Rattle.std.proofs.Common.{◌≡◌, ℕ, ◌+◌, Bool, true, cond, take, Option, List, [], ◌∷◌, ◌++◌, length, None, Some, false, refl, sym, ap, ◌∙◌, append_assoc, append-nil, inl, inr}
+use Rattle.std.proofs.lemmas.Grind.{flat_map-append}
+use Rattle.std.proofs.lemmas.Slice.Eq.{bytes_eq-Decides}
+use Rattle.std.specs.Prelude.{codes}
+use Rattle.std.specs.Str.{bytes_eq}
+use Rattle.jc_shell.specs.ShellWords.{word_of}
+use Rattle.std.proofs.lemmas.List.{length-append}
+use Rattle.jc_script.specs.Transcript.{OpenedWorld, Prints, IsTranscript, fault_of}
+use Rattle.jc_script.specs.declared.fault.Fault.{Fault}
+use Rattle.jc_script.specs.declared.run.RunEnd.TheVariants.{Clean, LineFault}
+use Rattle.jc_script.specs.Places.{complaint}
+use Rattle.jc_script.specs.Printing.{fault_line}
+use Rattle.jc_shell.specs.declared.words.Word.{Word}
+use Rattle.jc_shell.specs.declared.words.Word.TheVariants.{Help, Quit, Save, Line}
+use Rattle.jc_shell.specs.Holding.{GoesOn, Holds}
+use Rattle.jc_shell.specs.Saving.{Saved, Saves}
+use Rattle.jc_shell.specs.Sessions.{Accepted, AnswersWord, AreAnswered, IsPlayed, IsTold, has_feed, next_number, nobody, script_of, with_line}
+use Rattle.jc_shell.proofs.Lines.{at_fault, at_line}
+
+-- ---- what was shown is the transcript
+
+abbrev IsShown : Accepted → Type 0
+IsShown a = IsTranscript (script_of a.lines) a.shown Clean
+
+after_word : (w : Word) (a : Accepted) (line answer : List ℕ) (saved : List Saved) (b : Accepted) → IsShown a → AnswersWord w a line answer saved b → IsShown b
+after_word Help a line answer saved b t (text, none, same) = rw same t
+after_word Quit a line answer saved b t h = absurd h
+after_word Save a line answer saved b t (is, same) = rw same t
+after_word Line a line answer saved b t (none, inl (more, played)) = rw more played
+after_word Line a line answer saved b t (none, inr (same, told)) = rw same t
+
+pub shown_after : (prompt : List ℕ) (lines : List (List ℕ)) (out : List ℕ) (saved : List Saved) (a b : Accepted)
+    → IsShown a → AreAnswered prompt a lines out saved b → IsShown b
+shown_after prompt [] out saved a c t (o, s, same) = rw same t
+shown_after prompt (line ∷ lines) out saved a c t (answer, rest, now, later, b, whole, answers, more, o, s) =
+    shown_after prompt lines rest later b c (after_word _ a line answer now b t answers) more
+
+pub shown_at_first : IsShown nobody
+shown_at_first = (refl, refl)
+
+-- ---- one line more
+
+pub script_more : (lines : List (List ℕ)) (line rest : List ℕ) → script_of (lines ++ line ∷ []) ++ rest ≡ script_of lines ++ (line ++ 10 ∷ rest)
+script_more lines line rest =
+    let f = λ (l : List ℕ). l ++ 10 ∷ [] in
+    ap (λ (s : List ℕ). s ++ rest) (flat_map-append f lines (line ∷ []) ∙ ap (λ (s : List ℕ). script_of lines ++ s) (append-nil (f line)))
+    ∙ append_assoc (script_of lines) (f line) rest
+    ∙ ap (λ (s : List ℕ). script_of lines ++ s) (append_assoc line (10 ∷ []) rest)
+
+script_end : (lines : List (List ℕ)) (line : List ℕ) → script_of (lines ++ line ∷ []) ≡ script_of lines ++ (line ++ 10 ∷ [])
+script_end lines line = sym (append-nil (script_of (lines ++ line ∷ []))) ∙ script_more lines line []
+
+count_more : (lines : List (List ℕ)) (line : List ℕ) → length (lines ++ line ∷ []) ≡ length lines + 1
+count_more lines line = length-append lines (line ∷ [])
+
+pub goes_on_at_first : GoesOn nobody None
+goes_on_at_first = λ rest out end t. t
+
+pub goes_on_after : (a : Accepted) (old new : OpenedWorld) (line text : List ℕ) → has_feed line ≡ false → GoesOn a old → Prints old line text new
+    → GoesOn (with_line a line text) new
+goes_on_after a old new line text whole goes prints = λ rest out end t.
+    let t' = rw (count_more a.lines line) at t in
+    rw (script_more a.lines line rest, append_assoc a.shown text out)
+    (goes (line ++ 10 ∷ rest) (text ++ out) end (at_line old new (next_number a) line rest text out end whole prints t'))
+
+-- nothing more is the transcript so far
+pub shown_of : (a : Accepted) (world : OpenedWorld) → GoesOn a world → IsShown a
+shown_of a world goes = rw (← append-nil (script_of a.lines), ← append-nil a.shown) (goes [] [] Clean (refl, refl))
+
+pub played : (a : Accepted) (old new : OpenedWorld) (line text : List ℕ) → has_feed line ≡ false → GoesOn a old → Prints old line text new
+    → IsPlayed a line text (with_line a line text)
+played a old new line text whole goes prints = (refl, shown_of (with_line a line text) new (goes_on_after a old new line text whole goes prints))
+
+pub told : (a : Accepted) (old : OpenedWorld) (line : List ℕ) (f : Fault) → has_feed line ≡ false → GoesOn a old → fault_of old line ≡ Some f
+    → IsTold a line (complaint (next_number a) line f) a
+told a old line f whole goes fault =
+    let n = next_number a in
+    let at = goes (line ++ 10 ∷ []) (fault_line n f) (LineFault n) (at_fault old n line [] f whole fault) in
+    (refl, (f, rw (← append-nil (script_of (a.lines ++ line ∷ [])), script_more a.lines line []) at, refl))
+
+-- ---- what a session has at hand
+
+pub kept : (a : Accepted) (old new : OpenedWorld) (line text script more : List ℕ) (count next : ℕ) → has_feed line ≡ false → Holds a script count old
+    → Prints old line text new → more ≡ script ++ (line ++ 10 ∷ []) → next ≡ count + 1 → Holds (with_line a line text) more next new
+kept a old new line text script more count next whole h prints e n = record {
+  script_is = e ∙ ap (λ (s : List ℕ). s ++ (line ++ 10 ∷ [])) h.script_is ∙ sym (script_end a.lines line);
+  lines_is = n ∙ ap (λ (k : ℕ). k + 1) h.lines_is ∙ sym (count_more a.lines line);
+  goes_on = goes_on_after a old new line text whole h.goes_on prints;
+}
+
+pub still : (a : Accepted) (script : List ℕ) (count : ℕ) (old new : OpenedWorld) → Holds a script count old → new ≡ old → Holds a script count new
+still a script count old new h e = rw e h
+
+-- ---- what was saved
+
+pub saves_none : (old : Option (List Saved)) → Saves old old []
+saves_none None = tt
+saves_none (Some xs) = sym (append-nil xs)
+
+pub saves_then : (a b c : Option (List Saved)) (xs ys : List Saved) → Saves a b xs → Saves b c ys → Saves a c (xs ++ ys)
+saves_then None b c xs ys p q = tt
+saves_then (Some a) None c xs ys p q = absurd p
+saves_then (Some a) (Some b) None xs ys p q = absurd q
+saves_then (Some a) (Some b) (Some c) xs ys p q = q ∙ ap (λ (t : List Saved). t ++ ys) p ∙ append_assoc a xs ys
+
+-- ---- the word that ends a session
+
+word_by : (help quit save : Bool) (line : List ℕ) → (quit ≡ true → line ≡ codes "quit")
+    → cond help Help (cond quit Quit (cond save Save Line)) ≡ Quit → line ≡ codes "quit"
+word_by true quit save line is e = absurd cc
+word_by false true save line is e = is refl
+word_by false false true line is e = absurd cc
+word_by false false false line is e = absurd cc
+
+pub quit_word : (line : List ℕ) → word_of line ≡ Quit → line ≡ codes "quit"
+quit_word line e = word_by (bytes_eq line (codes "help")) (bytes_eq line (codes "quit")) (bytes_eq (take 5 line) (codes "save ")) line (bytes_eq-Decides line (codes "quit")).0 e

@@ -1,0 +1,79 @@
+use Rattle.std.proofs.Common.{◌≡◌, ◌∷◌, [], ◌++◌, refl, rules}
+use Rattle.jc_shell.specs.declared.words.Word.TheVariants.{Quit}
+use Rattle.jc_shell.specs.ShellWords.{word_of}
+use Rattle.jc_script.specs.Transcript.{pieces_of}
+use Rattle.jc_shell.proofs.Lines.{first_is_whole, line_and_rest}
+use Rattle.jc_shell.proofs.Turns.{quit_word, saves_none, saves_then}
+use Rattle.jc_shell.proofs.Streams.{answered_one, answered_then, appends_none, appends_then, left_of, read_one, read_then, written_then}
+use Rattle.jc_shell.proofs.run.answer_lines.Goals as goal
+
+pub loop-line-init : goal.loop-line-init
+loop-line-init g c = (λ a h. ([], [], [], a, (refl, refl, refl), refl, appends_none _, saves_none _, h), λ calm. calm)
+
+pub answer_line-requires-clause-whole : goal.answer_line-requires-clause-whole
+answer_line-requires-clause-whole g c = first_is_whole c.loop-line.rest.now c.in-Some.line.now (pieces_of c.in-Some.after.now) c.in-Some.ensures.0
+
+pub loop-line-preserved : goal.loop-line-preserved
+loop-line-preserved g c =
+    let rest = c.loop-line.rest.now in
+    let line = c.in-Some.line.now in
+    let after = c.in-Some.after.now in
+    let prompt = c.args.prompt.now in
+    let whole = first_is_whole rest line (pieces_of after) c.in-Some.ensures.0 in
+    let is = line_and_rest rest line after c.in-Some.ensures.0 in (
+      λ a h.
+          let p = c.loop-line.invariant.0 a h in
+          let r = c.in-Ok.ensures.ok p.3 p.8 in (
+            p.0 ++ line ∷ [],
+            p.1 ++ (r.0 ++ prompt),
+            p.2 ++ r.1,
+            r.2,
+            answered_then prompt p.0 (line ∷ []) p.1 (r.0 ++ prompt) p.2 r.1 a p.3 r.2 p.4 (answered_one prompt p.3 line r.0 r.1 r.2 whole r.4),
+            read_then c.args.bytes.now rest after p.0 (line ∷ []) p.5 (read_one rest line after is),
+            appends_then _ _ _ p.1 (r.0 ++ prompt) p.6 r.5,
+            saves_then _ _ _ p.2 r.1 p.7 r.6,
+            r.3,
+          ),
+      search rules,
+    )
+
+pub returns-then-eq-clause-ok : goal.returns-then-eq-clause-ok
+returns-then-eq-clause-ok g c =
+    let rest = c.loop-line.rest.now in
+    let line = c.in-Some.line.now in
+    let after = c.in-Some.after.now in
+    let is = line_and_rest rest line after c.in-Some.ensures.0 in
+    let asked : word_of line ≡ Quit = search rules in
+    let quit = quit_word line asked in
+    λ a h.
+    let p = c.loop-line.invariant.0 a h in
+    (p.0, p.1, p.2, p.3, rest, p.4, p.5, p.6, p.7, (after, rw quit at is))
+
+pub returns-in-Err-clause-err : goal.returns-in-Err-clause-err
+returns-in-Err-clause-err g c =
+    let rest = c.loop-line.rest.now in
+    let line = c.in-Some.line.now in
+    let after = c.in-Some.after.now in
+    let prompt = c.args.prompt.now in
+    let is = line_and_rest rest line after c.in-Some.ensures.0 in
+    λ a h.
+    let p = c.loop-line.invariant.0 a h in
+    let r = c.in-Err.ensures.err p.3 p.8 in
+    let left = left_of rest line after r.0 is r.5 in (
+      p.0 ++ r.0,
+      p.1 ++ r.1,
+      p.1 ++ r.2,
+      p.2 ++ r.3,
+      r.4,
+      left.0,
+      answered_then prompt p.0 r.0 p.1 r.1 p.2 r.3 a p.3 r.4 p.4 r.6,
+      read_then c.args.bytes.now rest left.0 p.0 r.0 p.5 left.1,
+      written_then _ p.1 r.1 r.2 r.7,
+      appends_then _ _ _ p.1 r.2 p.6 r.8,
+      saves_then _ _ _ p.2 r.3 p.7 r.9,
+    )
+
+pub returns-clause-ok : goal.returns-clause-ok
+returns-clause-ok g c = λ a h.
+    let p = c.loop-line.invariant.0 a h in
+    (p.0, p.1, p.2, p.3, c.loop-line.rest.now, p.4, p.5, p.6, p.7, (search rules, first_is_whole c.loop-line.rest.now c.loop-line.rest.now [] c.in_default.ensures, p.8))

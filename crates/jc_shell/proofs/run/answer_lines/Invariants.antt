@@ -1,0 +1,22 @@
+use Rattle.std.proofs.Common.{◌≡◌, ◌++◌, ℕ, List, false, length}
+use Rattle.std.specs.Io.KnownBytes.{Appends}
+use Rattle.jc_script.specs.Transcript.{opened_world}
+use Rattle.jc_shell.specs.Holding.{Holds}
+use Rattle.jc_shell.specs.Saving.{Saved, Saves}
+use Rattle.jc_shell.specs.Sessions.{Accepted, AreAnswered, script_of}
+use Rattle.jc_shell.proofs.run.answer_lines.Given as goal
+
+-- whatever was accepted before these bytes
+abbrev pub invariant-loop-line : goal.invariant-loop-line
+invariant-loop-line g l =
+    ((a : Accepted) → Holds a l.fn.session.script.items l.fn.session.lines (opened_world l.fn.session.player.world)
+    → (lines : List (List ℕ)) × (answers : List ℕ) × (saved : List Saved) × (b : Accepted)
+    × AreAnswered l.prompt a lines answers saved b
+    × (l.bytes ≡ script_of lines ++ l.rest)
+    × Appends (g.W.Write.contents l.fn.writer.inner) (g.W.Write.contents l.writer.inner) answers
+    × Saves (g.S.Save.saved l.fn.saves) (g.S.Save.saved l.saves) saved
+    × Holds b l.session.script.items l.session.lines (opened_world l.session.player.world))
+    × (l.fn.writer.failed ≡ false → l.writer.failed ≡ false)
+
+abbrev pub decreases-loop-line : goal.decreases-loop-line
+decreases-loop-line g l = length l.rest

@@ -1,0 +1,5 @@
+pub mod Saving
+pub mod ShellWords
+pub mod Sessions
+pub mod Holding
+pub mod Running

@@ -1,0 +1,93 @@
+-- Sessions: lines that are typed one after another, and what is answered to each.
+--     script_of       the script that lines make
+--     has_feed        bytes have a line feed, so they are no line
+--     Accepted        the lines that were accepted so far, and what was answered to them
+--     nobody          nothing was typed yet
+--     next_number     the number that the next line has in the script of the accepted ones
+--     with_line       one more line was accepted, with its answer
+--     IsPlayed        the line has no fault: what was answered to the accepted lines and it is the transcript of their script
+--     IsTold          the line has a fault: the transcript of the accepted lines and it ends with that, the answer tells it as the run of
+--                     that script does, and the line isn't accepted
+--     IsSaved         a script was saved under a name, and the answer says so; or it wasn't, and the answer says why
+--     AnswersWord     what is answered to a line, by what it asks for
+--     Answers         the same, by the line alone
+--     AreAnswered     lines one after another, each with its answer, and the prompt after that
+--     TranscriptsAreShown   whatever is typed, what was answered to the accepted lines is the transcript of their script
+use Rattle.std.specs.Prelude.{◌≡◌, ◌⊎◌, ◌==◌, ◌+◌, ℕ, List, [], ◌∷◌, ◌++◌, length, Bool, false}
+use Rattle.std.specs.List.{flat_map, list_any}
+use Rattle.jc_script.specs.declared.fault.Fault.{Fault}
+use Rattle.jc_script.specs.declared.run.RunEnd.TheVariants.{Clean, LineFault}
+use Rattle.jc_script.specs.Places.{complaint}
+use Rattle.jc_script.specs.Printing.{fault_line}
+use Rattle.jc_script.specs.Transcript.{IsTranscript}
+use Rattle.jc_shell.specs.declared.words.Word.{Word}
+use Rattle.jc_shell.specs.declared.words.Word.TheVariants.{Help, Quit, Save, Line}
+use Rattle.jc_shell.specs.Saving.{Saved}
+use Rattle.jc_shell.specs.ShellWords.{help_text, name_in, not_saved_text, saved_text, word_of}
+
+-- 1. What was accepted.
+
+abbrev pub script_of : List (List ℕ) → List ℕ
+script_of lines = flat_map (λ line. line ++ 10 ∷ []) lines
+
+abbrev pub has_feed : List ℕ → Bool
+has_feed bytes = list_any (λ b. b == 10) bytes
+
+pub record Accepted : Type 0 where
+  pub lines : List (List ℕ)
+  pub shown : List ℕ
+
+abbrev pub nobody : Accepted
+nobody = record { lines = []; shown = [] }
+
+abbrev pub next_number : Accepted → ℕ
+next_number a = length a.lines + 1
+
+abbrev pub with_line : Accepted → (line answer : List ℕ) → Accepted
+with_line a line answer = record { lines = a.lines ++ line ∷ []; shown = a.shown ++ answer }
+
+-- 2. What is answered to a line.
+
+-- a: what was accepted before it; b: after it
+abbrev pub IsPlayed : (a : Accepted) (line answer : List ℕ) (b : Accepted) → Type 0
+IsPlayed a line answer b =
+    (b ≡ with_line a line answer)
+    × IsTranscript (script_of (a.lines ++ line ∷ [])) (a.shown ++ answer) Clean
+
+abbrev pub IsTold : (a : Accepted) (line answer : List ℕ) (b : Accepted) → Type 0
+IsTold a line answer b =
+    (b ≡ a)
+    × ((fault : Fault)
+    × IsTranscript (script_of (a.lines ++ line ∷ [])) (a.shown ++ fault_line (next_number a) fault) (LineFault (next_number a))
+    × (answer ≡ complaint (next_number a) line fault))
+
+abbrev pub IsSaved : (script name answer : List ℕ) → List Saved → Type 0
+IsSaved script name answer saved =
+    ((answer ≡ saved_text name) × (saved ≡ record { name = name; script = script } ∷ []))
+    ⊎ ((saved ≡ []) × ((why : List ℕ) × (answer ≡ not_saved_text name why)))
+
+-- a line that ends the session has no answer
+abbrev pub AnswersWord : Word → (a : Accepted) (line answer : List ℕ) → List Saved → (b : Accepted) → Type 0
+AnswersWord Help a line answer saved b = (answer ≡ help_text) × (saved ≡ []) × (b ≡ a)
+AnswersWord Quit a line answer saved b = ⊥
+AnswersWord Save a line answer saved b = IsSaved (script_of a.lines) (name_in line) answer saved × (b ≡ a)
+AnswersWord Line a line answer saved b = (saved ≡ []) × (IsPlayed a line answer b ⊎ IsTold a line answer b)
+
+abbrev pub Answers : (a : Accepted) (line answer : List ℕ) → List Saved → (b : Accepted) → Type 0
+Answers a line answer saved b = AnswersWord (word_of line) a line answer saved b
+
+-- 3. Lines one after another.
+
+abbrev pub AreAnswered : (prompt : List ℕ) (a : Accepted) → List (List ℕ) → (out : List ℕ) → List Saved → (b : Accepted) → Type 0
+AreAnswered prompt a [] out saved c = (out ≡ []) × (saved ≡ []) × (c ≡ a)
+AreAnswered prompt a (line ∷ lines) out saved c =
+    (answer : List ℕ) × (rest : List ℕ) × (now : List Saved) × (later : List Saved) × (b : Accepted)
+    × (has_feed line ≡ false) × Answers a line answer now b × AreAnswered prompt b lines rest later c
+    × (out ≡ (answer ++ prompt) ++ rest) × (saved ≡ now ++ later)
+
+-- 4. The laws.
+
+abbrev pub TranscriptsAreShown : Type 0
+TranscriptsAreShown =
+    (prompt : List ℕ) (lines : List (List ℕ)) (out : List ℕ) (saved : List Saved) (b : Accepted)
+    → AreAnswered prompt nobody lines out saved b → IsTranscript (script_of b.lines) b.shown Clean

@@ -1,0 +1,270 @@
+//! A session over streams: from the lines that are read to the answers that are written.
+ghost use Rattle.std.specs.Prelude.{◌≡◌, ◌≢◌, ◌⊎◌, ◌↔◌, ◌++◌, ◌∷◌, ◌+◌, ◌<◌, ◌≤◌, [], List, ℕ, true, false, codes, length, take, IfOk, IfErr, IfSome, IsErr, MatchOption, OnOk, OnErr};
+ghost use Rattle.std.specs.Io.KnownBytes.{Appends, Consumes, IsAtEnd};
+ghost use Rattle.jc_script.specs.Transcript.{opened_world};
+ghost use Rattle.jc_shell.specs.Holding.{Holds};
+ghost use Rattle.jc_shell.specs.Running.{LastText, Ran, Stopped, WrittenBy};
+ghost use Rattle.jc_shell.specs.Saving.{Saved, Saves};
+ghost use Rattle.jc_shell.specs.Sessions.{Accepted, Answers, AreAnswered, has_feed, nobody, script_of};
+ghost use Rattle.jc_shell.specs.ShellWords.{word_of};
+ghost use Rattle.jc_shell.specs.declared.words.Word.TheVariants as words;
+
+use crate::save::Save;
+use crate::session::Session;
+use crate::words::{Word, word_of};
+use jc_script::fault::Fault;
+use jc_script::input::write_out;
+use jc_script::noted::Noted;
+use jc_script::run::first_line;
+use jc_types::SCRIPT_MAX;
+use std::alloc::Global;
+use std::io::{Read, Write};
+use thiserror::Error;
+
+/// Why a session ended before its input did. The lines that were read whole before are answered.
+#[derive(Clone, Copy, Debug, PartialEq, Eq, Error)]
+pub enum ShellFault {
+    /// The reader failed.
+    #[error("read failed")]
+    Read,
+    /// The input has more than [`SCRIPT_MAX`] bytes.
+    #[error("input too long")]
+    TooLong,
+    /// An allocation failed.
+    #[error("out of memory")]
+    OutOfMemory,
+    /// The writer failed. A prefix of the answers was written.
+    #[error("write failed")]
+    Write,
+}
+
+/// Writes a text.
+fn say<W: Write>(writer: &mut Noted<W>, text: &[u8]) -> Result<(), ShellFault>
+    ensures ok { OnOk result (Appends (W.contents writer.old.inner) (W.contents writer.new.inner) text.now) }
+    ensures err { IfErr result (λ e. (e ≡ ShellFault.Write) × ((written : List ℕ) × WrittenBy ShellFault.Write text.now written × Appends (W.contents writer.old.inner) (W.contents writer.new.inner) written)) }
+    ensures failed { writer.old.failed ≡ false → (result ≡ Err ShellFault.Write ↔ writer.new.failed ≡ true) }
+{
+    match write_out(writer, text) {
+        Ok(()) => Ok(()),
+        Err(_) => Err(ShellFault::Write),
+    }
+}
+
+/// Writes an answer, and the prompt.
+fn say_both<W: Write>(writer: &mut Noted<W>, answer: &[u8], prompt: &[u8]) -> Result<(), ShellFault>
+    ensures ok { OnOk result (Appends (W.contents writer.old.inner) (W.contents writer.new.inner) (answer.now ++ prompt.now)) }
+    ensures err { IfErr result (λ e. (e ≡ ShellFault.Write) × ((written : List ℕ) × WrittenBy ShellFault.Write (answer.now ++ prompt.now) written × Appends (W.contents writer.old.inner) (W.contents writer.new.inner) written)) }
+    ensures failed { writer.old.failed ≡ false → (result ≡ Err ShellFault.Write ↔ writer.new.failed ≡ true) }
+{
+    match say(writer, answer) {
+        Ok(()) => say(writer, prompt),
+        Err(fault) => Err(fault),
+    }
+}
+
+/// Answers a line, and writes the answer and the prompt.
+fn answer_line<W: Write, S: Save>(
+    alloc: Global,
+    prompt: &[u8],
+    session: &mut Session,
+    line: &[u8],
+    writer: &mut Noted<W>,
+    saves: &mut S,
+) -> Result<(), ShellFault>
+    requires whole { has_feed line.now ≡ false }
+    requires goes_on { word_of line.now ≢ words.Quit }
+    ensures ok { OnOk result ((a : Accepted) → Holds a session.old.script.items session.old.lines (opened_world session.old.player.world)
+        → (answer : List ℕ) × (saved : List Saved) × (b : Accepted)
+        × Holds b session.new.script.items session.new.lines (opened_world session.new.player.world)
+        × Answers a line.now answer saved b
+        × Appends (W.contents writer.old.inner) (W.contents writer.new.inner) (answer ++ prompt.now)
+        × Saves (S.saved saves.old) (S.saved saves.new) saved) }
+    ensures kinds { IfErr result (λ e. (e ≡ ShellFault.Write) ⊎ (e ≡ ShellFault.OutOfMemory)) }
+    // The line was answered, and the answer wasn't written whole; or there was no memory for it.
+    ensures err { IfErr result (λ e. (a : Accepted) → Holds a session.old.script.items session.old.lines (opened_world session.old.player.world)
+        → (answered : List (List ℕ)) × (answers : List ℕ) × (written : List ℕ) × (saved : List Saved) × (b : Accepted)
+        × ((answered ≡ []) ⊎ (answered ≡ line.now ∷ []))
+        × AreAnswered prompt.now a answered answers saved b
+        × WrittenBy e answers written
+        × Appends (W.contents writer.old.inner) (W.contents writer.new.inner) written
+        × Saves (S.saved saves.old) (S.saved saves.new) saved) }
+    ensures failed { writer.old.failed ≡ false → (result ≡ Err ShellFault.Write ↔ writer.new.failed ≡ true) }
+{
+    let mut out = Vec::new(alloc);
+    match session.answer(alloc, line, saves, &mut out) {
+        Ok(()) => say_both(writer, &out, prompt),
+        Err(_) => Err(ShellFault::OutOfMemory),
+    }
+}
+
+/// Answers each whole line of these bytes, up to one that ends the session. Some says how many bytes are left after the last of them.
+fn answer_lines<W: Write, S: Save>(
+    alloc: Global,
+    prompt: &[u8],
+    session: &mut Session,
+    bytes: &[u8],
+    writer: &mut Noted<W>,
+    saves: &mut S,
+) -> Result<Option<usize>, ShellFault>
+    ensures ok { IfOk result (λ left. (a : Accepted) → Holds a session.old.script.items session.old.lines (opened_world session.old.player.world)
+        → (lines : List (List ℕ)) × (answers : List ℕ) × (saved : List Saved) × (b : Accepted) × (rest : List ℕ)
+        × AreAnswered prompt.now a lines answers saved b
+        × (bytes.now ≡ script_of lines ++ rest)
+        × Appends (W.contents writer.old.inner) (W.contents writer.new.inner) answers
+        × Saves (S.saved saves.old) (S.saved saves.new) saved
+        × MatchOption left
+        ((others : List ℕ) × (rest ≡ codes "quit" ++ 10 ∷ others))
+        (λ n. (n ≡ length rest) × (has_feed rest ≡ false)
+        × Holds b session.new.script.items session.new.lines (opened_world session.new.player.world))) }
+    ensures kinds { IfErr result (λ e. (e ≡ ShellFault.Write) ⊎ (e ≡ ShellFault.OutOfMemory)) }
+    ensures err { IfErr result (λ e. (a : Accepted) → Holds a session.old.script.items session.old.lines (opened_world session.old.player.world)
+        → (lines : List (List ℕ)) × (answers : List ℕ) × (written : List ℕ) × (saved : List Saved) × (b : Accepted) × (rest : List ℕ)
+        × AreAnswered prompt.now a lines answers saved b
+        × (bytes.now ≡ script_of lines ++ rest)
+        × WrittenBy e answers written
+        × Appends (W.contents writer.old.inner) (W.contents writer.new.inner) written
+        × Saves (S.saved saves.old) (S.saved saves.new) saved) }
+    ensures failed { writer.old.failed ≡ false → (result ≡ Err ShellFault.Write ↔ writer.new.failed ≡ true) }
+{
+    let mut rest = bytes;
+    while let Some((line, after)) = first_line(rest) {
+        if word_of(line) == Word::Quit {
+            return Ok(None);
+        }
+        match answer_line(alloc, prompt, session, line, writer, saves) {
+            Ok(()) => rest = after,
+            Err(fault) => return Err(fault),
+        }
+    }
+    Ok(Some(rest.len()))
+}
+
+/// Tells that the end of the input cuts a line, if it does.
+fn end_input<W: Write>(
+    alloc: Global,
+    session: &Session,
+    last: &[u8],
+    writer: &mut Noted<W>,
+) -> Result<(), ShellFault>
+    ensures ok { OnOk result ((a : Accepted) → Holds a session.now.script.items session.now.lines (opened_world session.now.player.world)
+        → (text : List ℕ) × LastText a last.now text × Appends (W.contents writer.old.inner) (W.contents writer.new.inner) text) }
+    ensures kinds { IfErr result (λ e. (e ≡ ShellFault.Write) ⊎ (e ≡ ShellFault.OutOfMemory)) }
+    ensures err { IfErr result (λ e. (a : Accepted) → Holds a session.now.script.items session.now.lines (opened_world session.now.player.world)
+        → (text : List ℕ) × (written : List ℕ) × ((text ≡ []) ⊎ ((e ≡ ShellFault.Write) × LastText a last.now text))
+        × WrittenBy e text written × Appends (W.contents writer.old.inner) (W.contents writer.new.inner) written) }
+    ensures failed { writer.old.failed ≡ false → (result ≡ Err ShellFault.Write ↔ writer.new.failed ≡ true) }
+{
+    if last.is_empty() {
+        return Ok(());
+    }
+    let mut out = Vec::new(alloc);
+    match session.tell(alloc, last, Fault::CutLine, &mut out) {
+        Ok(()) => say(writer, &out),
+        Err(_) => Err(ShellFault::OutOfMemory),
+    }
+}
+
+/// Reads more of the input. False says that it has ended.
+fn read_more<R: Read>(reader: &mut Noted<R>, input: &mut Vec<u8>) -> Result<bool, ShellFault>
+    requires { length input.old.items ≤ SCRIPT_MAX }
+    ensures ok { IfOk result (λ more. (bytes : List ℕ) × (input.new.items ≡ input.old.items ++ bytes)
+        × Consumes (R.remaining reader.old.inner) (R.remaining reader.new.inner) bytes
+        × (length input.new.items ≤ SCRIPT_MAX + 1)
+        × (more ≡ true → length input.old.items < length input.new.items)
+        × (more ≡ false → (bytes ≡ []) × IsAtEnd (R.remaining reader.new.inner))) }
+    ensures err { IfErr result (λ e. (e ≢ ShellFault.Write) × (e ≢ ShellFault.TooLong)
+        × ((bytes : List ℕ) × Consumes (R.remaining reader.old.inner) (R.remaining reader.new.inner) bytes)) }
+    ensures failed { reader.old.failed ≡ false → (result ≡ Err ShellFault.Read ↔ reader.new.failed ≡ true) }
+{
+    let mut chunk = [0u8; 4096];
+    let room = chunk.len().min(SCRIPT_MAX + 1 - input.len());
+    let n = match reader.read(&mut chunk[..room]) {
+        Ok(n) => n,
+        Err(_) => return Err(ShellFault::Read),
+    };
+    match input.extend_from_slice(&chunk[..n]) {
+        Ok(()) => Ok(n != 0),
+        Err(_) => Err(ShellFault::OutOfMemory),
+    }
+}
+
+/// Reads lines to the end of the input, and answers each before it reads more.
+fn converse<R: Read, W: Write, S: Save>(
+    alloc: Global,
+    prompt: &[u8],
+    session: &mut Session,
+    reader: &mut Noted<R>,
+    writer: &mut Noted<W>,
+    saves: &mut S,
+) -> Result<(), ShellFault>
+    requires { Holds nobody session.old.script.items session.old.lines (opened_world session.old.player.world) }
+    // What was written is the answers to the lines that were read, and what was saved is their scripts.
+    ensures ran { OnOk result (Ran prompt.now (R.remaining reader.old.inner) (R.remaining reader.new.inner) (W.contents writer.old.inner)
+        (W.contents writer.new.inner) (S.saved saves.old) (S.saved saves.new)) }
+    // After an error too, up to there; after a failed write, a prefix of them.
+    ensures stopped { IfErr result (λ e. Stopped prompt.now e (R.remaining reader.old.inner) (R.remaining reader.new.inner) (W.contents writer.old.inner)
+        (W.contents writer.new.inner) (S.saved saves.old) (S.saved saves.new)) }
+    // An input is too long only over the limit.
+    ensures long { result ≡ Err ShellFault.TooLong → IfSome (R.remaining reader.old.inner) (λ xs. SCRIPT_MAX < length xs) }
+    // Reading failed exactly if the reader did, and writing exactly if the writer did, in this call.
+    ensures read_failed { reader.old.failed ≡ false → (result ≡ Err ShellFault.Read ↔ reader.new.failed ≡ true) }
+    ensures write_failed { writer.old.failed ≡ false → (result ≡ Err ShellFault.Write ↔ writer.new.failed ≡ true) }
+{
+    match say(writer, prompt) {
+        Ok(()) => {}
+        Err(fault) => return Err(fault),
+    }
+    let mut input = Vec::new(alloc);
+    let mut at = 0;
+    'reads: while input.len() <= SCRIPT_MAX {
+        match read_more(reader, &mut input) {
+            Err(fault) => return Err(fault),
+            Ok(false) => return end_input(alloc, session, &input[at..], writer),
+            Ok(true) => {
+                match answer_lines(alloc, prompt, session, &input[at..], writer, saves) {
+                    Err(fault) => return Err(fault),
+                    Ok(None) => return Ok(()),
+                    Ok(Some(left)) => at = input.len() - left,
+                }
+            }
+        }
+    }
+    Err(ShellFault::TooLong)
+}
+
+/// Answers the lines of a script as they are read, up to the end of the input or a line `quit`, and writes the prompt before each is read:
+/// a line without a fault is played, and answered by what it prints; one with a fault is told, and does nothing. `save NAME` hands out the
+/// lines that were played, a script.
+///
+/// What is read at once is answered before more is read, so who types gets an answer to each line.
+pub fn run<R: Read, W: Write, S: Save>(
+    alloc: Global,
+    prompt: &str,
+    reader: &mut Noted<R>,
+    writer: &mut Noted<W>,
+    saves: &mut S,
+) -> Result<(), ShellFault>
+    // What was written is the answers to the lines that were read, and what was saved is their scripts.
+    ensures ran { OnOk result (Ran prompt.now (R.remaining reader.old.inner) (R.remaining reader.new.inner) (W.contents writer.old.inner)
+        (W.contents writer.new.inner) (S.saved saves.old) (S.saved saves.new)) }
+    // After an error too, up to there; after a failed write, a prefix of them.
+    ensures stopped { IfErr result (λ e. Stopped prompt.now e (R.remaining reader.old.inner) (R.remaining reader.new.inner) (W.contents writer.old.inner)
+        (W.contents writer.new.inner) (S.saved saves.old) (S.saved saves.new)) }
+    // An input is too long only over the limit.
+    ensures long { result ≡ Err ShellFault.TooLong → IfSome (R.remaining reader.old.inner) (λ xs. SCRIPT_MAX < length xs) }
+    // Reading failed exactly if the reader did, and writing exactly if the writer did, in this call.
+    ensures read_failed { reader.old.failed ≡ false → (result ≡ Err ShellFault.Read ↔ reader.new.failed ≡ true) }
+    ensures write_failed { writer.old.failed ≡ false → (result ≡ Err ShellFault.Write ↔ writer.new.failed ≡ true) }
+{
+    let mut session = Session::new(alloc);
+    let ended = converse(
+        alloc,
+        prompt.as_bytes(),
+        &mut session,
+        reader,
+        writer,
+        saves,
+    );
+    session.close();
+    ended
+}

@@ -1,0 +1,56 @@
+//! The shell's own words.
+ghost use Rattle.std.specs.Prelude.{◌≡◌, drop};
+ghost use Rattle.jc_shell.specs.ShellWords.{help_text, name_in, word_of};
+
+use jc_script::words::is;
+
+/// What a line asks of the shell.
+#[derive(Clone, Copy, Debug, PartialEq, Eq)]
+pub enum Word {
+    /// To say the shell's words.
+    Help,
+    /// To end the session.
+    Quit,
+    /// To save the script of the accepted lines.
+    Save,
+    /// Nothing: it's a line of a script.
+    Line,
+}
+
+/// What comes before the name under which a script is saved.
+const SAVE: &str = "save ";
+
+/// What `help` is answered.
+pub const HELP: &str = "\
+A line of a script is answered by what it prints; docs/SCRIPT.md has the lines. A line with a fault does nothing.
+Beside these:
+  help       says this
+  save FILE  writes the accepted lines to a file: a script
+  quit       ends the session, as the end of the input does
+";
+
+/// What a line asks for.
+pub fn word_of(line: &[u8]) -> Word
+    ensures { result ≡ word_of line.now }
+{
+    if is(line, "help") {
+        return Word::Help;
+    }
+    if is(line, "quit") {
+        return Word::Quit;
+    }
+    if SAVE.len() <= line.len() && is(&line[..SAVE.len()], SAVE) {
+        return Word::Save;
+    }
+    Word::Line
+}
+
+/// The name in a line that asks to save.
+pub fn name_in(line: &[u8]) -> &[u8]
+    ensures { result.now ≡ name_in line.now }
+{
+    if line.len() < SAVE.len() {
+        return &[];
+    }
+    &line[SAVE.len()..]
+}
