@@ -44,12 +44,17 @@ final class Background {
             }
         }
 
-        /** Waits until it sleeps: until it waits for another call. It may not end before. */
-        void awaitSleep() throws InterruptedException {
+        /** Waits until it sleeps, for another call or at a gate. It may not end before. True if it isn't at a gate. */
+        boolean awaitSleep() throws InterruptedException {
             long until = System.nanoTime() + TimeUnit.SECONDS.toNanos(SECONDS);
-            while (thread.getState() != Thread.State.WAITING) {
+            for (;;) {
+                // A gate's wait has a limit of time, that of a call for another one has none.
+                Thread.State state = thread.getState();
+                if (state == Thread.State.WAITING || state == Thread.State.TIMED_WAITING) {
+                    return state == Thread.State.WAITING;
+                }
                 if (task.isDone() || System.nanoTime() > until) {
-                    throw new AssertionError("it should wait, but is " + (task.isDone() ? "done" : thread.getState()));
+                    throw new AssertionError("it should wait, but is " + (task.isDone() ? "done" : state));
                 }
                 Thread.sleep(1);
             }

@@ -14,17 +14,17 @@ import java.util.concurrent.atomic.AtomicInteger;
 /**
  * Checks, each with the rule that it is made for, and the program that runs them. Any thread may make one.
  *
- * <p>usage: Check SUITE.. runs each static method of a class that is marked as a Test. A check that fails is printed with its rule and its
- * line; the last line is {@code N checks, M failed}. Exit status 1 if one has failed.
+ * <p>usage: Check SUITE.. runs each static method of a class, of this package or by its whole name, that is marked as a Test. A check that
+ * fails is printed with its rule and its line; the last line is {@code N checks, M failed}. Exit status 1 if one has failed.
  */
-final class Check {
+public final class Check {
     /** Marks a test: a static method without parameters. */
     @Retention(RetentionPolicy.RUNTIME)
     @Target(ElementType.METHOD)
-    @interface Test {}
+    public @interface Test {}
 
     /** Something that may throw. */
-    interface Body {
+    public interface Body {
         void run() throws Throwable;
     }
 
@@ -34,22 +34,22 @@ final class Check {
     private Check() {}
 
     /** That a value is equal to what the rule says. */
-    static void equal(String rule, Object expected, Object actual) {
+    public static void equal(String rule, Object expected, Object actual) {
         count(rule, Objects.equals(expected, actual), "expected " + expected + ", but it is " + actual);
     }
 
     /** That two references are to one object. */
-    static void same(String rule, Object expected, Object actual) {
+    public static void same(String rule, Object expected, Object actual) {
         count(rule, expected == actual, "expected " + expected + " itself, but it is " + actual);
     }
 
     /** That something holds. */
-    static void holds(String rule, boolean it) {
+    public static void holds(String rule, boolean it) {
         count(rule, it, "it doesn't hold");
     }
 
     /** That a body throws an exception of a type, which is given back; null if it doesn't. */
-    static <T extends Throwable> T thrown(String rule, Class<T> type, Body body) {
+    public static <T extends Throwable> T thrown(String rule, Class<T> type, Body body) {
         Throwable actual = null;
         try {
             body.run();
@@ -92,7 +92,7 @@ final class Check {
 
     public static void main(String[] suites) throws ClassNotFoundException {
         for (String suite : suites) {
-            Arrays.stream(Class.forName(Check.class.getPackageName() + "." + suite).getDeclaredMethods())
+            Arrays.stream(Class.forName(suite.contains(".") ? suite : Check.class.getPackageName() + "." + suite).getDeclaredMethods())
                     .filter(method -> method.isAnnotationPresent(Test.class))
                     .sorted(Comparator.comparing(Method::getName))
                     .forEach(Check::run);

@@ -60,9 +60,7 @@ final class ManyKeys {
         List<Work<Integer>> gets = Background.startMany(400, () -> cache.get(5));
         gate.awaitCall();
         for (Work<Integer> get : gets) {
-            if (get.thread.getState() != Thread.State.TIMED_WAITING) {
-                get.awaitSleep();
-            }
+            get.awaitSleep();
         }
         int hits = 0;
         for (int key = 100; key < 300; key++) {

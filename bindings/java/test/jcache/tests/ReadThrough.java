@@ -208,10 +208,7 @@ final class ReadThrough {
         gate.awaitCall();
         int waiting = 0;
         for (Work<String> get : gets) {
-            if (get.thread.getState() != Thread.State.TIMED_WAITING) {
-                get.awaitSleep();
-                waiting++;
-            }
+            waiting += get.awaitSleep() ? 1 : 0;
         }
         equal("eight gets of a missing key: one asks, and seven wait for its load", 7, waiting);
         scene.store.open();
