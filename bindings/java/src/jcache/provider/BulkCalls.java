@@ -1,0 +1,179 @@
+package jcache.provider;
+
+import java.util.ArrayList;
+import java.util.Collection;
+import java.util.HashSet;
+import java.util.LinkedHashSet;
+import java.util.List;
+import java.util.Set;
+import java.util.function.Consumer;
+import java.util.function.Function;
+
+/**
+ * A call of many keys, in rounds. A round makes the first phase of each key that has no reply. Then whoever is to be asked is asked, once for all keys
+ * that the round has reserved, and these are committed; then it waits for the loads that it has joined. A key that can't begin is put off to the next
+ * round. A round waits for a key only while it has nothing out: so no two calls wait for each other.
+ */
+final class BulkCalls {
+    private final CacheContext<?, ?> context;
+    /** Asks for the keys that a round has reserved, and notes the answers in their calls. */
+    private final Consumer<List<Call>> asker;
+    private final List<Call> done = new ArrayList<>();
+    private final Set<Stripe> touched = new HashSet<>();
+
+    BulkCalls(CacheContext<?, ?> context, Consumer<List<Call>> asker) {
+        this.context = context;
+        this.asker = asker;
+    }
+
+    /** What a round has out, and what it puts off. */
+    private static final class Round {
+        final List<Call> asked = new ArrayList<>();
+        final List<Call> joined = new ArrayList<>();
+        final List<Call> later = new ArrayList<>();
+        /** Stripes that have refused a key because they have no room: no other key of theirs is tried. */
+        final Set<Stripe> full = new HashSet<>();
+
+        boolean hasNothingOut() {
+            return asked.isEmpty() && joined.isEmpty();
+        }
+    }
+
+    /**
+     * Makes these calls, of different keys, and tells the listeners. Returns them in the order in which they ended.
+     *
+     * @throws IllegalStateException if the cache is closed, or a call would wait for its own thread. Calls that have not ended have done nothing then
+     */
+    List<Call> run(List<Call> calls) {
+        try {
+            List<Call> left = calls;
+            while (!left.isEmpty()) {
+                left = round(left);
+            }
+        } catch (RuntimeException | Error e) {
+            try {
+                context.tellListeners(touched);
+            } catch (RuntimeException fault) {
+                e.addSuppressed(fault);
+            }
+            throw e;
+        }
+        context.tellListeners(touched);
+        return done;
+    }
+
+    /** One round. Returns the calls that are put off. */
+    private List<Call> round(List<Call> calls) {
+        Round round = new Round();
+        try {
+            calls.forEach(call -> begin(call, round));
+        } catch (RuntimeException | Error e) {
+            // Nobody was asked yet: what is out is given up.
+            round.asked.forEach(call -> call.stripe.withdraw(call));
+            round.joined.forEach(call -> call.stripe.abandon(call));
+            throw e;
+        }
+        if (!round.asked.isEmpty()) {
+            ask(round.asked);
+            round.asked.forEach(call -> call.stripe.end(call));
+            done.addAll(round.asked);
+        }
+        pickUp(round);
+        return round.later;
+    }
+
+    private void begin(Call call, Round round) {
+        Stripe stripe = context.stripeOf(call.lookup.hash);
+        if (round.full.contains(stripe)) {
+            round.later.add(call);
+            return;
+        }
+        touched.add(stripe);
+        stripe.begin(call, round.hasNothingOut());
+        switch (call.next) {
+            case Native.DONE:
+                done.add(call);
+                break;
+            case Native.REFUSED:
+                round.later.add(call);
+                if (call.blocker == null) {
+                    round.full.add(stripe);
+                }
+                break;
+            case Native.JOINED:
+                round.joined.add(call);
+                break;
+            default:
+                round.asked.add(call);
+        }
+    }
+
+    /** Whatever happens, each call has an answer then, and can be committed. */
+    private void ask(List<Call> asked) {
+        try {
+            asker.accept(asked);
+        } catch (RuntimeException | Error e) {
+            asked.forEach(call -> call.failIfUnanswered(e));
+        }
+    }
+
+    private void pickUp(Round round) {
+        int picked = 0;
+        try {
+            for (Call call : round.joined) {
+                picked++;
+                call.stripe.pickUp(call);
+                (call.isDone() ? done : round.later).add(call);
+            }
+        } catch (RuntimeException | Error e) {
+            round.joined.subList(picked, round.joined.size()).forEach(call -> call.stripe.abandon(call));
+            throw e;
+        }
+    }
+
+    // One operation at each key.
+
+    /** The replies of one operation at many keys, and the first failure. */
+    static final class Result {
+        final List<Call> calls;
+        /** What the loader or the writer threw first, or null. */
+        final Throwable cause;
+
+        Result(List<Call> calls, Throwable cause) {
+            this.calls = calls;
+            this.cause = cause;
+        }
+    }
+
+    /** Makes one operation at each of these keys, with a value or null for each. */
+    static <K, V> Result run(CacheContext<K, V> context, int op, Collection<? extends K> keys, Function<K, V> valueOf) {
+        List<Call> calls = new ArrayList<>(keys.size());
+        for (K key : new LinkedHashSet<>(keys)) {
+            V value = valueOf.apply(key);
+            calls.add(new Call(op, new KeyLookup(key), value, context.copier.in(value), null));
+        }
+        Throwable[] first = new Throwable[1];
+        List<Call> done = new BulkCalls(context, asked -> {
+            Throwable thrown = askOf(context.outside, asked);
+            first[0] = first[0] == null ? thrown : first[0];
+        }).run(calls);
+        for (Call call : done) {
+            if (call.hasFailed() && first[0] == null) {
+                first[0] = call.cause;
+            }
+        }
+        return new Result(done, first[0]);
+    }
+
+    /** All of a round's keys are to be loaded, or all to be written, or all to be deleted. Returns what was thrown, or null. */
+    private static Throwable askOf(Outside<?, ?> outside, List<Call> asked) {
+        switch (asked.get(0).next) {
+            case Native.ASK_LOADER:
+                return outside.loadAll(asked);
+            case Native.WRITE:
+                return outside.writeAll(asked);
+            default:
+                return outside.deleteAll(asked);
+        }
+    }
+}

@@ -1,0 +1,129 @@
+package jcache.provider;
+
+import java.util.Collection;
+import javax.cache.Cache;
+import javax.cache.configuration.CacheEntryListenerConfiguration;
+import javax.cache.configuration.CompleteConfiguration;
+import javax.cache.configuration.Factory;
+import javax.cache.event.CacheEntryListenerException;
+import javax.cache.expiry.EternalExpiryPolicy;
+import javax.cache.expiry.ExpiryPolicy;
+
+/** What the parts of a cache share: its stripes, what is outside of it, and how it keeps keys and values. */
+final class CacheContext<K, V> {
+    final Cache<K, V> cache;
+    final Copier copier;
+    final Outside<K, V> outside;
+    /** Null if no entry expires. */
+    final Expiry expiry;
+    final Listeners<K, V> listeners;
+    volatile boolean hasStatistics;
+    private final Stripe[] stripes;
+    private volatile boolean hasListeners;
+
+    CacheContext(Cache<K, V> cache, String name, CompleteConfiguration<K, V> configuration, Copier copier, Settings settings) {
+        this.cache = cache;
+        this.copier = copier;
+        outside = new Outside<>(configuration, copier);
+        Factory<ExpiryPolicy> policies = configuration.getExpiryPolicyFactory();
+        ExpiryPolicy policy = policies == null ? null : policies.create();
+        expiry = policy == null || policy instanceof EternalExpiryPolicy ? null : new Expiry(policy);
+        hasStatistics = configuration.isStatisticsEnabled();
+        listeners = new Listeners<>(name);
+        for (CacheEntryListenerConfiguration<K, V> listener : configuration.getCacheEntryListenerConfigurations()) {
+            addListener(listener);
+        }
+        stripes = openStripes(name, settings);
+    }
+
+    /** Opens all stripes, or none. */
+    private Stripe[] openStripes(String name, Settings settings) {
+        Stripe[] opened = new Stripe[settings.stripes];
+        try {
+            for (int i = 0; i < opened.length; i++) {
+                opened[i] = new Stripe(this, settings, Recorder.open(name, i, settings));
+            }
+        } catch (RuntimeException | Error e) {
+            for (Stripe stripe : opened) {
+                if (stripe != null) {
+                    stripe.close();
+                }
+            }
+            throw e;
+        }
+        return opened;
+    }
+
+    /** The stripe of a key with this hash. */
+    Stripe stripeOf(int hash) {
+        return stripes[(int) ((hash & 0xffffffffL) * stripes.length >>> Integer.SIZE)];
+    }
+
+    Stripe[] stripes() {
+        return stripes;
+    }
+
+    /** What is handed out of a value that is kept. */
+    @SuppressWarnings("unchecked")
+    V valueOut(Object stored) {
+        return (V) copier.out(stored);
+    }
+
+    /** What is handed out of a key that is kept. */
+    @SuppressWarnings("unchecked")
+    K keyOut(Object key) {
+        return (K) copier.key(key);
+    }
+
+    boolean hasListeners() {
+        return hasListeners;
+    }
+
+    void addListener(CacheEntryListenerConfiguration<K, V> listener) {
+        listeners.add(listener);
+        hasListeners = true;
+    }
+
+    void removeListener(CacheEntryListenerConfiguration<K, V> listener) {
+        listeners.remove(listener);
+        hasListeners = !listeners.isEmpty();
+    }
+
+    /** Tells the listeners what has happened in a stripe. No lock is held. */
+    void tellListeners(Stripe stripe) {
+        if (hasListeners) {
+            stripe.events().tell();
+        }
+    }
+
+    /**
+     * The same of several stripes.
+     *
+     * @throws CacheEntryListenerException the first that a synchronous listener threw, once all stripes' events are told
+     */
+    void tellListeners(Collection<Stripe> touched) {
+        CacheEntryListenerException fault = null;
+        for (Stripe stripe : touched) {
+            try {
+                tellListeners(stripe);
+            } catch (CacheEntryListenerException e) {
+                fault = fault == null ? e : fault;
+            }
+        }
+        if (fault != null) {
+            throw fault;
+        }
+    }
+
+    /** Closes the stripes, and what the cache was given. */
+    void close() {
+        for (Stripe stripe : stripes) {
+            stripe.close();
+        }
+        outside.close();
+        if (expiry != null) {
+            expiry.close();
+        }
+        listeners.close();
+    }
+}

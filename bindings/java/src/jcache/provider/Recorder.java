@@ -1,0 +1,168 @@
+package jcache.provider;
+
+import java.io.BufferedOutputStream;
+import java.io.DataOutputStream;
+import java.io.IOException;
+import java.net.URLEncoder;
+import java.nio.charset.StandardCharsets;
+import java.nio.file.Files;
+import java.nio.file.Path;
+import java.nio.file.StandardOpenOption;
+import java.util.ArrayList;
+import java.util.List;
+import java.util.Queue;
+import java.util.concurrent.ConcurrentLinkedQueue;
+import java.util.concurrent.locks.ReentrantLock;
+import javax.cache.CacheException;
+
+/**
+ * Keeps the events of a stripe. They are taken when their generation ends, with the lock of the stripe held, and written to the stripe's file with it
+ * free, by the call that took them, with the texts of the keys that the core knows by numbers. {@link Records} prints such files.
+ *
+ * <p>A file is a row of parts, each a byte and what it says: {@value #OPENED}, the stripe's number, as an int; {@value #KEY}, a number and a text;
+ * {@value #EVENTS}, how many there are, as an int, and they, as {@link Event} says; {@value #CLOSED}.
+ */
+final class Recorder {
+    static final int OPENED = 'o';
+    static final int KEY = 'k';
+    static final int EVENTS = 'e';
+    static final int CLOSED = 'c';
+    /** The end of the name of a stripe's file. */
+    static final String FILE_END = ".events";
+    /** The longest text of a key, in characters; what is longer is cut. */
+    private static final int TEXT_MAX = 1000;
+
+    private final Path file;
+    private final int stripe;
+    /** The keys that were given a number since the last generation ended. The lock of the stripe guards it. */
+    private List<Node> named = new ArrayList<>();
+    /** What was taken and isn't written. */
+    private final Queue<Generation> taken = new ConcurrentLinkedQueue<>();
+    /** Whoever has it writes. No lock of a stripe is taken with it. */
+    private final ReentrantLock turn = new ReentrantLock();
+    private boolean isBroken;
+
+    private Recorder(Path file, int stripe) {
+        this.file = file;
+        this.stripe = stripe;
+    }
+
+    /** The events of a generation, and the keys that were given a number in it. */
+    private static final class Generation {
+        final List<Node> named;
+        final byte[] events;
+        final boolean isLast;
+
+        Generation(List<Node> named, byte[] events, boolean isLast) {
+            this.named = named;
+            this.events = events;
+            this.isLast = isLast;
+        }
+    }
+
+    /**
+     * What keeps the events of a stripe, if the settings say so; else null. The file is FOLDER/CACHE-STRIPE.events; what it has is kept.
+     *
+     * @throws CacheException if it can't be written
+     */
+    static Recorder open(String cacheName, int stripe, Settings settings) {
+        if (settings.record == null) {
+            return null;
+        }
+        String name = URLEncoder.encode(cacheName, StandardCharsets.UTF_8) + "-" + stripe + FILE_END;
+        Recorder recorder = new Recorder(settings.record.resolve(name), stripe);
+        try {
+            Files.createDirectories(settings.record);
+            try (DataOutputStream out = recorder.append()) {
+                out.writeByte(OPENED);
+                out.writeInt(stripe);
+            }
+        } catch (IOException e) {
+            throw new CacheException("the property " + Settings.RECORD + " is " + settings.record + ", where no record can be written", e);
+        }
+        return recorder;
+    }
+
+    private DataOutputStream append() throws IOException {
+        return new DataOutputStream(new BufferedOutputStream(Files.newOutputStream(file, StandardOpenOption.CREATE, StandardOpenOption.APPEND)));
+    }
+
+    // With the lock of the stripe held.
+
+    /** Notes that a key was given a number. */
+    void name(Node node) {
+        named.add(node);
+    }
+
+    /** Takes the events of the present generation, and ends it. False: it can't be ended now, and nothing was taken. */
+    boolean endGeneration(Desk desk) {
+        byte[] events = eventsOf(desk);
+        if (!desk.endGeneration()) {
+            return false;
+        }
+        take(events, false);
+        return true;
+    }
+
+    /** Takes the last events, before the desk is closed. */
+    void end(Desk desk) {
+        take(eventsOf(desk), true);
+    }
+
+    private void take(byte[] events, boolean isLast) {
+        taken.add(new Generation(named, events, isLast));
+        named = new ArrayList<>();
+    }
+
+    private static byte[] eventsOf(Desk desk) {
+        int count = desk.eventCount();
+        byte[] events = new byte[count * Event.SIZE];
+        for (int place = 0; place < count; place++) {
+            desk.event(place, events, place * Event.SIZE);
+        }
+        return events;
+    }
+
+    // With the lock of the stripe free.
+
+    /** Writes what was taken. If that fails nothing more is written, and the log says so. */
+    void flush() {
+        if (taken.isEmpty() || turn.isHeldByCurrentThread()) {
+            return;
+        }
+        turn.lock();
+        try {
+            for (Generation next = taken.poll(); next != null; next = taken.poll()) {
+                if (!isBroken) {
+                    write(next);
+                }
+            }
+        } catch (IOException | RuntimeException e) {
+            isBroken = true;
+            Log.warning("the events of stripe " + stripe + " are not written to " + file + " any more", e);
+        } finally {
+            turn.unlock();
+        }
+    }
+
+    private void write(Generation generation) throws IOException {
+        try (DataOutputStream out = append()) {
+            for (Node node : generation.named) {
+                out.writeByte(KEY);
+                out.writeLong(node.id);
+                out.writeUTF(textOf(node.key));
+            }
+            out.writeByte(EVENTS);
+            out.writeInt(generation.events.length / Event.SIZE);
+            out.write(generation.events);
+            if (generation.isLast) {
+                out.writeByte(CLOSED);
+            }
+        }
+    }
+
+    private static String textOf(Object key) {
+        String text = String.valueOf(key).replace('\n', ' ');
+        return text.length() <= TEXT_MAX ? text : text.substring(0, TEXT_MAX);
+    }
+}

@@ -1,0 +1,33 @@
+package jcache.provider;
+
+import java.util.Arrays;
+
+/** Numbers of sessions: the core wants that each has one call out at a time. The lock of a stripe guards them. */
+final class Sessions {
+    /** The session of calls that are done at once. */
+    static final int AT_ONCE = 0;
+
+    private int[] free = new int[2];
+    private int freeCount;
+    private int last = AT_ONCE;
+
+    int take() {
+        if (freeCount > 0) {
+            return free[--freeCount];
+        }
+        return ++last;
+    }
+
+    /** Gives a session back. It allocates only while more sessions are out than ever before. */
+    void give(int session) {
+        if (freeCount == free.length) {
+            free = Arrays.copyOf(free, 2 * freeCount);
+        }
+        free[freeCount++] = session;
+    }
+
+    /** Whether no session is out. */
+    boolean areFree() {
+        return freeCount == last;
+    }
+}
