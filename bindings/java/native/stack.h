@@ -1,8 +1,9 @@
-/* How much stack the thread has left.
+/* Whether the thread has enough stack left to begin a call.
  *
- * A virtual machine throws StackOverflowError when a Java or native method is entered less than its shadow pages (80 kB on x86-64 Linux) above
- * its guard pages (16 kB). If that happened between a call's reservation and its commit, the key would stay reserved for ever. So
- * a call begins only if there is more left than that by a margin, which is far more than a last phase at the same depth takes. */
+ * A virtual machine throws StackOverflowError when a method is entered less than its shadow pages (80 kB on x86-64
+ * Linux) above its guard pages (16 kB). If that happened between a call's reservation and its commit, the key
+ * would stay reserved for ever. So a call begins only if there is more left than that by a margin, which is far
+ * more than a last phase at the same depth takes. */
 #ifndef JCACHE_STACK_H
 #define JCACHE_STACK_H
 #include <pthread.h>

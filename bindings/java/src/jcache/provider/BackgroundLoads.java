@@ -46,7 +46,8 @@ final class BackgroundLoads<K, V> {
 
     /** A thread of the cache's own has nobody to throw an error at: the listener is told of it. */
     private static Exception failure(Throwable cause) {
-        return cause instanceof CacheLoaderException ? (CacheLoaderException) cause : new CacheLoaderException("the loader failed", cause);
+        return cause instanceof CacheLoaderException ? (CacheLoaderException) cause
+                : new CacheLoaderException("the loader failed", cause);
     }
 
     private static void tell(CompletionListener listener, Exception failure) {

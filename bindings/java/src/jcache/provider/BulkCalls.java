@@ -10,9 +10,10 @@ import java.util.function.Consumer;
 import java.util.function.Function;
 
 /**
- * A call of many keys, in rounds. A round makes the first phase of each key that has no reply. Then whoever is to be asked is asked, once for all keys
- * that the round has reserved, and these are committed; then it waits for the loads that it has joined. A key that can't begin is put off to the next
- * round. A round waits for a key only while it has nothing out: so no two calls wait for each other.
+ * A call of many keys, in rounds. A round makes the first phase of each key that has no reply. Then whoever is to be
+ * asked is asked, once for all keys that the round has reserved, and these are committed; then it waits for the loads
+ * that it has joined. A key that can't begin is put off to the next round. A round waits for a key only while it has
+ * nothing out: so no two calls wait for each other.
  */
 final class BulkCalls {
     private final CacheContext<?, ?> context;
@@ -42,7 +43,8 @@ final class BulkCalls {
     /**
      * Makes these calls, of different keys, and tells the listeners. Returns them in the order in which they ended.
      *
-     * @throws IllegalStateException if the cache is closed, or a call would wait for its own thread. Calls that have not ended have done nothing then
+     * @throws IllegalStateException if the cache is closed, or a call would wait for its own thread. Calls that have
+     *     not ended have done nothing then
      */
     List<Call> run(List<Call> calls) {
         try {
@@ -165,7 +167,10 @@ final class BulkCalls {
         return new Result(done, first[0]);
     }
 
-    /** All of a round's keys are to be loaded, or all to be written, or all to be deleted. Returns what was thrown, or null. */
+    /**
+     * All of a round's keys are to be loaded, or all to be written, or all to be deleted. Returns what was thrown, or
+     * null.
+     */
     private static Throwable askOf(Outside<?, ?> outside, List<Call> asked) {
         switch (asked.get(0).next) {
             case Native.ASK_LOADER:

@@ -21,7 +21,8 @@ final class CacheContext<K, V> {
     private final Stripe[] stripes;
     private volatile boolean hasListeners;
 
-    CacheContext(Cache<K, V> cache, String name, CompleteConfiguration<K, V> configuration, Copier copier, Settings settings) {
+    CacheContext(Cache<K, V> cache, String name, CompleteConfiguration<K, V> configuration, Copier copier,
+            Settings settings) {
         this.cache = cache;
         this.copier = copier;
         outside = new Outside<>(configuration, copier);
@@ -99,7 +100,8 @@ final class CacheContext<K, V> {
     /**
      * The same of several stripes.
      *
-     * @throws CacheEntryListenerException the first that a synchronous listener threw, once all stripes' events are told
+     * @throws CacheEntryListenerException the first that a synchronous listener threw, once all stripes' events are
+     *     told
      */
     void tellListeners(Collection<Stripe> touched) {
         CacheEntryListenerException fault = null;

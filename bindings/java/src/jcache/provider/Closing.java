@@ -2,7 +2,10 @@ package jcache.provider;
 
 import java.io.Closeable;
 
-/** Closes what a cache was given (JSR 107, {@code Cache.close}). What that throws is of no concern to who closes the cache, and is logged. */
+/**
+ * Closes what a cache was given (JSR 107, {@code Cache.close}). What that throws is of no concern to who closes the
+ * cache, and is logged.
+ */
 final class Closing {
     private Closing() {
     }

@@ -1,9 +1,9 @@
 package jcache.provider;
 
 /**
- * What JSR 107's statistics count of a stripe. The core's own counts are others: it doesn't count what an {@code invoke} does as a get. The
- * lock of the stripe guards them. The times are those of the first calls, and later of one call of sixteen: two looks at the clock take nearly as
- * long as a hit.
+ * What JSR 107's statistics count of a stripe. The core's own counts are others: it doesn't count what an {@code
+ * invoke} does as a get. The lock of the stripe guards them. The times are those of the first calls, and later of one
+ * call of sixteen: two looks at the clock take nearly as long as a hit.
  */
 final class Counts {
     private static final int FIRST_CALLS = 64;
@@ -35,7 +35,10 @@ final class Counts {
         }
     }
 
-    /** The time now, if the call that begins is timed; else 0. It is called with the lock free: then a count may be lost, and that is all. */
+    /**
+     * The time now, if the call that begins is timed; else 0. It is called with the lock free: then a count may be
+     * lost, and that is all.
+     */
     long begin() {
         long call = calls++;
         return call < FIRST_CALLS || call % CALLS_A_TIMED_ONE == 0 ? System.nanoTime() | 1 : 0;

@@ -6,8 +6,9 @@ import java.nio.ByteOrder;
 import java.util.concurrent.locks.ReentrantLock;
 
 /**
- * The core's stripe: its memory, and the buffer that it tells through. All methods are called with the lock of the stripe held. The memory is
- * freed by {@link #close}, or once nobody can reach that lock any more: whoever is inside the core has it.
+ * The core's stripe: its memory, and the buffer that it tells through. All methods are called with the lock of the
+ * stripe held. The memory is freed by {@link #close}, or once nobody can reach that lock any more: whoever is inside
+ * the core has it.
  */
 final class Desk {
     private static final Cleaner CLEANER = Cleaner.create();
@@ -22,7 +23,8 @@ final class Desk {
      *
      * @throws OutOfMemoryError if its memory can't be allocated
      */
-    Desk(ReentrantLock lock, int capacity, int history, boolean readsThrough, boolean writesThrough, boolean keepsEvents) {
+    Desk(ReentrantLock lock, int capacity, int history, boolean readsThrough, boolean writesThrough,
+            boolean keepsEvents) {
         address = Native.open(capacity, history, readsThrough, writesThrough, keepsEvents, out);
         if (address == 0) {
             throw new OutOfMemoryError("a stripe of a cache can't be allocated");

@@ -8,8 +8,8 @@ import java.util.function.Predicate;
 import javax.cache.Cache;
 
 /**
- * The entries of a cache, stripe by stripe. The keys of a stripe are those that are cached when it is reached; an entry that is gone since is left out.
- * Each entry that is handed out counts as a get (JSR 107, {@code Cache.iterator}).
+ * The entries of a cache, stripe by stripe. The keys of a stripe are those that are cached when it is reached; an entry
+ * that is gone since is left out. Each entry that is handed out counts as a get (JSR 107, {@code Cache.iterator}).
  */
 final class EntryIterator<K, V> implements Iterator<Cache.Entry<K, V>> {
     private final CacheContext<K, V> context;

@@ -3,8 +3,8 @@ package jcache.provider;
 import java.nio.ByteBuffer;
 
 /**
- * An event of a stripe's history, as the native library tells it and as a record keeps it: a step of a call, or an eviction. Keys and values are the
- * numbers by which the core knows them; 0 is no value.
+ * An event of a stripe's history, as the native library tells it and as a record keeps it: a step of a call, or an
+ * eviction. Keys and values are the numbers by which the core knows them; 0 is no value.
  */
 final class Event {
     /** How many bytes one has, in little-endian order. */
@@ -12,9 +12,10 @@ final class Event {
 
     private static final int EVICTION = 1;
     private static final int FOR_MEMORY = 1;
-    private static final String[] OPERATIONS = {"get", "contains", "put", "getput", "putif", "remove", "removeif", "getremove", "replace", "replaceif",
-        "getreplace", "clear", "load", "reload", "invoke"};
-    private static final String[] REPLIES = {"ok", "false", "true", "-", "", "LoaderFailed", "WriterFailed", "ProcessorFailed", "OtherFault"};
+    private static final String[] OPERATIONS = {"get", "contains", "put", "getput", "putif", "remove", "removeif",
+        "getremove", "replace", "replaceif", "getreplace", "clear", "load", "reload", "invoke"};
+    private static final String[] REPLIES = {"ok", "false", "true", "-", "", "LoaderFailed", "WriterFailed",
+        "ProcessorFailed"};
 
     final long call;
     final long key;
@@ -56,28 +57,35 @@ final class Event {
 
     /** The event as lines of a script and its transcript: S.P is its stripe and its place in the generation. */
     String lines(String keyText, int stripe, int place) {
-        String at = " at " + stripe + "." + place + "\n";
+        String at = " at " + stripe + "." + place;
         if (kind == EVICTION) {
-            return "evict " + keyText + (cause == FOR_MEMORY ? " memory" : " full") + at;
+            return "evict " + keyText + (cause == FOR_MEMORY ? " memory" : " full") + at + "\n";
         }
-        StringBuilder lines = new StringBuilder();
-        lines.append("begin ").append(call).append(" s").append(session).append(' ').append(OPERATIONS[op]).append(' ').append(keyText);
-        lines.append(value == 0 ? "" : " #" + value).append(other == 0 ? "" : " #" + other).append('\n');
         String prefix = call + " " + keyText;
+        String shared = sharedWith < 0 ? "" : " shared " + sharedWith;
+        String result = reply == Native.VALUE ? valueText(replied) : REPLIES[reply];
+        return beginLine(keyText) + outsideLines(prefix) + prefix + " is " + result + at + shared + "\n";
+    }
+
+    private String beginLine(String keyText) {
+        String values = (value == 0 ? "" : " " + valueText(value)) + (other == 0 ? "" : " " + valueText(other));
+        return "begin " + call + " s" + session + " " + OPERATIONS[op] + " " + keyText + values + "\n";
+    }
+
+    /** What the loader, the processor and the writer did. */
+    private String outsideLines(String prefix) {
+        String lines = "";
+        String fails = call + " fails\n";
         if (load != Native.NOT_ASKED) {
-            lines.append(load == Native.FAILED ? call + " fails" : prefix + " says " + valueText(loaded)).append('\n');
+            lines += load == Native.FAILED ? fails : prefix + " says " + valueText(loaded) + "\n";
         }
         if (op == Native.INVOKE) {
-            lines.append(effectLine(prefix));
+            lines += effectLine(prefix);
         }
         if (write != Native.NOT_ASKED) {
-            lines.append(write == Native.FAILED ? call + " fails" : prefix + (isDelete() ? " deleted" : " written")).append('\n');
+            lines += write == Native.FAILED ? fails : prefix + (isDelete() ? " deleted\n" : " written\n");
         }
-        lines.append(prefix).append(" is ").append(reply == Native.VALUE ? valueText(replied) : REPLIES[reply]).append(at);
-        if (sharedWith >= 0) {
-            lines.insert(lines.length() - 1, " shared " + sharedWith);
-        }
-        return lines.toString();
+        return lines;
     }
 
     private static String valueText(long version) {
@@ -99,6 +107,7 @@ final class Event {
     }
 
     private boolean isDelete() {
-        return op == Native.REMOVE || op == Native.REMOVE_IF || op == Native.GET_AND_REMOVE || effect == Native.TAKE_OUT;
+        return op == Native.REMOVE || op == Native.REMOVE_IF || op == Native.GET_AND_REMOVE
+                || op == Native.INVOKE && effect == Native.TAKE_OUT;
     }
 }

@@ -7,11 +7,14 @@ import javax.cache.event.CacheEntryListenerException;
 import javax.cache.event.EventType;
 
 /**
- * The events of a stripe of which the listeners have not been told. They are noted under the lock of the stripe, in the steps' order, and told with
- * it free, by one thread at a time, in that order.
+ * The events of a stripe of which the listeners have not been told. They are noted under the lock of the stripe, in the
+ * steps' order, and told with it free, by one thread at a time, in that order.
  */
 final class EventQueue<K, V> {
-    /** Of a thread that tells listeners: the queues that a listener's own calls have added to. They are told when that listener is through. */
+    /**
+     * Of a thread that tells listeners: the queues that a listener's own calls have added to. They are told when that
+     * listener is through.
+     */
     private static final ThreadLocal<Deque<EventQueue<?, ?>>> TELLING = new ThreadLocal<>();
 
     private final CacheContext<K, V> context;
@@ -32,8 +35,8 @@ final class EventQueue<K, V> {
     }
 
     /**
-     * Tells the listeners, so that a call's own events are told when it returns; but the events of calls that a listener makes only when that listener
-     * is through.
+     * Tells the listeners, so that a call's own events are told when it returns; but the events of calls that a
+     * listener makes only when that listener is through.
      *
      * @throws CacheEntryListenerException if a synchronous listener threw an exception
      */

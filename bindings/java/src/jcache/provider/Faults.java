@@ -4,7 +4,10 @@ import javax.cache.integration.CacheLoaderException;
 import javax.cache.integration.CacheWriterException;
 import javax.cache.processor.EntryProcessorException;
 
-/** What a caller gets for what a loader, a writer or a processor threw: the standard's exceptions as they are, others as their causes. */
+/**
+ * What a caller gets for what a loader, a writer or a processor threw: the standard's exceptions as they are, others as
+ * their causes.
+ */
 final class Faults {
     private Faults() {
     }
@@ -18,17 +21,20 @@ final class Faults {
 
     static CacheLoaderException ofLoader(Throwable cause) {
         throwError(cause);
-        return cause instanceof CacheLoaderException ? (CacheLoaderException) cause : new CacheLoaderException("the loader failed", cause);
+        return cause instanceof CacheLoaderException ? (CacheLoaderException) cause
+                : new CacheLoaderException("the loader failed", cause);
     }
 
     static CacheWriterException ofWriter(Throwable cause) {
         throwError(cause);
-        return cause instanceof CacheWriterException ? (CacheWriterException) cause : new CacheWriterException("the writer failed", cause);
+        return cause instanceof CacheWriterException ? (CacheWriterException) cause
+                : new CacheWriterException("the writer failed", cause);
     }
 
     static EntryProcessorException ofProcessor(Throwable cause) {
         throwError(cause);
-        return cause instanceof EntryProcessorException ? (EntryProcessorException) cause : new EntryProcessorException(cause);
+        return cause instanceof EntryProcessorException ? (EntryProcessorException) cause
+                : new EntryProcessorException(cause);
     }
 
     /** Throws what a call of one key ended in, if its loader or its writer failed. */

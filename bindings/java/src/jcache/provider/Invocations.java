@@ -59,10 +59,12 @@ final class Invocations<K, V> {
     }
 
     /**
-     * Runs a processor on the entries of these keys, in rounds. In a round the processors run one after another; then the writer is asked once for all
-     * that are to be written, and once for all that are to be deleted. A key's failure is its result; an error is thrown when all have ended.
+     * Runs a processor on the entries of these keys, in rounds. In a round the processors run one after another; then
+     * the writer is asked once for all that are to be written, and once for all that are to be deleted. A key's failure
+     * is its result; an error is thrown when all have ended.
      */
-    <T> Map<K, EntryProcessorResult<T>> invokeAll(Set<? extends K> keys, EntryProcessor<K, V, T> processor, Object... arguments) {
+    <T> Map<K, EntryProcessorResult<T>> invokeAll(Set<? extends K> keys, EntryProcessor<K, V, T> processor,
+            Object... arguments) {
         List<Call> calls = new ArrayList<>(keys.size());
         new LinkedHashSet<>(keys).forEach(key -> calls.add(new Call(Native.INVOKE, new KeyLookup(key))));
         Map<Call, T> results = new IdentityHashMap<>();
@@ -105,7 +107,7 @@ final class Invocations<K, V> {
         try {
             throwFailureOf(call);
         } catch (RuntimeException e) {
-            EntryProcessorException fault = e instanceof EntryProcessorException ? (EntryProcessorException) e : new EntryProcessorException(e);
+            EntryProcessorException fault = Faults.ofProcessor(e);
             return () -> {
                 throw fault;
             };

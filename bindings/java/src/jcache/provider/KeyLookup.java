@@ -4,8 +4,8 @@ import java.util.ArrayList;
 import java.util.List;
 
 /**
- * A key that is looked up in a stripe, and what it was compared with. A key's {@code equals} may be the user's, and runs with the lock free:
- * so a look-up notes what it has compared, and looks again.
+ * A key that is looked up in a stripe, and what it was compared with. A key's {@code equals} may be the user's, and
+ * runs with the lock free: so a look-up notes what it has compared, and looks again.
  */
 final class KeyLookup {
     final Object key;

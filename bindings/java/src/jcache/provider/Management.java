@@ -37,7 +37,8 @@ final class Management {
     private static ObjectName nameOf(JcacheCache<?, ?> cache, String type) {
         String manager = clean(cache.getCacheManager().getURI().toString());
         try {
-            return new ObjectName("javax.cache:type=" + type + ",CacheManager=" + manager + ",Cache=" + clean(cache.getName()));
+            return new ObjectName(
+                    "javax.cache:type=" + type + ",CacheManager=" + manager + ",Cache=" + clean(cache.getName()));
         } catch (JMException e) {
             throw new CacheException("there is no name for the beans of the cache " + cache.getName(), e);
         }

@@ -9,8 +9,8 @@ import java.util.Locale;
 import javax.cache.CacheException;
 
 /**
- * Loads the library of the core, once. It is in the jar, from where it is copied to a temporary file that only its owner can read; or it is the one that
- * the property {@value #PROPERTY} names.
+ * Loads the library of the core, once. It is in the jar, from where it is copied to a temporary file that only its
+ * owner can read; or it is the one that the property {@value #PROPERTY} names.
  */
 final class NativeLibrary {
     /** The path of the library, if it isn't the jar's. */
@@ -41,17 +41,19 @@ final class NativeLibrary {
                 loadFromJar();
             }
         } catch (UnsatisfiedLinkError e) {
-            throw new CacheException("the native library " + (path == null ? "of the jar" : path + " (" + PROPERTY + ")") + " can't be loaded", e);
+            String which = path == null ? "of the jar" : path + ", which " + PROPERTY + " names,";
+            throw new CacheException("the native library " + which + " can't be loaded", e);
         }
         isLoaded = true;
     }
 
     private static void loadFromJar() {
         String platform = platform();
-        try (InputStream library = NativeLibrary.class.getResourceAsStream("/META-INF/native/" + platform + "/" + FILE)) {
+        String resource = "/META-INF/native/" + platform + "/" + FILE;
+        try (InputStream library = NativeLibrary.class.getResourceAsStream(resource)) {
             if (library == null) {
-                throw new UnsupportedOperationException("jcache.provider has no native library for " + platform + ", but for linux-x86_64; the property "
-                        + PROPERTY + " may name the path of one");
+                throw new UnsupportedOperationException("jcache.provider has no native library for " + platform
+                        + ", but for linux-x86_64; the property " + PROPERTY + " may name the path of one");
             }
             Path copy = Files.createTempFile("jcache", ".so");
             try {

@@ -6,11 +6,14 @@ import java.util.List;
 import java.util.function.Consumer;
 
 /**
- * The nodes of a stripe, by their keys' hashes and by their numbers. The lock of the stripe guards it. It never calls a method of a key that
- * isn't {@linkplain Copier#isPlain plain}.
+ * The nodes of a stripe, by their keys' hashes and by their numbers. The lock of the stripe guards it. It never calls a
+ * method of a key that isn't {@linkplain Copier#isPlain plain}.
  */
 final class NodeTable {
-    /** A number's low bits are the slot of its node: 4,096 entries and the keys that 64 calls have reserved and 64 others have joined. */
+    /**
+     * A number's low bits are the slot of its node: 4,096 entries and the keys that 64 calls have reserved and 64
+     * others have joined.
+     */
     private static final int SLOT_BITS = 13;
     private static final int SLOTS_MAX = 1 << SLOT_BITS;
     private static final int SMALLEST = 16;
@@ -24,7 +27,10 @@ final class NodeTable {
     /** How many numbers were given: 2^50 are enough for 35 years of a million new keys a second. */
     private long given;
 
-    /** The node of a key, or of the first key of the same hash with which it has to be compared; null if there is neither. */
+    /**
+     * The node of a key, or of the first key of the same hash with which it has to be compared; null if there is
+     * neither.
+     */
     Node find(KeyLookup sought) {
         Node node = buckets[sought.hash & buckets.length - 1];
         while (node != null && (node.hash != sought.hash || !sought.isEqual(node) && sought.isDifferent(node))) {

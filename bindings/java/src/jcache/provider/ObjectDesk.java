@@ -1,9 +1,10 @@
 package jcache.provider;
 
 /**
- * A stripe of the core whose keys and values are objects. The core sees a key as a number that is never given twice, and a value as another one,
- * its version; what they stand for is in the key's {@link Node}. A node follows what the core says came and went with a step, and nothing else; each
- * answer of the core is compared with it. The lock of the stripe guards it all, and nothing of the user's is called here.
+ * A stripe of the core whose keys and values are objects. The core sees a key as a number that is never given twice,
+ * and a value as another one, its version; what they stand for is in the key's {@link Node}. A node follows what the
+ * core says came and went with a step, and nothing else; each answer of the core is compared with it. The lock of the
+ * stripe guards it all, and nothing of the user's is called here.
  */
 final class ObjectDesk {
     /** The version that no value has: what a conditional call brings if the entry isn't equal to its value. */
@@ -49,14 +50,17 @@ final class ObjectDesk {
         return node.stored;
     }
 
-    /** The first phase of a call. Its next says what follows. If it was refused, its blocker is who has reserved the key, if that is why. */
+    /**
+     * The first phase of a call. Its next says what follows. If it was refused, its blocker is who has reserved the
+     * key, if that is why.
+     */
     void begin(Call call, Node node) {
         if (call.stored != null && call.version == 0) {
             call.version = ++lastVersion;
         }
-        boolean isConditional = call.expected != null;
         int session = sessions.take();
-        int result = begin(session, call.op, node.id, isConditional ? expected(call, node) : call.version, isConditional ? call.version : 0);
+        int result = call.expected == null ? begin(session, call.op, node.id, call.version, 0)
+                : begin(session, call.op, node.id, expected(call, node), call.version);
         call.node = node;
         call.next = Desk.next(result);
         switch (call.next) {
@@ -78,7 +82,9 @@ final class ObjectDesk {
         }
     }
 
-    /** A full generation of a history that is kept is taken and ended. The result says FULL if that can't be done now. */
+    /**
+     * A full generation of a history that is kept is taken and ended. The result says FULL if that can't be done now.
+     */
     private int begin(int session, int op, long key, long value, long other) {
         int result = desk.begin(session, op, key, value, other);
         while (Desk.next(result) == Native.FULL && recorder.endGeneration(desk)) {
@@ -142,7 +148,8 @@ final class ObjectDesk {
                 return desk.commitLoad(call.ticket, call.loadAnswer, call.loadedVersion);
             case Native.PROCESS:
                 call.version = call.effect == Native.SET ? ++lastVersion : 0;
-                return desk.commitProcess(call.ticket, call.loadAnswer, call.loadedVersion, call.effect, call.version, call.writeAnswer);
+                return desk.commitProcess(call.ticket, call.loadAnswer, call.loadedVersion, call.effect, call.version,
+                        call.writeAnswer);
             default:
                 return desk.commitWrite(call.ticket, call.writeAnswer);
         }
@@ -155,7 +162,9 @@ final class ObjectDesk {
         leave(call);
     }
 
-    /** Picks up what a load that the call has joined has answered. The load is over. Its next is done, or to begin anew. */
+    /**
+     * Picks up what a load that the call has joined has answered. The load is over. Its next is done, or to begin anew.
+     */
     void pickUp(Call call) {
         int result = desk.pickUp(call.session, call.callNumber, call.node.id, call.ticket);
         call.next = Desk.next(result);
@@ -214,7 +223,10 @@ final class ObjectDesk {
         return call.loaded;
     }
 
-    /** The entry has the value that the call brought: what its processor set, what was loaded for it, or what it was given. */
+    /**
+     * The entry has the value that the call brought: what its processor set, what was loaded for it, or what it was
+     * given.
+     */
     private static void keep(Call call, Node node) {
         if (call.op == Native.INVOKE && call.effect == Native.SET) {
             node.set(call.set, call.version);
@@ -253,7 +265,8 @@ final class ObjectDesk {
     }
 
     /**
-     * For tests, while no call is under way: that nodes and core have the same entries, and nothing is out. How many entries there are.
+     * For tests, while no call is under way: that nodes and core have the same entries, and nothing is out. How many
+     * entries there are.
      *
      * @throws IllegalStateException if they differ
      */

@@ -16,8 +16,8 @@ import javax.cache.integration.CacheWriter;
 import javax.cache.integration.CacheWriterException;
 
 /**
- * The loader and the writer of a cache (JSR 107, "Integration"). Each is asked with no lock held. What it answers or throws, whatever that is, is
- * noted in the calls that it was asked for, since these have to be committed.
+ * The loader and the writer of a cache (JSR 107, "Integration"). Each is asked with no lock held. What it answers or
+ * throws, whatever that is, is noted in the calls that it was asked for, since these have to be committed.
  */
 final class Outside<K, V> {
     /** How many loaders, writers and processors this thread is inside of. */
@@ -141,7 +141,10 @@ final class Outside<K, V> {
         }
     }
 
-    /** Asks the writer once, to write the values of all these calls. Those that it leaves in its collection have failed. Returns what it threw, or null. */
+    /**
+     * Asks the writer once, to write the values of all these calls. Those that it leaves in its collection have failed.
+     * Returns what it threw, or null.
+     */
     Throwable writeAll(List<Call> calls) {
         Collection<Cache.Entry<? extends K, ? extends V>> batch = new ArrayList<>();
         return noteWritten(calls, () -> {
@@ -154,7 +157,10 @@ final class Outside<K, V> {
         });
     }
 
-    /** Asks the writer once, to delete the keys of all these calls. Those that it leaves in its collection have failed. Returns what it threw, or null. */
+    /**
+     * Asks the writer once, to delete the keys of all these calls. Those that it leaves in its collection have failed.
+     * Returns what it threw, or null.
+     */
     Throwable deleteAll(List<Call> calls) {
         Collection<Object> batch = new LinkedHashSet<>();
         return noteWritten(calls, () -> {

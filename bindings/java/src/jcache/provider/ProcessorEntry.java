@@ -5,8 +5,9 @@ import javax.cache.processor.EntryProcessor;
 import javax.cache.processor.MutableEntry;
 
 /**
- * The entry that a processor works on (JSR 107, "Entry Processors"), for a call that has reserved its key. The cache and the store hear of the net effect
- * alone, after the processor has returned. A processor that creates an entry and removes it again has done nothing, as in the reference implementation.
+ * The entry that a processor works on (JSR 107, "Entry Processors"), for a call that has reserved its key. The cache
+ * and the store hear of the net effect alone, after the processor has returned. A processor that creates an entry and
+ * removes it again has done nothing, as in the reference implementation.
  */
 final class ProcessorEntry<K, V> implements MutableEntry<K, V> {
     private final CacheContext<K, V> context;
@@ -56,7 +57,8 @@ final class ProcessorEntry<K, V> implements MutableEntry<K, V> {
 
     @Override
     public boolean exists() {
-        return effect == Native.SET || effect == Native.KEEP && !isUndone && (call.before != null || call.loaded != null);
+        boolean isThere = call.before != null || call.loaded != null;
+        return effect == Native.SET || effect == Native.KEEP && !isUndone && isThere;
     }
 
     @Override

@@ -16,11 +16,13 @@ import java.util.concurrent.locks.ReentrantLock;
 import javax.cache.CacheException;
 
 /**
- * Keeps the events of a stripe. They are taken when their generation ends, with the lock of the stripe held, and written to the stripe's file with it
- * free, by the call that took them, with the texts of the keys that the core knows by numbers. {@link Records} prints such files.
+ * Keeps the events of a stripe. They are taken when their generation ends, with the lock of the stripe held, and
+ * written to the stripe's file with it free, by the call that took them, with the texts of the keys that the core knows
+ * by numbers. {@link Records} prints such files.
  *
- * <p>A file is a row of parts, each a byte and what it says: {@value #OPENED}, the stripe's number, as an int; {@value #KEY}, a number and a text;
- * {@value #EVENTS}, how many there are, as an int, and they, as {@link Event} says; {@value #CLOSED}.
+ * <p>A file is a row of parts, each a byte and what it says: {@value #OPENED}, the stripe's number, as an int; {@value
+ * #KEY}, a number and a text; {@value #EVENTS}, how many there are, as an int, and they, as {@link Event} says; {@value
+ * #CLOSED}.
  */
 final class Recorder {
     static final int OPENED = 'o';
@@ -61,7 +63,8 @@ final class Recorder {
     }
 
     /**
-     * What keeps the events of a stripe, if the settings say so; else null. The file is FOLDER/CACHE-STRIPE.events; what it has is kept.
+     * What keeps the events of a stripe, if the settings say so; else null. The file is FOLDER/CACHE-STRIPE.events;
+     * what it has is kept.
      *
      * @throws CacheException if it can't be written
      */
@@ -78,13 +81,15 @@ final class Recorder {
                 out.writeInt(stripe);
             }
         } catch (IOException e) {
-            throw new CacheException("the property " + Settings.RECORD + " is " + settings.record + ", where no record can be written", e);
+            throw new CacheException("no record can be written to " + settings.record + ", which the property "
+                    + Settings.RECORD + " names", e);
         }
         return recorder;
     }
 
     private DataOutputStream append() throws IOException {
-        return new DataOutputStream(new BufferedOutputStream(Files.newOutputStream(file, StandardOpenOption.CREATE, StandardOpenOption.APPEND)));
+        return new DataOutputStream(new BufferedOutputStream(
+                Files.newOutputStream(file, StandardOpenOption.CREATE, StandardOpenOption.APPEND)));
     }
 
     // With the lock of the stripe held.

@@ -17,11 +17,11 @@ import java.util.stream.Collectors;
 import java.util.stream.Stream;
 
 /**
- * Prints what was recorded by the property {@code jcache.provider.record}: each event of each stripe, in its order, as the lines of a script and its
- * transcript. A value is the number by which the core knows it, as {@code #7}.
+ * Prints what was recorded by the property {@code jcache.provider.record}: each event of each stripe, in its order, as
+ * the lines of a script and its transcript. A value is the number by which the core knows it, as {@code #7}.
  *
- * <p>Usage: {@code java -cp jcache-provider.jar:cache-api.jar jcache.provider.Records FOLDER [KEY]}. With a key, as its {@code toString} has it, its
- * events alone.
+ * <p>Usage: {@code java -cp jcache-provider.jar:cache-api.jar jcache.provider.Records FOLDER [KEY]}. With a key, as its
+ * {@code toString} has it, its events alone.
  */
 public final class Records {
     private static final int WRONG_USAGE = 2;
@@ -58,7 +58,8 @@ public final class Records {
     static void print(Path folder, String key, PrintStream out) throws IOException {
         List<Path> files;
         try (Stream<Path> all = Files.list(folder)) {
-            files = all.filter(file -> file.toString().endsWith(Recorder.FILE_END)).sorted().collect(Collectors.toList());
+            files = all.filter(file -> file.toString().endsWith(Recorder.FILE_END)).sorted()
+                    .collect(Collectors.toList());
         }
         for (Path file : files) {
             out.println("# " + file.getFileName());

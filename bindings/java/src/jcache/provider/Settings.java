@@ -6,7 +6,10 @@ import java.util.Set;
 import java.util.TreeSet;
 import javax.cache.CacheException;
 
-/** The provider's own properties of a cache manager, for all of its caches. What a manager doesn't set is as the provider's default properties say. */
+/**
+ * The provider's own properties of a cache manager, for all of its caches. What a manager doesn't set is as the
+ * provider's default properties say.
+ */
 final class Settings {
     private static final String PREFIX = "jcache.provider.";
     /** How many stripes a cache has: 1 to 4,096. */
@@ -17,14 +20,18 @@ final class Settings {
     static final String HISTORY = PREFIX + "history";
     /** The folder into which the events of all stripes are written; none: they aren't. */
     static final String RECORD = PREFIX + "record";
-    private static final Set<String> ALL = new TreeSet<>(Set.of(STRIPES, CAPACITY, HISTORY, RECORD, NativeLibrary.PROPERTY));
+    private static final Set<String> ALL =
+            new TreeSet<>(Set.of(STRIPES, CAPACITY, HISTORY, RECORD, NativeLibrary.PROPERTY));
 
     private static final int STRIPES_MAX = 4096;
     private static final int STRIPES_DEFAULT = 16;
     private static final int CAPACITY_MAX = 4096;
     private static final int HISTORY_MIN = 16;
     private static final int HISTORY_MAX = 65536;
-    /** Room for as many calls as can be under way: 64 have reserved a key, of three events each, and 64 have joined a load. */
+    /**
+     * Room for as many calls as can be under way: 64 have reserved a key, of three events each, and 64 have joined a
+     * load.
+     */
     private static final int HISTORY_DEFAULT = 260;
 
     final int stripes;
@@ -80,6 +87,7 @@ final class Settings {
         } catch (NumberFormatException e) {
             // It is refused below.
         }
-        throw new CacheException("the property " + name + " is '" + text + "': it has to be a number from " + least + " to " + most);
+        throw new CacheException(
+                "the property " + name + " is '" + text + "': it has to be a number from " + least + " to " + most);
     }
 }

@@ -4,8 +4,8 @@ import java.util.HashMap;
 import java.util.Map;
 
 /**
- * Which thread waits for which call: so that a thread whose wait would be for itself, over any number of others, gets an exception instead. Without
- * it two threads would hang whose loaders want each other's key.
+ * Which thread waits for which call: so that a thread whose wait would be for itself, over any number of others, gets
+ * an exception instead. Without it two threads would hang whose loaders want each other's key.
  */
 final class Waits {
     private static final Map<Thread, Call> WAITS = new HashMap<>();
@@ -22,8 +22,8 @@ final class Waits {
         Thread me = Thread.currentThread();
         for (Call call = owner; call != null && !call.isOver(); call = WAITS.get(call.thread)) {
             if (call.thread == me) {
-                throw new IllegalStateException("a loader, writer or processor calls the cache at a key for which its own call is asked, here or"
-                        + " by way of other threads: it would wait for itself");
+                throw new IllegalStateException("a loader, writer or processor calls the cache at a key that its own"
+                        + " call, or one that waits for it, has reserved: it would wait for itself");
             }
         }
         WAITS.put(me, owner);
