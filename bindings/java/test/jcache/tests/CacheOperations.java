@@ -316,6 +316,23 @@ final class CacheOperations {
         manager.close();
     }
 
+    @Test
+    static void hasRoomForManyEntries() {
+        CacheManager manager = Caches.manager(300, 4096);
+        Cache<Integer, Integer> cache = Caches.create(manager, new MutableConfiguration<>());
+        int count = 50_000;
+        for (int i = 0; i < count; i++) {
+            cache.put(i, -i);
+        }
+        int right = 0;
+        for (int i = 0; i < count; i++) {
+            Integer value = cache.get(i);
+            right += value != null && value == -i ? 1 : 0;
+        }
+        equal("a cache of 300 stripes keeps 50,000 entries", count, right);
+        manager.close();
+    }
+
     private static Set<Integer> keys(Cache<Integer, ?> cache) {
         Set<Integer> keys = new TreeSet<>();
         cache.forEach(entry -> keys.add(entry.getKey()));

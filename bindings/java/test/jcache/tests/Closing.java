@@ -5,12 +5,16 @@ import static jcache.tests.Check.holds;
 import static jcache.tests.Check.thrown;
 
 import java.io.IOException;
+import java.net.URI;
+import java.net.URL;
+import java.net.URLClassLoader;
 import java.nio.file.Files;
 import java.nio.file.Path;
 import java.util.List;
 import java.util.concurrent.atomic.AtomicInteger;
 import javax.cache.Cache;
 import javax.cache.CacheManager;
+import javax.cache.Caching;
 import javax.cache.configuration.MutableConfiguration;
 import jcache.tests.Background.Work;
 import jcache.tests.Check.Test;
@@ -116,6 +120,41 @@ final class Closing {
         Thread.sleep(0, 200_000);
         cache.close();
         Background.results(all);
+    }
+
+    @Test
+    static void memoryOfCachesThatNobodyClosesIsFreed() throws Exception {
+        for (int i = 0; i < 40; i++) {
+            forget();
+        }
+        long before = residentKilobytes();
+        for (int i = 0; i < 200; i++) {
+            forget();
+            if (i % 20 == 19) {
+                collect();
+            }
+        }
+        long grown = residentKilobytes() - before;
+        System.out.println(grown + " kB more after 200 caches that nobody closed");
+        holds("caches that nobody can reach leave no memory: " + grown + " kB", grown < 100_000);
+    }
+
+    /** Makes a cache of a class loader of its own, uses it, and leaves it. */
+    private static void forget() {
+        ClassLoader loader = new URLClassLoader(new URL[0], Closing.class.getClassLoader());
+        CacheManager manager = Caching.getCachingProvider().getCacheManager(URI.create("forgotten"), loader);
+        Cache<Integer, byte[]> cache = manager.createCache("forgotten", new MutableConfiguration<>());
+        for (int key = 0; key < 2000; key++) {
+            cache.put(key, new byte[100]);
+        }
+    }
+
+    /** Lets the garbage collector run, and who waits for it. */
+    private static void collect() throws InterruptedException {
+        for (int i = 0; i < 3; i++) {
+            System.gc();
+            Thread.sleep(50);
+        }
     }
 
     @Test

@@ -208,21 +208,52 @@ final class Managers {
 
     @Test
     static void wrongPropertiesAreNamed() {
-        checkRefused("stripes", "0");
-        checkRefused("capacity", "0");
-        checkRefused("capacity", "many");
-        checkRefused("history", "1");
+        checkRefused("stripes", "0", "1 to 4096");
+        checkRefused("stripes", "4097", "1 to 4096");
+        checkRefused("capacity", "0", "1 to 4096");
+        checkRefused("capacity", "4097", "1 to 4096");
+        checkRefused("capacity", "many", "1 to 4096");
+        checkRefused("history", "15", "16 to 65536");
+        checkRefused("history", "65537", "16 to 65536");
+        checkRefused("stripe", "1", "jcache.provider.stripes");
     }
 
-    /** That a property of this value is refused when a cache is made, or its manager, with the property's name in the text. */
-    private static void checkRefused(String property, String value) {
+    /** That a property of this value is refused, with its name and its limits in the text. */
+    private static void checkRefused(String property, String value, String limits) {
         Properties properties = new Properties();
         properties.setProperty("jcache.provider." + property, value);
-        RuntimeException refused = thrown(property + " of " + value + " is refused", RuntimeException.class,
+        CacheException refused = thrown(property + " of " + value + " is CacheException", CacheException.class,
                 () -> Caches.create(Caches.manager(properties), new MutableConfiguration<>()));
-        holds("by IllegalArgumentException or CacheException",
-                refused instanceof IllegalArgumentException || refused instanceof CacheException);
-        holds("whose text names it: " + refused.getMessage(), refused.getMessage().contains("jcache.provider." + property));
+        String text = String.valueOf(refused);
+        holds("whose text names it, and its limits: " + text, text.contains("jcache.provider." + property) && text.contains(limits));
+    }
+
+    @Test
+    static void propertiesAtTheirLimits() {
+        checkTaken(1, 1, 16);
+        checkTaken(4096, 1, 16);
+        checkTaken(1, 4096, 16);
+        checkTaken(1, 1, 65536);
+    }
+
+    private static void checkTaken(int stripes, int capacity, int history) {
+        Properties properties = new Properties();
+        properties.setProperty("jcache.provider.stripes", String.valueOf(stripes));
+        properties.setProperty("jcache.provider.capacity", String.valueOf(capacity));
+        properties.setProperty("jcache.provider.history", String.valueOf(history));
+        CacheManager manager = Caches.manager(properties);
+        Cache<Integer, Integer> cache = Caches.create(manager, new MutableConfiguration<>());
+        cache.put(1, 2);
+        equal(stripes + " stripes of " + capacity + " entries, with histories of " + history, 2, cache.get(1));
+        manager.close();
+    }
+
+    @Test
+    static void theDefaultPropertiesAreWhatCachesHave() {
+        Properties defaults = PROVIDER.getDefaultProperties();
+        equal("the default properties say how many stripes a cache has", "16", defaults.getProperty("jcache.provider.stripes"));
+        equal("how many entries a stripe has", "4096", defaults.getProperty("jcache.provider.capacity"));
+        equal("and how many events a history has", "260", defaults.getProperty("jcache.provider.history"));
     }
 
     @Test

@@ -187,11 +187,13 @@ final class Processors {
         });
         equal("invokeAll of 500 keys has 500 results", expected.keySet(), results.keySet());
         equal("and writes each", expected, store.map);
+        equal("by writeAll", 0, store.writes.get());
         cache.invokeAll(expected.keySet(), (entry, arguments) -> {
             entry.remove();
             return null;
         });
         equal("or deletes it", Map.of(), store.map);
+        equal("by deleteAll", 0, store.deletes.get());
         holds("and the cache is empty", !cache.iterator().hasNext());
     }
 

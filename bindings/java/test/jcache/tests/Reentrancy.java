@@ -6,7 +6,10 @@ import static jcache.tests.Check.thrown;
 
 import java.util.Collection;
 import java.util.HashMap;
+import java.util.List;
 import java.util.Map;
+import java.util.Set;
+import java.util.concurrent.CountDownLatch;
 import java.util.concurrent.atomic.AtomicReference;
 import javax.cache.Cache;
 import javax.cache.CacheException;
@@ -17,6 +20,7 @@ import javax.cache.integration.CacheLoaderException;
 import javax.cache.integration.CacheWriter;
 import javax.cache.integration.CacheWriterException;
 import javax.cache.processor.EntryProcessorException;
+import jcache.tests.Background.Work;
 import jcache.tests.Check.Test;
 
 /** Loaders, writers and processors that call the cache: at other keys they may, and at their own they don't wait for themselves. */
@@ -64,7 +68,7 @@ final class Reentrancy {
         Cache<Integer, Integer> get = loadingBy(Caches.manager(), Cache::get);
         checkRefused("a loader that gets its own key fails", CacheLoaderException.class, () -> get.get(1));
         checkRefused("again, so nothing is left", CacheLoaderException.class, () -> get.get(1));
-        checkRefused("also by getAll", CacheLoaderException.class, () -> get.getAll(java.util.Set.of(1)));
+        checkRefused("also by getAll", CacheLoaderException.class, () -> get.getAll(Set.of(1)));
         Cache<Integer, Integer> put = loadingBy(Caches.manager(), (cache, key) -> cache.getAndPut(key, 1));
         checkRefused("and one that puts it", CacheLoaderException.class, () -> put.get(1));
         Background.start(() -> put.put(1, 5)).result();
@@ -140,6 +144,22 @@ final class Reentrancy {
             return null;
         });
         equal("and may put others", 11, cache.get(2));
+    }
+
+    @Test
+    static void twoLoadersThatWantEachOthersKey() throws Exception {
+        CountDownLatch both = new CountDownLatch(2);
+        Cache<Integer, Integer> cache = loadingBy(Caches.manager(), (it, key) -> {
+            both.countDown();
+            Background.await(both);
+            return it.get(3 - key);
+        });
+        List<Work<Integer>> gets = List.of(Background.start(() -> cache.get(1)), Background.start(() -> cache.get(2)));
+        for (Work<Integer> get : gets) {
+            CacheException failed = thrown("two loaders that want each other's key end", CacheException.class, get::result);
+            holds("by IllegalStateException", failed != null && rootOf(failed) instanceof IllegalStateException);
+        }
+        checkFree(cache);
     }
 
     @Test
