@@ -14,6 +14,7 @@ import javax.cache.CacheManager;
 import javax.cache.configuration.MutableConfiguration;
 import javax.management.MBeanServer;
 import javax.management.ObjectName;
+import jcache.provider.Inside;
 import jcache.tests.Check.Test;
 
 /** What a cache counts, and its two beans, as JMX shows them. */
@@ -199,6 +200,43 @@ final class Statistics {
         equal("each entry that a full stripe has evicted is counted", 90L,
                 BEANS.getAttribute(beanOf(cache, "CacheStatistics"), "CacheEvictions"));
         manager.close();
+    }
+
+    @Test
+    static void countsAsTheCoreDoes() throws Exception {
+        Scene scene = new Scene();
+        Cache<Long, String> cache = scene.cache;
+        cache.put(1L, "a");
+        cache.get(1L);
+        cache.get(2L);
+        cache.containsKey(1L);
+        cache.getAndPut(1L, "b");
+        cache.getAndPut(3L, "c");
+        cache.putIfAbsent(1L, "x");
+        cache.putIfAbsent(4L, "d");
+        cache.replace(1L, "no", "n");
+        cache.replace(1L, "b", "n");
+        cache.replace(9L, "b", "n");
+        cache.replace(1L, "o");
+        cache.replace(9L, "o");
+        cache.getAndReplace(1L, "p");
+        cache.getAndReplace(9L, "p");
+        cache.remove(4L);
+        cache.remove(4L);
+        cache.getAndRemove(3L);
+        cache.remove(1L, "no");
+        cache.remove(1L, "p");
+        cache.invoke(1L, (entry, arguments) -> null);
+        cache.invoke(1L, (entry, arguments) -> {
+            entry.setValue("u");
+            return null;
+        });
+        cache.invoke(1L, (entry, arguments) -> {
+            entry.remove();
+            return null;
+        });
+        List<Long> core = Inside.coreCounts(cache);
+        scene.check("the host counts hits, misses, puts and removals as the core does", core.get(0), core.get(1), core.get(2), core.get(3));
     }
 
     @Test
