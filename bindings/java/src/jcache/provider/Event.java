@@ -64,7 +64,8 @@ final class Event {
         String prefix = call + " " + keyText;
         String shared = sharedWith < 0 ? "" : " shared " + sharedWith;
         String result = reply == Native.VALUE ? valueText(replied) : REPLIES[reply];
-        return beginLine(keyText) + outsideLines(prefix) + prefix + " is " + result + at + shared + "\n";
+        String outside = sharedWith < 0 ? outsideLines(prefix) : "";
+        return beginLine(keyText) + outside + prefix + " is " + result + at + shared + "\n";
     }
 
     private String beginLine(String keyText) {

@@ -101,14 +101,15 @@ public final class Records {
 
     private void printEvents(DataInputStream in) throws IOException {
         int count = in.readInt();
-        out.println("# generation " + generation++);
+        String header = "# generation " + generation++ + "\n";
         byte[] bytes = new byte[Event.SIZE];
         for (int place = 0; place < count; place++) {
             in.readFully(bytes);
             Event event = new Event(ByteBuffer.wrap(bytes).order(ByteOrder.LITTLE_ENDIAN));
             String key = texts.getOrDefault(event.key, "?");
             if (only == null || only.equals(key)) {
-                out.print(event.lines(key, stripe, place));
+                out.print(header + event.lines(key, stripe, place));
+                header = "";
             }
         }
     }
