@@ -152,7 +152,7 @@ final class BulkCalls {
         List<Call> calls = new ArrayList<>(keys.size());
         for (K key : new LinkedHashSet<>(keys)) {
             V value = valueOf.apply(key);
-            calls.add(new Call(op, new KeyLookup(key), value, context.copier.in(value), null));
+            calls.add(new Call(op, context.copier.lookup(key), value, context.copier.in(value), null));
         }
         Throwable[] first = new Throwable[1];
         List<Call> done = new BulkCalls(context, asked -> {

@@ -1,7 +1,9 @@
 package jcache.provider;
 
 import java.util.Collection;
+import java.util.concurrent.locks.ReentrantLock;
 import javax.cache.Cache;
+import javax.cache.CacheManager;
 import javax.cache.configuration.CacheEntryListenerConfiguration;
 import javax.cache.configuration.CompleteConfiguration;
 import javax.cache.configuration.Factory;
@@ -21,28 +23,34 @@ final class CacheContext<K, V> {
     private final Stripe[] stripes;
     private volatile boolean hasListeners;
 
-    CacheContext(Cache<K, V> cache, String name, CompleteConfiguration<K, V> configuration, Copier copier,
-            Settings settings) {
+    CacheContext(Cache<K, V> cache, CompleteConfiguration<K, V> configuration, Settings settings) {
         this.cache = cache;
-        this.copier = copier;
-        outside = new Outside<>(configuration, copier);
         Factory<ExpiryPolicy> policies = configuration.getExpiryPolicyFactory();
         ExpiryPolicy policy = policies == null ? null : policies.create();
         expiry = policy == null || policy instanceof EternalExpiryPolicy ? null : new Expiry(policy);
+        copier = copier(configuration, settings);
+        outside = new Outside<>(configuration, copier);
         hasStatistics = configuration.isStatisticsEnabled();
-        listeners = new Listeners<>(name);
+        listeners = new Listeners<>(cache.getName());
         for (CacheEntryListenerConfiguration<K, V> listener : configuration.getCacheEntryListenerConfigurations()) {
             addListener(listener);
         }
-        stripes = openStripes(name, settings);
+        stripes = openStripes(settings);
+    }
+
+    /** Keeps bytes, if the settings say so, the types have bytes, and no entry expires; else objects. */
+    private Copier copier(CompleteConfiguration<K, V> configuration, Settings settings) {
+        ByteCopier bytes = settings.bytes && expiry == null ? ByteCopier.of(configuration) : null;
+        CacheManager manager = cache.getCacheManager();
+        return bytes != null ? bytes : new ObjectCopier(configuration.isStoreByValue(), manager::getClassLoader);
     }
 
     /** Opens all stripes, or none. */
-    private Stripe[] openStripes(String name, Settings settings) {
+    private Stripe[] openStripes(Settings settings) {
         Stripe[] opened = new Stripe[settings.stripes];
         try {
             for (int i = 0; i < opened.length; i++) {
-                opened[i] = new Stripe(this, settings, Recorder.open(name, i, settings));
+                opened[i] = new Stripe(this, settings, Recorder.open(cache.getName(), i, settings, copier));
             }
         } catch (RuntimeException | Error e) {
             for (Stripe stripe : opened) {
@@ -53,6 +61,15 @@ final class CacheContext<K, V> {
             throw e;
         }
         return opened;
+    }
+
+    /** Opens the core's stripe behind a stripe's lock. */
+    KeyedDesk openDesk(ReentrantLock lock, Settings settings, Counts counts, Recorder recorder) {
+        if (copier instanceof ByteCopier) {
+            DeskOfBytes desk = new DeskOfBytes(lock, new Desk.Shape(settings, outside, true));
+            return new ByteDesk(desk, counts, recorder, (ByteCopier) copier, () -> hasStatistics || hasListeners);
+        }
+        return new ObjectDesk(new Desk(lock, new Desk.Shape(settings, outside, false)), counts, recorder);
     }
 
     /** The stripe of a key with this hash. */

@@ -106,7 +106,8 @@ final class Counts {
         }
     }
 
-    private static boolean isPut(Call call, boolean existed) {
+    /** Whether a call that was made has put a value; its entry existed or not. */
+    static boolean isPut(Call call, boolean existed) {
         switch (call.op) {
             case Native.PUT:
             case Native.GET_AND_PUT:

@@ -1,15 +1,13 @@
 package jcache.provider;
 
 import java.nio.ByteBuffer;
+import java.nio.ByteOrder;
 
 /**
  * An event of a stripe's history, as the native library tells it and as a record keeps it: a step of a call, or an
- * eviction. Keys and values are the numbers by which the core knows them; 0 is no value.
+ * eviction.
  */
 final class Event {
-    /** How many bytes one has, in little-endian order. */
-    static final int SIZE = 96;
-
     private static final int EVICTION = 1;
     private static final int FOR_MEMORY = 1;
     private static final String[] OPERATIONS = {"get", "contains", "put", "getput", "putif", "remove", "removeif",
@@ -17,13 +15,15 @@ final class Event {
     private static final String[] REPLIES = {"ok", "false", "true", "-", "", "LoaderFailed", "WriterFailed",
         "ProcessorFailed"};
 
-    final long call;
-    final long key;
-    private final long value;
-    private final long other;
-    private final long replied;
-    private final long loaded;
-    private final long set;
+    /** The key's text. */
+    final String key;
+    private final long call;
+    /** Texts of values; null: there is none. */
+    private final String value;
+    private final String other;
+    private final String replied;
+    private final String loaded;
+    private final String set;
     private final int kind;
     private final int session;
     private final int op;
@@ -34,43 +34,57 @@ final class Event {
     private final int effect;
     private final int write;
 
-    /** Reads an event, in the order of the fields of told_event in shim.c. */
-    Event(ByteBuffer from) {
-        call = from.getLong();
-        key = from.getLong();
-        value = from.getLong();
-        other = from.getLong();
-        replied = from.getLong();
-        loaded = from.getLong();
-        set = from.getLong();
-        kind = from.getInt();
-        session = from.getInt();
-        op = from.getInt();
-        sharedWith = from.getInt();
-        reply = from.getInt();
-        from.getInt(); // The code of a failure: a provider has none but 0.
-        cause = from.getInt();
-        load = from.getInt();
-        effect = from.getInt();
-        write = from.getInt();
+    /**
+     * What keys and values of an event are called. Each is a number, or how many of the bytes that follow are its own.
+     */
+    interface Texts {
+        String key(long number, ByteBuffer bytes);
+
+        /** Null: there is no value. */
+        String value(long number, ByteBuffer bytes);
     }
 
-    /** The event as lines of a script and its transcript: S.P is its stripe and its place in the generation. */
-    String lines(String keyText, int stripe, int place) {
+    /** Reads an event: the fields of told_event in shim.c, in little-endian order, and what follows them. */
+    Event(byte[] from, Texts texts) {
+        ByteBuffer fields = ByteBuffer.wrap(from).order(ByteOrder.LITTLE_ENDIAN);
+        call = fields.getLong();
+        long[] numbers = new long[6];
+        fields.asLongBuffer().get(numbers);
+        fields.position(fields.position() + Long.BYTES * numbers.length);
+        kind = fields.getInt();
+        session = fields.getInt();
+        op = fields.getInt();
+        sharedWith = fields.getInt();
+        reply = fields.getInt();
+        fields.getInt(); // The code of a failure: a provider has none but 0.
+        cause = fields.getInt();
+        load = fields.getInt();
+        effect = fields.getInt();
+        write = fields.getInt();
+        key = texts.key(numbers[0], fields);
+        value = texts.value(numbers[1], fields);
+        other = texts.value(numbers[2], fields);
+        replied = texts.value(numbers[3], fields);
+        loaded = texts.value(numbers[4], fields);
+        set = texts.value(numbers[5], fields);
+    }
+
+    /** The event as lines of a script and its transcript: it is at a place of a generation of a stripe. */
+    String lines(int stripe, int place) {
         String at = " at " + stripe + "." + place;
         if (kind == EVICTION) {
-            return "evict " + keyText + (cause == FOR_MEMORY ? " memory" : " full") + at + "\n";
+            return "evict " + key + (cause == FOR_MEMORY ? " memory" : " full") + at + "\n";
         }
-        String prefix = call + " " + keyText;
-        String shared = sharedWith < 0 ? "" : " shared " + sharedWith;
-        String result = reply == Native.VALUE ? valueText(replied) : REPLIES[reply];
-        String outside = sharedWith < 0 ? outsideLines(prefix) : "";
-        return beginLine(keyText) + outside + prefix + " is " + result + at + shared + "\n";
+        String prefix = call + " " + key;
+        boolean isShared = sharedWith >= 0;
+        String result = reply == Native.VALUE ? replied : REPLIES[reply];
+        String outside = isShared ? "" : outsideLines(prefix);
+        return beginLine() + outside + prefix + " is " + result + at + (isShared ? " shared " + sharedWith : "") + "\n";
     }
 
-    private String beginLine(String keyText) {
-        String values = (value == 0 ? "" : " " + valueText(value)) + (other == 0 ? "" : " " + valueText(other));
-        return "begin " + call + " s" + session + " " + OPERATIONS[op] + " " + keyText + values + "\n";
+    private String beginLine() {
+        String values = (value == null ? "" : " " + value) + (other == null ? "" : " " + other);
+        return "begin " + call + " s" + session + " " + OPERATIONS[op] + " " + key + values + "\n";
     }
 
     /** What the loader, the processor and the writer did. */
@@ -78,7 +92,7 @@ final class Event {
         String lines = "";
         String fails = call + " fails\n";
         if (load != Native.NOT_ASKED) {
-            lines += load == Native.FAILED ? fails : prefix + " says " + valueText(loaded) + "\n";
+            lines += load == Native.FAILED ? fails : prefix + " says " + (loaded == null ? "-" : loaded) + "\n";
         }
         if (op == Native.INVOKE) {
             lines += effectLine(prefix);
@@ -89,15 +103,11 @@ final class Event {
         return lines;
     }
 
-    private static String valueText(long version) {
-        return version == 0 ? "-" : "#" + version;
-    }
-
     /** What a processor did. */
     private String effectLine(String prefix) {
         switch (effect) {
             case Native.SET:
-                return prefix + " write " + valueText(set) + "\n";
+                return prefix + " write " + set + "\n";
             case Native.TAKE_OUT:
                 return prefix + " delete\n";
             case Native.PROCESS_FAILED:

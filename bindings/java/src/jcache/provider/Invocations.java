@@ -23,7 +23,7 @@ final class Invocations<K, V> {
 
     /** Runs a processor on a key's entry. */
     <T> T invoke(K key, EntryProcessor<K, V, T> processor, Object... arguments) {
-        Call call = new Call(Native.INVOKE, new KeyLookup(key));
+        Call call = new Call(Native.INVOKE, context.copier.lookup(key));
         Stripe stripe = context.stripeOf(call.lookup.hash);
         stripe.begin(call, true);
         T result = new ProcessorEntry<>(context, call, valueType).run(processor, arguments);
@@ -66,7 +66,7 @@ final class Invocations<K, V> {
     <T> Map<K, EntryProcessorResult<T>> invokeAll(Set<? extends K> keys, EntryProcessor<K, V, T> processor,
             Object... arguments) {
         List<Call> calls = new ArrayList<>(keys.size());
-        new LinkedHashSet<>(keys).forEach(key -> calls.add(new Call(Native.INVOKE, new KeyLookup(key))));
+        new LinkedHashSet<>(keys).forEach(key -> calls.add(new Call(Native.INVOKE, context.copier.lookup(key))));
         Map<Call, T> results = new IdentityHashMap<>();
         BulkCalls bulk = new BulkCalls(context, asked -> {
             for (Call call : asked) {

@@ -10,6 +10,8 @@ import java.util.List;
 final class KeyLookup {
     final Object key;
     final int hash;
+    /** The bytes by which the core knows the key; null: it knows it by a number. */
+    final byte[] bytes;
     /** Whether its {@code equals} is the platform's own, and may be called with the lock held. */
     final boolean isPlain;
     /** A node whose key is equal; it may be gone. */
@@ -19,13 +21,10 @@ final class KeyLookup {
     /** The key that a new node is to have; null: not made yet. */
     private Object kept;
 
-    KeyLookup(Object key) {
-        this(key, hash(key));
-    }
-
-    KeyLookup(Object key, int hash) {
+    KeyLookup(Object key, int hash, byte[] bytes) {
         this.key = key;
         this.hash = hash;
+        this.bytes = bytes;
         this.isPlain = Copier.isPlain(key);
     }
 

@@ -39,15 +39,6 @@ final class NodeTable {
         return node;
     }
 
-    /** The node of a plain key, or null. */
-    Node findPlain(Object key, int hash) {
-        Node node = buckets[hash & buckets.length - 1];
-        while (node != null && (node.hash != hash || node.key != key && !key.equals(node.key))) {
-            node = node.next;
-        }
-        return node;
-    }
-
     /** A new node of a key, with a new number. */
     Node add(Object key, int hash) {
         if (size() == buckets.length) {

@@ -20,9 +20,9 @@ import javax.cache.CacheException;
  * written to the stripe's file with it free, by the call that took them, with the texts of the keys that the core knows
  * by numbers. {@link Records} prints such files.
  *
- * <p>A file is a row of parts, each a byte and what it says: {@value #OPENED}, the stripe's number, as an int; {@value
- * #KEY}, a number and a text; {@value #EVENTS}, how many there are, as an int, and they, as {@link Event} says; {@value
- * #CLOSED}.
+ * <p>A file is a row of parts, each a byte and what it says: {@link #OPENED}, the stripe's number as an int, and the
+ * forms of its keys and of its values, a byte each; {@link #KEY}, a number and a text; {@link #EVENTS}, how many there
+ * are as an int, and they, each its length as a short and its bytes; {@link #CLOSED}.
  */
 final class Recorder {
     static final int OPENED = 'o';
@@ -34,8 +34,12 @@ final class Recorder {
     /** The longest text of a key, in characters; what is longer is cut. */
     private static final int TEXT_MAX = 1000;
 
+    /** The form of what the core knows by numbers; the others are the ordinals of {@link ByteForm}. */
+    static final int NUMBERS = -1;
+
     private final Path file;
     private final int stripe;
+    private final boolean hasNumbers;
     /** The keys that were given a number since the last generation ended. The lock of the stripe guards it. */
     private List<Node> named = new ArrayList<>();
     /** What was taken and isn't written. */
@@ -44,18 +48,19 @@ final class Recorder {
     private final ReentrantLock turn = new ReentrantLock();
     private boolean isBroken;
 
-    private Recorder(Path file, int stripe) {
+    private Recorder(Path file, int stripe, boolean hasNumbers) {
         this.file = file;
         this.stripe = stripe;
+        this.hasNumbers = hasNumbers;
     }
 
     /** The events of a generation, and the keys that were given a number in it. */
     private static final class Generation {
         final List<Node> named;
-        final byte[] events;
+        final List<byte[]> events;
         final boolean isLast;
 
-        Generation(List<Node> named, byte[] events, boolean isLast) {
+        Generation(List<Node> named, List<byte[]> events, boolean isLast) {
             this.named = named;
             this.events = events;
             this.isLast = isLast;
@@ -68,17 +73,20 @@ final class Recorder {
      *
      * @throws CacheException if it can't be written
      */
-    static Recorder open(String cacheName, int stripe, Settings settings) {
+    static Recorder open(String cacheName, int stripe, Settings settings, Copier copier) {
         if (settings.record == null) {
             return null;
         }
         String name = URLEncoder.encode(cacheName, StandardCharsets.UTF_8) + "-" + stripe + FILE_END;
-        Recorder recorder = new Recorder(settings.record.resolve(name), stripe);
+        ByteCopier bytes = copier instanceof ByteCopier ? (ByteCopier) copier : null;
+        Recorder recorder = new Recorder(settings.record.resolve(name), stripe, bytes == null);
         try {
             Files.createDirectories(settings.record);
             try (DataOutputStream out = recorder.append()) {
                 out.writeByte(OPENED);
                 out.writeInt(stripe);
+                out.writeByte(bytes == null ? NUMBERS : bytes.keyForm().ordinal());
+                out.writeByte(bytes == null ? NUMBERS : bytes.valueForm().ordinal());
             }
         } catch (IOException e) {
             throw new CacheException("no record can be written to " + settings.record + ", which the property "
@@ -96,12 +104,14 @@ final class Recorder {
 
     /** Notes that a key was given a number. */
     void name(Node node) {
-        named.add(node);
+        if (hasNumbers) {
+            named.add(node);
+        }
     }
 
     /** Takes the events of the present generation, and ends it. False: it can't be ended now, and nothing was taken. */
     boolean endGeneration(Desk desk) {
-        byte[] events = eventsOf(desk);
+        List<byte[]> events = eventsOf(desk);
         if (!desk.endGeneration()) {
             return false;
         }
@@ -114,16 +124,16 @@ final class Recorder {
         take(eventsOf(desk), true);
     }
 
-    private void take(byte[] events, boolean isLast) {
+    private void take(List<byte[]> events, boolean isLast) {
         taken.add(new Generation(named, events, isLast));
         named = new ArrayList<>();
     }
 
-    private static byte[] eventsOf(Desk desk) {
+    private static List<byte[]> eventsOf(Desk desk) {
         int count = desk.eventCount();
-        byte[] events = new byte[count * Event.SIZE];
+        List<byte[]> events = new ArrayList<>(count);
         for (int place = 0; place < count; place++) {
-            desk.event(place, events, place * Event.SIZE);
+            events.add(desk.event(place));
         }
         return events;
     }
@@ -158,8 +168,11 @@ final class Recorder {
                 out.writeUTF(textOf(node.key));
             }
             out.writeByte(EVENTS);
-            out.writeInt(generation.events.length / Event.SIZE);
-            out.write(generation.events);
+            out.writeInt(generation.events.size());
+            for (byte[] event : generation.events) {
+                out.writeShort(event.length);
+                out.write(event);
+            }
             if (generation.isLast) {
                 out.writeByte(CLOSED);
             }

@@ -5,20 +5,17 @@ import java.io.DataInputStream;
 import java.io.EOFException;
 import java.io.IOException;
 import java.io.PrintStream;
-import java.nio.ByteBuffer;
-import java.nio.ByteOrder;
 import java.nio.charset.StandardCharsets;
 import java.nio.file.Files;
 import java.nio.file.Path;
-import java.util.HashMap;
 import java.util.List;
-import java.util.Map;
 import java.util.stream.Collectors;
 import java.util.stream.Stream;
 
 /**
  * Prints what was recorded by the property {@code jcache.provider.record}: each event of each stripe, in its order, as
- * the lines of a script and its transcript. A value is the number by which the core knows it, as {@code #7}.
+ * the lines of a script and its transcript. A value is the number by which the core knows it, as {@code #7}, if the
+ * core doesn't have its bytes.
  *
  * <p>Usage: {@code java -cp jcache-provider.jar:cache-api.jar jcache.provider.Records FOLDER [KEY]}. With a key, as its
  * {@code toString} has it, its events alone.
@@ -26,8 +23,9 @@ import java.util.stream.Stream;
 public final class Records {
     private static final int WRONG_USAGE = 2;
 
-    /** The number of keys' texts: a number is given once, to one key. */
-    private final Map<Long, String> texts = new HashMap<>();
+    /** The keys of an opening that the core knows by numbers. */
+    private EventTexts.OfNumbers named = new EventTexts.OfNumbers();
+    private Event.Texts texts = named;
     private final PrintStream out;
     private final String only;
     private int stripe;
@@ -80,13 +78,10 @@ public final class Records {
     private void print(int part, DataInputStream in) throws IOException {
         switch (part) {
             case Recorder.OPENED:
-                stripe = in.readInt();
-                generation = 0;
-                texts.clear();
-                out.println("# opened");
+                open(in);
                 break;
             case Recorder.KEY:
-                texts.put(in.readLong(), in.readUTF());
+                named.name(in.readLong(), in.readUTF());
                 break;
             case Recorder.EVENTS:
                 printEvents(in);
@@ -99,16 +94,26 @@ public final class Records {
         }
     }
 
+    private void open(DataInputStream in) throws IOException {
+        stripe = in.readInt();
+        generation = 0;
+        int keys = in.readByte();
+        int values = in.readByte();
+        named = new EventTexts.OfNumbers();
+        boolean hasNumbers = keys == Recorder.NUMBERS;
+        texts = hasNumbers ? named : new EventTexts.OfBytes(ByteForm.values()[keys], ByteForm.values()[values]);
+        out.println("# opened");
+    }
+
     private void printEvents(DataInputStream in) throws IOException {
         int count = in.readInt();
         String header = "# generation " + generation++ + "\n";
-        byte[] bytes = new byte[Event.SIZE];
         for (int place = 0; place < count; place++) {
+            byte[] bytes = new byte[in.readUnsignedShort()];
             in.readFully(bytes);
-            Event event = new Event(ByteBuffer.wrap(bytes).order(ByteOrder.LITTLE_ENDIAN));
-            String key = texts.getOrDefault(event.key, "?");
-            if (only == null || only.equals(key)) {
-                out.print(header + event.lines(key, stripe, place));
+            Event event = new Event(bytes, texts);
+            if (only == null || only.equals(event.key)) {
+                out.print(header + event.lines(stripe, place));
                 header = "";
             }
         }

@@ -18,10 +18,12 @@ final class Settings {
     static final String CAPACITY = PREFIX + "capacity";
     /** How many events a stripe's history has room for: 16 to 65,536. */
     static final String HISTORY = PREFIX + "history";
+    /** Whether the core has the bytes of keys and values, in caches whose types have some: true or false. */
+    static final String BYTES = PREFIX + "bytes";
     /** The folder into which the events of all stripes are written; none: they aren't. */
     static final String RECORD = PREFIX + "record";
     private static final Set<String> ALL =
-            new TreeSet<>(Set.of(STRIPES, CAPACITY, HISTORY, RECORD, NativeLibrary.PROPERTY));
+            new TreeSet<>(Set.of(STRIPES, CAPACITY, HISTORY, BYTES, RECORD, NativeLibrary.PROPERTY));
 
     private static final int STRIPES_MAX = 4096;
     private static final int STRIPES_DEFAULT = 16;
@@ -37,6 +39,7 @@ final class Settings {
     final int stripes;
     final int capacity;
     final int history;
+    final boolean bytes;
     /** Null: events aren't written. */
     final Path record;
     /** The path of the native library; null: the jar's. */
@@ -57,6 +60,7 @@ final class Settings {
         stripes = number(properties, defaults, STRIPES, 1, STRIPES_MAX);
         capacity = number(properties, defaults, CAPACITY, 1, CAPACITY_MAX);
         history = number(properties, defaults, HISTORY, HISTORY_MIN, HISTORY_MAX);
+        bytes = flag(properties, defaults, BYTES);
         String folder = properties.getProperty(RECORD, defaults.getProperty(RECORD));
         record = folder == null ? null : Path.of(folder);
         library = properties.getProperty(NativeLibrary.PROPERTY, defaults.getProperty(NativeLibrary.PROPERTY));
@@ -68,6 +72,7 @@ final class Settings {
         defaults.setProperty(STRIPES, Integer.toString(STRIPES_DEFAULT));
         defaults.setProperty(CAPACITY, Integer.toString(CAPACITY_MAX));
         defaults.setProperty(HISTORY, Integer.toString(HISTORY_DEFAULT));
+        defaults.setProperty(BYTES, "false");
         for (String name : ALL) {
             String set = System.getProperty(name);
             if (set != null) {
@@ -75,6 +80,14 @@ final class Settings {
             }
         }
         return defaults;
+    }
+
+    private static boolean flag(Properties properties, Properties defaults, String name) {
+        String text = properties.getProperty(name, defaults.getProperty(name)).trim();
+        if (!text.equals("true") && !text.equals("false")) {
+            throw new CacheException("the property " + name + " is '" + text + "': it has to be true or false");
+        }
+        return text.equals("true");
     }
 
     private static int number(Properties properties, Properties defaults, String name, int least, int most) {
