@@ -46,6 +46,11 @@ final class Caches {
         return create(new MutableConfiguration<K, V>().setTypes(key, value));
     }
 
+    /** Whether caches whose types have bytes keep these in the core: the property {@code jcache.provider.bytes}. */
+    static boolean keepBytes() {
+        return Boolean.getBoolean("jcache.provider.bytes");
+    }
+
     /** Read-through and write-through over a store. */
     static <K, V> MutableConfiguration<K, V> over(Store<K, V> store) {
         return new MutableConfiguration<K, V>()
@@ -58,5 +63,10 @@ final class Caches {
     /** A new cache over a store. */
     static <K, V> Cache<K, V> through(Store<K, V> store) {
         return create(over(store));
+    }
+
+    /** The same, with configured types. */
+    static <K, V> Cache<K, V> through(Store<K, V> store, Class<K> key, Class<V> value) {
+        return create(over(store).setTypes(key, value));
     }
 }

@@ -11,6 +11,8 @@ import java.net.URLClassLoader;
 import java.nio.file.Files;
 import java.nio.file.Path;
 import java.util.List;
+import java.util.Map;
+import java.util.Set;
 import java.util.concurrent.atomic.AtomicInteger;
 import javax.cache.Cache;
 import javax.cache.CacheManager;
@@ -19,15 +21,21 @@ import javax.cache.configuration.MutableConfiguration;
 import jcache.tests.Background.Work;
 import jcache.tests.Check.Test;
 
-/** Caches that are closed, also with calls under way, and what they leave: nothing. */
+/**
+ * Caches that are closed, also with calls under way, and what they leave: nothing. All of the heap is to be in memory from the start (-Xms as
+ * -Xmx, AlwaysPreTouch), so that what grows is beside it.
+ */
 final class Closing {
     private Closing() {}
+
+    /** Far less than 200 caches take, and more than a virtual machine needs anew. */
+    private static final int LEAK_KILOBYTES = 60_000;
 
     @Test
     static void callsUnderWayEnd() throws Exception {
         Store<Integer, String> store = new Store<>();
         store.map.put(77, "late");
-        Cache<Integer, String> cache = Caches.through(store);
+        Cache<Integer, String> cache = Caches.through(store, Integer.class, String.class);
         Store.Gate gate = store.shut();
         Work<String> loading = Background.start(() -> cache.get(77));
         gate.awaitCall();
@@ -47,7 +55,7 @@ final class Closing {
     @Test
     static void whatItWasGivenIsClosed() {
         Store<Integer, String> store = new Store<>();
-        Cache<Integer, String> cache = Caches.through(store);
+        Cache<Integer, String> cache = Caches.through(store, Integer.class, String.class);
         cache.close();
         holds("a loader and a writer that are Closeable are closed", store.closed);
         cache.close();
@@ -57,7 +65,7 @@ final class Closing {
     @Test
     static void aLoaderMayCloseItsCache() throws Exception {
         Store<Integer, String> store = new Store<>();
-        Cache<Integer, String> cache = Caches.through(store);
+        Cache<Integer, String> cache = Caches.through(store, Integer.class, String.class);
         Work<String> call = Background.start(() -> cache.invoke(1, (entry, arguments) -> {
             cache.close();
             return "closed";
@@ -122,21 +130,64 @@ final class Closing {
         Background.results(all);
     }
 
+    /** Calls of all kinds, of the keys around one. */
+    private static void callAllKinds(Cache<Integer, Integer> cache, int key) {
+        Set<Integer> keys = Set.of(key, key + 1, key + 2);
+        cache.getAll(keys);
+        cache.putAll(Map.of(key, 1, key + 1, 2));
+        cache.invokeAll(keys, (entry, arguments) -> {
+            entry.setValue(3);
+            return entry.getKey();
+        });
+        cache.loadAll(keys, true, null);
+        cache.forEach(entry -> {});
+        cache.replace(key, 3, 4);
+        cache.removeAll(keys);
+    }
+
+    @Test
+    static void callsOfAllKindsEndWhenTheirCacheIsClosed() throws Exception {
+        CacheManager manager = Caches.manager(2, 100);
+        int ended = 0;
+        for (int i = 0; i < 40; i++) {
+            Cache<Integer, Integer> cache = manager.createCache("kinds", Caches.over(new Store<>()));
+            List<Work<Boolean>> all = Background.startMany(4, () -> {
+                try {
+                    for (int key = 0;; key = (key + 1) % 10) {
+                        callAllKinds(cache, key);
+                    }
+                } catch (IllegalStateException e) {
+                    return cache.isClosed();
+                }
+            });
+            Thread.sleep(5);
+            cache.close();
+            for (boolean wasClosed : Background.results(all)) {
+                ended += wasClosed ? 1 : 0;
+            }
+        }
+        equal("calls of all kinds end, by IllegalStateException, when their cache is closed", 160, ended);
+        manager.close();
+    }
+
     @Test
     static void memoryOfCachesThatNobodyClosesIsFreed() throws Exception {
-        for (int i = 0; i < 40; i++) {
-            forget();
-        }
+        // The allocator's own room has its size then.
+        forgetMany(200);
         long before = residentKilobytes();
-        for (int i = 0; i < 200; i++) {
+        forgetMany(200);
+        long grown = residentKilobytes() - before;
+        System.out.println(grown + " kB more after 200 caches that nobody closed");
+        holds("caches that nobody can reach leave no memory: " + grown + " kB", grown < LEAK_KILOBYTES);
+    }
+
+    private static void forgetMany(int caches) throws InterruptedException {
+        for (int i = 1; i <= caches; i++) {
             forget();
-            if (i % 20 == 19) {
+            if (i % 10 == 0) {
                 collect();
             }
         }
-        long grown = residentKilobytes() - before;
-        System.out.println(grown + " kB more after 200 caches that nobody closed");
-        holds("caches that nobody can reach leave no memory: " + grown + " kB", grown < 100_000);
     }
 
     /** Makes a cache of a class loader of its own, uses it, and leaves it. */
@@ -144,16 +195,16 @@ final class Closing {
         ClassLoader loader = new URLClassLoader(new URL[0], Closing.class.getClassLoader());
         CacheManager manager = Caching.getCachingProvider().getCacheManager(URI.create("forgotten"), loader);
         Cache<Integer, byte[]> cache = manager.createCache("forgotten", new MutableConfiguration<>());
-        for (int key = 0; key < 2000; key++) {
+        for (int key = 0; key < 500; key++) {
             cache.put(key, new byte[100]);
         }
     }
 
     /** Lets the garbage collector run, and who waits for it. */
     private static void collect() throws InterruptedException {
-        for (int i = 0; i < 3; i++) {
+        for (int i = 0; i < 2; i++) {
             System.gc();
-            Thread.sleep(50);
+            Thread.sleep(10);
         }
     }
 
@@ -172,7 +223,6 @@ final class Closing {
         long grown = residentKilobytes() - before;
         System.out.println(ended + " threads ended, " + refused + " found their cache closed; " + grown + " kB more after 200 caches");
         equal("each thread ended or found its cache closed", 1200, ended.get() + refused.get());
-        // A cache has 16 stripes of over 500 kB each: one in ten that stays would be more.
-        holds("closed caches leave no memory: " + grown + " kB", grown < 100_000);
+        holds("closed caches leave no memory: " + grown + " kB", grown < LEAK_KILOBYTES);
     }
 }

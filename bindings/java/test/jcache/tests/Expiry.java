@@ -18,6 +18,7 @@ import javax.cache.expiry.EternalExpiryPolicy;
 import javax.cache.expiry.ExpiryPolicy;
 import javax.cache.expiry.ModifiedExpiryPolicy;
 import javax.cache.expiry.TouchedExpiryPolicy;
+import javax.cache.integration.CompletionListenerFuture;
 import jcache.tests.Check.Test;
 
 /** When an {@link ExpiryPolicy} is asked, and what becomes of an entry that has expired. */
@@ -129,6 +130,24 @@ final class Expiry {
         equal("or creation", List.of(1, 0, 0), policy.take());
         cache.removeAll();
         equal("removeAll asks nothing", List.of(0, 0, 0), policy.take());
+    }
+
+    @Test
+    static void asksThePolicyForLoads() throws Exception {
+        Store<Long, String> store = new Store<>();
+        store.map.putAll(Map.of(1L, "one", 2L, "two", 3L, "three"));
+        Counting policy = new Counting();
+        Cache<Long, String> cache = Caches.create(Caches.over(store).setExpiryPolicyFactory(() -> policy));
+        cache.get(1L);
+        equal("a get that loads asks for the creation", List.of(1, 0, 0), policy.take());
+        cache.getAll(Set.of(1L, 2L));
+        equal("getAll for the access of what is there, and the creation of what it loads", List.of(1, 1, 0), policy.take());
+        CompletionListenerFuture loaded = new CompletionListenerFuture();
+        cache.loadAll(Set.of(2L, 3L), false, loaded);
+        loaded.get(30, TimeUnit.SECONDS);
+        equal("loadAll for the creation of what it loads", List.of(1, 0, 0), policy.take());
+        cache.invoke(9L, (entry, arguments) -> entry.getValue());
+        equal("a processor whose load finds nothing asks nothing", List.of(0, 0, 0), policy.take());
     }
 
     @Test

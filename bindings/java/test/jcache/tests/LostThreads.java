@@ -21,7 +21,7 @@ final class LostThreads {
     /** A store with one entry, and a cache over it. */
     private static final class Scene {
         final Store<Integer, String> store = new Store<>();
-        final Cache<Integer, String> cache = Caches.through(store);
+        final Cache<Integer, String> cache = Caches.through(store, Integer.class, String.class);
 
         Scene() {
             store.map.put(1, "one");

@@ -9,6 +9,7 @@ import java.net.URI;
 import java.net.URL;
 import java.net.URLClassLoader;
 import java.util.ArrayList;
+import java.util.Collections;
 import java.util.Iterator;
 import java.util.LinkedHashMap;
 import java.util.List;
@@ -19,10 +20,13 @@ import javax.cache.Cache;
 import javax.cache.CacheException;
 import javax.cache.CacheManager;
 import javax.cache.Caching;
+import javax.cache.configuration.CacheEntryListenerConfiguration;
 import javax.cache.configuration.CompleteConfiguration;
 import javax.cache.configuration.Configuration;
+import javax.cache.configuration.MutableCacheEntryListenerConfiguration;
 import javax.cache.configuration.MutableConfiguration;
 import javax.cache.configuration.OptionalFeature;
+import javax.cache.event.CacheEntryCreatedListener;
 import javax.cache.spi.CachingProvider;
 import jcache.tests.Check.Test;
 
@@ -142,9 +146,7 @@ final class Managers {
     }
 
     private static Set<String> names(CacheManager manager) {
-        List<String> names = new ArrayList<>();
-        manager.getCacheNames().forEach(names::add);
-        return Set.copyOf(names);
+        return Set.copyOf(listOf(manager.getCacheNames()));
     }
 
     @Test
@@ -254,6 +256,70 @@ final class Managers {
         equal("the default properties say how many stripes a cache has", "16", defaults.getProperty("jcache.provider.stripes"));
         equal("how many entries a stripe has", "4096", defaults.getProperty("jcache.provider.capacity"));
         equal("and how many events a history has", "260", defaults.getProperty("jcache.provider.history"));
+    }
+
+    @Test
+    static void oneOfManyThreadsMakesACache() throws Exception {
+        CacheManager manager = named("race");
+        for (int i = 0; i < 50; i++) {
+            String name = "cache" + i;
+            List<Background.Work<Boolean>> all = Background.startMany(4, () -> {
+                try {
+                    manager.createCache(name, new MutableConfiguration<>());
+                    return true;
+                } catch (CacheException e) {
+                    return false;
+                }
+            });
+            equal("of many threads that make a cache of one name one makes it", 1,
+                    Collections.frequency(Background.results(all), true));
+        }
+        manager.close();
+    }
+
+    @Test
+    static void cachesByCachingItself() {
+        Cache<Integer, String> cache = PROVIDER.getCacheManager()
+                .createCache("by caching", new MutableConfiguration<Integer, String>().setTypes(Integer.class, String.class));
+        same("Caching.getCache finds a cache of the default manager", cache, Caching.getCache("by caching", Integer.class, String.class));
+        thrown("other types are ClassCastException", ClassCastException.class,
+                () -> Caching.getCache("by caching", String.class, String.class));
+        equal("a name that isn't there is null", null, Caching.getCache("no such cache", Integer.class, String.class));
+        cache.close();
+    }
+
+    @Test
+    static void valuesMayBeOfSubtypes() {
+        Cache<Number, Number> cache = Caches.create(new MutableConfiguration<Number, Number>().setTypes(Number.class, Number.class));
+        cache.put(1, 2L);
+        equal("a cache of a type takes its subtypes", 2L, cache.get(1));
+        equal("which are other keys if they aren't equal", null, cache.get(1L));
+    }
+
+    @Test
+    @SuppressWarnings("unchecked")
+    static void whatIsEnabledLaterIsInTheConfiguration() {
+        CacheManager manager = named("enabled");
+        Cache<Integer, String> cache = manager.createCache("a", new MutableConfiguration<>());
+        manager.enableStatistics("a", true);
+        manager.enableManagement("a", true);
+        CompleteConfiguration<Integer, String> own = cache.getConfiguration(CompleteConfiguration.class);
+        holds("the configuration says what was enabled since", own.isStatisticsEnabled() && own.isManagementEnabled());
+        CacheEntryListenerConfiguration<Integer, String> listener = new MutableCacheEntryListenerConfiguration<>(
+                () -> (CacheEntryCreatedListener<Integer, String>) events -> {}, null, false, true);
+        cache.registerCacheEntryListener(listener);
+        own = cache.getConfiguration(CompleteConfiguration.class);
+        equal("and which listeners were registered", List.of(listener), listOf(own.getCacheEntryListenerConfigurations()));
+        cache.deregisterCacheEntryListener(listener);
+        own = cache.getConfiguration(CompleteConfiguration.class);
+        equal("or deregistered", List.of(), listOf(own.getCacheEntryListenerConfigurations()));
+        manager.close();
+    }
+
+    private static <T> List<T> listOf(Iterable<T> all) {
+        List<T> list = new ArrayList<>();
+        all.forEach(list::add);
+        return list;
     }
 
     @Test

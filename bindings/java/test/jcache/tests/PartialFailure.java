@@ -28,7 +28,7 @@ final class PartialFailure {
     @Test
     static void putAllCachesWhatWasWritten() {
         Store<Integer, String> store = new Store<>();
-        Cache<Integer, String> cache = Caches.through(store);
+        Cache<Integer, String> cache = Caches.through(store, Integer.class, String.class);
         store.refused = Set.of(12, 14);
         CacheWriterException failed = thrown("putAll whose writer leaves keys is CacheWriterException", CacheWriterException.class,
                 () -> cache.putAll(Map.of(11, "a", 12, "b", 13, "c", 14, "d")));
@@ -40,7 +40,7 @@ final class PartialFailure {
     @Test
     static void putAllLeavesTheOldValuesOfWhatFailed() {
         Store<Integer, String> store = new Store<>();
-        Cache<Integer, String> cache = Caches.through(store);
+        Cache<Integer, String> cache = Caches.through(store, Integer.class, String.class);
         cache.putAll(Map.of(1, "old", 2, "old"));
         store.refused = Set.of(2);
         thrown("putAll in part", CacheWriterException.class, () -> cache.putAll(Map.of(1, "new", 2, "new")));
@@ -51,7 +51,7 @@ final class PartialFailure {
     @Test
     static void removeAllRemovesWhatWasDeleted() {
         Store<Integer, String> store = new Store<>();
-        Cache<Integer, String> cache = Caches.through(store);
+        Cache<Integer, String> cache = Caches.through(store, Integer.class, String.class);
         cache.putAll(Map.of(11, "a", 13, "c"));
         store.refused = Set.of(11);
         CacheWriterException failed = thrown("removeAll whose writer leaves keys is CacheWriterException", CacheWriterException.class,
@@ -152,7 +152,7 @@ final class PartialFailure {
     static void getAllOfALoaderThatFailsCachesNothing() {
         Store<Integer, String> store = new Store<>();
         store.map.putAll(Map.of(1, "one", 2, "two"));
-        Cache<Integer, String> cache = Caches.through(store);
+        Cache<Integer, String> cache = Caches.through(store, Integer.class, String.class);
         store.fault = new IllegalStateException("down");
         thrown("getAll of a loader that fails throws", CacheException.class, () -> cache.getAll(Set.of(1, 2)));
         store.fault = null;

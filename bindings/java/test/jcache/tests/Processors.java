@@ -155,7 +155,7 @@ final class Processors {
     @Test
     static void invokeAllAnswersKeyByKey() {
         Store<Integer, String> store = new Store<>();
-        Cache<Integer, String> cache = Caches.through(store);
+        Cache<Integer, String> cache = Caches.through(store, Integer.class, String.class);
         Map<Integer, EntryProcessorResult<Integer>> results = cache.invokeAll(Set.of(5, 6, 7), (entry, arguments) -> {
             if (entry.getKey() == 6) {
                 throw new IllegalArgumentException("six");
@@ -200,7 +200,7 @@ final class Processors {
     @Test
     static void aWriterThatFailsLeavesAllAsItWas() {
         Store<Integer, String> store = new Store<>();
-        Cache<Integer, String> cache = Caches.through(store);
+        Cache<Integer, String> cache = Caches.through(store, Integer.class, String.class);
         cache.put(1, "a");
         store.fault = new IllegalStateException("down");
         CacheWriterException failed = thrown("a processor whose value can't be written is CacheWriterException", CacheWriterException.class,
@@ -217,7 +217,7 @@ final class Processors {
     @Test
     static void aLoaderThatFailsFailsTheProcessor() {
         Store<Integer, String> store = new Store<>();
-        Cache<Integer, String> cache = Caches.through(store);
+        Cache<Integer, String> cache = Caches.through(store, Integer.class, String.class);
         store.fault = new IllegalStateException("down");
         EntryProcessorException failed = thrown("getValue of a loader that throws fails the processor", EntryProcessorException.class,
                 () -> cache.invoke(1, Processors::append, "b"));

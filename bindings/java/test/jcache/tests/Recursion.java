@@ -21,7 +21,7 @@ final class Recursion {
     private static final int KEYS = 64;
 
     private static final class Scene {
-        final Cache<Integer, Integer> cache = Caches.through(new Store<>());
+        final Cache<Integer, Integer> cache = Caches.through(new Store<>(), Integer.class, Integer.class);
         int deepest;
 
         /** Never returns: its stack ends. */
