@@ -35,13 +35,18 @@ final class Recording {
         final Cache<String, String> cache;
 
         Scene(int history) throws IOException {
-            Properties properties = new Properties();
+            this(history, new Properties(), null);
+        }
+
+        /** With more properties, and of a configured type, if it isn't null. */
+        Scene(int history, Properties properties, Class<String> type) throws IOException {
             properties.setProperty("jcache.provider.stripes", "1");
             properties.setProperty("jcache.provider.capacity", "2");
             properties.setProperty("jcache.provider.history", String.valueOf(history));
             properties.setProperty("jcache.provider.record", folder.toString());
             manager = Caches.manager(properties);
-            cache = manager.createCache("kept", Caches.over(store));
+            MutableConfiguration<String, String> configuration = Caches.over(store);
+            cache = manager.createCache("kept", type == null ? configuration : configuration.setTypes(type, type));
         }
 
         /** What is printed of a key, or of all keys if it is null, but for what says which file and which generation it is. */
@@ -152,6 +157,19 @@ final class Recording {
             holds("while a load is slow, generations end, and others go on", !slow.isDone());
             scene.store.open();
             slow.result();
+        }
+    }
+
+    @Test
+    static void bytesInTheCoreAreKeptAsTheyAre() throws Exception {
+        Properties bytes = new Properties();
+        bytes.setProperty("jcache.provider.bytes", "true");
+        try (Scene scene = new Scene(64, bytes, String.class)) {
+            scene.cache.put("a", "first");
+            scene.cache.replace("a", "first", "second");
+            scene.cache.close();
+            equal("values that are bytes in the core are printed as they are", List.of("begin 0 s1 put a first", "0 a written",
+                    "0 a is ok at 0.0", "begin 1 s1 replaceif a first second", "1 a written", "1 a is true at 0.1"), scene.printed("a"));
         }
     }
 
