@@ -88,7 +88,8 @@ final class BooksTest {
                 all.add(pool.submit(() -> scene.books.summary(500)));
             }
             for (Future<String> one : all) {
-                equal("@Cacheable with sync = true answers each of eight threads", "summary 500", one.get(30, TimeUnit.SECONDS));
+                equal("@Cacheable with sync = true answers each of eight threads", "summary 500",
+                        one.get(30, TimeUnit.SECONDS));
             }
             equal("by one computation", 1, scene.asked());
         } finally {
@@ -117,7 +118,8 @@ final class BooksTest {
     static void whatACallerChangesIsHis() {
         try (Scene scene = new Scene()) {
             scene.books.titlesOf("x", "y").add("mine");
-            equal("caches store by value: what a caller does to his list changes no other's", Arrays.asList("x's", "y's"),
+            equal("caches store by value: what a caller does to his list changes no other's",
+                    Arrays.asList("x's", "y's"),
                     scene.books.titlesOf("x", "y"));
             equal("which was computed once", 1, scene.asked());
         }

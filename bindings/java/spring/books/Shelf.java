@@ -12,7 +12,9 @@ import org.springframework.cache.annotation.CacheEvict;
 import org.springframework.cache.annotation.CachePut;
 import org.springframework.cache.annotation.Cacheable;
 
-/** The service, with annotations of Spring and of JSR 107. It counts how often it is asked itself, and not its caches. */
+/**
+ * The service, with annotations of Spring and of JSR 107. It counts how often it is asked itself, and not its caches.
+ */
 public final class Shelf implements Books {
     final AtomicInteger asked = new AtomicInteger();
 

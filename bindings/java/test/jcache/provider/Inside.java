@@ -8,8 +8,8 @@ public final class Inside {
     private Inside() {}
 
     /**
-     * Compares each stripe with its core, while no call is under way: each key that either has is the other's, with its value; no key is
-     * reserved or joined; nothing that a call takes for its time is out. Throws if it isn't so.
+     * Compares each stripe with its core, while no call is under way: each key that either has is the other's, with its
+     * value; no key is reserved or joined; nothing that a call takes for its time is out. Throws if it isn't so.
      *
      * @return how many entries are cached
      */

@@ -15,7 +15,10 @@ import javax.cache.CacheManager;
 import javax.cache.configuration.MutableConfiguration;
 import jcache.tests.Check.Test;
 
-/** Caches whose keys and values are bytes in the core: strings, numbers and UUIDs, by the property {@code jcache.provider.bytes}. */
+/**
+ * Caches whose keys and values are bytes in the core: strings, numbers and UUIDs, by the property {@code
+ * jcache.provider.bytes}.
+ */
 final class BytesInTheCore {
     private BytesInTheCore() {}
 
@@ -73,8 +76,10 @@ final class BytesInTheCore {
     }
 
     private static void checkRefused(String what, Check.Body call) {
-        IllegalArgumentException refused = thrown(what + " is IllegalArgumentException", IllegalArgumentException.class, call);
-        holds("which names the property: " + refused, refused != null && refused.getMessage().contains("jcache.provider.bytes"));
+        IllegalArgumentException refused =
+                thrown(what + " is IllegalArgumentException", IllegalArgumentException.class, call);
+        holds("which names the property: " + refused, refused != null
+                && refused.getMessage().contains("jcache.provider.bytes"));
     }
 
     @Test

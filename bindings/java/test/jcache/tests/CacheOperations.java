@@ -102,7 +102,8 @@ final class CacheOperations {
     static void callsOfManyKeys() {
         Cache<String, String> cache = strings();
         cache.putAll(Map.of("a", "1", "b", "2", "c", "3"));
-        equal("getAll answers the entries that are there", Map.of("a", "1", "c", "3"), cache.getAll(Set.of("a", "c", "z")));
+        equal("getAll answers the entries that are there", Map.of("a", "1", "c", "3"),
+                cache.getAll(Set.of("a", "c", "z")));
         equal("getAll of no key answers no entry", Map.of(), cache.getAll(Set.of()));
         cache.putAll(Map.of());
         cache.putAll(Map.of("a", "4"));
@@ -150,7 +151,8 @@ final class CacheOperations {
         Cache<String, String> cache = strings();
         holds("an empty cache's iterator has no next", !cache.iterator().hasNext());
         thrown("next() at the end is NoSuchElementException", NoSuchElementException.class, cache.iterator()::next);
-        thrown("remove() before a next() is IllegalStateException", IllegalStateException.class, cache.iterator()::remove);
+        thrown("remove() before a next() is IllegalStateException", IllegalStateException.class,
+                cache.iterator()::remove);
         Map<String, String> put = new HashMap<>();
         for (int i = 0; i < 100; i++) {
             put.put("key" + i, "value" + i);
@@ -242,7 +244,8 @@ final class CacheOperations {
         uses.put("invokeAll with null", it -> it.invokeAll(Collections.singleton(null), (entry, arguments) -> null));
         uses.put("invokeAll(keys, null)", it -> it.invokeAll(Set.of("k"), null));
         uses.put("deregisterCacheEntryListener(null)", it -> it.deregisterCacheEntryListener(null));
-        uses.forEach((name, use) -> thrown(name + " is NullPointerException", NullPointerException.class, () -> use.of(cache)));
+        uses.forEach((name, use) ->
+                thrown(name + " is NullPointerException", NullPointerException.class, () -> use.of(cache)));
         equal("and nothing is cached", contents(), contents(cache));
     }
 
@@ -272,7 +275,8 @@ final class CacheOperations {
         uses.forEach((name, use) -> {
             Cache<String, String> cache = strings();
             cache.close();
-            thrown(name + " of a closed cache is IllegalStateException", IllegalStateException.class, () -> use.of(cache));
+            thrown(name + " of a closed cache is IllegalStateException", IllegalStateException.class,
+                    () -> use.of(cache));
         });
     }
 
@@ -297,7 +301,8 @@ final class CacheOperations {
         cache.put(3, "c");
         cache.get(1);
         cache.put(4, "d");
-        holds("a full stripe evicts the entry that was used longest ago", cache.containsKey(1) && !cache.containsKey(2));
+        holds("a full stripe evicts the entry that was used longest ago",
+                cache.containsKey(1) && !cache.containsKey(2));
         holds("containsKey is no use of an entry", cache.containsKey(3));
         cache.put(5, "e");
         equal("so that entry is evicted next", Set.of(1, 4, 5), keys(cache));
@@ -344,9 +349,11 @@ final class CacheOperations {
         Cache<String, String> cache = strings();
         cache.put("a", "1");
         holds("unwrap(Cache.class) is the cache", cache.unwrap(Cache.class) == cache);
-        thrown("unwrap of another class is IllegalArgumentException", IllegalArgumentException.class, () -> cache.unwrap(Integer.class));
+        thrown("unwrap of another class is IllegalArgumentException", IllegalArgumentException.class,
+                () -> cache.unwrap(Integer.class));
         Cache.Entry<String, String> entry = cache.iterator().next();
         holds("unwrap(Cache.Entry.class) of an entry is the entry", entry.unwrap(Cache.Entry.class) == entry);
-        thrown("and of another class IllegalArgumentException", IllegalArgumentException.class, () -> entry.unwrap(Integer.class));
+        thrown("and of another class IllegalArgumentException", IllegalArgumentException.class,
+                () -> entry.unwrap(Integer.class));
     }
 }

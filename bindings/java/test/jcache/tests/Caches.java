@@ -29,7 +29,8 @@ final class Caches {
 
     /** A new manager with these properties. */
     static CacheManager manager(Properties properties) {
-        return Caching.getCachingProvider().getCacheManager(URI.create("test:" + count.incrementAndGet()), null, properties);
+        return Caching.getCachingProvider()
+                .getCacheManager(URI.create("test:" + count.incrementAndGet()), null, properties);
     }
 
     /** A new cache of the default manager. */

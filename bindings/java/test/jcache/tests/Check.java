@@ -14,8 +14,9 @@ import java.util.concurrent.atomic.AtomicInteger;
 /**
  * Checks, each with the rule that it is made for, and the program that runs them. Any thread may make one.
  *
- * <p>usage: Check SUITE.. runs each static method of a class, of this package or by its whole name, that is marked as a Test. A check that
- * fails is printed with its rule and its line; the last line is {@code N checks, M failed}. Exit status 1 if one has failed.
+ * <p>usage: Check SUITE.. runs each static method of a class, of this package or by its whole name, that is marked as a
+ * Test. A check that fails is printed with its rule and its line; the last line is {@code N checks, M failed}. Exit
+ * status 1 if one has failed.
  */
 public final class Check {
     /** Marks a test: a static method without parameters. */
@@ -92,7 +93,8 @@ public final class Check {
 
     public static void main(String[] suites) throws ClassNotFoundException {
         for (String suite : suites) {
-            Arrays.stream(Class.forName(suite.contains(".") ? suite : Check.class.getPackageName() + "." + suite).getDeclaredMethods())
+            Arrays.stream(Class.forName(suite.contains(".") ? suite : Check.class.getPackageName() + "." + suite)
+                    .getDeclaredMethods())
                     .filter(method -> method.isAnnotationPresent(Test.class))
                     .sorted(Comparator.comparing(Method::getName))
                     .forEach(Check::run);

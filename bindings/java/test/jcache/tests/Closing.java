@@ -22,8 +22,8 @@ import jcache.tests.Background.Work;
 import jcache.tests.Check.Test;
 
 /**
- * Caches that are closed, also with calls under way, and what they leave: nothing. All of the heap is to be in memory from the start (-Xms as
- * -Xmx, AlwaysPreTouch), so that what grows is beside it.
+ * Caches that are closed, also with calls under way, and what they leave: nothing. All of the heap is to be in memory
+ * from the start (-Xms as -Xmx, AlwaysPreTouch), so that what grows is beside it.
  */
 final class Closing {
     private Closing() {}
@@ -80,7 +80,8 @@ final class Closing {
         cache.put(1, "a");
         var each = cache.iterator();
         cache.close();
-        thrown("hasNext() of a closed cache's iterator is IllegalStateException", IllegalStateException.class, each::hasNext);
+        thrown("hasNext() of a closed cache's iterator is IllegalStateException", IllegalStateException.class,
+                each::hasNext);
         thrown("and next()", IllegalStateException.class, each::next);
     }
 
@@ -91,7 +92,8 @@ final class Closing {
         first.put(1, "a");
         first.close();
         Cache<Integer, String> second = manager.createCache("again", new MutableConfiguration<>());
-        holds("a cache that is made under a closed one's name is another one, and empty", second != first && !second.containsKey(1));
+        holds("a cache that is made under a closed one's name is another one, and empty",
+                second != first && !second.containsKey(1));
         manager.close();
     }
 
@@ -221,7 +223,8 @@ final class Closing {
             live(manager, ended, refused);
         }
         long grown = residentKilobytes() - before;
-        System.out.println(ended + " threads ended, " + refused + " found their cache closed; " + grown + " kB more after 200 caches");
+        System.out.println(ended + " threads ended, " + refused + " found their cache closed; " + grown
+                + " kB more after 200 caches");
         equal("each thread ended or found its cache closed", 1200, ended.get() + refused.get());
         holds("closed caches leave no memory: " + grown + " kB", grown < LEAK_KILOBYTES);
     }

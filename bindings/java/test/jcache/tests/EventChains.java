@@ -25,8 +25,8 @@ import jcache.tests.Background.Work;
 import jcache.tests.Check.Test;
 
 /**
- * Random calls of many threads, whose entries also expire, and what a listener is told of them: at each key the events are a chain, in which
- * each one begins with what the one before has left.
+ * Random calls of many threads, whose entries also expire, and what a listener is told of them: at each key the events
+ * are a chain, in which each one begins with what the one before has left.
  */
 final class EventChains {
     private EventChains() {}
@@ -125,7 +125,8 @@ final class EventChains {
         Cache<Integer, Long> cache = Caches.create(new MutableConfiguration<Integer, Long>()
                 .setTypes(Integer.class, Long.class)
                 .setExpiryPolicyFactory(ModifiedExpiryPolicy.factoryOf(new Duration(TimeUnit.MILLISECONDS, 1)))
-                .addCacheEntryListenerConfiguration(new MutableCacheEntryListenerConfiguration<>(() -> chains, null, true, true)));
+                .addCacheEntryListenerConfiguration(new MutableCacheEntryListenerConfiguration<>(() -> chains, null,
+                        true, true)));
         List<Work<Void>> all = new ArrayList<>();
         for (int thread = 0; thread < 8; thread++) {
             Random random = new Random(thread);

@@ -141,7 +141,8 @@ final class Expiry {
         cache.get(1L);
         equal("a get that loads asks for the creation", List.of(1, 0, 0), policy.take());
         cache.getAll(Set.of(1L, 2L));
-        equal("getAll for the access of what is there, and the creation of what it loads", List.of(1, 1, 0), policy.take());
+        equal("getAll for the access of what is there, and the creation of what it loads", List.of(1, 1, 0),
+                policy.take());
         CompletionListenerFuture loaded = new CompletionListenerFuture();
         cache.loadAll(Set.of(2L, 3L), false, loaded);
         loaded.get(30, TimeUnit.SECONDS);
@@ -236,7 +237,8 @@ final class Expiry {
     static void anExpiredEntryIsLoadedAgain() throws InterruptedException {
         Store<Long, String> store = new Store<>();
         store.map.put(1L, "one");
-        Cache<Long, String> cache = Caches.create(Caches.over(store).setExpiryPolicyFactory(CreatedExpiryPolicy.factoryOf(SHORT)));
+        Cache<Long, String> cache =
+                Caches.create(Caches.over(store).setExpiryPolicyFactory(CreatedExpiryPolicy.factoryOf(SHORT)));
         equal("a get loads", "one", cache.get(1L));
         store.map.put(1L, "changed");
         sleepLong();

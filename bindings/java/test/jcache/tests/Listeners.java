@@ -36,7 +36,10 @@ import jcache.tests.Check.Test;
 final class Listeners {
     private Listeners() {}
 
-    /** A listener of all kinds that writes down what it is told: {@code CREATED 1=a<-}, a key, its value and the one before. */
+    /**
+     * A listener of all kinds that writes down what it is told: {@code CREATED 1=a<-}, a key, its value and the one
+     * before.
+     */
     private static final class Log
             implements CacheEntryCreatedListener<Long, String>, CacheEntryUpdatedListener<Long, String>,
                     CacheEntryRemovedListener<Long, String>, CacheEntryExpiredListener<Long, String>, Closeable {
@@ -85,7 +88,8 @@ final class Listeners {
         }
     }
 
-    private static CacheEntryListenerConfiguration<Long, String> synchronous(CacheEntryListener<Long, String> listener) {
+    private static CacheEntryListenerConfiguration<Long, String> synchronous(
+            CacheEntryListener<Long, String> listener) {
         return new MutableCacheEntryListenerConfiguration<>(() -> listener, null, true, true);
     }
 
@@ -223,7 +227,8 @@ final class Listeners {
         cache.put(2L, "c");
         Thread.sleep(200);
         equal("an expired entry isn't found", null, cache.get(2L));
-        equal("and the call that meets it tells that it has expired", List.of("CREATED 2=c<-", "EXPIRED 2=c<c"), log.take());
+        equal("and the call that meets it tells that it has expired", List.of("CREATED 2=c<-", "EXPIRED 2=c<c"),
+                log.take());
     }
 
     @Test
@@ -249,7 +254,8 @@ final class Listeners {
         Log log = new Log();
         Cache<Long, String> cache = Caches.plain(Long.class, String.class);
         CacheEntryEventFilter<Long, String> second = event -> event.getKey() == 2L;
-        cache.registerCacheEntryListener(new MutableCacheEntryListenerConfiguration<>(() -> log, () -> second, false, true));
+        cache.registerCacheEntryListener(new MutableCacheEntryListenerConfiguration<>(() -> log, () -> second, false,
+                true));
         cache.put(1L, "q");
         cache.put(2L, "r");
         equal("a filter chooses what a listener is told", List.of("CREATED 2=r<-"), log.take());
@@ -262,7 +268,8 @@ final class Listeners {
             throw fault;
         };
         Cache<Long, String> cache = Caches.create(new MutableConfiguration<Long, String>()
-                .addCacheEntryListenerConfiguration(new MutableCacheEntryListenerConfiguration<>(broken, null, false, true)));
+                .addCacheEntryListenerConfiguration(new MutableCacheEntryListenerConfiguration<>(broken, null, false,
+                        true)));
         CacheEntryListenerException failed = thrown("a synchronous listener that throws is CacheEntryListenerException",
                 CacheEntryListenerException.class, () -> cache.put(1L, "a"));
         same("with its cause", fault, failed.getCause());
@@ -278,7 +285,8 @@ final class Listeners {
             told.countDown();
         };
         Cache<Long, String> cache = Caches.create(new MutableConfiguration<Long, String>()
-                .addCacheEntryListenerConfiguration(new MutableCacheEntryListenerConfiguration<>(() -> slow, null, false, false)));
+                .addCacheEntryListenerConfiguration(new MutableCacheEntryListenerConfiguration<>(() -> slow, null,
+                        false, false)));
         Background.start(() -> cache.put(1L, "a")).result();
         equal("a call doesn't wait for a listener that isn't synchronous", 1L, told.getCount());
         go.countDown();
@@ -290,7 +298,8 @@ final class Listeners {
     static void aListenerMayCallTheCache() throws Exception {
         Cache<Long, String> cache = Caches.plain(Long.class, String.class);
         List<String> seen = Collections.synchronizedList(new ArrayList<>());
-        CacheEntryCreatedListener<Long, String> curious = events -> events.forEach(event -> seen.add(cache.get(event.getKey())));
+        CacheEntryCreatedListener<Long, String> curious = events ->
+                events.forEach(event -> seen.add(cache.get(event.getKey())));
         cache.registerCacheEntryListener(synchronous(curious));
         Background.start(() -> cache.put(1L, "a")).result();
         equal("a listener may call the cache: no lock is held", List.of("a"), seen);

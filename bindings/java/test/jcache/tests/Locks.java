@@ -17,8 +17,8 @@ import jcache.tests.Background.Work;
 import jcache.tests.Check.Test;
 
 /**
- * Nothing of the user's runs with a lock held: while it hangs, calls at other keys are done, though the cache has one stripe. Each test has
- * something that hangs at a gate for one key or value.
+ * Nothing of the user's runs with a lock held: while it hangs, calls at other keys are done, though the cache has one
+ * stripe. Each test has something that hangs at a gate for one key or value.
  */
 final class Locks {
     private Locks() {}
@@ -175,7 +175,8 @@ final class Locks {
             }
         });
         Cache<Object, Object> cache = oneStripe(new MutableConfiguration<>());
-        cache.registerCacheEntryListener(new MutableCacheEntryListenerConfiguration<>(() -> listener, null, false, true));
+        cache.registerCacheEntryListener(new MutableCacheEntryListenerConfiguration<>(() -> listener, null, false,
+                true));
         cache.put(Slow.of("other"), "old");
         Store.Gate here = new Store<Object, Object>().shut();
         gate = here;

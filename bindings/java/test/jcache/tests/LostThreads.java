@@ -14,7 +14,9 @@ import jcache.provider.Inside;
 import jcache.tests.Background.Work;
 import jcache.tests.Check.Test;
 
-/** Calls that lose their thread in the middle: by an error, by an interrupt, by a stop. None leaves its key reserved. */
+/**
+ * Calls that lose their thread in the middle: by an error, by an interrupt, by a stop. None leaves its key reserved.
+ */
 final class LostThreads {
     private LostThreads() {}
 
@@ -42,14 +44,16 @@ final class LostThreads {
     }
 
     private static final List<Error> ERRORS =
-            List.of(new OwnError(), new OutOfMemoryError("not really"), new StackOverflowError(), new ThreadDeath(), new NoClassDefFoundError("a"));
+            List.of(new OwnError(), new OutOfMemoryError("not really"), new StackOverflowError(), new ThreadDeath(),
+                    new NoClassDefFoundError("a"));
 
     @Test
     static void anErrorOfALoader() throws Exception {
         for (Error error : ERRORS) {
             Scene scene = new Scene();
             scene.store.fault = error;
-            same("an error of a loader is thrown as it is", error, thrown("by get", Error.class, () -> scene.cache.get(1)));
+            same("an error of a loader is thrown as it is", error,
+                    thrown("by get", Error.class, () -> scene.cache.get(1)));
             same("also of many keys", error, thrown("by getAll", Error.class, () -> scene.cache.getAll(Set.of(1, 2))));
             scene.checkFree();
         }
@@ -60,10 +64,13 @@ final class LostThreads {
         for (Error error : ERRORS) {
             Scene scene = new Scene();
             scene.store.fault = error;
-            same("an error of a writer is thrown as it is", error, thrown("by put", Error.class, () -> scene.cache.put(1, "x")));
+            same("an error of a writer is thrown as it is", error,
+                    thrown("by put", Error.class, () -> scene.cache.put(1, "x")));
             same("and by remove", error, thrown("by remove", Error.class, () -> scene.cache.remove(1)));
-            same("also of many keys", error, thrown("by putAll", Error.class, () -> scene.cache.putAll(Map.of(1, "x", 2, "y"))));
-            same("and by removeAll", error, thrown("by removeAll", Error.class, () -> scene.cache.removeAll(Set.of(1, 2))));
+            same("also of many keys", error,
+                    thrown("by putAll", Error.class, () -> scene.cache.putAll(Map.of(1, "x", 2, "y"))));
+            same("and by removeAll", error,
+                    thrown("by removeAll", Error.class, () -> scene.cache.removeAll(Set.of(1, 2))));
             holds("nothing is cached", !scene.cache.containsKey(1) && !scene.cache.containsKey(2));
             scene.checkFree();
         }
@@ -81,7 +88,8 @@ final class LostThreads {
             holds("nothing is cached", !scene.cache.containsKey(1));
             scene.store.fault = error;
             same("and an error of its loader", error,
-                    thrown("by invoke", Error.class, () -> scene.cache.invoke(1, (entry, arguments) -> entry.getValue())));
+                    thrown("by invoke", Error.class,
+                            () -> scene.cache.invoke(1, (entry, arguments) -> entry.getValue())));
             scene.checkFree();
         }
     }

@@ -45,7 +45,8 @@ final class Managers {
         same("Caching finds one provider", PROVIDER, Caching.getCachingProvider());
         same("also by its name", PROVIDER, Caching.getCachingProvider(PROVIDER.getClass().getName()));
         holds("store by reference is supported", PROVIDER.isSupported(OptionalFeature.STORE_BY_REFERENCE));
-        thrown("a provider that isn't there is CacheException", CacheException.class, () -> Caching.getCachingProvider("no.Provider"));
+        thrown("a provider that isn't there is CacheException", CacheException.class,
+                () -> Caching.getCachingProvider("no.Provider"));
     }
 
     @Test
@@ -63,7 +64,8 @@ final class Managers {
         equal("a manager says its URI", URI.create("one"), manager.getURI());
         same("and its provider", PROVIDER, manager.getCachingProvider());
         same("null for a URI and a class loader are the defaults",
-                PROVIDER.getCacheManager(PROVIDER.getDefaultURI(), PROVIDER.getDefaultClassLoader()), PROVIDER.getCacheManager(null, null));
+                PROVIDER.getCacheManager(PROVIDER.getDefaultURI(), PROVIDER.getDefaultClassLoader()),
+                PROVIDER.getCacheManager(null, null));
         PROVIDER.close(URI.create("one"), PROVIDER.getDefaultClassLoader());
         holds("close(uri, loader) closes one", manager.isClosed() && !named("other").isClosed());
         named("other").close();
@@ -74,7 +76,8 @@ final class Managers {
         Properties properties = new Properties();
         properties.setProperty("jcache.provider.capacity", "77");
         CacheManager manager = PROVIDER.getCacheManager(URI.create("properties"), null, properties);
-        equal("a manager has the properties that it was made with", "77", manager.getProperties().getProperty("jcache.provider.capacity"));
+        equal("a manager has the properties that it was made with", "77",
+                manager.getProperties().getProperty("jcache.provider.capacity"));
         manager.close();
     }
 
@@ -94,7 +97,8 @@ final class Managers {
         uses.put("destroyCache", () -> manager.destroyCache("cache"));
         uses.put("enableStatistics", () -> manager.enableStatistics("cache", true));
         uses.put("enableManagement", () -> manager.enableManagement("cache", true));
-        uses.forEach((name, use) -> thrown(name + " of a closed manager is IllegalStateException", IllegalStateException.class, use));
+        uses.forEach((name, use) ->
+                thrown(name + " of a closed manager is IllegalStateException", IllegalStateException.class, use));
         holds("the provider makes another one then", named("closed") != manager);
         named("closed").close();
     }
@@ -122,12 +126,14 @@ final class Managers {
     static void cachesByName() {
         CacheManager manager = named("names");
         Cache<Integer, String> cache =
-                manager.createCache("a", new MutableConfiguration<Integer, String>().setTypes(Integer.class, String.class));
+                manager.createCache("a", new MutableConfiguration<Integer, String>()
+                        .setTypes(Integer.class, String.class));
         equal("a cache says its name", "a", cache.getName());
         same("and its manager", manager, cache.getCacheManager());
         same("getCache finds it", cache, manager.getCache("a"));
         same("also by its types", cache, manager.getCache("a", Integer.class, String.class));
-        thrown("other types are ClassCastException", ClassCastException.class, () -> manager.getCache("a", String.class, String.class));
+        thrown("other types are ClassCastException", ClassCastException.class,
+                () -> manager.getCache("a", String.class, String.class));
         thrown("a second cache of a name is CacheException", CacheException.class,
                 () -> manager.createCache("a", new MutableConfiguration<>()));
         manager.createCache("b", new MutableConfiguration<>());
@@ -152,7 +158,8 @@ final class Managers {
     @Test
     @SuppressWarnings("unchecked")
     static void configurationsAreCopied() {
-        MutableConfiguration<Long, String> configuration = new MutableConfiguration<Long, String>().setTypes(Long.class, String.class);
+        MutableConfiguration<Long, String> configuration = new MutableConfiguration<Long, String>()
+                .setTypes(Long.class, String.class);
         Cache<Long, String> cache = Caches.create(configuration);
         configuration.setStatisticsEnabled(true);
         CompleteConfiguration<Long, String> own = cache.getConfiguration(CompleteConfiguration.class);
@@ -205,7 +212,8 @@ final class Managers {
     static void unwraps() {
         CacheManager manager = Caches.manager();
         same("unwrap(CacheManager.class) is the manager", manager, manager.unwrap(CacheManager.class));
-        thrown("of another class it is IllegalArgumentException", IllegalArgumentException.class, () -> manager.unwrap(Integer.class));
+        thrown("of another class it is IllegalArgumentException", IllegalArgumentException.class,
+                () -> manager.unwrap(Integer.class));
     }
 
     @Test
@@ -227,7 +235,8 @@ final class Managers {
         CacheException refused = thrown(property + " of " + value + " is CacheException", CacheException.class,
                 () -> Caches.create(Caches.manager(properties), new MutableConfiguration<>()));
         String text = String.valueOf(refused);
-        holds("whose text names it, and its limits: " + text, text.contains("jcache.provider." + property) && text.contains(limits));
+        holds("whose text names it, and its limits: " + text,
+                text.contains("jcache.provider." + property) && text.contains(limits));
     }
 
     @Test
@@ -253,7 +262,8 @@ final class Managers {
     @Test
     static void theDefaultPropertiesAreWhatCachesHave() {
         Properties defaults = PROVIDER.getDefaultProperties();
-        equal("the default properties say how many stripes a cache has", "16", defaults.getProperty("jcache.provider.stripes"));
+        equal("the default properties say how many stripes a cache has", "16",
+                defaults.getProperty("jcache.provider.stripes"));
         equal("how many entries a stripe has", "4096", defaults.getProperty("jcache.provider.capacity"));
         equal("and how many events a history has", "260", defaults.getProperty("jcache.provider.history"));
     }
@@ -280,8 +290,10 @@ final class Managers {
     @Test
     static void cachesByCachingItself() {
         Cache<Integer, String> cache = PROVIDER.getCacheManager()
-                .createCache("by caching", new MutableConfiguration<Integer, String>().setTypes(Integer.class, String.class));
-        same("Caching.getCache finds a cache of the default manager", cache, Caching.getCache("by caching", Integer.class, String.class));
+                .createCache("by caching", new MutableConfiguration<Integer, String>()
+                        .setTypes(Integer.class, String.class));
+        same("Caching.getCache finds a cache of the default manager", cache,
+                Caching.getCache("by caching", Integer.class, String.class));
         thrown("other types are ClassCastException", ClassCastException.class,
                 () -> Caching.getCache("by caching", String.class, String.class));
         equal("a name that isn't there is null", null, Caching.getCache("no such cache", Integer.class, String.class));
@@ -290,7 +302,8 @@ final class Managers {
 
     @Test
     static void valuesMayBeOfSubtypes() {
-        Cache<Number, Number> cache = Caches.create(new MutableConfiguration<Number, Number>().setTypes(Number.class, Number.class));
+        Cache<Number, Number> cache =
+                Caches.create(new MutableConfiguration<Number, Number>().setTypes(Number.class, Number.class));
         cache.put(1, 2L);
         equal("a cache of a type takes its subtypes", 2L, cache.get(1));
         equal("which are other keys if they aren't equal", null, cache.get(1L));
@@ -309,7 +322,8 @@ final class Managers {
                 () -> (CacheEntryCreatedListener<Integer, String>) events -> {}, null, false, true);
         cache.registerCacheEntryListener(listener);
         own = cache.getConfiguration(CompleteConfiguration.class);
-        equal("and which listeners were registered", List.of(listener), listOf(own.getCacheEntryListenerConfigurations()));
+        equal("and which listeners were registered", List.of(listener),
+                listOf(own.getCacheEntryListenerConfigurations()));
         cache.deregisterCacheEntryListener(listener);
         own = cache.getConfiguration(CompleteConfiguration.class);
         equal("or deregistered", List.of(), listOf(own.getCacheEntryListenerConfigurations()));
@@ -327,7 +341,8 @@ final class Managers {
         CacheManager manager = named("all");
         Cache<String, String> cache = manager.createCache("cache", new MutableConfiguration<>());
         PROVIDER.close();
-        holds("a provider that is closed closes its managers, and they their caches", manager.isClosed() && cache.isClosed());
+        holds("a provider that is closed closes its managers, and they their caches",
+                manager.isClosed() && cache.isClosed());
         holds("and makes new ones", named("all") != manager && !named("all").isClosed());
         PROVIDER.close();
         PROVIDER.close();

@@ -31,7 +31,8 @@ final class ManyKeys {
     static void aThousandKeysOverTwoStripes() {
         CacheManager manager = Caches.manager(2, 4096);
         Store<Integer, Integer> store = new Store<>();
-        Cache<Integer, Integer> cache = Caches.create(manager, Caches.over(store).setTypes(Integer.class, Integer.class));
+        Cache<Integer, Integer> cache =
+                Caches.create(manager, Caches.over(store).setTypes(Integer.class, Integer.class));
         Map<Integer, Integer> squares = squares(1000);
         cache.putAll(squares);
         equal("putAll of 1,000 keys writes each", squares, store.map);
@@ -52,7 +53,8 @@ final class ManyKeys {
         CacheManager manager = Caches.manager(1, 4096);
         Store<Integer, Integer> store = new Store<>();
         store.map.put(5, 55);
-        Cache<Integer, Integer> cache = Caches.create(manager, Caches.over(store).setTypes(Integer.class, Integer.class));
+        Cache<Integer, Integer> cache =
+                Caches.create(manager, Caches.over(store).setTypes(Integer.class, Integer.class));
         for (int key = 100; key < 300; key++) {
             cache.put(key, key);
         }
@@ -77,7 +79,8 @@ final class ManyKeys {
     static void overlappingCallsInOppositeOrder() throws Exception {
         Store<Integer, Integer> store = new Store<>();
         CacheManager manager = Caches.manager(2, 4096);
-        Cache<Integer, Integer> cache = Caches.create(manager, Caches.over(store).setTypes(Integer.class, Integer.class));
+        Cache<Integer, Integer> cache =
+                Caches.create(manager, Caches.over(store).setTypes(Integer.class, Integer.class));
         List<Work<Void>> all = new ArrayList<>();
         for (int thread = 0; thread < 8; thread++) {
             Map<Integer, Integer> entries = new LinkedHashMap<>();
@@ -103,7 +106,8 @@ final class ManyKeys {
     static void aCallOfManyKeysWaitsForAKeyThatIsReserved() throws Exception {
         Store<Integer, Integer> store = new Store<>();
         CacheManager manager = Caches.manager(1, 4096);
-        Cache<Integer, Integer> cache = Caches.create(manager, Caches.over(store).setTypes(Integer.class, Integer.class));
+        Cache<Integer, Integer> cache =
+                Caches.create(manager, Caches.over(store).setTypes(Integer.class, Integer.class));
         Store.Gate gate = store.shut();
         Work<Void> slow = Background.start(() -> cache.put(1, 10));
         gate.awaitCall();
@@ -116,7 +120,8 @@ final class ManyKeys {
         store.open();
         slow.result();
         all.result();
-        equal("a putAll with a key that is being written ends after that", Map.of(1, 11, 2, 20, 3, 30), cache.getAll(Set.of(1, 2, 3)));
+        equal("a putAll with a key that is being written ends after that", Map.of(1, 11, 2, 20, 3, 30),
+                cache.getAll(Set.of(1, 2, 3)));
         equal("and so does the store", Map.of(1, 11, 2, 20, 3, 30), store.map);
         manager.close();
     }
@@ -126,7 +131,8 @@ final class ManyKeys {
         Store<Integer, Integer> store = new Store<>();
         store.map.putAll(Map.of(1, 10, 2, 20));
         CacheManager manager = Caches.manager(1, 4096);
-        Cache<Integer, Integer> cache = Caches.create(manager, Caches.over(store).setTypes(Integer.class, Integer.class));
+        Cache<Integer, Integer> cache =
+                Caches.create(manager, Caches.over(store).setTypes(Integer.class, Integer.class));
         Store.Gate gate = store.shut();
         Work<Integer> get = Background.start(() -> cache.get(1));
         gate.awaitCall();

@@ -30,7 +30,8 @@ final class PartialFailure {
         Store<Integer, String> store = new Store<>();
         Cache<Integer, String> cache = Caches.through(store, Integer.class, String.class);
         store.refused = Set.of(12, 14);
-        CacheWriterException failed = thrown("putAll whose writer leaves keys is CacheWriterException", CacheWriterException.class,
+        CacheWriterException failed =
+                thrown("putAll whose writer leaves keys is CacheWriterException", CacheWriterException.class,
                 () -> cache.putAll(Map.of(11, "a", 12, "b", 13, "c", 14, "d")));
         equal("with what the writer has thrown as its cause", "in part", failed.getCause().getMessage());
         equal("what was written is cached, and only that", Map.of(11, "a", 13, "c"), contents(cache));
@@ -54,7 +55,8 @@ final class PartialFailure {
         Cache<Integer, String> cache = Caches.through(store, Integer.class, String.class);
         cache.putAll(Map.of(11, "a", 13, "c"));
         store.refused = Set.of(11);
-        CacheWriterException failed = thrown("removeAll whose writer leaves keys is CacheWriterException", CacheWriterException.class,
+        CacheWriterException failed =
+                thrown("removeAll whose writer leaves keys is CacheWriterException", CacheWriterException.class,
                 () -> cache.removeAll(Set.of(11, 13, 99)));
         equal("with its cause", "in part", failed.getCause().getMessage());
         equal("what was deleted is removed, and only that", Map.of(11, "a"), contents(cache));
@@ -99,11 +101,14 @@ final class PartialFailure {
     static void aWriterMayThrowAfterItHasWrittenAll() {
         Store<Integer, String> store = new Store<>();
         IllegalStateException fault = new IllegalStateException("late");
-        Cache<Integer, String> cache = Caches.create(Caches.over(store).setCacheWriterFactory(() -> new LateWriter(fault)));
-        CacheWriterException failed = thrown("a writer that throws with nothing left is CacheWriterException", CacheWriterException.class,
+        Cache<Integer, String> cache =
+                Caches.create(Caches.over(store).setCacheWriterFactory(() -> new LateWriter(fault)));
+        CacheWriterException failed =
+                thrown("a writer that throws with nothing left is CacheWriterException", CacheWriterException.class,
                 () -> cache.putAll(Map.of(1, "a", 2, "b")));
         same("with its cause", fault, failed.getCause());
-        equal("but what it has taken out of the collection was written, and is cached", Map.of(1, "a", 2, "b"), contents(cache));
+        equal("but what it has taken out of the collection was written, and is cached", Map.of(1, "a", 2, "b"),
+                contents(cache));
     }
 
     /** A writer that writes all, and throws then. */
@@ -137,12 +142,14 @@ final class PartialFailure {
     static void whatIsReservedIsGivenBackIfNobodyWasAsked() throws Exception {
         Store<Integer, Object> store = new Store<>();
         Cache<Integer, Object> cache =
-                Caches.create(new MutableConfiguration<Integer, Object>().setWriteThrough(true).setCacheWriterFactory(() -> store));
+                Caches.create(new MutableConfiguration<Integer, Object>().setWriteThrough(true)
+                        .setCacheWriterFactory(() -> store));
         Map<Integer, Object> entries = new LinkedHashMap<>();
         entries.put(1, "a");
         entries.put(2, new Object());
         entries.put(3, "c");
-        thrown("putAll with a value that can't be copied is CacheException", CacheException.class, () -> cache.putAll(entries));
+        thrown("putAll with a value that can't be copied is CacheException", CacheException.class,
+                () -> cache.putAll(entries));
         equal("the writer wasn't asked", 0, store.calls() + store.batches());
         Background.start(() -> cache.putAll(Map.of(1, "x", 2, "y", 3, "z"))).result();
         equal("and each key is free", Map.of(1, "x", 2, "y", 3, "z"), cache.getAll(Set.of(1, 2, 3)));

@@ -21,8 +21,9 @@ import javax.cache.processor.EntryProcessorException;
 import javax.cache.processor.MutableEntry;
 
 /**
- * Plays a script through the provider. Each call is made by a thread of its own, whose loader, writer or processor waits until the script
- * says what it does; so the calls interleave as the script says. What is printed is of the transcript what a program that uses a cache sees.
+ * Plays a script through the provider. Each call is made by a thread of its own, whose loader, writer or processor
+ * waits until the script says what it does; so the calls interleave as the script says. What is printed is of the
+ * transcript what a program that uses a cache sees.
  */
 final class Player implements AutoCloseable {
     private final Map<String, String> store = new ConcurrentHashMap<>();
@@ -87,7 +88,7 @@ final class Player implements AutoCloseable {
             try {
                 return make();
             } catch (EntryProcessorException e) {
-                return e.getCause() instanceof CacheLoaderException ? "LoaderFailed " + code(e) : "ProcessorFailed " + code(e);
+                return (e.getCause() instanceof CacheLoaderException ? "LoaderFailed " : "ProcessorFailed ") + code(e);
             } catch (CacheLoaderException e) {
                 return "LoaderFailed " + code(e);
             } catch (CacheWriterException e) {
@@ -203,7 +204,8 @@ final class Player implements AutoCloseable {
     }
 
     private static String code(Throwable it) {
-        return it instanceof Failure ? ((Failure) it).code : it.getCause() == null ? it.toString() : code(it.getCause());
+        return it instanceof Failure ? ((Failure) it).code : it.getCause() == null ? it.toString()
+                : code(it.getCause());
     }
 
     /** The loader and the writer: the call that asks says what they do. */
@@ -366,7 +368,10 @@ final class Player implements AutoCloseable {
         }
     }
 
-    /** What cache and store have. An iterator uses the entries that it hands out, so only the last line of a script may look. */
+    /**
+     * What cache and store have. An iterator uses the entries that it hands out, so only the last line of a script may
+     * look.
+     */
     private void audit(boolean isLast) {
         if (isLast) {
             Map<String, String> contents = new TreeMap<>();
@@ -392,7 +397,8 @@ final class Player implements AutoCloseable {
 
     /** Of a script's transcript the lines that this prints, and of them what a program sees: no place in a history. */
     static List<String> seen(Script script, List<String> transcript) {
-        int audit = script.lines().get(script.lines().size() - 1)[0].equals("audit") ? transcript.size() - 4 : transcript.size();
+        int audit = script.lines().get(script.lines().size() - 1)[0].equals("audit") ? transcript.size() - 4
+                : transcript.size();
         List<String> seen = new ArrayList<>();
         for (int i = 0; i < transcript.size(); i++) {
             String line = transcript.get(i);

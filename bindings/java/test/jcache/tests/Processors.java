@@ -85,11 +85,13 @@ final class Processors {
     @Test
     static void doesNothingIfItOnlyLooks() {
         Cache<Integer, String> cache = plain();
-        equal("a processor without a mutation answers its result", "none", invoke(cache, 1, (entry, arguments) -> "none"));
+        equal("a processor without a mutation answers its result", "none",
+                invoke(cache, 1, (entry, arguments) -> "none"));
         equal("which may be null", null, invoke(cache, 1, (entry, arguments) -> null));
         holds("and creates nothing", !cache.containsKey(1));
         cache.put(1, "a");
-        equal("getKey and getValue are the entry's", "1=a", invoke(cache, 1, (entry, arguments) -> entry.getKey() + "=" + entry.getValue()));
+        equal("getKey and getValue are the entry's", "1=a",
+                invoke(cache, 1, (entry, arguments) -> entry.getKey() + "=" + entry.getValue()));
         equal("the entry stays", "a", cache.get(1));
     }
 
@@ -105,7 +107,8 @@ final class Processors {
     static void failsAndLeavesAllAsItWas() {
         Cache<Integer, String> cache = plain();
         RuntimeException fault = new IllegalArgumentException("bad");
-        EntryProcessorException failed = thrown("a processor that throws is EntryProcessorException", EntryProcessorException.class,
+        EntryProcessorException failed =
+                thrown("a processor that throws is EntryProcessorException", EntryProcessorException.class,
                 () -> invoke(cache, 1, (entry, arguments) -> {
                     entry.setValue("no");
                     throw fault;
@@ -118,7 +121,8 @@ final class Processors {
                     throw own;
                 })));
         cache.put(1, "a");
-        thrown("an error while an entry is removed", EntryProcessorException.class, () -> invoke(cache, 1, (entry, arguments) -> {
+        thrown("an error while an entry is removed", EntryProcessorException.class,
+                () -> invoke(cache, 1, (entry, arguments) -> {
             entry.remove();
             throw fault;
         }));
@@ -144,7 +148,8 @@ final class Processors {
                 () -> invoke(cache, 1, (entry, arguments) -> entry.unwrap(Integer.class)));
         holds("nothing is cached", !cache.containsKey(1));
         Cache<Integer, Object> any = Caches.create(new MutableConfiguration<>());
-        thrown("setValue of what can't be copied fails the call", CacheException.class, () -> any.invoke(1, (entry, arguments) -> {
+        thrown("setValue of what can't be copied fails the call", CacheException.class,
+                () -> any.invoke(1, (entry, arguments) -> {
             entry.setValue(new Object());
             return null;
         }));
@@ -203,7 +208,8 @@ final class Processors {
         Cache<Integer, String> cache = Caches.through(store, Integer.class, String.class);
         cache.put(1, "a");
         store.fault = new IllegalStateException("down");
-        CacheWriterException failed = thrown("a processor whose value can't be written is CacheWriterException", CacheWriterException.class,
+        CacheWriterException failed =
+                thrown("a processor whose value can't be written is CacheWriterException", CacheWriterException.class,
                 () -> cache.invoke(1, Processors::append, "b"));
         same("with its cause", store.fault, failed.getCause());
         equal("and the entry stays", "a", cache.get(1));
@@ -219,12 +225,14 @@ final class Processors {
         Store<Integer, String> store = new Store<>();
         Cache<Integer, String> cache = Caches.through(store, Integer.class, String.class);
         store.fault = new IllegalStateException("down");
-        EntryProcessorException failed = thrown("getValue of a loader that throws fails the processor", EntryProcessorException.class,
+        EntryProcessorException failed =
+                thrown("getValue of a loader that throws fails the processor", EntryProcessorException.class,
                 () -> cache.invoke(1, Processors::append, "b"));
         holds("by CacheLoaderException", failed.getCause() instanceof CacheLoaderException);
         same("of what the loader has thrown", store.fault, failed.getCause().getCause());
         equal("the writer isn't asked", 0, store.writes.get());
-        EntryProcessorException stubborn = thrown("a processor can't undo that by catching it", EntryProcessorException.class,
+        EntryProcessorException stubborn =
+                thrown("a processor can't undo that by catching it", EntryProcessorException.class,
                 () -> cache.invoke(1, (entry, arguments) -> {
                     try {
                         return entry.getValue();

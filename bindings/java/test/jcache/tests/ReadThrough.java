@@ -70,7 +70,8 @@ final class ReadThrough {
                 scene.cache.getAll(Set.of(1, 2, 3, 9)));
         equal("the loader is asked once for all missing keys", 1, scene.store.loadAlls.get());
         equal("and not key by key", 0, scene.store.loads.get());
-        holds("what it found is cached", scene.cache.containsKey(1) && scene.cache.containsKey(2) && !scene.cache.containsKey(9));
+        holds("what it found is cached", scene.cache.containsKey(1) && scene.cache.containsKey(2)
+                && !scene.cache.containsKey(9));
         scene.cache.getAll(Set.of(1, 2));
         equal("so the next getAll asks nobody", 1, scene.store.loadAlls.get());
     }
@@ -91,7 +92,8 @@ final class ReadThrough {
         scene.cache.put(1, "mine");
         scene.cache.putAll(Map.of(2, "mine"));
         scene.cache.iterator().next();
-        equal("nor put, putAll and iterators: the loader was never asked", 0, scene.store.loads.get() + scene.store.loadAlls.get());
+        equal("nor put, putAll and iterators: the loader was never asked", 0, scene.store.loads.get()
+                + scene.store.loadAlls.get());
     }
 
     @Test
@@ -115,8 +117,10 @@ final class ReadThrough {
         equal("a second getValue doesn't ask again", "two two",
                 scene.cache.invoke(2, (entry, arguments) -> entry.getValue() + " " + entry.getValue()));
         equal("the loader", 2, scene.store.loads.get());
-        holds("after a getValue that loaded the entry exists", scene.cache.invoke(1, (entry, arguments) -> entry.exists()));
-        equal("getValue answers null if the loader finds nothing", null, scene.cache.invoke(9, (entry, arguments) -> entry.getValue()));
+        holds("after a getValue that loaded the entry exists",
+                scene.cache.invoke(1, (entry, arguments) -> entry.exists()));
+        equal("getValue answers null if the loader finds nothing", null,
+                scene.cache.invoke(9, (entry, arguments) -> entry.getValue()));
         holds("and nothing is cached then", !scene.cache.containsKey(9));
     }
 
@@ -170,17 +174,20 @@ final class ReadThrough {
                 return many.load(keys);
             }
         };
-        return Caches.create(new MutableConfiguration<Integer, String>().setReadThrough(true).setCacheLoaderFactory(() -> loader));
+        return Caches.create(new MutableConfiguration<Integer, String>().setReadThrough(true)
+                .setCacheLoaderFactory(() -> loader));
     }
 
     @Test
     static void aLoaderThatFailsIsTheCause() {
         Scene scene = new Scene();
         scene.store.fault = new UnsupportedOperationException("down");
-        CacheLoaderException one = thrown("get of a loader that throws is CacheLoaderException", CacheLoaderException.class,
+        CacheLoaderException one =
+                thrown("get of a loader that throws is CacheLoaderException", CacheLoaderException.class,
                 () -> scene.cache.get(1));
         same("its cause is what the loader has thrown", scene.store.fault, one.getCause());
-        CacheLoaderException many = thrown("and so is getAll", CacheLoaderException.class, () -> scene.cache.getAll(Set.of(1, 2)));
+        CacheLoaderException many =
+                thrown("and so is getAll", CacheLoaderException.class, () -> scene.cache.getAll(Set.of(1, 2)));
         same("with its cause", scene.store.fault, many.getCause());
         scene.store.fault = new CacheLoaderException("its own");
         same("a CacheLoaderException is thrown as it is", scene.store.fault,
@@ -194,7 +201,8 @@ final class ReadThrough {
     static void loadAllTellsItsListenerOfAFailure() {
         Scene scene = new Scene();
         scene.store.fault = new IllegalStateException("down");
-        ExecutionException failed = thrown("loadAll of a loader that throws ends with an exception", ExecutionException.class,
+        ExecutionException failed =
+                thrown("loadAll of a loader that throws ends with an exception", ExecutionException.class,
                 () -> scene.loadAll(Set.of(1), true));
         holds("which is CacheLoaderException", failed.getCause() instanceof CacheLoaderException);
         same("of what the loader has thrown", scene.store.fault, failed.getCause().getCause());
@@ -227,7 +235,8 @@ final class ReadThrough {
         scene.store.fault = new IllegalStateException("down");
         scene.store.open();
         for (Work<String> get : List.of(first, second)) {
-            CacheLoaderException failed = thrown("who joined a load that fails has CacheLoaderException, too", CacheLoaderException.class,
+            CacheLoaderException failed =
+                    thrown("who joined a load that fails has CacheLoaderException, too", CacheLoaderException.class,
                     get::result);
             same("with the same cause", scene.store.fault, failed.getCause());
         }

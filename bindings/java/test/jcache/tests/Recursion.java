@@ -11,8 +11,9 @@ import jcache.provider.Inside;
 import jcache.tests.Check.Test;
 
 /**
- * Calls at the very end of a stack. A recursion makes calls at each level until the stack overflows, wherever that is: in a call, in the
- * host, or in the core. Then no key is reserved. The property {@code recursion.seconds} says how long it is tried.
+ * Calls at the very end of a stack. A recursion makes calls at each level until the stack overflows, wherever that is:
+ * in a call, in the host, or in the core. Then no key is reserved. The property {@code recursion.seconds} says how long
+ * it is tried.
  */
 final class Recursion {
     private Recursion() {}

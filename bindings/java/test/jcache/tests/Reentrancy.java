@@ -23,7 +23,10 @@ import javax.cache.processor.EntryProcessorException;
 import jcache.tests.Background.Work;
 import jcache.tests.Check.Test;
 
-/** Loaders, writers and processors that call the cache: at other keys they may, and at their own they don't wait for themselves. */
+/**
+ * Loaders, writers and processors that call the cache: at other keys they may, and at their own they don't wait for
+ * themselves.
+ */
 final class Reentrancy {
     private Reentrancy() {}
 
@@ -117,7 +120,8 @@ final class Reentrancy {
     static void aWriterAtItsOwnKey() throws Exception {
         CallingWriter writer = new CallingWriter();
         Cache<Integer, Integer> cache =
-                Caches.create(new MutableConfiguration<Integer, Integer>().setWriteThrough(true).setCacheWriterFactory(() -> writer));
+                Caches.create(new MutableConfiguration<Integer, Integer>().setWriteThrough(true)
+                        .setCacheWriterFactory(() -> writer));
         writer.cache.set(cache);
         Background.start(() -> cache.put(1, 10)).result();
         equal("a writer that gets its own key finds what is cached: nothing yet", null, writer.seen.get());
@@ -156,7 +160,8 @@ final class Reentrancy {
         });
         List<Work<Integer>> gets = List.of(Background.start(() -> cache.get(1)), Background.start(() -> cache.get(2)));
         for (Work<Integer> get : gets) {
-            CacheException failed = thrown("two loaders that want each other's key end", CacheException.class, get::result);
+            CacheException failed =
+                    thrown("two loaders that want each other's key end", CacheException.class, get::result);
             holds("by IllegalStateException", failed != null && rootOf(failed) instanceof IllegalStateException);
         }
         checkFree(cache);
@@ -166,7 +171,8 @@ final class Reentrancy {
     static void aRowOfLoadersThatIsTooLongForItsStripe() throws Exception {
         CacheManager manager = Caches.manager(1, 4096);
         Cache<Integer, Integer> cache = loadingBy(manager, (it, key) -> key >= 100 ? 1 : it.get(key + 1) + 1);
-        checkRefused("a thread whose loaders have reserved 64 keys of a stripe can't reserve another", CacheLoaderException.class,
+        checkRefused("a thread whose loaders have reserved 64 keys of a stripe can't reserve another",
+                CacheLoaderException.class,
                 () -> cache.get(0));
         checkFree(cache);
         equal("a shorter row is loaded", 61, Background.start(() -> cache.get(40)).result());

@@ -13,8 +13,9 @@ import java.util.stream.Collectors;
 import jcache.tests.Check.Test;
 
 /**
- * The scripts of examples/ that a provider can play, through the provider, beside the program that plays scripts: each call replies the same,
- * asks the same, and leaves the same. The property {@code jcache.examples} is the folder of scripts, {@code jcache.program} the program.
+ * The scripts of examples/ that a provider can play, through the provider, beside the program that plays scripts: each
+ * call replies the same, asks the same, and leaves the same. The property {@code jcache.examples} is the folder of
+ * scripts, {@code jcache.program} the program.
  */
 final class Rows {
     private Rows() {}
@@ -26,7 +27,8 @@ final class Rows {
         Path file = Files.createTempFile("rows", ".script");
         try {
             Files.write(file, script.text.getBytes(StandardCharsets.UTF_8));
-            Process process = new ProcessBuilder(System.getProperty("jcache.program"), "run").redirectInput(file.toFile()).start();
+            Process process = new ProcessBuilder(System.getProperty("jcache.program"), "run")
+                    .redirectInput(file.toFile()).start();
             String text = new String(process.getInputStream().readAllBytes(), StandardCharsets.UTF_8);
             return text.lines().collect(Collectors.toList());
         } finally {

@@ -14,10 +14,14 @@ import java.util.regex.Pattern;
 /** A script of examples/ with its transcript. */
 final class Script {
     /** The words of calls of many keys. */
-    private static final Set<String> BULK = Set.of("getall", "putall", "removeall", "removeevery", "clear", "loadall", "invokeall");
+    private static final Set<String> BULK =
+            Set.of("getall", "putall", "removeall", "removeevery", "clear", "loadall", "invokeall");
     /** Lines for which a provider has no call: what gives a call up, retries it, or opens a cache again. */
     private static final Set<String> INSIDE = Set.of("drop", "more", "reopen");
-    /** A processor that creates an entry and removes it: by JCache's reference implementation nothing happens, here it is a delete. */
+    /**
+     * A processor that creates an entry and removes it: by JCache's reference implementation nothing happens, here it
+     * is a delete.
+     */
     private static final Pattern UNDONE = Pattern.compile("(?m)^process .*set=.* remove");
 
     /** Where it stands, and its first line. */
@@ -43,14 +47,18 @@ final class Script {
     }
 
     /**
-     * Whether a provider can play it: one stripe, calls of one key, and no fault. A call that is refused is none of these: a provider lets it
-     * wait.
+     * Whether a provider can play it: one stripe, calls of one key, and no fault. A call that is refused is none of
+     * these: a provider lets it wait.
      */
     boolean isPlayable() {
         return text.contains("open 1 ")
-                && lines().stream().noneMatch(line -> INSIDE.contains(line[0]) || line[0].equals("begin") && BULK.contains(line[3]))
+                && lines().stream().noneMatch(Script::isForNoProvider)
                 && transcript.stream().noneMatch(line -> line.startsWith("line ") || line.contains(" refused "))
                 && !UNDONE.matcher(text).find();
+    }
+
+    private static boolean isForNoProvider(String[] line) {
+        return INSIDE.contains(line[0]) || line[0].equals("begin") && BULK.contains(line[3]);
     }
 
     /** All scripts of examples/ and the cases of examples/tests, by their files' names. */

@@ -13,8 +13,8 @@ import jcache.provider.Inside;
 import jcache.tests.Check.Test;
 
 /**
- * Calls of a virtual machine whose heap is full, so that any allocation may fail: of the host, of the loader, of the test. It is to run with
- * a small heap (-Xmx). The property {@code memory.seconds} says how long it is tried.
+ * Calls of a virtual machine whose heap is full, so that any allocation may fail: of the host, of the loader, of the
+ * test. It is to run with a small heap (-Xmx). The property {@code memory.seconds} says how long it is tried.
  */
 final class ShortMemory {
     private ShortMemory() {}
@@ -34,7 +34,8 @@ final class ShortMemory {
             fill(hog, 1 << 16);
             while (System.nanoTime() < until) {
                 fill(hog, 1 << 9);
-                // What is left is some hundred bytes or some thousand, so that each allocation of the host is the one that fails now and then.
+                // What is left is some hundred bytes or some thousand, so that each allocation of the host is the one
+                // that fails now and then.
                 for (int i = random.nextInt(12); i > 0; i--) {
                     hog.remove(hog.size() - 1);
                 }
@@ -94,11 +95,13 @@ final class ShortMemory {
     static void noKeyIsLeftWhenMemoryIsShort() throws Exception {
         Scene scene = new Scene();
         Random random = new Random(1);
-        // A class whose initialization fails stays unusable, and so do classes of the platform: all are initialized before.
+        // A class whose initialization fails stays unusable, and so do classes of the platform: all are initialized
+        // before.
         for (int i = 0; i < 5000; i++) {
             scene.call(random);
         }
-        Background.start(() -> scene.callWithLittleMemory(random, System.nanoTime() + SECONDS * 1_000_000_000L)).result();
+        Background.start(() -> scene.callWithLittleMemory(random, System.nanoTime() + SECONDS * 1_000_000_000L))
+                .result();
         System.out.println(scene.calls + " calls ended, and " + scene.faults + " found no memory");
         holds("memory was short now and then", scene.faults > 0);
         Background.start(() -> {

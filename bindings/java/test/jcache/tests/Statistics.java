@@ -52,8 +52,8 @@ final class Statistics {
 
     /** The name of a bean, as the standard has it (CacheManager.enableStatistics). */
     private static ObjectName beanOf(Cache<?, ?> cache, String type) throws Exception {
-        return new ObjectName("javax.cache:type=" + type + ",CacheManager=" + cache.getCacheManager().getURI().toString().replace(':', '.')
-                + ",Cache=" + cache.getName());
+        String manager = cache.getCacheManager().getURI().toString().replace(':', '.');
+        return new ObjectName("javax.cache:type=" + type + ",CacheManager=" + manager + ",Cache=" + cache.getName());
     }
 
     @Test
@@ -193,7 +193,8 @@ final class Statistics {
     @Test
     static void countsEvictions() throws Exception {
         CacheManager manager = Caches.manager(1, 10);
-        Cache<Long, String> cache = Caches.create(manager, new MutableConfiguration<Long, String>().setStatisticsEnabled(true));
+        Cache<Long, String> cache =
+                Caches.create(manager, new MutableConfiguration<Long, String>().setStatisticsEnabled(true));
         for (long key = 0; key < 100; key++) {
             cache.put(key, "a");
         }
@@ -236,7 +237,8 @@ final class Statistics {
             return null;
         });
         List<Long> core = Inside.coreCounts(cache);
-        scene.check("the host counts hits, misses, puts and removals as the core does", core.get(0), core.get(1), core.get(2), core.get(3));
+        scene.check("the host counts hits, misses, puts and removals as the core does", core.get(0), core.get(1),
+                core.get(2), core.get(3));
     }
 
     @Test
@@ -268,7 +270,9 @@ final class Statistics {
         ObjectName bean = scene.bean("CacheConfiguration");
         equal("KeyType is the configured class", "java.lang.Long", BEANS.getAttribute(bean, "KeyType"));
         equal("and ValueType", "java.lang.String", BEANS.getAttribute(bean, "ValueType"));
-        for (String option : List.of("ReadThrough", "WriteThrough", "StoreByValue", "StatisticsEnabled", "ManagementEnabled")) {
+        List<String> options =
+                List.of("ReadThrough", "WriteThrough", "StoreByValue", "StatisticsEnabled", "ManagementEnabled");
+        for (String option : options) {
             equal(option + " is as configured", true, BEANS.getAttribute(bean, option));
         }
     }
@@ -292,7 +296,8 @@ final class Statistics {
         checkBeans("and close the other", cache, false, false);
     }
 
-    private static void checkBeans(String rule, Cache<?, ?> cache, boolean statistics, boolean configuration) throws Exception {
+    private static void checkBeans(String rule, Cache<?, ?> cache, boolean statistics, boolean configuration)
+            throws Exception {
         equal(rule, List.of(statistics, configuration), List.of(BEANS.isRegistered(beanOf(cache, "CacheStatistics")),
                 BEANS.isRegistered(beanOf(cache, "CacheConfiguration"))));
     }
@@ -302,6 +307,7 @@ final class Statistics {
         Cache<Long, String> cache = Caches.create(new MutableConfiguration<>());
         cache.put(1L, "a");
         Caches.manager().enableStatistics(cache.getName(), true);
-        equal("statistics count from when they are enabled", 0L, BEANS.getAttribute(beanOf(cache, "CacheStatistics"), "CachePuts"));
+        equal("statistics count from when they are enabled", 0L,
+                BEANS.getAttribute(beanOf(cache, "CacheStatistics"), "CachePuts"));
     }
 }

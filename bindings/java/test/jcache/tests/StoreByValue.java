@@ -23,7 +23,9 @@ import javax.cache.CacheException;
 import javax.cache.configuration.MutableConfiguration;
 import jcache.tests.Check.Test;
 
-/** Store by value, the default: what a cache has is a copy, and what it hands out another one. And store by reference. */
+/**
+ * Store by value, the default: what a cache has is a copy, and what it hands out another one. And store by reference.
+ */
 final class StoreByValue {
     private StoreByValue() {}
 
@@ -74,7 +76,8 @@ final class StoreByValue {
         equal("getAndPut answers the value before", new Date(3), cache.getAndPut(new Date(1), again));
         again.setTime(0);
         equal("nor a value of getAndPut", new Date(4), cache.getAndReplace(new Date(1), new Date(5)));
-        equal("replace(key, old, new) compares copies by equals", true, cache.replace(new Date(1), new Date(5), new Date(6)));
+        equal("replace(key, old, new) compares copies by equals", true,
+                cache.replace(new Date(1), new Date(5), new Date(6)));
     }
 
     @Test
@@ -141,7 +144,8 @@ final class StoreByValue {
     }
 
     private static void checkOneKey(String what, Object one, Object other) throws IOException {
-        holds("the " + what + " are equal, and aren't serialized alike", one.equals(other) && !Arrays.equals(bytes(one), bytes(other)));
+        holds("the " + what + " are equal, and aren't serialized alike",
+                one.equals(other) && !Arrays.equals(bytes(one), bytes(other)));
         Cache<Object, String> cache = Caches.create(new MutableConfiguration<>());
         cache.put(one, "first");
         cache.put(other, "second");
@@ -158,7 +162,8 @@ final class StoreByValue {
     @Test
     static void refusesWhatCannotBeCopied() throws Exception {
         Cache<Object, Object> cache = Caches.create(new MutableConfiguration<>());
-        thrown("a value that isn't serializable is CacheException", CacheException.class, () -> cache.put("k", new Object()));
+        thrown("a value that isn't serializable is CacheException", CacheException.class,
+                () -> cache.put("k", new Object()));
         thrown("and so is a key", CacheException.class, () -> cache.put(new Object(), "v"));
         holds("nothing is cached", !cache.iterator().hasNext());
         Background.start(() -> cache.put("k", "v")).result();

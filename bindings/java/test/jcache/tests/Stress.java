@@ -28,8 +28,9 @@ import jcache.tests.Background.Work;
 import jcache.tests.Check.Test;
 
 /**
- * Random calls of many threads, of few keys, over a store that fails now and then. After them host and core agree at each key, what is
- * cached is what the store has, and nothing is left out. The property {@code stress.calls} says how many calls each thread makes.
+ * Random calls of many threads, of few keys, over a store that fails now and then. After them host and core agree at
+ * each key, what is cached is what the store has, and nothing is left out. The property {@code stress.calls} says how
+ * many calls each thread makes.
  */
 final class Stress {
     private Stress() {}
@@ -37,7 +38,10 @@ final class Stress {
     private static final int CALLS = Integer.getInteger("stress.calls", 5000);
     private static final int KEYS = 16;
 
-    /** A store that fails each 97th time that it is read, and each 89th time that it is written, and sees two calls at one key. */
+    /**
+     * A store that fails each 97th time that it is read, and each 89th time that it is written, and sees two calls at
+     * one key.
+     */
     private static final class FailingStore implements CacheLoader<Integer, Long>, CacheWriter<Integer, Long> {
         final Map<Integer, Long> map = new ConcurrentHashMap<>();
         /** How often a call came to a key while another one was there. */
@@ -183,7 +187,8 @@ final class Stress {
             (cache, key, value) -> loadAll(cache, key, value % 2 == 0));
 
     /** The rare ones: they are chosen less often. */
-    private static final List<Move> SWEEPS = List.of((cache, key, value) -> cache.clear(), (cache, key, value) -> cache.removeAll());
+    private static final List<Move> SWEEPS =
+            List.of((cache, key, value) -> cache.clear(), (cache, key, value) -> cache.removeAll());
 
     private static List<Move> allMoves() {
         List<Move> all = new ArrayList<>();

@@ -168,7 +168,8 @@ final class WriteThrough {
     }
 
     private static void checkFailure(Scene scene, String what, Check.Body call) {
-        CacheWriterException failed = thrown(what + " of a writer that throws is CacheWriterException", CacheWriterException.class, call);
+        CacheWriterException failed =
+                thrown(what + " of a writer that throws is CacheWriterException", CacheWriterException.class, call);
         same("with what it has thrown as its cause", scene.store.fault, failed.getCause());
         equal("the cache is as before", Map.of(1, "a"), scene.cache.getAll(Set.of(1)));
         equal("and the store", Map.of(1, "a"), scene.store.map);
