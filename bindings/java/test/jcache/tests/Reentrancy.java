@@ -6,6 +6,8 @@ import static jcache.tests.Check.thrown;
 
 import java.util.Collection;
 import java.util.HashMap;
+import java.util.LinkedHashMap;
+import java.util.LinkedHashSet;
 import java.util.List;
 import java.util.Map;
 import java.util.Set;
@@ -20,6 +22,7 @@ import javax.cache.integration.CacheLoaderException;
 import javax.cache.integration.CacheWriter;
 import javax.cache.integration.CacheWriterException;
 import javax.cache.processor.EntryProcessorException;
+import jcache.provider.Inside;
 import jcache.tests.Background.Work;
 import jcache.tests.Check.Test;
 
@@ -148,6 +151,41 @@ final class Reentrancy {
             return null;
         });
         equal("and may put others", 11, cache.get(2));
+    }
+
+    @Test
+    static void aCallOfManyKeysAtItsOwnKey() throws Exception {
+        Store<Integer, Integer> store = new Store<>();
+        Cache<Integer, Integer> cache = Caches.through(store, Integer.class, Integer.class);
+        Map<Integer, Integer> entries = new LinkedHashMap<>();
+        entries.put(1, 10);
+        entries.put(2, 20);
+        entries.put(3, 30);
+        checkRefused("a processor that puts its own key among others fails", EntryProcessorException.class,
+                () -> cache.invoke(2, (entry, arguments) -> {
+                    cache.putAll(entries);
+                    return null;
+                }));
+        equal("the writer wasn't asked", 0, store.calls() + store.batches());
+        Background.start(() -> cache.putAll(entries)).result();
+        equal("what it had reserved is free, and nothing is left out", 3, Inside.compare(cache));
+    }
+
+    @Test
+    static void aCallOfManyKeysThatHasJoinedALoad() throws Exception {
+        Store<Integer, Integer> store = new Store<>();
+        store.map.putAll(Map.of(1, 10, 2, 20));
+        Cache<Integer, Integer> cache = Caches.through(store, Integer.class, Integer.class);
+        Store.Gate gate = store.shut();
+        Work<Integer> slow = Background.start(() -> cache.get(1));
+        gate.awaitCall();
+        Set<Integer> keys = new LinkedHashSet<>(List.of(1, 2));
+        checkRefused("a processor that gets its own key among others, one of which is loaded, fails",
+                EntryProcessorException.class, () -> cache.invoke(2, (entry, arguments) -> cache.getAll(keys)));
+        holds("while that load goes on", !slow.isDone());
+        store.open();
+        equal("which then ends", 10, slow.result());
+        equal("and nothing is left out", 1, Inside.compare(cache));
     }
 
     @Test
