@@ -21,11 +21,9 @@ final class ObjectDesk extends KeyedDesk {
 
     @Override
     Object hit(KeyLookup sought, Node node) {
-        return node == null || !node.isCached() ? null : hit(node);
-    }
-
-    /** A get of a cached key. */
-    Object hit(Node node) {
+        if (node == null || !node.isCached()) {
+            return null;
+        }
         long version = desk.hit(Sessions.AT_ONCE, node.id);
         if (version == 0) {
             return null;
