@@ -22,6 +22,10 @@ final class CacheContext<K, V> {
     volatile boolean hasStatistics;
     private final Stripe[] stripes;
 
+    /**
+     * Makes the parts of a cache: its factories are called, and its stripes opened. The cache need only know its name
+     * and its manager yet.
+     */
     CacheContext(Cache<K, V> cache, CompleteConfiguration<K, V> configuration, Settings settings) {
         this.cache = cache;
         Factory<ExpiryPolicy> policies = configuration.getExpiryPolicyFactory();

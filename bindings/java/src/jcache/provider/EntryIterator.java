@@ -22,6 +22,7 @@ final class EntryIterator<K, V> implements Iterator<Cache.Entry<K, V>> {
     private Cache.Entry<K, V> next;
     private Cache.Entry<K, V> last;
 
+    /** Iterates over what is present, by a look at each key, and removes by this call. */
     EntryIterator(CacheContext<K, V> context, Function<K, Object> present, Predicate<K> remover) {
         this.context = context;
         this.present = present;

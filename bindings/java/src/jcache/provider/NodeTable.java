@@ -134,6 +134,7 @@ final class NodeTable {
         return slotCount - freeCount;
     }
 
+    /** Does something with each node, which may not add or drop any. */
     void forEach(Consumer<Node> action) {
         for (Node node : slots) {
             if (node != null) {

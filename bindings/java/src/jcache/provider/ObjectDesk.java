@@ -14,6 +14,7 @@ final class ObjectDesk extends KeyedDesk {
     private final Desk desk;
     private long lastVersion = NO_VALUE;
 
+    /** A stripe over a desk; the recorder keeps its events, if it isn't null. */
     ObjectDesk(Desk desk, Counts counts, Recorder recorder) {
         super(desk, counts, recorder);
         this.desk = desk;
