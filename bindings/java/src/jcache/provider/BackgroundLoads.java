@@ -25,7 +25,7 @@ final class BackgroundLoads<K, V> {
     void begin(Set<? extends K> keys, boolean replaces, CompletionListener listener) {
         Set<K> all = new LinkedHashSet<>(keys);
         if (context.outside.hasLoader()) {
-            threads().execute(() -> load(all, replaces, listener));
+            execute(() -> load(all, replaces, listener));
         } else if (listener != null) {
             listener.onCompletion();
         }
@@ -61,14 +61,14 @@ final class BackgroundLoads<K, V> {
         }
     }
 
-    private synchronized ExecutorService threads() {
+    private synchronized void execute(Runnable work) {
         if (isClosed) {
             throw new IllegalStateException("the cache " + cacheName + " is closed");
         }
         if (threads == null) {
             threads = Executors.newCachedThreadPool(DaemonThreads.named("jcache-load-" + cacheName));
         }
-        return threads;
+        threads.execute(work);
     }
 
     /** Loads under way end; what has not begun finds the cache closed, and tells its listener. */

@@ -19,21 +19,33 @@ final class BulkCalls {
     private final CacheContext<?, ?> context;
     /** Asks for the keys that a round has reserved, and notes the answers in their calls. */
     private final Consumer<List<Call>> asker;
-    private final List<Call> done = new ArrayList<>();
+    private final List<Call> calls;
+    private final List<Call> done;
     private final Set<Stripe> touched = new HashSet<>();
 
-    BulkCalls(CacheContext<?, ?> context, Consumer<List<Call>> asker) {
+    /** A call of many keys, made of these calls of different keys. */
+    BulkCalls(CacheContext<?, ?> context, List<Call> calls, Consumer<List<Call>> asker) {
         this.context = context;
+        this.calls = calls;
         this.asker = asker;
+        done = new ArrayList<>(calls.size());
     }
 
-    /** What a round has out, and what it puts off. */
+    /**
+     * What a round has out, and what it puts off. Nothing is allocated once a key is reserved: lists have room for all.
+     */
     private static final class Round {
-        final List<Call> asked = new ArrayList<>();
-        final List<Call> joined = new ArrayList<>();
-        final List<Call> later = new ArrayList<>();
+        final List<Call> asked;
+        final List<Call> joined;
+        final List<Call> later;
         /** Stripes that have refused a key because they have no room: no other key of theirs is tried. */
         final Set<Stripe> full = new HashSet<>();
+
+        Round(int size) {
+            asked = new ArrayList<>(size);
+            joined = new ArrayList<>(size);
+            later = new ArrayList<>(size);
+        }
 
         boolean hasNothingOut() {
             return asked.isEmpty() && joined.isEmpty();
@@ -41,12 +53,12 @@ final class BulkCalls {
     }
 
     /**
-     * Makes these calls, of different keys, and tells the listeners. Returns them in the order in which they ended.
+     * Makes the calls, and tells the listeners. Returns them in the order in which they ended.
      *
      * @throws IllegalStateException if the cache is closed, or a call would wait for its own thread. Calls that have
      *     not ended have done nothing then
      */
-    List<Call> run(List<Call> calls) {
+    List<Call> run() {
         try {
             List<Call> left = calls;
             while (!left.isEmpty()) {
@@ -65,10 +77,10 @@ final class BulkCalls {
     }
 
     /** One round. Returns the calls that are put off. */
-    private List<Call> round(List<Call> calls) {
-        Round round = new Round();
+    private List<Call> round(List<Call> left) {
+        Round round = new Round(left.size());
         try {
-            calls.forEach(call -> begin(call, round));
+            left.forEach(call -> begin(call, round));
         } catch (RuntimeException | Error e) {
             // Nobody was asked yet: what is out is given up.
             round.asked.forEach(call -> call.stripe.withdraw(call));
@@ -155,10 +167,10 @@ final class BulkCalls {
             calls.add(new Call(op, context.copier.lookup(key), value, context.copier.in(value), null));
         }
         Throwable[] first = new Throwable[1];
-        List<Call> done = new BulkCalls(context, asked -> {
+        List<Call> done = new BulkCalls(context, calls, asked -> {
             Throwable thrown = askOf(context.outside, asked);
             first[0] = first[0] == null ? thrown : first[0];
-        }).run(calls);
+        }).run();
         for (Call call : done) {
             if (call.hasFailed() && first[0] == null) {
                 first[0] = call.cause;

@@ -14,6 +14,7 @@ final class ByteDesk extends KeyedDesk {
     /** Whether anybody wants to know what was cached before a step: statistics or listeners. */
     private final BooleanSupplier needsBefore;
 
+    /** A stripe over a desk; the recorder keeps its events, if it isn't null. */
     ByteDesk(DeskOfBytes desk, Counts counts, Recorder recorder, ByteCopier copier, BooleanSupplier needsBefore) {
         super(desk, counts, recorder);
         this.desk = desk;

@@ -21,8 +21,11 @@ final class CacheContext<K, V> {
     final Listeners<K, V> listeners;
     volatile boolean hasStatistics;
     private final Stripe[] stripes;
-    private volatile boolean hasListeners;
 
+    /**
+     * Makes the parts of a cache: its factories are called, and its stripes opened. The cache need only know its name
+     * and its manager yet.
+     */
     CacheContext(Cache<K, V> cache, CompleteConfiguration<K, V> configuration, Settings settings) {
         this.cache = cache;
         Factory<ExpiryPolicy> policies = configuration.getExpiryPolicyFactory();
@@ -67,7 +70,7 @@ final class CacheContext<K, V> {
     KeyedDesk openDesk(ReentrantLock lock, Settings settings, Counts counts, Recorder recorder) {
         if (copier instanceof ByteCopier) {
             DeskOfBytes desk = new DeskOfBytes(lock, new Desk.Shape(settings, outside, true));
-            return new ByteDesk(desk, counts, recorder, (ByteCopier) copier, () -> hasStatistics || hasListeners);
+            return new ByteDesk(desk, counts, recorder, (ByteCopier) copier, () -> hasStatistics || hasListeners());
         }
         return new ObjectDesk(new Desk(lock, new Desk.Shape(settings, outside, false)), counts, recorder);
     }
@@ -94,22 +97,20 @@ final class CacheContext<K, V> {
     }
 
     boolean hasListeners() {
-        return hasListeners;
+        return !listeners.isEmpty();
     }
 
     void addListener(CacheEntryListenerConfiguration<K, V> listener) {
         listeners.add(listener);
-        hasListeners = true;
     }
 
     void removeListener(CacheEntryListenerConfiguration<K, V> listener) {
         listeners.remove(listener);
-        hasListeners = !listeners.isEmpty();
     }
 
     /** Tells the listeners what has happened in a stripe. No lock is held. */
     void tellListeners(Stripe stripe) {
-        if (hasListeners) {
+        if (hasListeners()) {
             stripe.events().tell();
         }
     }

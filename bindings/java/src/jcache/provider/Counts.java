@@ -44,6 +44,7 @@ final class Counts {
         return call < FIRST_CALLS || call % CALLS_A_TIMED_ONE == 0 ? System.nanoTime() | 1 : 0;
     }
 
+    /** A get has found its entry; when it began, if it was timed, else 0. */
     void hit(long began) {
         hits++;
         if (began != 0) {
@@ -139,6 +140,7 @@ final class Counts {
         }
     }
 
+    /** Begins anew. */
     void clear() {
         hits = 0;
         misses = 0;

@@ -7,6 +7,7 @@ final class DaemonThreads {
     private DaemonThreads() {
     }
 
+    /** Makes threads of this name. */
     static ThreadFactory named(String name) {
         return work -> {
             Thread thread = new Thread(work, name);

@@ -18,16 +18,18 @@ final class EntryIterator<K, V> implements Iterator<Cache.Entry<K, V>> {
     private final Predicate<K> remover;
     private int nextStripe;
     private Iterator<Object> keys = Collections.emptyIterator();
+    /** The entry to be handed out next, if it was looked for. */
     private Cache.Entry<K, V> next;
     private Cache.Entry<K, V> last;
 
+    /** Iterates over what is present, by a look at each key, and removes by this call. */
     EntryIterator(CacheContext<K, V> context, Function<K, Object> present, Predicate<K> remover) {
         this.context = context;
         this.present = present;
         this.remover = remover;
-        next = advance();
     }
 
+    /** The next entry, or null. */
     private Cache.Entry<K, V> advance() {
         for (;;) {
             while (keys.hasNext()) {
@@ -47,17 +49,19 @@ final class EntryIterator<K, V> implements Iterator<Cache.Entry<K, V>> {
     @Override
     public boolean hasNext() {
         checkOpen();
+        if (next == null) {
+            next = advance();
+        }
         return next != null;
     }
 
     @Override
     public Cache.Entry<K, V> next() {
-        checkOpen();
-        if (next == null) {
+        if (!hasNext()) {
             throw new NoSuchElementException("there is no further entry");
         }
         last = next;
-        next = advance();
+        next = null;
         return last;
     }
 

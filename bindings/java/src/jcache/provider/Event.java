@@ -38,9 +38,10 @@ final class Event {
      * What keys and values of an event are called. Each is a number, or how many of the bytes that follow are its own.
      */
     interface Texts {
+        /** What a key is called. */
         String key(long number, ByteBuffer bytes);
 
-        /** Null: there is no value. */
+        /** What a value is called; null: there is none. */
         String value(long number, ByteBuffer bytes);
     }
 

@@ -19,18 +19,21 @@ final class Faults {
         }
     }
 
+    /** What a caller gets for what a loader threw; an error is thrown here. */
     static CacheLoaderException ofLoader(Throwable cause) {
         throwError(cause);
         return cause instanceof CacheLoaderException ? (CacheLoaderException) cause
                 : new CacheLoaderException("the loader failed", cause);
     }
 
+    /** The same of a writer. */
     static CacheWriterException ofWriter(Throwable cause) {
         throwError(cause);
         return cause instanceof CacheWriterException ? (CacheWriterException) cause
                 : new CacheWriterException("the writer failed", cause);
     }
 
+    /** The same of a processor. */
     static EntryProcessorException ofProcessor(Throwable cause) {
         throwError(cause);
         return cause instanceof EntryProcessorException ? (EntryProcessorException) cause

@@ -24,9 +24,11 @@ final class Invocations<K, V> {
     /** Runs a processor on a key's entry. */
     <T> T invoke(K key, EntryProcessor<K, V, T> processor, Object... arguments) {
         Call call = new Call(Native.INVOKE, context.copier.lookup(key));
+        // It is made before the key is reserved: then nothing is allocated out of reach of a catch.
+        ProcessorEntry<K, V> entry = new ProcessorEntry<>(context, call, valueType);
         Stripe stripe = context.stripeOf(call.lookup.hash);
         stripe.begin(call, true);
-        T result = new ProcessorEntry<>(context, call, valueType).run(processor, arguments);
+        T result = entry.run(processor, arguments);
         if (isToBeWritten(call)) {
             context.outside.write(call);
         }
@@ -68,14 +70,14 @@ final class Invocations<K, V> {
         List<Call> calls = new ArrayList<>(keys.size());
         new LinkedHashSet<>(keys).forEach(key -> calls.add(new Call(Native.INVOKE, context.copier.lookup(key))));
         Map<Call, T> results = new IdentityHashMap<>();
-        BulkCalls bulk = new BulkCalls(context, asked -> {
+        BulkCalls bulk = new BulkCalls(context, calls, asked -> {
             for (Call call : asked) {
                 results.put(call, new ProcessorEntry<>(context, call, valueType).run(processor, arguments));
             }
             write(asked);
         });
         Map<K, EntryProcessorResult<T>> answers = new HashMap<>();
-        for (Call call : bulk.run(calls)) {
+        for (Call call : bulk.run()) {
             EntryProcessorResult<T> answer = answer(call, results.get(call));
             if (answer != null) {
                 @SuppressWarnings("unchecked")

@@ -21,6 +21,7 @@ final class KeyLookup {
     /** The key that a new node is to have; null: not made yet. */
     private Object kept;
 
+    /** A key with its {@linkplain #hash(Object) hash}, and its bytes, if the core has them. */
     KeyLookup(Object key, int hash, byte[] bytes) {
         this.key = key;
         this.hash = hash;

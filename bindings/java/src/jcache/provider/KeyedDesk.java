@@ -16,6 +16,7 @@ abstract class KeyedDesk {
     private final Sessions sessions = new Sessions();
     private boolean isFreed;
 
+    /** A stripe over a desk; the recorder keeps its events, if it isn't null. */
     KeyedDesk(Desk desk, Counts counts, Recorder recorder) {
         this.desk = desk;
         this.counts = counts;

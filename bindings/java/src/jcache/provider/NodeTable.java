@@ -44,8 +44,14 @@ final class NodeTable {
         if (size() == buckets.length) {
             growBuckets();
         }
-        int slot = takeSlot();
+        int slot = nextSlot();
         Node node = new Node(key, hash, ++given << SLOT_BITS | slot);
+        // Nothing is allocated from here on.
+        if (slot == slotCount) {
+            slotCount++;
+        } else {
+            freeCount--;
+        }
         slots[slot] = node;
         insert(node);
         return node;
@@ -57,18 +63,20 @@ final class NodeTable {
         buckets[bucket] = node;
     }
 
-    private int takeSlot() {
+    /** The slot that the next node gets. There is room for it afterwards, and for it among the free ones. */
+    private int nextSlot() {
         if (freeCount > 0) {
-            return freeSlots[--freeCount];
+            return freeSlots[freeCount - 1];
         }
         if (slotCount == SLOTS_MAX) {
             throw new IllegalStateException("a stripe has more keys than the core can know");
         }
         if (slotCount == slots.length) {
+            short[] moreFreeSlots = Arrays.copyOf(freeSlots, 2 * slotCount);
             slots = Arrays.copyOf(slots, 2 * slotCount);
-            freeSlots = Arrays.copyOf(freeSlots, 2 * slotCount);
+            freeSlots = moreFreeSlots;
         }
-        return slotCount++;
+        return slotCount;
     }
 
     private void growBuckets() {
@@ -126,6 +134,7 @@ final class NodeTable {
         return slotCount - freeCount;
     }
 
+    /** Does something with each node, which may not add or drop any. */
     void forEach(Consumer<Node> action) {
         for (Node node : slots) {
             if (node != null) {

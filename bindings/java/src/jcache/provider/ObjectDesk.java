@@ -14,6 +14,7 @@ final class ObjectDesk extends KeyedDesk {
     private final Desk desk;
     private long lastVersion = NO_VALUE;
 
+    /** A stripe over a desk; the recorder keeps its events, if it isn't null. */
     ObjectDesk(Desk desk, Counts counts, Recorder recorder) {
         super(desk, counts, recorder);
         this.desk = desk;
@@ -21,11 +22,9 @@ final class ObjectDesk extends KeyedDesk {
 
     @Override
     Object hit(KeyLookup sought, Node node) {
-        return node == null || !node.isCached() ? null : hit(node);
-    }
-
-    /** A get of a cached key. */
-    Object hit(Node node) {
+        if (node == null || !node.isCached()) {
+            return null;
+        }
         long version = desk.hit(Sessions.AT_ONCE, node.id);
         if (version == 0) {
             return null;

@@ -147,10 +147,8 @@ final class Outside<K, V> {
      */
     Throwable writeAll(List<Call> calls) {
         Collection<Cache.Entry<? extends K, ? extends V>> batch = new ArrayList<>();
-        return noteWritten(calls, () -> {
-            calls.forEach(call -> batch.add(new CacheEntry<K, V>(key(call), value(call))));
-            writer.writeAll(batch);
-        }, () -> {
+        calls.forEach(call -> batch.add(new CacheEntry<K, V>(key(call), value(call))));
+        return noteWritten(calls, () -> writer.writeAll(batch), () -> {
             Set<Object> left = new HashSet<>();
             batch.forEach(entry -> left.add(entry.getKey()));
             return left;
@@ -163,10 +161,8 @@ final class Outside<K, V> {
      */
     Throwable deleteAll(List<Call> calls) {
         Collection<Object> batch = new LinkedHashSet<>();
-        return noteWritten(calls, () -> {
-            calls.forEach(call -> batch.add(call.key()));
-            writer.deleteAll(batch);
-        }, () -> batch);
+        calls.forEach(call -> batch.add(call.key()));
+        return noteWritten(calls, () -> writer.deleteAll(batch), () -> batch);
     }
 
     private static Throwable noteWritten(List<Call> calls, Runnable question, Callable<Collection<?>> leftKeys) {

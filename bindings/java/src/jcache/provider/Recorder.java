@@ -3,13 +3,16 @@ package jcache.provider;
 import java.io.BufferedOutputStream;
 import java.io.DataOutputStream;
 import java.io.IOException;
+import java.lang.ref.WeakReference;
 import java.net.URLEncoder;
 import java.nio.charset.StandardCharsets;
 import java.nio.file.Files;
 import java.nio.file.Path;
 import java.nio.file.StandardOpenOption;
 import java.util.ArrayList;
+import java.util.HashMap;
 import java.util.List;
+import java.util.Map;
 import java.util.Queue;
 import java.util.concurrent.ConcurrentLinkedQueue;
 import java.util.concurrent.locks.ReentrantLock;
@@ -37,6 +40,9 @@ final class Recorder {
     /** The form of what the core knows by numbers; the others are the ordinals of {@link ByteForm}. */
     static final int NUMBERS = -1;
 
+    /** Who writes which file, in this virtual machine. A recorder that nobody can reach has stopped. */
+    private static final Map<Path, WeakReference<Recorder>> WRITERS = new HashMap<>();
+
     private final Path file;
     private final int stripe;
     private final boolean hasNumbers;
@@ -47,6 +53,7 @@ final class Recorder {
     /** Whoever has it writes. No lock of a stripe is taken with it. */
     private final ReentrantLock turn = new ReentrantLock();
     private boolean isBroken;
+    private volatile boolean hasEnded;
 
     private Recorder(Path file, int stripe, boolean hasNumbers) {
         this.file = file;
@@ -71,7 +78,7 @@ final class Recorder {
      * What keeps the events of a stripe, if the settings say so; else null. The file is FOLDER/CACHE-STRIPE.events;
      * what it has is kept.
      *
-     * @throws CacheException if it can't be written
+     * @throws CacheException if it can't be written, or another cache that isn't closed writes it
      */
     static Recorder open(String cacheName, int stripe, Settings settings, Copier copier) {
         if (settings.record == null) {
@@ -80,6 +87,7 @@ final class Recorder {
         String name = URLEncoder.encode(cacheName, StandardCharsets.UTF_8) + "-" + stripe + FILE_END;
         ByteCopier bytes = copier instanceof ByteCopier ? (ByteCopier) copier : null;
         Recorder recorder = new Recorder(settings.record.resolve(name), stripe, bytes == null);
+        recorder.claimFile();
         try {
             Files.createDirectories(settings.record);
             try (DataOutputStream out = recorder.append()) {
@@ -89,10 +97,22 @@ final class Recorder {
                 out.writeByte(bytes == null ? NUMBERS : bytes.valueForm().ordinal());
             }
         } catch (IOException e) {
+            recorder.hasEnded = true;
             throw new CacheException("no record can be written to " + settings.record + ", which the property "
                     + Settings.RECORD + " names", e);
         }
         return recorder;
+    }
+
+    private void claimFile() {
+        synchronized (WRITERS) {
+            WeakReference<Recorder> reference = WRITERS.get(file.toAbsolutePath());
+            Recorder writer = reference == null ? null : reference.get();
+            if (writer != null && !writer.hasEnded) {
+                throw new CacheException("another cache of the same name writes its record to " + file);
+            }
+            WRITERS.put(file.toAbsolutePath(), new WeakReference<>(this));
+        }
     }
 
     private DataOutputStream append() throws IOException {
@@ -151,9 +171,11 @@ final class Recorder {
                 if (!isBroken) {
                     write(next);
                 }
+                hasEnded = next.isLast;
             }
         } catch (IOException | RuntimeException e) {
             isBroken = true;
+            hasEnded = true;
             Log.warning("the events of stripe " + stripe + " are not written to " + file + " any more", e);
         } finally {
             turn.unlock();

@@ -11,18 +11,19 @@ final class Sessions {
     private int freeCount;
     private int last = AT_ONCE;
 
+    /** Takes a session. It allocates only if more sessions are out than ever before. */
     int take() {
         if (freeCount > 0) {
             return free[--freeCount];
         }
+        if (last == free.length) {
+            free = Arrays.copyOf(free, 2 * last);
+        }
         return ++last;
     }
 
-    /** Gives a session back. It allocates only while more sessions are out than ever before. */
+    /** Gives a session back. There is always room for it. */
     void give(int session) {
-        if (freeCount == free.length) {
-            free = Arrays.copyOf(free, 2 * freeCount);
-        }
         free[freeCount++] = session;
     }
 
