@@ -201,8 +201,14 @@ final class Recorder {
         }
     }
 
+    /** A key whose {@code toString} throws is called by its type. */
     private static String textOf(Object key) {
-        String text = String.valueOf(key).replace('\n', ' ');
+        String text;
+        try {
+            text = String.valueOf(key).replace('\n', ' ');
+        } catch (RuntimeException e) {
+            text = key.getClass().getName();
+        }
         return text.length() <= TEXT_MAX ? text : text.substring(0, TEXT_MAX);
     }
 }

@@ -22,6 +22,7 @@ import java.util.stream.Stream;
  */
 public final class Records {
     private static final int WRONG_USAGE = 2;
+    private static final int NOT_READ = 3;
 
     /** The keys of an opening that the core knows by numbers. */
     private EventTexts.OfNumbers named = new EventTexts.OfNumbers();
@@ -37,18 +38,23 @@ public final class Records {
     }
 
     /**
-     * Prints the records of a folder.
+     * Prints the records of a folder. The exit status is 2 if the words are wrong, and 3 if a record can't be read.
      *
      * @param words the folder, and perhaps a key
-     * @throws IOException if it can't be read
      */
-    public static void main(String[] words) throws IOException {
+    public static void main(String[] words) {
         if (words.length < 1 || words.length > 2) {
             System.err.println("usage: Records FOLDER [KEY]");
             System.exit(WRONG_USAGE);
         }
         PrintStream out = new PrintStream(System.out, false, StandardCharsets.UTF_8);
-        print(Path.of(words[0]), words.length == 2 ? words[1] : null, out);
+        try {
+            print(Path.of(words[0]), words.length == 2 ? words[1] : null, out);
+        } catch (IOException e) {
+            out.flush();
+            System.err.println("Records: " + e);
+            System.exit(NOT_READ);
+        }
         out.flush();
     }
 
