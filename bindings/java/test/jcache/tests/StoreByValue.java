@@ -7,8 +7,11 @@ import static jcache.tests.Check.thrown;
 
 import java.io.ByteArrayOutputStream;
 import java.io.IOException;
+import java.io.InputStream;
 import java.io.ObjectOutputStream;
 import java.io.Serializable;
+import java.lang.reflect.Constructor;
+import java.net.URI;
 import java.util.ArrayList;
 import java.util.Arrays;
 import java.util.Date;
@@ -20,6 +23,8 @@ import java.util.Map;
 import java.util.Set;
 import javax.cache.Cache;
 import javax.cache.CacheException;
+import javax.cache.CacheManager;
+import javax.cache.Caching;
 import javax.cache.configuration.MutableConfiguration;
 import jcache.tests.Check.Test;
 
@@ -157,6 +162,51 @@ final class StoreByValue {
         ByteArrayOutputStream bytes = new ByteArrayOutputStream();
         new ObjectOutputStream(bytes).writeObject(it);
         return bytes.toByteArray();
+    }
+
+    /** A loader with a class of its own, under a name that its parent has, too. */
+    private static final class OwnPoints extends ClassLoader {
+        OwnPoints() {
+            super(StoreByValue.class.getClassLoader());
+        }
+
+        @Override
+        protected Class<?> loadClass(String name, boolean resolve) throws ClassNotFoundException {
+            if (!name.equals(Point.class.getName())) {
+                return super.loadClass(name, resolve);
+            }
+            synchronized (getClassLoadingLock(name)) {
+                Class<?> loaded = findLoadedClass(name);
+                return loaded != null ? loaded : define(name);
+            }
+        }
+
+        private Class<?> define(String name) throws ClassNotFoundException {
+            try (InputStream file = getParent().getResourceAsStream(name.replace('.', '/') + ".class")) {
+                byte[] bytes = file.readAllBytes();
+                return defineClass(name, bytes, 0, bytes.length);
+            } catch (IOException e) {
+                throw new ClassNotFoundException(name, e);
+            }
+        }
+
+        Object point(int x) throws ReflectiveOperationException {
+            Constructor<?> constructor = loadClass(Point.class.getName()).getDeclaredConstructor(int.class);
+            constructor.setAccessible(true);
+            return constructor.newInstance(x);
+        }
+    }
+
+    @Test
+    static void copiesAreOfTheManagersClassLoader() throws ReflectiveOperationException {
+        OwnPoints loader = new OwnPoints();
+        CacheManager manager = Caching.getCachingProvider().getCacheManager(URI.create("own-points"), loader);
+        Cache<Object, Object> cache = Caches.create(manager, new MutableConfiguration<>());
+        cache.put(loader.point(1), loader.point(2));
+        same("a value's copy is of the class that the manager's class loader has", loader,
+                cache.get(loader.point(1)).getClass().getClassLoader());
+        same("and so is a key's", loader, cache.iterator().next().getKey().getClass().getClassLoader());
+        manager.close();
     }
 
     @Test
