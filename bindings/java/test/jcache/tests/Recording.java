@@ -185,6 +185,22 @@ final class Recording {
     }
 
     @Test
+    static void twoCachesNeverWriteOneRecord() throws Exception {
+        try (Scene scene = new Scene(64)) {
+            Properties properties = new Properties();
+            properties.setProperty("jcache.provider.record", scene.folder.toString());
+            CacheManager other = Caches.manager(properties);
+            thrown("a second cache of a name with the same folder is CacheException", CacheException.class,
+                    () -> other.createCache("kept", new MutableConfiguration<>()));
+            scene.cache.close();
+            other.createCache("kept", new MutableConfiguration<>()).close();
+            holds("once the first is closed it may write, after what is there",
+                    scene.all(null).stream().filter(line -> line.equals("# closed")).count() > 1);
+            other.close();
+        }
+    }
+
+    @Test
     static void aFolderThatCannotBeWrittenIsNamed() throws Exception {
         Path file = Files.createTempFile("records", "");
         Properties properties = new Properties();
