@@ -14,29 +14,26 @@ public final class Inside {
      * @return how many entries are cached
      */
     public static int compare(Cache<?, ?> cache) {
+        return verify(cache, new long[5]);
+    }
+
+    /** The same, and then hits, misses, puts and removals, as the core has counted them. */
+    public static List<Long> coreCounts(Cache<?, ?> cache) {
+        long[] core = new long[5];
+        verify(cache, core);
+        return List.of(core[0], core[1], core[2], core[3]);
+    }
+
+    private static int verify(Cache<?, ?> cache, long[] core) {
         int cached = 0;
         for (Stripe stripe : ((JcacheCache<?, ?>) cache).stripes()) {
             stripe.lock.lock();
             try {
-                cached += stripe.verify(new long[5], new long[5]);
+                cached += stripe.verify(core, new long[5]);
             } finally {
                 stripe.lock.unlock();
             }
         }
         return cached;
-    }
-
-    /** Hits, misses, puts and removals, as the core has counted them. */
-    public static List<Long> coreCounts(Cache<?, ?> cache) {
-        long[] core = new long[5];
-        for (Stripe stripe : ((JcacheCache<?, ?>) cache).stripes()) {
-            stripe.lock.lock();
-            try {
-                stripe.verify(core, new long[5]);
-            } finally {
-                stripe.lock.unlock();
-            }
-        }
-        return List.of(core[0], core[1], core[2], core[3]);
     }
 }

@@ -47,11 +47,6 @@ final class Caches {
         return create(new MutableConfiguration<K, V>().setTypes(key, value));
     }
 
-    /** Whether caches whose types have bytes keep these in the core: the property {@code jcache.provider.bytes}. */
-    static boolean keepBytes() {
-        return Boolean.getBoolean("jcache.provider.bytes");
-    }
-
     /** Read-through and write-through over a store. */
     static <K, V> MutableConfiguration<K, V> over(Store<K, V> store) {
         return new MutableConfiguration<K, V>()

@@ -11,7 +11,6 @@ import java.util.concurrent.ConcurrentHashMap;
 import java.util.concurrent.LinkedBlockingQueue;
 import java.util.concurrent.TimeUnit;
 import javax.cache.Cache;
-import javax.cache.CacheException;
 import javax.cache.CacheManager;
 import javax.cache.integration.CacheLoader;
 import javax.cache.integration.CacheLoaderException;
@@ -62,7 +61,7 @@ final class Player implements AutoCloseable {
         String written;
         /** The call whose load it has joined. */
         Call joined;
-        boolean isOver;
+        volatile boolean isOver;
         /** Of a processor: what the script says of it, while it runs. */
         private String[] process;
         private Thread thread;
