@@ -32,7 +32,8 @@ final class BulkCalls {
     }
 
     /**
-     * What a round has out, and what it puts off. Nothing is allocated once a key is reserved: lists have room for all.
+     * What a round has out, and what it puts off. Once a key is reserved nothing is allocated that could fail and leave
+     * it so: lists have room for all, and loops go by index.
      */
     private static final class Round {
         final List<Call> asked;
@@ -49,6 +50,21 @@ final class BulkCalls {
 
         boolean hasNothingOut() {
             return asked.isEmpty() && joined.isEmpty();
+        }
+
+        /** Gives up what is out: nobody was asked yet. */
+        void giveUp() {
+            for (int i = 0; i < asked.size(); i++) {
+                asked.get(i).stripe.withdraw(asked.get(i));
+            }
+            abandonJoined(0);
+        }
+
+        /** Gives up what was joined, from an index on. */
+        void abandonJoined(int from) {
+            for (int i = from; i < joined.size(); i++) {
+                joined.get(i).stripe.abandon(joined.get(i));
+            }
         }
     }
 
@@ -80,17 +96,16 @@ final class BulkCalls {
     private List<Call> round(List<Call> left) {
         Round round = new Round(left.size());
         try {
-            left.forEach(call -> begin(call, round));
+            for (int i = 0; i < left.size(); i++) {
+                begin(left.get(i), round);
+            }
         } catch (RuntimeException | Error e) {
-            // Nobody was asked yet: what is out is given up.
-            round.asked.forEach(call -> call.stripe.withdraw(call));
-            round.joined.forEach(call -> call.stripe.abandon(call));
+            round.giveUp();
             throw e;
         }
         if (!round.asked.isEmpty()) {
             ask(round.asked);
-            round.asked.forEach(call -> call.stripe.end(call));
-            done.addAll(round.asked);
+            end(round);
         }
         pickUp(round);
         return round.later;
@@ -127,20 +142,40 @@ final class BulkCalls {
         try {
             asker.accept(asked);
         } catch (RuntimeException | Error e) {
-            asked.forEach(call -> call.failIfUnanswered(e));
+            for (int i = 0; i < asked.size(); i++) {
+                asked.get(i).failIfUnanswered(e);
+            }
+        }
+    }
+
+    /** Commits what was asked for: all, even if memory to note what one has left is short. */
+    private void end(Round round) {
+        Error failure = null;
+        for (int i = 0; i < round.asked.size(); i++) {
+            Call call = round.asked.get(i);
+            try {
+                call.stripe.end(call);
+            } catch (Error e) {
+                failure = e;
+            }
+            done.add(call);
+        }
+        if (failure != null) {
+            round.abandonJoined(0);
+            throw failure;
         }
     }
 
     private void pickUp(Round round) {
         int picked = 0;
         try {
-            for (Call call : round.joined) {
-                picked++;
+            while (picked < round.joined.size()) {
+                Call call = round.joined.get(picked++);
                 call.stripe.pickUp(call);
                 (call.isDone() ? done : round.later).add(call);
             }
         } catch (RuntimeException | Error e) {
-            round.joined.subList(picked, round.joined.size()).forEach(call -> call.stripe.abandon(call));
+            round.abandonJoined(picked);
             throw e;
         }
     }

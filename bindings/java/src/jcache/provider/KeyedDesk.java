@@ -132,9 +132,14 @@ abstract class KeyedDesk {
             if (call.joined.ticket != call.ticket) {
                 throw new IllegalStateException("the core names another load");
             }
-        } else {
-            node.owner = call;
+            return;
+        }
+        node.owner = call;
+        try {
             noteReserved(call, result);
+        } catch (RuntimeException | Error e) {
+            withdraw(call);
+            throw e;
         }
     }
 
@@ -153,12 +158,18 @@ abstract class KeyedDesk {
 
     // Last phases.
 
-    /** The last phase of a call that has asked its loader, writer or processor. */
+    /**
+     * The last phase of a call that has asked its loader, writer or processor. Even if there is no memory to note what
+     * it left, it is over then.
+     */
     void commit(Call call) {
         int result = last(call);
         call.node.owner = null;
-        finish(call, result);
-        leave(call);
+        try {
+            finish(call, result);
+        } finally {
+            leave(call);
+        }
     }
 
     /** Gives up a call that has reserved its key and asked nobody. */
@@ -174,16 +185,24 @@ abstract class KeyedDesk {
     void pickUp(Call call) {
         int result = askForJoined(call);
         call.next = Desk.next(result);
-        if (call.next == Native.DONE) {
-            call.reply = Desk.reply(result);
-            call.cause = call.joined.cause;
-            if (call.reply == Native.VALUE) {
-                noteJoined(call);
-            }
-        } else if (call.next != Native.AGAIN) {
+        if (call.next != Native.DONE && call.next != Native.AGAIN) {
             throw new IllegalStateException("the core says that a load isn't over");
         }
-        leave(call);
+        try {
+            if (call.next == Native.DONE) {
+                notePickedUp(call, Desk.reply(result));
+            }
+        } finally {
+            leave(call);
+        }
+    }
+
+    private void notePickedUp(Call call, int reply) {
+        call.reply = reply;
+        call.cause = call.joined.cause;
+        if (reply == Native.VALUE) {
+            noteJoined(call);
+        }
     }
 
     private void finish(Call call, int result) {
@@ -209,11 +228,14 @@ abstract class KeyedDesk {
             return;
         }
         isFreed = true;
-        if (recorder != null) {
-            recorder.end(desk);
+        try {
+            if (recorder != null) {
+                recorder.end(desk);
+            }
+        } finally {
+            desk.close();
+            nodes.clear();
         }
-        desk.close();
-        nodes.clear();
     }
 
     /**

@@ -127,7 +127,9 @@ final class Outside<K, V> {
             }
             return null;
         } catch (Throwable e) {
-            calls.forEach(call -> call.setLoaded(null, e));
+            for (int i = 0; i < calls.size(); i++) {
+                calls.get(i).setLoaded(null, e);
+            }
             return e;
         }
     }
@@ -183,7 +185,9 @@ final class Outside<K, V> {
         } catch (Throwable e) {
             // The collection can't be read any more: nothing is known to be written.
             Throwable cause = thrown != null ? thrown : e;
-            calls.forEach(call -> call.setWritten(cause));
+            for (int i = 0; i < calls.size(); i++) {
+                calls.get(i).setWritten(cause);
+            }
             return cause;
         }
         return thrown;

@@ -131,22 +131,19 @@ final class Recorder {
 
     /** Takes the events of the present generation, and ends it. False: it can't be ended now, and nothing was taken. */
     boolean endGeneration(Desk desk) {
-        List<byte[]> events = eventsOf(desk);
+        Generation generation = new Generation(named, eventsOf(desk), false);
+        List<Node> next = new ArrayList<>();
         if (!desk.endGeneration()) {
             return false;
         }
-        take(events, false);
+        taken.add(generation);
+        named = next;
         return true;
     }
 
     /** Takes the last events, before the desk is closed. */
     void end(Desk desk) {
-        take(eventsOf(desk), true);
-    }
-
-    private void take(List<byte[]> events, boolean isLast) {
-        taken.add(new Generation(named, events, isLast));
-        named = new ArrayList<>();
+        taken.add(new Generation(named, eventsOf(desk), true));
     }
 
     private static List<byte[]> eventsOf(Desk desk) {
