@@ -8,6 +8,7 @@ import java.util.List;
 import java.util.Map;
 import java.util.Random;
 import java.util.Set;
+import java.util.function.Supplier;
 import javax.cache.Cache;
 import jcache.provider.Inside;
 import jcache.tests.Check.Test;
@@ -22,11 +23,17 @@ final class ShortMemory {
     private static final int SECONDS = Integer.getInteger("memory.seconds", 2);
     private static final int KEYS = 64;
 
-    private static final class Scene {
-        final Store<Integer, byte[]> store = new Store<>();
-        final Cache<Integer, byte[]> cache = Caches.through(store);
+    /** A cache over a store, and where its values come from. */
+    private static final class Scene<V> {
+        final Cache<Integer, V> cache;
+        final Supplier<V> value;
         int calls;
         int faults;
+
+        Scene(Cache<Integer, V> cache, Supplier<V> value) {
+            this.cache = cache;
+            this.value = value;
+        }
 
         /** Makes calls with nearly all of the heap taken, again and again. */
         void callWithLittleMemory(Random random, long until) {
@@ -71,7 +78,7 @@ final class ShortMemory {
                     cache.get(key);
                     break;
                 case 1:
-                    cache.put(key, new byte[64]);
+                    cache.put(key, value.get());
                     break;
                 case 2:
                     cache.remove(key);
@@ -80,35 +87,45 @@ final class ShortMemory {
                     cache.getAll(Set.of(key, key + 1, key + 2));
                     break;
                 case 4:
-                    cache.putAll(Map.of(key, new byte[64], key + 1, new byte[64]));
+                    cache.putAll(Map.of(key, value.get(), key + 1, value.get()));
                     break;
                 default:
                     cache.invoke(key, (entry, arguments) -> {
-                        entry.setValue(new byte[64]);
+                        entry.setValue(value.get());
                         return null;
                     });
             }
         }
     }
 
-    @Test
-    static void noKeyIsLeftWhenMemoryIsShort() throws Exception {
-        Scene scene = new Scene();
+    private static <V> void check(Cache<Integer, V> cache, Supplier<V> value) throws Exception {
+        Scene<V> scene = new Scene<>(cache, value);
         Random random = new Random(1);
         // A class whose initialization fails stays unusable, and so do classes of the platform: all are initialized
         // before.
         for (int i = 0; i < 5000; i++) {
             scene.call(random);
         }
+        V last = value.get();
         Background.start(() -> scene.callWithLittleMemory(random, System.nanoTime() + SECONDS * 1_000_000_000L))
                 .result();
         System.out.println(scene.calls + " calls ended, and " + scene.faults + " found no memory");
         holds("memory was short now and then", scene.faults > 0);
         Background.start(() -> {
             for (int key = 0; key < KEYS + 3; key++) {
-                scene.cache.put(key, new byte[1]);
+                cache.put(key, last);
             }
         }).result();
-        equal("each key is free then, and nothing is left out", KEYS + 3, Inside.compare(scene.cache));
+        equal("each key is free then, and nothing is left out", KEYS + 3, Inside.compare(cache));
+    }
+
+    @Test
+    static void noKeyIsLeftOfValuesThatAreSerialized() throws Exception {
+        check(Caches.through(new Store<>()), () -> new byte[64]);
+    }
+
+    @Test
+    static void noKeyIsLeftOfStrings() throws Exception {
+        check(Caches.through(new Store<>(), Integer.class, String.class), () -> "v".repeat(64));
     }
 }
