@@ -39,7 +39,7 @@ final class ShortMemory {
         void callWithLittleMemory(Random random, long until) {
             List<byte[]> hog = new ArrayList<>(100_000);
             fill(hog, 1 << 16);
-            while (System.nanoTime() < until) {
+            while (System.nanoTime() < until || faults == 0) {
                 fill(hog, 1 << 9);
                 // What is left is some hundred bytes or some thousand, so that each allocation of the host is the one
                 // that fails now and then.
