@@ -1,0 +1,47 @@
+package jcache.provider;
+
+import javax.cache.event.CacheEntryEvent;
+import javax.cache.event.EventType;
+
+/** An event as listeners see it: what it hands out are copies, if the cache keeps copies. */
+final class CacheEvent<K, V> extends CacheEntryEvent<K, V> {
+    private static final long serialVersionUID = 1;
+
+    private final transient CacheContext<K, V> context;
+    private final transient Object key;
+    private final transient Object stored;
+    private final transient Object before;
+
+    CacheEvent(CacheContext<K, V> context, EventType type, Object key, Object stored, Object before) {
+        super(context.cache, type);
+        this.context = context;
+        this.key = key;
+        this.stored = stored;
+        this.before = before;
+    }
+
+    @Override
+    public K getKey() {
+        return context.keyOut(key);
+    }
+
+    @Override
+    public V getValue() {
+        return context.valueOut(stored);
+    }
+
+    @Override
+    public V getOldValue() {
+        return isOldValueAvailable() ? context.valueOut(before) : null;
+    }
+
+    @Override
+    public boolean isOldValueAvailable() {
+        return before != null;
+    }
+
+    @Override
+    public <T> T unwrap(Class<T> type) {
+        return Unwrap.as(this, type);
+    }
+}

@@ -1,0 +1,15 @@
+package jcache.provider;
+
+import java.lang.System.Logger.Level;
+
+/** What no caller can be told is logged. */
+final class Log {
+    private static final System.Logger LOGGER = System.getLogger("jcache.provider");
+
+    private Log() {
+    }
+
+    static void warning(String what, Throwable cause) {
+        LOGGER.log(Level.WARNING, what, cause);
+    }
+}

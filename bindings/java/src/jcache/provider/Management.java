@@ -1,0 +1,51 @@
+package jcache.provider;
+
+import java.lang.management.ManagementFactory;
+import javax.cache.CacheException;
+import javax.management.JMException;
+import javax.management.MBeanServer;
+import javax.management.ObjectName;
+
+/** Registers the beans of caches with the platform's server, under the names of JSR 107, "Management". */
+final class Management {
+    private Management() {
+    }
+
+    static void showStatistics(JcacheCache<?, ?> cache, boolean isOn) {
+        show(nameOf(cache, "CacheStatistics"), isOn ? new StatisticsBean(cache) : null);
+    }
+
+    static void showConfiguration(JcacheCache<?, ?> cache, boolean isOn) {
+        show(nameOf(cache, "CacheConfiguration"), isOn ? new ConfigurationBean(cache) : null);
+    }
+
+    /** Registers a bean, if none is registered; or takes the registered one out. */
+    private static void show(ObjectName name, Object bean) {
+        MBeanServer server = ManagementFactory.getPlatformMBeanServer();
+        try {
+            boolean isRegistered = server.isRegistered(name);
+            if (bean != null && !isRegistered) {
+                server.registerMBean(bean, name);
+            } else if (bean == null && isRegistered) {
+                server.unregisterMBean(name);
+            }
+        } catch (JMException e) {
+            throw new CacheException("the bean " + name + " can't be registered or taken out", e);
+        }
+    }
+
+    private static ObjectName nameOf(JcacheCache<?, ?> cache, String type) {
+        String manager = clean(cache.getCacheManager().getURI().toString());
+        try {
+            return new ObjectName(
+                    "javax.cache:type=" + type + ",CacheManager=" + manager + ",Cache=" + clean(cache.getName()));
+        } catch (JMException e) {
+            throw new CacheException("there is no name for the beans of the cache " + cache.getName(), e);
+        }
+    }
+
+    /** Without the characters that a name may not have. */
+    private static String clean(String text) {
+        return text.replaceAll("[,:=\n\"*?]", ".");
+    }
+}

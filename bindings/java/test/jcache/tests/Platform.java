@@ -1,0 +1,28 @@
+package jcache.tests;
+
+import static jcache.tests.Check.holds;
+import static jcache.tests.Check.thrown;
+
+import javax.cache.CacheException;
+import javax.cache.configuration.MutableConfiguration;
+import jcache.tests.Check.Test;
+
+/**
+ * A virtual machine where the native library can't be loaded. The property {@code platform.expected} is a text that its
+ * exception has.
+ */
+final class Platform {
+    private Platform() {}
+
+    @Test
+    static void whatIsMissingIsNamed() {
+        String expected = System.getProperty("platform.expected");
+        Class<? extends RuntimeException> type =
+                System.getProperty("jcache.provider.library") == null ? UnsupportedOperationException.class
+                        : CacheException.class;
+        RuntimeException refused = thrown("a cache without a native library is " + type.getSimpleName(), type,
+                () -> Caches.create(new MutableConfiguration<>()));
+        holds("whose text has " + expected + ": " + refused, String.valueOf(refused).contains(expected));
+        thrown("and so is the next one", type, () -> Caches.create(new MutableConfiguration<>()));
+    }
+}
