@@ -1,5 +1,5 @@
 //! Lines of scripts, as they are spelled.
-ghost use Rattle.std.specs.Prelude.{◌≡◌, ◌++◌, ◌∷◌, [], OnOk, codes, map};
+ghost use Rattle.std.specs.Prelude.{◌≡◌, ◌++◌, ◌∷◌, [], OnOk, map};
 ghost use Rattle.jc_script.specs.ProcessWords.{call_text, fail_words, source_words};
 ghost use Rattle.jc_script.specs.Spelled.{flag_words, operation_words, spelling};
 ghost use Rattle.jc_script.specs.Printing.{value_text};
@@ -148,18 +148,19 @@ fn put_valued<'a>(
     put_pieces(out, &[Piece::Text(" "), Piece::Value(value)])
 }
 
-/// Appends the line by which a session begins a `replaceif`.
-fn put_replace_if<'a>(
+/// Appends the line by which a session begins an operation of this name, with two values.
+fn put_two_valued<'a>(
     out: &mut Vec<u8>,
     beginning: Beginning,
+    name: &'a str,
     key: &'a Key,
     old: &'a Value,
     new: &'a Value,
 ) -> Result<(), AllocError>
     ensures { OnOk result (out.new.items ≡ out.old.items ++ begin_text beginning.call beginning.session
-        (codes "replaceif" ∷ key.now ∷ value_text old.now ∷ value_text new.now ∷ [])) }
+        (name.now ∷ key.now ∷ value_text old.now ∷ value_text new.now ∷ [])) }
 {
-    put_valued(out, beginning, "replaceif", key, old)?;
+    put_valued(out, beginning, name, key, old)?;
     put_pieces(out, &[Piece::Text(" "), Piece::Value(new)])
 }
 
@@ -183,7 +184,7 @@ pub fn put_begin(
         Op::RemoveIf(old) => put_valued(out, beginning, "removeif", key, old),
         Op::GetAndRemove => put_named(out, beginning, "getremove", key),
         Op::Replace(value) => put_valued(out, beginning, "replace", key, value),
-        Op::ReplaceIf { old, new } => put_replace_if(out, beginning, key, old, new),
+        Op::ReplaceIf { old, new } => put_two_valued(out, beginning, "replaceif", key, old, new),
         Op::GetAndReplace(value) => put_valued(out, beginning, "getreplace", key, value),
         Op::Clear | Op::LoadAll { replace: _ } => put_nameless(out, beginning),
         Op::Invoke => put_named(out, beginning, "invoke", key),

@@ -3,10 +3,11 @@
 use jc_explore::Watch;
 use std::io::Write;
 
-/// After how many states the line is written again: some three times in a second.
+/// After how many states the line is written again: a few times in a second.
 const STATES: u64 = 4096;
 
-/// What is written over the line at last. It is longer: of the most states that may be followed and known, the line has 51 bytes.
+/// What is written over the line at last: 60 spaces. The line has at most 49 letters, since at most 1,000,000 states are followed, with
+/// at most 88 moves each.
 const BLANK: &str = "\r                                                            \r";
 
 /// A line on a terminal that says how far a search is, written over itself. It is erased when the search is over.
