@@ -1,13 +1,12 @@
 -- The replies that calls of a kind have are those that are read, and those of the operation table.
 --     read_of_kind        an expectation's word is read as such a reply
 --     table_of_kind       each reply that the operation table gives is one
-use Rattle.std.proofs.Common.{◌≡◌, ℕ, Bool, true, false, cond, List, Option, None, Some, Result, Ok, Err, refl, sym, subst}
-use Rattle.std.specs.Prelude.{codes, ◌&&◌, IsTrue, is_none, is_some}
+use Rattle.std.proofs.Common.{◌≡◌, ℕ, Bool, true, false, cond, List, Option, None, Some, Result, Ok, Err, refl, subst}
+use Rattle.std.specs.Prelude.{codes, ◌&&◌, is_none, is_some}
 use Rattle.std.specs.Bool.{beq}
 use Rattle.std.specs.Str.{bytes_eq}
 use Rattle.std.proofs.lemmas.Bool.{and_parts}
 use Rattle.std.proofs.lemmas.Grind.{common_steps}
-use Rattle.jc_types.specs.declared.config.Config.{Config}
 use Rattle.jc_types.specs.declared.refusal.Refusal.{Refusal}
 use Rattle.jc_types.specs.declared.refusal.Refusal.TheVariants.{HistoryFull, LoaderFailed, WriterFailed, ProcessorFailed}
 use Rattle.jc_model.specs.Cache.{Bytes}
@@ -31,7 +30,7 @@ use Rattle.jc_litmus.specs.declared.reply_words.Answer.{Answer}
 use Rattle.jc_litmus.specs.declared.reply_words.Answer.TheVariants as answer
 use Rattle.jc_litmus.specs.declared.reply_words.ReplyKind.{ReplyKind}
 use Rattle.jc_litmus.specs.WordParts.{halves_of}
-use Rattle.jc_litmus.specs.ReplyWords.{failure_of, failure_with, plain_reply, plain_value, refusal_of, reply_from, reply_kind, two_words}
+use Rattle.jc_litmus.specs.ReplyWords.{failure_with, plain_reply, plain_value, refusal_of, reply_from, reply_kind}
 use Rattle.jc_litmus.specs.ReplyTexts.{HasRefusal, HasReply, RepliesAreOfKind, RepliesOfTable}
 
 -- 1. What is read.

@@ -3,7 +3,7 @@
 --     replies_back        what an expectation writes for a reply is read as that reply
 --     replies_told        of two replies the texts differ
 --     silence_told        none of these texts is that of a call that is never answered
-use Rattle.std.proofs.Common.{◌≡◌, ◌≢◌, ◌∙◌, ◌==◌, ℕ, ◌+◌, ◌%◌, ◌^◌, ◌<◌, ◌≤◌, Bool, true, false, cond, not, List, [], ◌∷◌, ◌++◌, length, map, take, drop, Option, None, Some, Result, Ok, Err, inl, inr, refl, sym, ap, arith}
+use Rattle.std.proofs.Common.{◌≡◌, ◌∙◌, ◌==◌, ℕ, ◌+◌, ◌%◌, ◌^◌, ◌<◌, Bool, true, false, not, List, [], ◌∷◌, ◌++◌, length, map, None, Some, Result, Ok, Err, inl, inr, refl, ap, arith}
 use Rattle.std.specs.Prelude.{codes, decimal, ◌&&◌, nat_lt, nat_le}
 use Rattle.std.specs.List.{list_all, position_or_len}
 use Rattle.std.specs.Str.{bytes_eq}
@@ -14,7 +14,6 @@ use Rattle.std.proofs.lemmas.List.{take_at}
 use Rattle.std.proofs.lemmas.List.Folds.{list_all-append}
 use Rattle.std.proofs.Math.Seq.{drop-append-add}
 use Rattle.jc_types.specs.declared.limits.TheConstants.{VALUE_MAX}
-use Rattle.jc_types.specs.declared.refusal.Refusal.{Refusal}
 use Rattle.jc_types.specs.declared.refusal.Refusal.TheVariants.{HistoryFull, Busy, TooManyInFlight, TooManyJoiners, LoaderFailed, WriterFailed, ProcessorFailed, OutOfMemory, TooManyKeys, BadConfig, NoLoader, NoWriter, TooManySessions, StillReserved, RepeatedKey}
 use Rattle.jc_model.specs.Cache.{Bytes}
 use Rattle.jc_model.specs.declared.event.Reply.{Reply}
@@ -28,7 +27,7 @@ use Rattle.jc_litmus.specs.declared.program.LineFault.TheVariants.{BadReply}
 use Rattle.jc_litmus.specs.declared.reply_words.ReplyKind.{ReplyKind}
 use Rattle.jc_litmus.specs.WordParts.{halves_of}
 use Rattle.jc_litmus.specs.ReplyWords.{failure_with, plain_reply, plain_value, reply_from, reply_said, two_words}
-use Rattle.jc_litmus.specs.ReplyTexts.{colon_for_space, IsReplyOf, RepliesAreTold, RepliesReadBack, replied_text, reply_word, SilenceIsTold}
+use Rattle.jc_litmus.specs.ReplyTexts.{colon_for_space, RepliesAreTold, RepliesReadBack, reply_word, SilenceIsTold}
 
 -- 1. Words without a space and a colon.
 

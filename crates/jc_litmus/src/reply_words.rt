@@ -78,11 +78,8 @@ pub(crate) fn reply_kind(op: &Op) -> ReplyKind
         Op::Get => loading(Answer::Value),
         Op::ContainsKey => silent(Answer::Flag),
         Op::Put(_) => writing(Answer::Unit),
-        Op::PutIfAbsent(_)
-        | Op::Remove
-        | Op::RemoveIf(_)
-        | Op::Replace(_)
-        | Op::ReplaceIf { .. } => writing(Answer::Flag),
+        Op::PutIfAbsent(_) | Op::Remove | Op::RemoveIf(_) | Op::Replace(_) | Op::ReplaceIf { .. } =>
+            writing(Answer::Flag),
         Op::GetAndPut(_) | Op::GetAndRemove | Op::GetAndReplace(_) => writing(Answer::Value),
         Op::Clear => silent(Answer::Unit),
         Op::LoadAll { .. } => loading(Answer::Unit),
