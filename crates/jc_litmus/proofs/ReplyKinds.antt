@@ -21,7 +21,7 @@ use Rattle.jc_model.specs.declared.event.ProcessAnswer.{ProcessAnswer}
 use Rattle.jc_model.specs.declared.event.ProcessAnswer.TheVariants as process
 use Rattle.jc_model.specs.declared.event.Reply.{Reply}
 use Rattle.jc_model.specs.declared.event.Reply.TheVariants as reply
-use Rattle.jc_model.specs.Table.{early_fault, first_of_two, is_invoke, is_load_given, is_process_given, is_write_given, load_fault, load_fits, loader_ask, process_fault, reply_by_fault, reply_without_fault, write_ask, write_fault}
+use Rattle.jc_model.specs.Table.{early_fault, first_fault, first_of_two, is_invoke, is_load_given, is_process_given, is_write_given, load_fault, load_fits, loader_ask, process_fault, reply_by_fault, reply_without_fault, write_ask, write_fault}
 use Rattle.jc_script.specs.declared.fault.Fault.{Fault}
 use Rattle.jc_script.specs.Words.{number_of, value_or_none_of}
 use Rattle.jc_litmus.specs.declared.program.LineFault.{LineFault}
@@ -35,13 +35,13 @@ use Rattle.jc_litmus.specs.ReplyTexts.{HasRefusal, HasReply, RepliesAreOfKind, R
 
 -- 1. What is read.
 
+same_read : (read : Result Reply LineFault) (r s : Reply) → read ≡ Ok r → read ≡ Ok s → r ≡ s
+same_read read r s first second = cc
+
 -- a reply under a test
 under : (kind : ReplyKind) (test : Bool) (x r : Reply) (rest : Result Reply LineFault) → (test ≡ true → HasReply kind x)
     → (rest ≡ Ok r → HasReply kind r) → cond test (Ok x) rest ≡ Ok r → HasReply kind r
-under kind true x r rest here there e = subst (HasReply kind) (same x r e) (here refl)
-  where
-    same : (x r : Reply) → Ok {E = LineFault} x ≡ Ok r → x ≡ r
-    same x r e = cc
+under kind true x r rest here there e = subst (λ (y : Reply). HasReply kind y) (same_read (Ok x) x r refl e) (here refl)
 under kind false x r rest here there e = there e
 
 no_reply : (kind : ReplyKind) (r : Reply) → Err BadReply ≡ Ok r → HasReply kind r
@@ -86,7 +86,7 @@ read_of_kind kind word r e = halves_read kind word r (halves_of 58 word) e
 
 -- 2. What the table gives.
 
-MayFail : ReplyKind → Option Refusal → Type 0
+abbrev MayFail : ReplyKind → Option Refusal → Type 0
 MayFail kind None = Unit {0}
 MayFail kind (Some fault) = HasRefusal kind fault
 
@@ -174,8 +174,12 @@ process_may op (process.Failed code) e = processor_of_table op e
 process_may op process.NotAsked e = tt
 process_may op (process.Ended effect outcome) e = tt
 
+beq_true : (x : Bool) → beq true x ≡ true → x ≡ true
+beq_true true e = refl
+beq_true false e = e
+
 last_of : (a b c : Bool) → beq true (a && b && c) ≡ true → c ≡ true
-last_of a b c e = grind (common_steps)
+last_of a b c e = (and_parts (a && b) c (beq_true (a && b && c) e)).1
 
 write_may : (through clear : Bool) (op : Op) (entry : Option Bytes) (p : ProcessAnswer) (w : WriteAnswer)
     → beq (is_write_given w) (through && clear && is_some (write_ask op entry p)) ≡ true → MayFail (reply_kind op) (write_fault w)
@@ -191,8 +195,8 @@ table_of_kind config op entry out fits =
     let parts = and_parts (loads && runs) writes fits in
     let asked = and_parts loads runs parts.0 in
     let kind = reply_kind op in
-    by_fault kind _ (reply_without_fault op entry out)
-    (first_may kind _ _
-    (first_may kind _ _ (load_may config.read_through op entry out.load asked.0) (process_may op out.process asked.1))
+    by_fault kind (first_fault out) (reply_without_fault op entry out)
+    (first_may kind (early_fault out) (write_fault out.write)
+    (first_may kind (load_fault out.load) (process_fault out.process) (load_may config.read_through op entry out.load asked.0) (process_may op out.process asked.1))
     (write_may config.write_through (is_none (early_fault out)) op entry out.process out.write parts.1))
     (plain_of_table op entry out)
