@@ -1,3 +1,5 @@
 pub mod Joined
 pub mod Meanings
 pub mod ProgramLines
+pub mod ReplyKinds
+pub mod ReplyTexts

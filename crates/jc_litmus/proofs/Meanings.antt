@@ -23,7 +23,7 @@ use Rattle.jc_litmus.specs.declared.run.LitmusEnd.{LitmusEnd}
 use Rattle.jc_litmus.specs.declared.run.LitmusEnd.TheVariants as end
 use Rattle.jc_litmus.specs.Judging.{decides, end_of, first_deciding, is_failure, verdict_from, verdict_on}
 use Rattle.jc_litmus.specs.Program.{program_of, value_of_program}
-use Rattle.jc_litmus.specs.Meaning.{EndMeans, IsDecided, IsUndecided, Means, MeansBy, MetBy, MissedBy}
+use Rattle.jc_litmus.specs.Meaning.{EndMeans, IsDecided, IsUndecided, Means, MeansBy, FulfilledBy, MissedBy}
 use Rattle.jc_litmus.specs.Running.{Answers, IsAnswer, IsExplored}
 
 decided_by : (p : Program) (e : Expectation) (found : List Finding) (i : ℕ) → AreWitnessed p found → first_deciding e found ≡ Some i → IsDecided p e
@@ -61,13 +61,13 @@ verdict_means p budget r e found =
     (λ eq whole. undecided_by p e r.found.items (found.all whole) eq)
 
 -- a verdict that is none of failure, of a whole exploration, is that it holds
-met_by : (p : Program) (e : Expectation) (q : Quantifier) (first : Option ℕ) → is_failure (verdict_from q first true) ≡ false → MeansBy p e q (verdict_from q first true) → MetBy p e q
-met_by p e Sometimes (Some i) holds means = means
-met_by p e Never (Some i) holds means = absurd cc
-met_by p e Always (Some i) holds means = absurd cc
-met_by p e Sometimes None holds means = absurd cc
-met_by p e Never None holds means = means
-met_by p e Always None holds means = means
+fulfilled_by : (p : Program) (e : Expectation) (q : Quantifier) (first : Option ℕ) → is_failure (verdict_from q first true) ≡ false → MeansBy p e q (verdict_from q first true) → FulfilledBy p e q
+fulfilled_by p e Sometimes (Some i) holds means = means
+fulfilled_by p e Never (Some i) holds means = absurd cc
+fulfilled_by p e Always (Some i) holds means = absurd cc
+fulfilled_by p e Sometimes None holds means = absurd cc
+fulfilled_by p e Never None holds means = means
+fulfilled_by p e Always None holds means = means
 
 missed_by : (p : Program) (e : Expectation) (q : Quantifier) (v : Verdict) → is_failure v ≡ true → MeansBy p e q v → MissedBy p e q
 missed_by p e q (verdicts.Holds first) fails means = absurd cc
@@ -97,7 +97,7 @@ end_by p budget r es found true whole any w =
 end_by p budget r es found false true any w = λ k d inside.
     let e = get_or es k d in
     let no = none_of (λ (e : Expectation). is_failure (verdict_on r e)) es any k d inside in
-    met_by p e e.quantifier (first_deciding e r.found.items)
+    fulfilled_by p e e.quantifier (first_deciding e r.found.items)
     (subst (λ (b : Bool). is_failure (verdict_from e.quantifier (first_deciding e r.found.items) b) ≡ false) w no)
     (subst (λ (b : Bool). MeansBy p e e.quantifier (verdict_from e.quantifier (first_deciding e r.found.items) b)) w (verdict_means p budget r e found))
 end_by p budget r es found false false any w = tt

@@ -25,7 +25,7 @@ use Rattle.jc_litmus.specs.declared.program.Atom.{Atom}
 use Rattle.jc_litmus.specs.declared.program.Atom.TheVariants.{Replied, Cached, Stored, Coherent, Differs}
 use Rattle.jc_litmus.specs.Then.{◌>>=◌}
 use Rattle.jc_litmus.specs.WordParts.{halves_of}
-use Rattle.jc_litmus.specs.ReplyWords.{reply_of}
+use Rattle.jc_litmus.specs.ReplyWords.{reply_said}
 use Rattle.jc_litmus.specs.Calls.{call_named}
 
 abbrev pub in_script : {X : Type 0} → Result X Fault → Result X LineFault
@@ -63,7 +63,7 @@ unfoldable pub replied_of : List (List Item) → List ℕ → List ℕ → Resul
 replied_of threads call reply = do
   numbers ← numbers_of call
   named ← call_named threads numbers.0 numbers.1
-  reply ← reply_of named.answer reply
+  reply ← reply_said named.kind reply
   Ok (Replied named.thread named.call reply)
 
 abbrev pub pair_of : List (List Item) → List ℕ → List ℕ → Result Atom LineFault

@@ -1,26 +1,26 @@
 -- The calls of a program, by the numbers that an expectation names them by.
---     answered       how a call is answered if it is neither refused nor fails; a write of another program isn't answered
---     is_call        an item is a call
---     named_or       a call's place among its thread's, and how it is answered, if it is
---     answered_at    how an item is answered, if there is one
---     call_in        a call of a thread: its place among the thread's calls, and how it is answered
+--     answered       which replies a call has; a write of another program isn't answered
+--     is_call        an item is a call, and no write of another program
+--     named_or       a call's place among its thread's, and which replies it has, if it has any
+--     answered_at    which replies an item has, if there is one
+--     call_in        a call of a thread: its place among the thread's calls, and which replies it has
 --     place_of       the place of a number that counts from 1
 --     call_at        the call at a place of a thread, if there is such a thread
 --     call_named     the call with the numbers of its thread and of its item there, which count from 1
 use Rattle.std.specs.Prelude.{ℕ, zero, suc, List, take, count_by, slice_get, Bool, true, false, Option, None, Some, Result, Ok, Err}
+use Rattle.jc_model.specs.declared.event.Op.TheVariants.{Invoke}
 use Rattle.jc_explore.specs.declared.program.Item.{Item}
 use Rattle.jc_explore.specs.declared.program.Item.TheVariants as item
 use Rattle.jc_litmus.specs.declared.program.LineFault.{LineFault}
 use Rattle.jc_litmus.specs.declared.program.LineFault.TheVariants.{NoSuchItem}
-use Rattle.jc_litmus.specs.declared.reply_words.Answer.{Answer}
-use Rattle.jc_litmus.specs.declared.reply_words.Answer.TheVariants as answer
+use Rattle.jc_litmus.specs.declared.reply_words.ReplyKind.{ReplyKind}
 use Rattle.jc_litmus.specs.declared.calls.Named.{Named}
-use Rattle.jc_litmus.specs.ReplyWords.{answer_kind}
+use Rattle.jc_litmus.specs.ReplyWords.{reply_kind}
 use Rattle.jc_litmus.specs.Then.{◌>>=◌}
 
-abbrev pub answered : Item → Option Answer
-answered (item.Call op key) = Some (answer_kind op)
-answered (item.Invoke key calls) = Some answer.Value
+abbrev pub answered : Item → Option ReplyKind
+answered (item.Call op key) = Some (reply_kind op)
+answered (item.Invoke key calls) = Some (reply_kind Invoke)
 answered (item.Foreign key value) = None
 
 abbrev pub is_call : Item → Bool
@@ -28,15 +28,15 @@ is_call (item.Call op key) = true
 is_call (item.Invoke key calls) = true
 is_call (item.Foreign key value) = false
 
-abbrev pub named_or : ℕ → Option Answer → Result (ℕ × Answer) LineFault
+abbrev pub named_or : ℕ → Option ReplyKind → Result (ℕ × ReplyKind) LineFault
 named_or call None = Err NoSuchItem
 named_or call (Some kind) = Ok (call, kind)
 
-abbrev pub answered_at : Option Item → Option Answer
+abbrev pub answered_at : Option Item → Option ReplyKind
 answered_at None = None
 answered_at (Some one) = answered one
 
-abbrev pub call_in : List Item → ℕ → Result (ℕ × Answer) LineFault
+abbrev pub call_in : List Item → ℕ → Result (ℕ × ReplyKind) LineFault
 call_in items at = named_or (count_by is_call (take at items)) (answered_at (slice_get items at))
 
 abbrev pub place_of : ℕ → Result ℕ LineFault
@@ -45,7 +45,7 @@ place_of (suc place) = Ok place
 
 abbrev pub call_at : ℕ → ℕ → Option (List Item) → Result Named LineFault
 call_at thread at None = Err NoSuchItem
-call_at thread at (Some items) = call_in items at >>= λ call. Ok (record { thread = thread; call = call.0; answer = call.1 })
+call_at thread at (Some items) = call_in items at >>= λ call. Ok (record { thread = thread; call = call.0; kind = call.1 })
 
 unfoldable pub call_named : List (List Item) → ℕ → ℕ → Result Named LineFault
 call_named threads thread at = do

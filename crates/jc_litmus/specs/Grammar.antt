@@ -1,5 +1,6 @@
 -- Lines of a program that scripts spell otherwise.
---     begin_text           the line of a script that begins a call
+--     begin_words, begin_line      the words behind `begin` in a line of a script that begins a call, from the call's own words, and what
+--                          that line asks for: its number and its session don't count
 --     after_space          a word after a space
 --     process_text         the line of a script in which an entry processor makes calls
 --     asks, made_line      what a line of a script asks for, from what was read of it, and from its bytes: it asks for something
@@ -24,7 +25,8 @@ use Rattle.jc_script.specs.declared.line.Act.{Act}
 use Rattle.jc_script.specs.declared.line.Act.TheVariants as act
 use Rattle.jc_script.specs.declared.line.Operation.{Operation}
 use Rattle.jc_script.specs.Words.{number_of}
-use Rattle.jc_script.specs.Lines.{read_line}
+use Rattle.jc_script.specs.Lines.{begin_of, read_line}
+use Rattle.jc_litmus.specs.Atoms.{in_script}
 use Rattle.jc_litmus.specs.Then.{◌>>=◌}
 use Rattle.jc_litmus.specs.declared.program.LineFault.{LineFault}
 use Rattle.jc_litmus.specs.declared.program.LineFault.TheVariants.{Script, NotACall}
@@ -33,8 +35,11 @@ use Rattle.jc_litmus.specs.declared.program.Quantifier.TheVariants.{Never, Somet
 use Rattle.jc_litmus.specs.declared.grammar.WhoFails.{WhoFails}
 use Rattle.jc_litmus.specs.declared.grammar.WhoFails.TheVariants as who_fails
 
-abbrev pub begin_text : List ℕ → List ℕ
-begin_text call = codes "begin 1 s1 " ++ call
+abbrev pub begin_words : List ℕ → List (List ℕ) → List (List ℕ)
+begin_words first words = codes "1" ∷ codes "s1" ∷ first ∷ words
+
+abbrev pub begin_line : List ℕ → List (List ℕ) → Result Line LineFault
+begin_line first words = in_script (begin_of (begin_words first words))
 
 abbrev pub after_space : List ℕ → List ℕ
 after_space word = codes " " ++ word

@@ -3,6 +3,7 @@ pub mod Reads
 pub mod Then
 pub mod WordParts
 pub mod ReplyWords
+pub mod ReplyTexts
 pub mod Calls
 pub mod Atoms
 pub mod Grammar

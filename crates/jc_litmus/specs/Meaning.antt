@@ -1,10 +1,10 @@
 -- What verdicts and ends say of all schedules of a program.
 --     IsDecided      some whole schedule ends in an outcome that decides an expectation
 --     IsUndecided    no whole schedule does
---     MetBy, IsMet   an expectation is met: a `sometimes` that is decided, a `never` or an `always` that isn't
---     MissedBy, IsMissed    it isn't met
---     MeansBy, Means        what a verdict says of an expectation: that it is met, that it isn't, or nothing
---     EndMeans       what an end says of expectations: that each is met, that one isn't, or nothing
+--     FulfilledBy, IsFulfilled   an expectation is fulfilled: a `sometimes` that is decided, a `never` or an `always` that isn't
+--     MissedBy, IsMissed    it isn't
+--     MeansBy, Means        what a verdict says of an expectation: that it is fulfilled, that it isn't, or nothing
+--     EndMeans       what an end says of expectations: that each is fulfilled, that one isn't, or nothing
 use Rattle.std.specs.Prelude.{◌≡◌, List, true, false}
 use Rattle.std.specs.List.{All, Any}
 use Rattle.jc_explore.specs.declared.moves.Move.{Move}
@@ -26,24 +26,24 @@ IsDecided p e = (schedule : List Move) × (f : FinalValue) × IsWhole p schedule
 abbrev pub IsUndecided : Program → Expectation → Type 0
 IsUndecided p e = (schedule : List Move) (f : FinalValue) → IsWhole p schedule f → decides e f ≡ false
 
-abbrev pub MetBy : Program → Expectation → Quantifier → Type 0
-MetBy p e Sometimes = IsDecided p e
-MetBy p e Never = IsUndecided p e
-MetBy p e Always = IsUndecided p e
+abbrev pub FulfilledBy : Program → Expectation → Quantifier → Type 0
+FulfilledBy p e Sometimes = IsDecided p e
+FulfilledBy p e Never = IsUndecided p e
+FulfilledBy p e Always = IsUndecided p e
 
 abbrev pub MissedBy : Program → Expectation → Quantifier → Type 0
 MissedBy p e Sometimes = IsUndecided p e
 MissedBy p e Never = IsDecided p e
 MissedBy p e Always = IsDecided p e
 
-abbrev pub IsMet : Program → Expectation → Type 0
-IsMet p e = MetBy p e e.quantifier
+abbrev pub IsFulfilled : Program → Expectation → Type 0
+IsFulfilled p e = FulfilledBy p e e.quantifier
 
 abbrev pub IsMissed : Program → Expectation → Type 0
 IsMissed p e = MissedBy p e e.quantifier
 
 abbrev pub MeansBy : Program → Expectation → Quantifier → Verdict → Type 0
-MeansBy p e q (verdict.Holds first) = MetBy p e q
+MeansBy p e q (verdict.Holds first) = FulfilledBy p e q
 MeansBy p e q (verdict.Fails first) = MissedBy p e q
 MeansBy p e q verdict.Open = Unit {0}
 
@@ -51,7 +51,7 @@ abbrev pub Means : Program → Expectation → Verdict → Type 0
 Means p e v = MeansBy p e e.quantifier v
 
 abbrev pub EndMeans : Program → List Expectation → LitmusEnd → Type 0
-EndMeans p es end.Holds = All (IsMet p) es
+EndMeans p es end.Holds = All (IsFulfilled p) es
 EndMeans p es end.Fails = Any (IsMissed p) es
 EndMeans p es end.Open = Unit {0}
 EndMeans p es end.LineFault = Unit {0}

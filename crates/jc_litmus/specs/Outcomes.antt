@@ -1,10 +1,9 @@
 -- An exploration's answer, as text.
---     is_call          an item is a call, and no write of another program
 --     calls_before     how many calls are before a place of a thread's list
 --     replies_to       how many replies a thread got
---     place_name       the name of an item: its thread and its place there, both from 1
+--     item_name        the name of an item, and a space: its thread and its place there, both from 1
 --     reply_line       the line of a call that was answered
---     stuck_line       the line of a call that never was
+--     unanswered_line  the line of a call that is never answered
 --     answer_line      the line of a call: its reply, or that it has none, if it is the first such call of its thread
 --     call_text        the same, of the call at this place among its thread's calls
 --     item_if          what is said of an item, if there is one
@@ -34,27 +33,23 @@ use Rattle.std.specs.Global.{Vec}
 use Rattle.jc_model.specs.declared.event.Reply.{Reply}
 use Rattle.jc_explore.specs.declared.final_state.FinalState.{FinalState}
 use Rattle.jc_explore.specs.declared.program.Item.{Item}
-use Rattle.jc_explore.specs.declared.program.Item.TheVariants as item
 use Rattle.jc_explore.specs.declared.program.Program.{Program}
 use Rattle.jc_explore.specs.declared.replies.ThreadReply.{ThreadReply}
 use Rattle.jc_explore.specs.declared.search.Explored.{Explored}
 use Rattle.jc_explore.specs.declared.search.Finding.{Finding}
 use Rattle.jc_explore.specs.declared.search.TheConstants.{OUTCOMES_MAX}
-use Rattle.jc_script.specs.Printing.{coherence_text, entries_line, reply_text}
+use Rattle.jc_script.specs.Printing.{coherence_text, entries_line}
 use Rattle.jc_litmus.specs.declared.judge.Verdict.{Verdict}
 use Rattle.jc_litmus.specs.declared.judge.Verdict.TheVariants.{Holds, Fails, Open}
 use Rattle.jc_litmus.specs.declared.program.Expectation.{Expectation}
 use Rattle.jc_litmus.specs.declared.program.LineFault.{LineFault}
 use Rattle.jc_litmus.specs.LineFaults.{line_fault_text}
+use Rattle.jc_litmus.specs.Calls.{is_call}
+use Rattle.jc_litmus.specs.ReplyTexts.{replied_text, unanswered_text}
 use Rattle.jc_litmus.specs.Judging.{reply_of, verdict_on}
 use Rattle.jc_litmus.specs.Witness.{witness_text}
 
 -- 1. What the threads were answered.
-
-abbrev pub is_call : Item → Bool
-is_call (item.Call op key) = true
-is_call (item.Invoke key calls) = true
-is_call (item.Foreign key value) = false
 
 abbrev pub calls_before : List Item → ℕ → ℕ
 calls_before items at = count_by is_call (take at items)
@@ -62,18 +57,18 @@ calls_before items at = count_by is_call (take at items)
 abbrev pub replies_to : ℕ → List ThreadReply → ℕ
 replies_to thread replies = count_by (λ r. r.thread == thread) replies
 
-unfoldable pub place_name : ℕ → ℕ → List ℕ
-place_name thread at = decimal (thread + 1) ++ codes "." ++ decimal (at + 1)
+unfoldable pub item_name : ℕ → ℕ → List ℕ
+item_name thread at = decimal (thread + 1) ++ codes "." ++ decimal (at + 1) ++ codes " "
 
 unfoldable pub reply_line : ℕ → ℕ → Reply → List ℕ
-reply_line thread at reply = place_name thread at ++ codes " " ++ reply_text reply ++ codes "\n"
+reply_line thread at reply = item_name thread at ++ replied_text reply ++ codes "\n"
 
-unfoldable pub stuck_line : ℕ → ℕ → List ℕ
-stuck_line thread at = place_name thread at ++ codes " stuck\n"
+unfoldable pub unanswered_line : ℕ → ℕ → List ℕ
+unanswered_line thread at = item_name thread at ++ unanswered_text ++ codes "\n"
 
 abbrev pub answer_line : ℕ → ℕ → Bool → Option Reply → List ℕ
 answer_line thread at first (Some reply) = reply_line thread at reply
-answer_line thread at true None = stuck_line thread at
+answer_line thread at true None = unanswered_line thread at
 answer_line thread at false None = []
 
 abbrev pub call_text : List ThreadReply → ℕ → ℕ → ℕ → List ℕ

@@ -57,7 +57,7 @@ use Rattle.jc_litmus.specs.declared.program.ProgramFault.{ProgramFault}
 use Rattle.jc_litmus.specs.declared.program.ProgramFault.TheVariants as program_fault
 use Rattle.jc_litmus.specs.declared.program.Quantifier.{Quantifier}
 use Rattle.jc_litmus.specs.Atoms.{are_atoms, atoms_from, in_script}
-use Rattle.jc_litmus.specs.Grammar.{after_space, begin_text, calls_of_text, made_line, may_fail, operation_in, process_text, quantifier_named, with_fault}
+use Rattle.jc_litmus.specs.Grammar.{after_space, begin_line, calls_of_text, may_fail, operation_in, process_text, quantifier_named, with_fault}
 use Rattle.jc_litmus.specs.Opened.{shape_fault}
 use Rattle.jc_litmus.specs.Then.{◌>>=◌}
 
@@ -140,9 +140,9 @@ unfoldable pub after_thread : ReadSoFar → List (List ℕ) → Result ReadSoFar
 after_thread so_far [] = if_open so_far.config (one_thread_more so_far)
 after_thread so_far (word ∷ more) = Err (Script BadLine)
 
-unfoldable pub after_call : ReadSoFar → List ℕ → Result ReadSoFar LineFault
-after_call so_far text =
-    made_line (begin_text text) >>= λ l. if_open so_far.config (operation_in l >>= λ o. after_item so_far (item.Call o.op o.key))
+unfoldable pub after_call : ReadSoFar → List ℕ → List (List ℕ) → Result ReadSoFar LineFault
+after_call so_far first words =
+    begin_line first words >>= λ l. if_open so_far.config (operation_in l >>= λ o. after_item so_far (item.Call o.op o.key))
 
 abbrev pub invocation_of : List ℕ → List (List ℕ) → Result Item LineFault
 invocation_of k words =
@@ -177,7 +177,7 @@ after_own_line so_far text first words (Some quantifier) = after_expect so_far q
 after_own_line so_far text first words None =
     if bytes_eq first (codes "thread") then after_thread so_far words else
     if bytes_eq first (codes "invoke") then after_invoke so_far words else
-    after_call so_far text
+    after_call so_far first words
 
 abbrev pub after_words : ReadSoFar → List ℕ → List (List ℕ) → Result ReadSoFar LineFault
 after_words so_far text [] = Err (Script BadLine)

@@ -1,18 +1,18 @@
--- Replies, as an expectation spells them: as a transcript prints them, with a colon before a code.
---     answer_kind          what an operation is answered if it is neither refused nor fails
---     refusal_named        the refusal with no code that a word names
---     coded_refusal        the reply with a name and a code
---     code_from, code_of   the code of a reply, from the number that its word says, and from the word
---     with_code, coded_reply      a reply with a name, from its code and from the word of its code
+-- Replies: which ones an operation has, and how an expectation writes them. It writes what a transcript prints, with a colon in
+-- place of a space.
+--     silent, loading, writing     the replies of an operation that asks nobody outside, the loader alone, the writer alone
+--     reply_kind           the replies that an operation has
 --     plain_value          a value or none that is a reply
---     plain_reply          a reply of a call that is neither refused nor fails
---     refused_or           a refusal as a reply, if there is one
---     reply_from, reply_of      the reply that a word says of a call, from what is before and after its colon, if it has one, and
+--     plain_reply          the reply of a call that nobody failed, from its only word
+--     refusal_of           the reply of a call that was refused, from the refusal's name: a call whose history isn't full waits
+--     failure_of           the reply of a call that somebody failed, from the name and the code of the failure
+--     failure_with         the same, if the word of the code is a number
+--     two_words            the reply of a call that was refused, or that somebody failed, from its two words
+--     reply_from, reply_said       the reply that a word says of a call, from what is before its colon and after it, if it has one, and
 --                          from the word alone
-use Rattle.std.specs.Prelude.{ℕ, List, codes, true, false, Option, None, Some, Result, Ok, Err, if◌then◌else◌}
+use Rattle.std.specs.Prelude.{ℕ, List, codes, Bool, true, false, ◌&&◌, Option, None, Some, Result, Ok, Err, if◌then◌else◌}
 use Rattle.std.specs.Str.{bytes_eq}
-use Rattle.jc_types.specs.declared.refusal.Refusal.{Refusal}
-use Rattle.jc_types.specs.declared.refusal.Refusal.TheVariants.{HistoryFull, Busy, TooManyInFlight, TooManyJoiners, LoaderFailed, WriterFailed, ProcessorFailed, OutOfMemory, TooManyKeys, NoLoader, NoWriter, TooManySessions, StillReserved, RepeatedKey}
+use Rattle.jc_types.specs.declared.refusal.Refusal.TheVariants.{HistoryFull, LoaderFailed, WriterFailed, ProcessorFailed}
 use Rattle.jc_model.specs.Cache.{Bytes}
 use Rattle.jc_model.specs.declared.event.Op.{Op}
 use Rattle.jc_model.specs.declared.event.Op.TheVariants as op
@@ -25,58 +25,36 @@ use Rattle.jc_litmus.specs.declared.program.LineFault.TheVariants.{BadReply}
 use Rattle.jc_litmus.specs.WordParts.{halves_of}
 use Rattle.jc_litmus.specs.declared.reply_words.Answer.{Answer}
 use Rattle.jc_litmus.specs.declared.reply_words.Answer.TheVariants as answer
+use Rattle.jc_litmus.specs.declared.reply_words.ReplyKind.{ReplyKind}
 
-abbrev pub answer_kind : Op → Answer
-answer_kind op.Get = answer.Value
-answer_kind op.ContainsKey = answer.Flag
-answer_kind (op.Put value) = answer.Unit
-answer_kind (op.GetAndPut value) = answer.Value
-answer_kind (op.PutIfAbsent value) = answer.Flag
-answer_kind op.Remove = answer.Flag
-answer_kind (op.RemoveIf old) = answer.Flag
-answer_kind op.GetAndRemove = answer.Value
-answer_kind (op.Replace value) = answer.Flag
-answer_kind (op.ReplaceIf old value) = answer.Flag
-answer_kind (op.GetAndReplace value) = answer.Value
-answer_kind op.Clear = answer.Unit
-answer_kind (op.LoadAll replace) = answer.Unit
-answer_kind op.Invoke = answer.Value
+-- 1. The replies of each operation. (`RepliesOfTable` says that they are those of the operation table.)
 
-abbrev pub refusal_named : List ℕ → Option Refusal
-refusal_named word =
-    if bytes_eq word (codes "HistoryFull") then Some HistoryFull else
-    if bytes_eq word (codes "Busy") then Some Busy else
-    if bytes_eq word (codes "TooManyInFlight") then Some TooManyInFlight else
-    if bytes_eq word (codes "TooManyJoiners") then Some TooManyJoiners else
-    if bytes_eq word (codes "OutOfMemory") then Some OutOfMemory else
-    if bytes_eq word (codes "TooManyKeys") then Some TooManyKeys else
-    if bytes_eq word (codes "NoLoader") then Some NoLoader else
-    if bytes_eq word (codes "NoWriter") then Some NoWriter else
-    if bytes_eq word (codes "TooManySessions") then Some TooManySessions else
-    if bytes_eq word (codes "StillReserved") then Some StillReserved else
-    if bytes_eq word (codes "RepeatedKey") then Some RepeatedKey else
-    None
+abbrev pub silent : Answer → ReplyKind
+silent kind = record { answer = kind; loader = false; processor = false; writer = false }
 
-abbrev pub coded_refusal : List ℕ → ℕ → Result Reply LineFault
-coded_refusal name code =
-    if bytes_eq name (codes "LoaderFailed") then Ok (reply.Fault (LoaderFailed code)) else
-    if bytes_eq name (codes "WriterFailed") then Ok (reply.Fault (WriterFailed code)) else
-    if bytes_eq name (codes "ProcessorFailed") then Ok (reply.Fault (ProcessorFailed code)) else
-    Err BadReply
+abbrev pub loading : Answer → ReplyKind
+loading kind = record { answer = kind; loader = true; processor = false; writer = false }
 
-abbrev pub code_from : Result ℕ Fault → Result ℕ LineFault
-code_from (Ok code) = Ok code
-code_from (Err fault) = Err BadReply
+abbrev pub writing : Answer → ReplyKind
+writing kind = record { answer = kind; loader = false; processor = false; writer = true }
 
-abbrev pub code_of : List ℕ → Result ℕ LineFault
-code_of word = code_from (number_of word)
+abbrev pub reply_kind : Op → ReplyKind
+reply_kind op.Get = loading answer.Value
+reply_kind op.ContainsKey = silent answer.Flag
+reply_kind (op.Put value) = writing answer.Unit
+reply_kind (op.GetAndPut value) = writing answer.Value
+reply_kind (op.PutIfAbsent value) = writing answer.Flag
+reply_kind op.Remove = writing answer.Flag
+reply_kind (op.RemoveIf old) = writing answer.Flag
+reply_kind op.GetAndRemove = writing answer.Value
+reply_kind (op.Replace value) = writing answer.Flag
+reply_kind (op.ReplaceIf old value) = writing answer.Flag
+reply_kind (op.GetAndReplace value) = writing answer.Value
+reply_kind op.Clear = silent answer.Unit
+reply_kind (op.LoadAll replace) = loading answer.Unit
+reply_kind op.Invoke = record { answer = answer.Value; loader = true; processor = true; writer = true }
 
-abbrev pub with_code : List ℕ → Result ℕ LineFault → Result Reply LineFault
-with_code name (Ok code) = coded_refusal name code
-with_code name (Err fault) = Err fault
-
-abbrev pub coded_reply : List ℕ → List ℕ → Result Reply LineFault
-coded_reply name word = with_code name (code_of word)
+-- 2. One word: nobody failed.
 
 abbrev pub plain_value : Result (Option Bytes) Fault → Result Reply LineFault
 plain_value (Ok value) = Ok (reply.Value value)
@@ -90,14 +68,30 @@ plain_reply answer.Flag word =
     Err BadReply
 plain_reply answer.Value word = plain_value (value_or_none_of word)
 
-abbrev pub refused_or : Option Refusal → Result Reply LineFault → Result Reply LineFault
-refused_or (Some refusal) other = Ok (reply.Fault refusal)
-refused_or None other = other
+-- 3. Two words: the call was refused, or somebody failed.
 
-abbrev pub reply_from : Option (List ℕ × List ℕ) → Answer → List ℕ → Result Reply LineFault
-reply_from (Some halves) kind word = coded_reply halves.0 halves.1
-reply_from None kind word = refused_or (refusal_named word) (plain_reply kind word)
+abbrev pub refusal_of : List ℕ → Result Reply LineFault
+refusal_of name = if bytes_eq name (codes "HistoryFull") then Ok (reply.Fault HistoryFull) else Err BadReply
+
+abbrev pub failure_of : ReplyKind → List ℕ → ℕ → Result Reply LineFault
+failure_of kind name code =
+    if bytes_eq name (codes "LoaderFailed") && kind.loader then Ok (reply.Fault (LoaderFailed code)) else
+    if bytes_eq name (codes "ProcessorFailed") && kind.processor then Ok (reply.Fault (ProcessorFailed code)) else
+    if bytes_eq name (codes "WriterFailed") && kind.writer then Ok (reply.Fault (WriterFailed code)) else
+    Err BadReply
+
+abbrev pub failure_with : ReplyKind → List ℕ → Result ℕ Fault → Result Reply LineFault
+failure_with kind name (Ok code) = failure_of kind name code
+failure_with kind name (Err fault) = Err BadReply
+
+abbrev pub two_words : ReplyKind → List ℕ → List ℕ → Result Reply LineFault
+two_words kind first second =
+    if bytes_eq first (codes "refused") then refusal_of second else failure_with kind first (number_of second)
+
+abbrev pub reply_from : ReplyKind → Option (List ℕ × List ℕ) → List ℕ → Result Reply LineFault
+reply_from kind (Some halves) word = two_words kind halves.0 halves.1
+reply_from kind None word = plain_reply kind.answer word
 
 -- 58 is the colon
-abbrev pub reply_of : Answer → List ℕ → Result Reply LineFault
-reply_of kind word = reply_from (halves_of 58 word) kind word
+abbrev pub reply_said : ReplyKind → List ℕ → Result Reply LineFault
+reply_said kind word = reply_from kind (halves_of 58 word) word

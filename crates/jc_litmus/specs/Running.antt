@@ -2,13 +2,14 @@
 --     IsExplored   what an exploration with this budget of states has found: outcomes with shortest schedules of theirs, no two the same,
 --                  and each one if it is whole, with no more states than the budget; else it has come to more states than the budget, or
 --                  found more outcomes than the limit
---     IsAnswer     an output is the answer of an exploration of a program, and the end is that of its expectations, and means
---                  what it says of all schedules
+--     IsAnswer     an output is the answer of an exploration of a program; each verdict in it, and the end, which is that of the
+--                  expectations, mean what they say of all schedules
 --     IsComplaint  an output names the line of the input that is the first at fault, with its fault, and the end says so
 --     Answers      the answer to the program that the input's text says, or the complaint of that text
 --     Ran          the input was read to its end, and its answer written
 --     Broke        the same, up to a write that failed
 use Rattle.std.specs.Prelude.{◌≡◌, ◌≤◌, ◌⊎◌, ℕ, List, take, length, Option, Ok, Err, true, false}
+use Rattle.std.specs.List.{All}
 use Rattle.std.specs.Io.KnownBytes.{Appends}
 use Rattle.jc_explore.specs.declared.program.Program.{Program}
 use Rattle.jc_explore.specs.declared.search.Explored.{Explored}
@@ -18,8 +19,8 @@ use Rattle.jc_litmus.specs.declared.run.LitmusEnd.{LitmusEnd}
 use Rattle.jc_litmus.specs.declared.run.LitmusEnd.TheVariants.{LineFault}
 use Rattle.jc_litmus.specs.declared.program.LineFault as faulty
 use Rattle.jc_litmus.specs.declared.program.Litmus.{Litmus}
-use Rattle.jc_litmus.specs.Judging.{end_of}
-use Rattle.jc_litmus.specs.Meaning.{EndMeans}
+use Rattle.jc_litmus.specs.Judging.{end_of, verdict_on}
+use Rattle.jc_litmus.specs.Meaning.{EndMeans, Means}
 use Rattle.jc_litmus.specs.Outcomes.{answer_text, fault_text}
 use Rattle.jc_litmus.specs.Program.{program_of, value_of_program}
 
@@ -36,6 +37,7 @@ pub record IsAnswer (budget : ℕ) (x : Litmus) (out : List ℕ) (end : LitmusEn
   pub explored : Explored
   pub is_explored : IsExplored x.program budget explored
   pub out_is : out ≡ answer_text budget x.program explored x.expectations.items
+  pub verdicts : All (λ e. Means x.program e (verdict_on explored e)) x.expectations.items
   pub end_is : end ≡ end_of explored x.expectations.items
   pub means : EndMeans x.program x.expectations.items end
 

@@ -1,6 +1,6 @@
 -- A schedule as a script: the lines that play it.
 --     no_progress      how far a thread is that has begun nothing
---     may_begin        both the next call's number and a count of items are below the largest number that a script names
+--     has_numbers        both the next call's number and a count of items are below the largest number that a script names
 --     begin_line       the line by which a session begins an item, with its call's number
 --     if_coded         a line with a code, if there is one
 --     run_line         the line of a processor's run
@@ -49,8 +49,8 @@ use Rattle.jc_litmus.specs.declared.witness.Progress.{Progress}
 abbrev pub no_progress : Progress
 no_progress = record { begun = 0; call = 0 }
 
-abbrev pub may_begin : ℕ → Progress → Bool
-may_begin last progress = nat_lt (last + 1) NUMBER_MAX && nat_lt progress.begun NUMBER_MAX
+abbrev pub has_numbers : ℕ → Progress → Bool
+has_numbers last progress = nat_lt (last + 1) NUMBER_MAX && nat_lt progress.begun NUMBER_MAX
 
 abbrev pub begin_line : ℕ → ℕ → Option Item → Option Line
 begin_line call session None = None
@@ -88,7 +88,7 @@ abbrev pub line_at : Program → ℕ → Move → Option Progress → Option Lin
 line_at p last m None = None
 line_at p last m (Some progress) =
     if is_begin m.act
-    then (if may_begin last progress then begin_line (last + 1) (m.thread + 1) (item_at p m.thread progress.begun) else None)
+    then (if has_numbers last progress then begin_line (last + 1) (m.thread + 1) (item_at p m.thread progress.begun) else None)
     else call_line p.faults progress.call (item_at p m.thread (progress.begun - 1)) m.act
 
 abbrev pub line_of_move : Program → ℕ → List Progress → Move → Option Line
@@ -110,7 +110,7 @@ last_by last (Some (item.Foreign key value)) = last
 
 abbrev pub begun_item : Program → ℕ → Move → Progress → Option Item
 begun_item p last m progress =
-    if is_begin m.act && may_begin last progress then item_at p m.thread progress.begun else None
+    if is_begin m.act && has_numbers last progress then item_at p m.thread progress.begun else None
 
 abbrev pub progress_at : Program → ℕ → Move → Progress → Progress
 progress_at p last m progress = begun_by last progress (begun_item p last m progress)

@@ -10,7 +10,7 @@ ghost use Rattle.jc_litmus.specs.Atoms.{is_about, is_atom, are_atoms, atom_onto,
 use crate::calls::call_named;
 use crate::line_error::LineError;
 use crate::program::{Atom, LineFault};
-use crate::reply_words::reply_of;
+use crate::reply_words::reply_said;
 use crate::word_parts::{begins_with, behind, halves_of};
 use jc_explore::Item;
 use jc_model::Reply;
@@ -90,7 +90,7 @@ fn replied_of(threads: &[Vec<Item>], call: &[u8], reply: &[u8]) -> Result<Atom, 
 {
     let (thread, item) = numbers_of(call)?;
     let named = call_named(threads, thread, item)?;
-    let reply = reply_of(named.answer, reply)?;
+    let reply = reply_said(named.kind, reply)?;
     Ok(Atom::Replied {
         thread: named.thread,
         call: named.call,

@@ -3,22 +3,23 @@ ghost use Rattle.std.specs.Prelude.{◌≡◌, count_by, map, take, slice_get, o
 ghost use Rattle.jc_litmus.specs.Calls.{answered, is_call, answered_at, call_in, place_of, call_at, call_named};
 
 use crate::program::LineFault;
-use crate::reply_words::{Answer, answer_kind};
+use crate::reply_words::{ReplyKind, reply_kind};
 use jc_explore::Item;
+use jc_model::Op;
 
-/// How a call is answered if it is neither refused nor fails. A write of another program isn't answered.
-fn answered(item: &Item) -> Option<Answer>
+/// Which replies a call has. A write of another program isn't answered.
+fn answered(item: &Item) -> Option<ReplyKind>
     ensures { result ≡ answered item.now }
 {
     match item {
-        Item::Call { op, .. } => Some(answer_kind(op)),
-        Item::Invoke { .. } => Some(Answer::Value),
+        Item::Call { op, .. } => Some(reply_kind(op)),
+        Item::Invoke { .. } => Some(reply_kind(&Op::Invoke)),
         Item::Foreign { .. } => None,
     }
 }
 
-/// Whether an item is a call.
-fn is_call(item: &Item) -> bool
+/// Whether an item is a call, and no write of another program.
+pub(crate) fn is_call(item: &Item) -> bool
     ensures { result ≡ is_call item.now }
 {
     match item {
@@ -52,8 +53,8 @@ fn item_at(items: &[Item], at: usize) -> Option<&Item>
     items.get(at)
 }
 
-/// How the item at a place is answered, if it is there and is a call.
-fn answered_at(items: &[Item], at: usize) -> Option<Answer>
+/// Which replies the item at a place has, if it is there and is a call.
+fn answered_at(items: &[Item], at: usize) -> Option<ReplyKind>
     ensures { result ≡ answered_at (slice_get items.now at) }
 {
     match item_at(items, at) {
@@ -62,13 +63,13 @@ fn answered_at(items: &[Item], at: usize) -> Option<Answer>
     }
 }
 
-/// A call of a thread: its place among the thread's calls, and how it is answered.
-fn call_in(items: &[Item], at: usize) -> Result<(usize, Answer), LineFault>
+/// A call of a thread: its place among the thread's calls, and which replies it has.
+fn call_in(items: &[Item], at: usize) -> Result<(usize, ReplyKind), LineFault>
     ensures { result ≡ call_in items.now at }
 {
     match answered_at(items, at) {
         None => Err(LineFault::NoSuchItem),
-        Some(answer) => Ok((calls_in(front(items, at)), answer)),
+        Some(kind) => Ok((calls_in(front(items, at)), kind)),
     }
 }
 
@@ -89,8 +90,8 @@ pub(crate) struct Named {
     pub thread: usize,
     /// The place among the thread's calls, from 0.
     pub call: usize,
-    /// How it is answered.
-    pub answer: Answer,
+    /// Which replies it has.
+    pub kind: ReplyKind,
 }
 
 /// The call at a place of a thread.
@@ -100,12 +101,8 @@ fn call_at(threads: &[Vec<Item>], thread: usize, at: usize) -> Result<Named, Lin
     match threads.get(thread) {
         None => Err(LineFault::NoSuchItem),
         Some(items) => {
-            let (call, answer) = call_in(items, at)?;
-            Ok(Named {
-                thread,
-                call,
-                answer,
-            })
+            let (call, kind) = call_in(items, at)?;
+            Ok(Named { thread, call, kind })
         }
     }
 }

@@ -3,28 +3,35 @@ ghost use Rattle.std.specs.Prelude.{◌≡◌, ◌++◌, codes, map, OnOk, IfOk}
 ghost use Rattle.std.specs.List.{flat_map};
 ghost use Rattle.jc_script.specs.Lines.{ok_with};
 ghost use Rattle.jc_litmus.specs.Reads.{Reads};
-ghost use Rattle.jc_litmus.specs.Grammar.{after_space, begin_text, process_text, made_line, operation_in, plain_calls, act_calls, line_calls, calls_of_text};
+ghost use Rattle.jc_litmus.specs.Grammar.{after_space, begin_line, begin_words, process_text, made_line, operation_in, plain_calls, act_calls, line_calls, calls_of_text};
 ghost use Rattle.jc_litmus.specs.Grammar.{failing_named, may_fail, with_fault, quantifier_named};
 
 use crate::line_error::LineError;
 use crate::program::{LineFault, Quantifier};
 use jc_explore::Faults;
 use jc_script::fault::Fault;
-use jc_script::grammar::read;
+use jc_script::grammar::{begin, read};
 use jc_script::line::{Act, Line, Operation};
 use jc_script::put;
 use jc_script::words::{is, number};
 use jc_world::process::{EntryCalls, LoadSource};
 use std::alloc::{AllocError, Global};
 
-/// The line of a script that begins this call.
-fn begin_text(alloc: Global, call: &[u8]) -> Result<Vec<u8>, AllocError>
-    ensures { IfOk result (λ text. text.items ≡ begin_text call.now) }
+/// The words behind `begin` in a line of a script that begins this call. Of what the line asks for the call's own words alone count.
+fn begin_words<'a>(
+    alloc: Global,
+    first: &'a [u8],
+    rest: &[&'a [u8]],
+) -> Result<Vec<&'a [u8]>, AllocError>
+    ensures { IfOk result (λ words.
+        map (λ w. w.now) words.items ≡ begin_words first.now (map (λ w. w.now) rest.now)) }
 {
-    let mut text = Vec::new(alloc);
-    put(&mut text, "begin 1 s1 ")?;
-    text.extend_from_slice(call)?;
-    Ok(text)
+    let mut words = Vec::new(alloc);
+    words.push("1".as_bytes())?;
+    words.push("s1".as_bytes())?;
+    words.push(first)?;
+    words.extend_from_slice(rest)?;
+    Ok(words)
 }
 
 fn put_word(text: &mut Vec<u8>, word: &[u8]) -> Result<(), AllocError>
@@ -69,12 +76,20 @@ fn made_line(alloc: Global, text: &[u8], line: &mut Line) -> Result<(), LineErro
     }
 }
 
-/// Leaves in `line` the line of a script that begins the call of this line.
-pub(crate) fn begin_line(alloc: Global, call: &[u8], line: &mut Line) -> Result<(), LineError>
-    ensures { Reads (ok_with line.new result) (made_line (begin_text call.now)) }
+/// Leaves in `line` the line of a script that begins the call of these words.
+pub(crate) fn begin_line(
+    alloc: Global,
+    first: &[u8],
+    rest: &[&[u8]],
+    line: &mut Line,
+) -> Result<(), LineError>
+    ensures { Reads (ok_with line.new result) (begin_line first.now (map (λ w. w.now) rest.now)) }
 {
-    let text = begin_text(alloc, call)?;
-    made_line(alloc, &text, line)
+    let words = begin_words(alloc, first, rest)?;
+    match begin(alloc, &words, line) {
+        Ok(()) => Ok(()),
+        Err(error) => Err(LineError::from(error)),
+    }
 }
 
 /// The operation that a line of a script begins.

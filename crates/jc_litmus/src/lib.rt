@@ -7,6 +7,7 @@ mod atoms;
 mod calls;
 mod grammar;
 mod judge;
+pub mod laws;
 mod line_error;
 mod outcome;
 mod program;

@@ -1,25 +1,18 @@
 //! Outcomes, as text.
 ghost use Rattle.std.specs.Prelude.{◌≡◌, ◌++◌, ◌+◌, ◌<◌, ◌^◌, codes, length, slice_get, OnOk};
-ghost use Rattle.jc_litmus.specs.Outcomes.{answer_line, call_text, calls_before, is_call, item_text, number_line, outcome_if, outcome_text, outcomes_text};
-ghost use Rattle.jc_litmus.specs.Outcomes.{place_name, replies_to, reply_line, state_text, stuck_line, thread_at, thread_text, threads_text};
+ghost use Rattle.jc_litmus.specs.ReplyTexts.{refused_text, replied_text, unanswered_text};
+ghost use Rattle.jc_litmus.specs.Outcomes.{call_text, calls_before, item_name, item_text, number_line, outcome_if, outcome_text, outcomes_text};
+ghost use Rattle.jc_litmus.specs.Outcomes.{replies_to, reply_line, state_text, thread_at, thread_text, threads_text, unanswered_line};
 
+use crate::calls::is_call;
 use crate::judge::reply_of;
 use crate::witness::put_witness;
 use jc_explore::{FinalState, Finding, Item, Program, ThreadReply};
 use jc_model::Reply;
 use jc_script::print_audit::{put_coherence, put_entries_line};
-use jc_script::printing::{Piece, put_pieces};
+use jc_script::printing::{Piece, put, put_pieces};
+use jc_types::Refusal;
 use std::alloc::{AllocError, Global};
-
-/// Whether an item is a call, and no write of another program.
-fn is_call(item: &Item) -> bool
-    ensures { result ≡ is_call item.now }
-{
-    match item {
-        Item::Call { op: _, key: _ } | Item::Invoke { key: _, calls: _ } => true,
-        Item::Foreign { key: _, value: _ } => false,
-    }
-}
 
 /// How many calls are before a place of a thread's list.
 fn calls_before(items: &[Item], at: usize) -> usize
@@ -36,8 +29,48 @@ fn replies_to(thread: usize, replies: &[ThreadReply]) -> usize
     replies.iter().filter(|r| r.thread == thread).count()
 }
 
+/// Appends what is said of a refusal. A failure is said as a transcript does, with its code, and any other refusal as one: a value may
+/// be spelled like its name.
+fn put_refused(out: &mut Vec<u8>, refusal: &Refusal) -> Result<(), AllocError>
+    ensures { OnOk result (out.new.items ≡ out.old.items ++ refused_text refusal.now) }
+{
+    if refusal.is_fault() {
+        put_pieces(out, &[Piece::Refusal(refusal)])
+    } else {
+        put_pieces(out, &[Piece::Text("refused "), Piece::Text(refusal.name())])
+    }
+}
+
+/// Appends what is said of a reply.
+fn put_replied(out: &mut Vec<u8>, reply: &Reply) -> Result<(), AllocError>
+    ensures { OnOk result (out.new.items ≡ out.old.items ++ replied_text reply.now) }
+{
+    match reply {
+        Reply::Fault(refusal) => put_refused(out, refusal),
+        Reply::Unit | Reply::Flag(_) | Reply::Value(_) => put_pieces(out, &[Piece::Reply(reply)]),
+    }
+}
+
+/// Appends the name of an item, and a space.
+#[tactic(auto, unfolding(crate::specs::Outcomes::item_name))]
+fn put_item_name(out: &mut Vec<u8>, thread: usize, at: usize) -> Result<(), AllocError>
+    requires thread { thread + 1 < 2 ^ 64 }
+    requires at { at + 1 < 2 ^ 64 }
+    ensures { OnOk result (out.new.items ≡ out.old.items ++ item_name thread at) }
+{
+    put_pieces(
+        out,
+        &[
+            Piece::Number(thread as u64 + 1),
+            Piece::Text("."),
+            Piece::Number(at as u64 + 1),
+            Piece::Text(" "),
+        ],
+    )
+}
+
 /// Appends the line of a call that was answered.
-#[tactic(auto, unfolding(crate::specs::Outcomes::reply_line, crate::specs::Outcomes::place_name))]
+#[tactic(auto, unfolding(crate::specs::Outcomes::reply_line))]
 fn put_reply_line(
     out: &mut Vec<u8>,
     thread: usize,
@@ -48,35 +81,20 @@ fn put_reply_line(
     requires at { at + 1 < 2 ^ 64 }
     ensures { OnOk result (out.new.items ≡ out.old.items ++ reply_line thread at reply.now) }
 {
-    put_pieces(
-        out,
-        &[
-            Piece::Number(thread as u64 + 1),
-            Piece::Text("."),
-            Piece::Number(at as u64 + 1),
-            Piece::Text(" "),
-            Piece::Reply(reply),
-            Piece::Text("\n"),
-        ],
-    )
+    put_item_name(out, thread, at)?;
+    put_replied(out, reply)?;
+    put(out, "\n")
 }
 
-/// Appends the line of a call that never was answered.
-#[tactic(auto, unfolding(crate::specs::Outcomes::stuck_line, crate::specs::Outcomes::place_name))]
-fn put_stuck_line(out: &mut Vec<u8>, thread: usize, at: usize) -> Result<(), AllocError>
+/// Appends the line of a call that is never answered.
+#[tactic(auto, unfolding(crate::specs::Outcomes::unanswered_line))]
+fn put_unanswered_line(out: &mut Vec<u8>, thread: usize, at: usize) -> Result<(), AllocError>
     requires thread { thread + 1 < 2 ^ 64 }
     requires at { at + 1 < 2 ^ 64 }
-    ensures { OnOk result (out.new.items ≡ out.old.items ++ stuck_line thread at) }
+    ensures { OnOk result (out.new.items ≡ out.old.items ++ unanswered_line thread at) }
 {
-    put_pieces(
-        out,
-        &[
-            Piece::Number(thread as u64 + 1),
-            Piece::Text("."),
-            Piece::Number(at as u64 + 1),
-            Piece::Text(" stuck\n"),
-        ],
-    )
+    put_item_name(out, thread, at)?;
+    put_pieces(out, &[Piece::Text("never answered"), Piece::Text("\n")])
 }
 
 /// Appends the line of a call, if it was answered, or is the first of its thread that wasn't.
@@ -95,7 +113,7 @@ fn put_call(
         Some(reply) => put_reply_line(out, thread, at, &reply),
         None => {
             if call == replies_to(thread, replies) {
-                put_stuck_line(out, thread, at)
+                put_unanswered_line(out, thread, at)
             } else {
                 Ok(())
             }

@@ -274,10 +274,16 @@ impl Reading {
 
     /// A call of one key.
     #[tactic(auto, unfolding(crate::specs::Program::after_call))]
-    fn call(&mut self, alloc: Global, text: &[u8], line: &mut Line) -> Result<(), LineError>
-        ensures { Reads (ok_with self.new result) (after_call self.old text.now) }
+    fn call(
+        &mut self,
+        alloc: Global,
+        first: &[u8],
+        rest: &[&[u8]],
+        line: &mut Line,
+    ) -> Result<(), LineError>
+        ensures { Reads (ok_with self.new result) (after_call self.old first.now (map (λ w. w.now) rest.now)) }
     {
-        begin_line(alloc, text, line)?;
+        begin_line(alloc, first, rest, line)?;
         self.check_open()?;
         let Operation { op, key } = operation_in(line)?;
         self.add(Item::Call { op, key })
@@ -349,7 +355,7 @@ impl Reading {
             None => match first {
                 _ if is(first, "thread") => self.thread(alloc, words),
                 _ if is(first, "invoke") => self.invoke(alloc, words, line),
-                _ => self.call(alloc, text, line),
+                _ => self.call(alloc, first, words, line),
             },
         }
     }

@@ -1,6 +1,7 @@
-//! Replies, as an expectation spells them.
+//! Replies, as an expectation writes them.
 ghost use Rattle.std.specs.Prelude.{◌≡◌};
-ghost use Rattle.jc_litmus.specs.ReplyWords.{answer_kind, refusal_named, coded_refusal, code_of, coded_reply, plain_reply, reply_of};
+ghost use Rattle.jc_script.specs.Words.{number_of};
+ghost use Rattle.jc_litmus.specs.ReplyWords.{failure_of, failure_with, loading, plain_reply, refusal_of, reply_kind, reply_said, silent, two_words, writing};
 
 use crate::program::LineFault;
 use crate::word_parts::halves_of;
@@ -19,75 +20,79 @@ pub(crate) enum Answer {
     Value,
 }
 
-/// What an operation is answered.
-pub(crate) fn answer_kind(op: &Op) -> Answer
-    ensures { result ≡ answer_kind op.now }
+/// The replies that an operation has. Besides these, each call may be refused because a history is full. Any other refusal makes a
+/// thread wait, and is no reply.
+#[derive(Clone, Copy)]
+pub(crate) struct ReplyKind {
+    /// What it is answered if nobody fails.
+    pub answer: Answer,
+    /// Whether its loader may fail.
+    pub loader: bool,
+    /// Whether its entry processor may fail.
+    pub processor: bool,
+    /// Whether its writer may fail.
+    pub writer: bool,
+}
+
+/// The replies of an operation that asks nobody outside.
+fn silent(answer: Answer) -> ReplyKind
+    ensures { result ≡ silent answer }
+{
+    ReplyKind {
+        answer,
+        loader: false,
+        processor: false,
+        writer: false,
+    }
+}
+
+/// The replies of an operation that asks the loader alone.
+fn loading(answer: Answer) -> ReplyKind
+    ensures { result ≡ loading answer }
+{
+    ReplyKind {
+        answer,
+        loader: true,
+        processor: false,
+        writer: false,
+    }
+}
+
+/// The replies of an operation that asks the writer alone.
+fn writing(answer: Answer) -> ReplyKind
+    ensures { result ≡ writing answer }
+{
+    ReplyKind {
+        answer,
+        loader: false,
+        processor: false,
+        writer: true,
+    }
+}
+
+/// The replies that an operation has.
+pub(crate) fn reply_kind(op: &Op) -> ReplyKind
+    ensures { result ≡ reply_kind op.now }
 {
     match op {
-        Op::Put(_) | Op::Clear | Op::LoadAll { .. } => Answer::Unit,
-        Op::ContainsKey
-        | Op::PutIfAbsent(_)
-        | Op::Remove
-        | Op::RemoveIf(_)
-        | Op::Replace(_)
-        | Op::ReplaceIf { .. } => Answer::Flag,
-        Op::Get | Op::GetAndPut(_) | Op::GetAndRemove | Op::GetAndReplace(_) | Op::Invoke => {
-            Answer::Value
-        }
+        Op::Get => loading(Answer::Value),
+        Op::ContainsKey => silent(Answer::Flag),
+        Op::Put(_) => writing(Answer::Unit),
+        Op::PutIfAbsent(_) | Op::Remove | Op::RemoveIf(_) | Op::Replace(_) | Op::ReplaceIf { .. } =>
+            writing(Answer::Flag),
+        Op::GetAndPut(_) | Op::GetAndRemove | Op::GetAndReplace(_) => writing(Answer::Value),
+        Op::Clear => silent(Answer::Unit),
+        Op::LoadAll { .. } => loading(Answer::Unit),
+        Op::Invoke => ReplyKind {
+            answer: Answer::Value,
+            loader: true,
+            processor: true,
+            writer: true,
+        },
     }
 }
 
-/// The refusal with no code that a word names. A call is never answered that a number of the cache's shape is bad.
-fn refusal_named(word: &[u8]) -> Option<Refusal>
-    ensures { result ≡ refusal_named word.now }
-{
-    match word {
-        _ if is(word, "HistoryFull") => Some(Refusal::HistoryFull),
-        _ if is(word, "Busy") => Some(Refusal::Busy),
-        _ if is(word, "TooManyInFlight") => Some(Refusal::TooManyInFlight),
-        _ if is(word, "TooManyJoiners") => Some(Refusal::TooManyJoiners),
-        _ if is(word, "OutOfMemory") => Some(Refusal::OutOfMemory),
-        _ if is(word, "TooManyKeys") => Some(Refusal::TooManyKeys),
-        _ if is(word, "NoLoader") => Some(Refusal::NoLoader),
-        _ if is(word, "NoWriter") => Some(Refusal::NoWriter),
-        _ if is(word, "TooManySessions") => Some(Refusal::TooManySessions),
-        _ if is(word, "StillReserved") => Some(Refusal::StillReserved),
-        _ if is(word, "RepeatedKey") => Some(Refusal::RepeatedKey),
-        _ => None,
-    }
-}
-
-/// The refusal with this name and code.
-fn coded_refusal(name: &[u8], code: u32) -> Result<Reply, LineFault>
-    ensures { result ≡ coded_refusal name.now code }
-{
-    match name {
-        _ if is(name, "LoaderFailed") => Ok(Reply::Fault(Refusal::LoaderFailed(code))),
-        _ if is(name, "WriterFailed") => Ok(Reply::Fault(Refusal::WriterFailed(code))),
-        _ if is(name, "ProcessorFailed") => Ok(Reply::Fault(Refusal::ProcessorFailed(code))),
-        _ => Err(LineFault::BadReply),
-    }
-}
-
-/// The code of a reply.
-fn code_of(word: &[u8]) -> Result<u32, LineFault>
-    ensures { result ≡ code_of word.now }
-{
-    match number(word) {
-        Ok(code) => Ok(code),
-        Err(_) => Err(LineFault::BadReply),
-    }
-}
-
-/// A reply with a code, from its name and the word after the colon.
-fn coded_reply(name: &[u8], word: &[u8]) -> Result<Reply, LineFault>
-    ensures { result ≡ coded_reply name.now word.now }
-{
-    let code = code_of(word)?;
-    coded_refusal(name, code)
-}
-
-/// A reply that a call of this kind has if it is neither refused nor fails.
+/// The reply of a call that nobody failed, from its only word.
 fn plain_reply(answer: Answer, word: &[u8]) -> Result<Reply, LineFault>
     ensures { result ≡ plain_reply answer word.now }
 {
@@ -104,15 +109,61 @@ fn plain_reply(answer: Answer, word: &[u8]) -> Result<Reply, LineFault>
     }
 }
 
-/// The reply that a word says of a call that is answered so. A word that names a refusal is no value.
-pub(crate) fn reply_of(answer: Answer, word: &[u8]) -> Result<Reply, LineFault>
-    ensures { result ≡ reply_of answer word.now }
+/// The reply of a call that was refused, from the refusal's name.
+fn refusal_of(name: &[u8]) -> Result<Reply, LineFault>
+    ensures { result ≡ refusal_of name.now }
 {
-    if let Some((name, code)) = halves_of(b':', word) {
-        return coded_reply(name, code);
+    match name {
+        _ if is(name, "HistoryFull") => Ok(Reply::Fault(Refusal::HistoryFull)),
+        _ => Err(LineFault::BadReply),
     }
-    match refusal_named(word) {
-        Some(refusal) => Ok(Reply::Fault(refusal)),
-        None => plain_reply(answer, word),
+}
+
+/// The reply of a call that somebody failed, from the name and the code of the failure.
+fn failure_of(kind: ReplyKind, name: &[u8], code: u32) -> Result<Reply, LineFault>
+    ensures { result ≡ failure_of kind name.now code }
+{
+    match name {
+        _ if is(name, "LoaderFailed") && kind.loader => {
+            Ok(Reply::Fault(Refusal::LoaderFailed(code)))
+        }
+        _ if is(name, "ProcessorFailed") && kind.processor => {
+            Ok(Reply::Fault(Refusal::ProcessorFailed(code)))
+        }
+        _ if is(name, "WriterFailed") && kind.writer => {
+            Ok(Reply::Fault(Refusal::WriterFailed(code)))
+        }
+        _ => Err(LineFault::BadReply),
+    }
+}
+
+/// The same, from the word of the code.
+fn failure_with(kind: ReplyKind, name: &[u8], word: &[u8]) -> Result<Reply, LineFault>
+    ensures { result ≡ failure_with kind name.now (number_of word.now) }
+{
+    match number(word) {
+        Ok(code) => failure_of(kind, name, code),
+        Err(_) => Err(LineFault::BadReply),
+    }
+}
+
+/// The reply of a call that was refused, or that somebody failed, from its two words.
+fn two_words(kind: ReplyKind, first: &[u8], second: &[u8]) -> Result<Reply, LineFault>
+    ensures { result ≡ two_words kind first.now second.now }
+{
+    if is(first, "refused") {
+        refusal_of(second)
+    } else {
+        failure_with(kind, first, second)
+    }
+}
+
+/// The reply that a word of an expectation says of a call of this kind: two words with a colon between them, or one.
+pub(crate) fn reply_said(kind: ReplyKind, word: &[u8]) -> Result<Reply, LineFault>
+    ensures { result ≡ reply_said kind word.now }
+{
+    match halves_of(b':', word) {
+        Some((first, second)) => two_words(kind, first, second),
+        None => plain_reply(kind.answer, word),
     }
 }

@@ -7,7 +7,7 @@ ghost use Rattle.jc_explore.specs.Moves.{is_begin};
 ghost use Rattle.jc_explore.specs.Schedule.{item_at};
 ghost use Rattle.jc_litmus.specs.Spaced.{coded_line_text, lone_text};
 ghost use Rattle.jc_litmus.specs.Witness.{act_line, begin_line, begun_by, begun_item, call_line, last_after, last_at, last_by, line_at, line_of_move};
-ghost use Rattle.jc_litmus.specs.Witness.{may_begin, no_progress, piped, piped_if, progress_after, progress_at, run_line, set_text, steps_text, witness_text};
+ghost use Rattle.jc_litmus.specs.Witness.{has_numbers, no_progress, piped, piped_if, progress_after, progress_at, run_line, set_text, steps_text, witness_text};
 
 use crate::spelling::{
     Beginning, put_begin, put_coded, put_foreign, put_lone, put_open, put_process, put_set,
@@ -39,8 +39,8 @@ fn item_at(program: &Program, thread: usize, at: usize) -> Option<&Item>
 }
 
 /// Whether there are numbers for one more item.
-fn may_begin(last: u64, progress: &Progress) -> bool
-    ensures { result ≡ may_begin last progress.now }
+fn has_numbers(last: u64, progress: &Progress) -> bool
+    ensures { result ≡ has_numbers last progress.now }
 {
     last < NUMBER_MAX - 1 && (progress.begun as u64) < NUMBER_MAX
 }
@@ -205,7 +205,7 @@ fn put_line_at(
             None => Ok(()),
         };
     }
-    if !may_begin(last, progress) {
+    if !has_numbers(last, progress) {
         return Ok(());
     }
     match item_at(program, step.thread, progress.begun) {
@@ -258,7 +258,7 @@ fn begun_item<'a>(
     ensures last { IfSome result (λ item. last + 1 < 2 ^ 64) }
     ensures more { IfSome result (λ item. progress.now.begun + 1 < 2 ^ 64) }
 {
-    if is_begin(step.act) && may_begin(last, progress) {
+    if is_begin(step.act) && has_numbers(last, progress) {
         item_at(program, step.thread, progress.begun)
     } else {
         None

@@ -101,8 +101,9 @@ fn set(words: &[&[u8]], line: &mut Line) -> Result<(), Fault>
     }
 }
 
+/// Leaves in `line` what the words after `begin` ask for: a call's number, a session, and the call.
 #[tactic(auto, unfolding(crate::specs::Lines::begin_of))]
-fn begin(alloc: Global, words: &[&[u8]], line: &mut Line) -> Result<(), ReadError>
+pub fn begin(alloc: Global, words: &[&[u8]], line: &mut Line) -> Result<(), ReadError>
     ensures { Gives (ok_with line.new result) (begin_of (map (λ w. w.now) words.now)) }
 {
     match words {
