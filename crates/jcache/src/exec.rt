@@ -170,7 +170,7 @@ fn converse<R: Read, W: Write, E: Write, H, S: Save>(
     out: &mut Noted<W>,
     console: &mut Console<'_, E, H, S>,
 ) -> u8
-    ensures answered { ExitOfShell console.old.prompt result (R.remaining reader.old.inner) (R.remaining reader.new.inner)
+    ensures answered { ExitOfShell console.old.prompt.now result (R.remaining reader.old.inner) (R.remaining reader.new.inner)
         (W.contents out.old.inner) (W.contents out.new.inner) (S.saved console.old.saves) (S.saved console.new.saves) }
     ensures streams { reader.old.failed ≡ false → out.old.failed ≡ false
         → FailsByStreams result reader.new.failed out.new.failed (R.remaining reader.old.inner) (Unit {0}) }
@@ -362,7 +362,7 @@ fn carry_out<
         (W.contents out.new.inner) (out.new ≡ out.old))
         (λ states. ExitOfExplore states result (R.remaining reader.old.inner) (R.remaining reader.new.inner) (W.contents out.old.inner)
         (W.contents out.new.inner) (out.new ≡ out.old))
-        (ExitOfShell console.old.prompt result (R.remaining reader.old.inner) (R.remaining reader.new.inner) (W.contents out.old.inner)
+        (ExitOfShell console.old.prompt.now result (R.remaining reader.old.inner) (R.remaining reader.new.inner) (W.contents out.old.inner)
         (W.contents out.new.inner) (S.saved console.old.saves) (S.saved console.new.saves))
         (λ plan. ExitOfThreads plan result (W.contents out.old.inner) (W.contents out.new.inner) (out.new ≡ out.old))
         (reader.new ≡ reader.old) }
@@ -402,7 +402,7 @@ fn do_words<
         (W.contents out.new.inner) (out.new ≡ out.old))
         (λ states. ExitOfExplore states result (R.remaining reader.old.inner) (R.remaining reader.new.inner) (W.contents out.old.inner)
         (W.contents out.new.inner) (out.new ≡ out.old))
-        (ExitOfShell console.old.prompt result (R.remaining reader.old.inner) (R.remaining reader.new.inner) (W.contents out.old.inner)
+        (ExitOfShell console.old.prompt.now result (R.remaining reader.old.inner) (R.remaining reader.new.inner) (W.contents out.old.inner)
         (W.contents out.new.inner) (S.saved console.old.saves) (S.saved console.new.saves))
         (λ plan. ExitOfThreads plan result (W.contents out.old.inner) (W.contents out.new.inner) (out.new ≡ out.old))
         (reader.new ≡ reader.old))
@@ -460,7 +460,7 @@ pub fn exec<
         (W.contents out.new.inner) (out.new ≡ out.old))
         (λ states. ExitOfExplore states result (R.remaining reader.old.inner) (R.remaining reader.new.inner) (W.contents out.old.inner)
         (W.contents out.new.inner) (out.new ≡ out.old))
-        (ExitOfShell console.old.prompt result (R.remaining reader.old.inner) (R.remaining reader.new.inner) (W.contents out.old.inner)
+        (ExitOfShell console.old.prompt.now result (R.remaining reader.old.inner) (R.remaining reader.new.inner) (W.contents out.old.inner)
         (W.contents out.new.inner) (S.saved console.old.saves) (S.saved console.new.saves))
         (λ plan. ExitOfThreads plan result (W.contents out.old.inner) (W.contents out.new.inner) (out.new ≡ out.old))
         (reader.new ≡ reader.old))
