@@ -8,8 +8,8 @@ use Rattle.jcache.specs.Exit.{FailsByStreams}
 
 pub fails_as : {A B : Type 0} (status : ℕ) (read write : Bool) (before : Option (List ℕ)) → (A → B)
     → FailsByStreams status read write before A → FailsByStreams status read write before B
-fails_as status read write before as (read_failed, write_failed, three) =
-    ((λ failed. let r = read_failed failed in (r.0, as r.1)), write_failed, three)
+fails_as status read write before gives (read_failed, write_failed, three) =
+    ((λ failed. let r = read_failed failed in (r.0, gives r.1)), write_failed, three)
 
 -- the words of a task that is a shell name one
 pub by_words : {Same : Type 0} (found : Option (Text × List Row)) (t : Task) → IsAsked found t

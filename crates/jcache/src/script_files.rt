@@ -1,4 +1,5 @@
 //! Files with the scripts that a shell saves.
+ghost use Rattle.std.specs.Prelude.{None};
 
 use jc_shell::Save;
 use std::fs::{self, Files};

@@ -1,5 +1,5 @@
 //! Each exit status, and what stands on standard output and standard error beside it.
-ghost use Rattle.std.specs.Prelude.{Result, IfOk};
+ghost use Rattle.std.specs.Prelude.{None, Result, IfOk};
 ghost use Rattle.jcache.specs.Reports.{IsReportOf};
 
 use crate::exec::{Console, exec};
@@ -50,7 +50,7 @@ impl Save for Folder {
     ghost saved = { λ _. None };
 
     fn save(&mut self, name: &[u8], script: &[u8]) -> Result<(), &'static str> {
-        if name == b"full" {
+        if name == b"full".as_slice() {
             return Err("no room");
         }
         match self.put(name, script) {
