@@ -35,6 +35,12 @@ present text numeral small n spells = spells numeral small
 explore_is_other : codes "explore" ≢ codes "threads"
 explore_is_other e = search rules
 
+explore_is_no_shell : codes "explore" ≢ codes "shell"
+explore_is_no_shell e = search rules
+
+threads_is_no_shell : codes "threads" ≢ codes "shell"
+threads_is_no_shell e = search rules
+
 -- the states of an option that isn't there, or of one that spells their number
 pub by_default : (n : ℕ) → SpellsOr STATES_DEFAULT None n → n ≡ STATES_DEFAULT
 by_default n spells = spells
@@ -50,6 +56,7 @@ pub asks_to_explore : (found : Option (Text × List Row)) (one : Option Text) (w
     → ((n : ℕ) → SpellsOr STATES_DEFAULT one n → n ≡ wanted)
     → (t : Task) → IsAsked found t → t ≡ task.Explore wanted
 asks_to_explore found one wanted named has reads task.Run not_named = absurd (not_named.1 named)
+asks_to_explore found one wanted named has reads task.Shell is = absurd (explore_is_no_shell (some_injective (sym named ∙ is)))
 asks_to_explore found one wanted named has reads (task.Threads plan) (options, is, s, s', s'') =
     absurd (explore_is_other (some_injective (sym named ∙ ap (option_map (λ named. named.0)) is)))
 asks_to_explore found one wanted named has reads (task.Explore states) (options, is, s) =
@@ -68,6 +75,8 @@ pub asks : (found : Option (Text × List Row)) (workers rounds : Text) (history 
     → (t : Task) → IsAsked found t
     → t ≡ task.Threads (record { workers = digits_value 10 (without_leading_plus workers); rounds = digits_value 10 (without_leading_plus rounds); history = events })
 asks found workers rounds history events named has_workers has_rounds has_history w w' r r' reads task.Run not_named = absurd (not_named.0 named)
+asks found workers rounds history events named has_workers has_rounds has_history w w' r r' reads task.Shell is =
+    absurd (threads_is_no_shell (some_injective (sym named ∙ is)))
 asks found workers rounds history events named has_workers has_rounds has_history w w' r r' reads (task.Explore states) (options, is, s) =
     absurd (explore_is_other (some_injective (sym (ap (option_map (λ named. named.0)) is) ∙ named)))
 asks found workers rounds history events named has_workers has_rounds has_history w w' r r' reads (task.Threads plan) (options, is, s, s', s'') =

@@ -2,14 +2,16 @@
 --     option_rule               an option with a number, which must be given or needn't
 --     explore                   the command of the subcommand `explore`: one such option, with its range
 --     threads                   the command of the subcommand `threads`: three such options, with their ranges
---     player                    the command with its first subcommand, `run`: it has a version, and a subcommand must be named
+--     player                    the command with its first subcommands, `run` and `shell`: it has a version, and a subcommand must be named
 --     program                   the command, as `clap` sees it, with its other subcommands, `explore` and `threads`
 --     faults_at                 the kinds of error that these words may have, the program's name first; none if they are right
 --     subcommand_at             the subcommand that these words name, with its options
 --     SpellsOr, SpellsIf        the number that an option's text spells in decimal digits, and if it isn't given a number that stands for
 --                               it, or none
+--     Names                     the subcommand has this name
 --     IsAsked                   the task of a subcommand with its options
 --     RunIsRight                `run` alone is right, whatever the program is called, and asks for a script
+--     ShellIsRight              so is `shell`, which asks for a shell
 --     ExploresUpTo              these words are right, and ask for an exploration of at most so many states
 --     ExploreIsRight            `explore` alone is right, and asks for 200,000 states; with its option it asks for as many as that says
 --     is_too_much               a plan has more increments than one history has room for, and its cache doesn't live on
@@ -21,8 +23,8 @@
 --                               of 15 or 65,537 events is wrong, and so is `explore` with no state, with 1,000,001, or with a word that is no number
 --     NoWordIsWrong             no word at all is wrong: a subcommand is missing
 --     UnknownWordIsWrong        a word that isn't the program's, as `play`, is wrong
---     WordTooManyIsWrong        a word after `run` is wrong, and one after `explore`
---     FlagIsWrong               a flag that isn't the program's, as `--fast`, is wrong, before `run`, after it, and after `explore`
+--     WordTooManyIsWrong        a word after `run` is wrong, and one after `shell` or `explore`
+--     FlagIsWrong               a flag that isn't the program's, as `--fast`, is wrong, before `run`, after it, and after `shell` and `explore`
 --     HelpIsShown               `--help` and `-h` ask for help, before a subcommand and after it
 --     HelpWordIsShownOrWrong    `help` asks for help, or is wrong: `clap`'s contract leaves it open
 --     VersionIsShown            `--version` and `-V` ask for the version
@@ -57,7 +59,9 @@ threads =
 abbrev pub player : App
 player =
     let app = new_app (codes "jcache") in
-    with_subcommand (record app { top = record app.top { has_version = true; subcommand_required = true } }) (new_app (codes "run")).top
+    with_subcommand
+    (with_subcommand (record app { top = record app.top { has_version = true; subcommand_required = true } }) (new_app (codes "run")).top)
+    (new_app (codes "shell")).top
 
 abbrev pub program : App
 program = with_subcommand (with_subcommand player explore.top) threads.top
@@ -80,9 +84,15 @@ SpellsIf None number = number ≡ None
 SpellsIf (Some text) number =
     IsNumeral 10 (without_leading_plus text) → digits_value 10 (without_leading_plus text) < 2 ^ 32 → number ≡ Some (digits_value 10 (without_leading_plus text))
 
+abbrev pub Names : Option (Text × List Row) → Text → Type 0
+Names found name = option_map (λ named. named.0) found ≡ Some name
+
 abbrev pub IsAsked : Option (Text × List Row) → Task → Type 0
 IsAsked found task.Run =
-    (option_map (λ named. named.0) found ≢ Some (codes "threads")) × (option_map (λ named. named.0) found ≢ Some (codes "explore"))
+    (option_map (λ named. named.0) found ≢ Some (codes "threads"))
+    × (option_map (λ named. named.0) found ≢ Some (codes "explore"))
+    × (option_map (λ named. named.0) found ≢ Some (codes "shell"))
+IsAsked found task.Shell = Names found (codes "shell")
 IsAsked found (task.Explore states) =
     (options : List Row) × (found ≡ Some (codes "explore", options))
     × SpellsOr STATES_DEFAULT (one_of (codes "states") options) states
@@ -96,6 +106,9 @@ IsAsked found (task.Threads plan) =
 
 abbrev pub RunIsRight : Type 0
 RunIsRight = (name : List ℕ) → (faults_at (name ∷ codes "run" ∷ []) ≡ []) × ((t : Task) → IsAsked (subcommand_at (name ∷ codes "run" ∷ [])) t → t ≡ task.Run)
+
+abbrev pub ShellIsRight : Type 0
+ShellIsRight = (name : List ℕ) → (faults_at (name ∷ codes "shell" ∷ []) ≡ []) × ((t : Task) → IsAsked (subcommand_at (name ∷ codes "shell" ∷ [])) t → t ≡ task.Shell)
 
 abbrev pub ExploresUpTo : List (List ℕ) → ℕ → Type 0
 ExploresUpTo words states = (faults_at words ≡ []) × ((t : Task) → IsAsked (subcommand_at words) t → t ≡ task.Explore states)
@@ -145,12 +158,14 @@ UnknownWordIsWrong = (name : List ℕ) → faults_at (name ∷ codes "play" ∷ 
 abbrev pub WordTooManyIsWrong : Type 0
 WordTooManyIsWrong = (name : List ℕ)
     → (faults_at (name ∷ codes "run" ∷ codes "twice" ∷ []) ≡ kind.UnknownArgument ∷ [])
+    × (faults_at (name ∷ codes "shell" ∷ codes "twice" ∷ []) ≡ kind.UnknownArgument ∷ [])
     × (faults_at (name ∷ codes "explore" ∷ codes "twice" ∷ []) ≡ kind.UnknownArgument ∷ [])
 
 abbrev pub FlagIsWrong : Type 0
 FlagIsWrong = (name : List ℕ)
     → (faults_at (name ∷ codes "--fast" ∷ []) ≡ kind.UnknownArgument ∷ [])
     × (faults_at (name ∷ codes "run" ∷ codes "--fast" ∷ []) ≡ kind.UnknownArgument ∷ [])
+    × (faults_at (name ∷ codes "shell" ∷ codes "--fast" ∷ []) ≡ kind.UnknownArgument ∷ [])
     × (faults_at (name ∷ codes "explore" ∷ codes "--fast" ∷ []) ≡ kind.UnknownArgument ∷ [])
 
 abbrev pub HelpIsShown : Type 0
@@ -158,6 +173,7 @@ HelpIsShown = (name : List ℕ)
     → (faults_at (name ∷ codes "--help" ∷ []) ≡ kind.DisplayHelp ∷ [])
     × (faults_at (name ∷ codes "-h" ∷ []) ≡ kind.DisplayHelp ∷ [])
     × (faults_at (name ∷ codes "run" ∷ codes "--help" ∷ []) ≡ kind.DisplayHelp ∷ [])
+    × (faults_at (name ∷ codes "shell" ∷ codes "--help" ∷ []) ≡ kind.DisplayHelp ∷ [])
     × (faults_at (name ∷ codes "explore" ∷ codes "--help" ∷ []) ≡ kind.DisplayHelp ∷ [])
     × (faults_at (name ∷ codes "threads" ∷ codes "--help" ∷ []) ≡ kind.DisplayHelp ∷ [])
 

@@ -5,7 +5,7 @@ ghost use Rattle.clap.specs.Walk.{one_of};
 ghost use Rattle.clap.specs.declared.builder.command.Command.TheViews.{out-Command};
 ghost use Rattle.clap.specs.Words.{FailsBy, app_of, found_of, kind_of, rows_of, rule_of, subcommand_rows_of};
 ghost use Rattle.jc_commands.specs.CommandLine.{program, player, explore, threads, option_rule, faults_at, subcommand_at, IsAsked, SpellsOr, SpellsIf};
-ghost use Rattle.jc_commands.specs.CommandLine.{RunIsRight, ExploreIsRight, ThreadsIsRight, OptionMissingIsWrong, NumberIsWrong, NoWordIsWrong, UnknownWordIsWrong};
+ghost use Rattle.jc_commands.specs.CommandLine.{RunIsRight, ShellIsRight, ExploreIsRight, ThreadsIsRight, OptionMissingIsWrong, NumberIsWrong, NoWordIsWrong, UnknownWordIsWrong};
 ghost use Rattle.jc_commands.specs.CommandLine.{WordTooManyIsWrong, FlagIsWrong, HelpIsShown, HelpWordIsShownOrWrong};
 ghost use Rattle.jc_commands.specs.CommandLine.{VersionIsShown};
 
@@ -21,6 +21,8 @@ use std::alloc::Global;
 pub enum Task {
     /// Play the script on standard input.
     Run,
+    /// Answer each line of a script on standard input.
+    Shell,
     /// Look for each outcome of the program of threads on standard input.
     Explore {
         /// How many states may be followed.
@@ -114,7 +116,7 @@ fn threads_command<'a>(alloc: Global) -> Result<Command<'a>, Error>
     )
 }
 
-/// The program's command with its first subcommand.
+/// The program's command with the subcommands that take scripts.
 fn player_command<'a>(alloc: Global) -> Result<Command<'a>, Error>
     ensures made { IfOk result (λ c. app_of c ≡ player) }
     ensures local { IfOk result (λ c. (out-Command c).has_globals ≡ false) }
@@ -123,12 +125,14 @@ fn player_command<'a>(alloc: Global) -> Result<Command<'a>, Error>
     let run = Command::new(alloc, "run").about(
         "Plays the script on standard input, and writes its transcript to standard output",
     );
+    let shell = Command::new(alloc, "shell").about("Answers each line of a script as it is typed");
     Ok(
         Command::new(alloc, "jcache")
             .about("A read-through and write-through cache whose consistency rules are proved")
             .version("0.2.0")
             .subcommand_required(true)
-            .subcommand(run)?,
+            .subcommand(run)?
+            .subcommand(shell)?,
     )
 }
 
@@ -167,10 +171,13 @@ fn task_in(matches: &ArgMatches) -> Task
             history: number_if(options, "history"),
         });
     }
-    match matches.subcommand_matches("explore") {
-        Some(options) => Task::Explore {
+    if let Some(options) = matches.subcommand_matches("explore") {
+        return Task::Explore {
             states: number_or(options, "states", STATES_DEFAULT),
-        },
+        };
+    }
+    match matches.subcommand_matches("shell") {
+        Some(_) => Task::Shell,
         None => Task::Run,
     }
 }
@@ -193,6 +200,7 @@ fn number_if(options: &ArgMatches, name: &str) -> Option<u32>
 #[tactic(auto, unfolding(clap::proofs::OnLiterals::clap_on_literals))]
 pub fn right_words()
     ensures run { RunIsRight }
+    ensures shell { ShellIsRight }
     ensures explore { ExploreIsRight }
     ensures threads { ThreadsIsRight }
     ensures option_missing { OptionMissingIsWrong }

@@ -1,5 +1,8 @@
 -- What the program answers, by its words and its streams.
 --     ExitOfPlay        the script was played, and this status says how that ended
+--     status_of_fault   the status of a shell that ended before its input did: 4 if an allocation failed, else 3
+--     ExitOfShell       the lines that were typed were answered, up to the end of the input or a line `quit`; or up to an error, which this
+--                       status tells
 --     status_of_end     the status of an exploration whose answer was written: 0 if all outcomes are known and each expectation holds, 1 if a
 --                       line has a fault, 5 if an expectation fails, 6 if none fails and not all outcomes are known
 --     ExitOfExplore     the answer of an exploration was written, and this status says how it ended; or a write failed, or nothing was written
@@ -17,7 +20,8 @@
 --     Exit              the task of right words is carried out; wrong ones are reported, and nothing is read; or an allocation failed,
 --                       and nothing was read or written
 --     status_without_words   the status if the words of the command line can't be had: 4 if memory is short, else 2
---     FailsByStreams    status 3 comes if a stream failed, and only then or if the input is too long; after a failed read nothing is on standard output
+--     FailsByStreams    status 3 comes if a stream failed, and only then or if the input is too long; after a failed read this holds of standard
+--                       output
 use Rattle.std.specs.Prelude.{◌≡◌, ◌⊎◌, ◌<◌, ◌++◌, ℕ, List, [], Bool, true, false, Option, IfSome, codes, length, if◌then◌else◌}
 use Rattle.std.specs.Io.KnownBytes.{Appends}
 use Rattle.clap.specs.Walk.{Row, Text}
@@ -31,6 +35,10 @@ use Rattle.jc_litmus.specs.declared.run.LitmusEnd.{LitmusEnd}
 use Rattle.jc_litmus.specs.declared.run.LitmusEnd.TheVariants as litmus
 use Rattle.jc_script.specs.Running.{Broke, Ran}
 use Rattle.jc_script.specs.declared.run.RunEnd.TheVariants.{Clean, LineFault}
+use Rattle.jc_shell.specs.Running.{Ran as RanShell, Stopped as StoppedShell}
+use Rattle.jc_shell.specs.Saving.{Saved}
+use Rattle.jc_shell.specs.declared.run.ShellFault.{ShellFault}
+use Rattle.jc_shell.specs.declared.run.ShellFault.TheVariants as shell
 use Rattle.jc_types.specs.declared.limits.TheConstants.{SCRIPT_MAX}
 use Rattle.jc_commands.specs.CommandLine.{IsAsked, is_too_much}
 use Rattle.jcache.specs.Reports.{IsReportOf, is_right, report_text}
@@ -46,6 +54,16 @@ ExitOfPlay status before after old new silent =
     ⊎ (((status ≡ 1) × ((line : ℕ) × (told : List ℕ) × Ran before after old new [] told (LineFault line)))
     ⊎ (((status ≡ 3) × (Broke before after old new ⊎ silent))
     ⊎ ((status ≡ 4) × silent)))
+
+abbrev pub status_of_fault : ShellFault → ℕ
+status_of_fault shell.OutOfMemory = 4
+status_of_fault fault = 3
+
+-- kept and saved: which scripts were saved before and after
+abbrev pub ExitOfShell : (prompt : List ℕ) (status : ℕ) (before after old new : Option (List ℕ)) (kept saved : Option (List Saved)) → Type 0
+ExitOfShell prompt status before after old new kept saved =
+    ((status ≡ 0) × RanShell prompt before after old new kept saved)
+    ⊎ ((fault : ShellFault) × (status ≡ status_of_fault fault) × StoppedShell prompt fault before after old new kept saved)
 
 abbrev pub status_of_end : LitmusEnd → ℕ
 status_of_end litmus.Holds = 0
@@ -74,12 +92,13 @@ ExitOfThreads plan status old new silent =
     × (((report : Report) × IsReportOf plan report × ShowsReport report status old new silent)
     ⊎ ((status ≡ 4) × silent)))
 
--- played: that the script was played; explored: that at most so many states were followed; counted: that this plan was carried out;
--- unread: that nothing was read
-abbrev pub ExitOfTask : Task → (played : Type 0) (explored : ℕ → Type 0) (counted : Plan → Type 0) (unread : Type 0) → Type 0
-ExitOfTask task.Run played explored counted unread = played
-ExitOfTask (task.Explore states) played explored counted unread = explored states
-ExitOfTask (task.Threads plan) played explored counted unread = counted plan × unread
+-- played: that the script was played; explored: that at most so many states were followed; answered: that the lines were answered;
+-- counted: that this plan was carried out; unread: that nothing was read
+abbrev pub ExitOfTask : Task → (played : Type 0) (explored : ℕ → Type 0) (answered : Type 0) (counted : Plan → Type 0) (unread : Type 0) → Type 0
+ExitOfTask task.Run played explored answered counted unread = played
+ExitOfTask task.Shell played explored answered counted unread = answered
+ExitOfTask (task.Explore states) played explored answered counted unread = explored states
+ExitOfTask (task.Threads plan) played explored answered counted unread = counted plan × unread
 
 abbrev pub version_text : List ℕ
 version_text = codes "jcache 0.2.0\n"

@@ -1,10 +1,11 @@
 //! What the program does with its words, and the status that it ends with.
-ghost use Rattle.std.specs.Prelude.{◌≡◌, ◌≢◌, ◌⊎◌, ◌↔◌, Result, map, string_bytes, true, false, IfOk, IfErr};
+ghost use Rattle.std.specs.Prelude.{◌≡◌, ◌≢◌, ◌⊎◌, ◌↔◌, Result, codes, map, string_bytes, true, false, IfOk, IfErr};
 ghost use Rattle.std.specs.Io.KnownBytes.{Appends};
 ghost use Rattle.std.specs.IoError.{error_kind};
-ghost use Rattle.jc_commands.specs.CommandLine.{faults_at, subcommand_at};
+ghost use Rattle.jc_commands.specs.CommandLine.{Names, faults_at, subcommand_at};
 ghost use Rattle.clap.specs.Words.{kind_of};
-ghost use Rattle.jcache.specs.Exit.{Exit, ExitOfExplore, ExitOfFault, ExitOfPlay, ExitOfTask, ExitOfThreads, FailsByStreams, IsHelp, ShowsReport};
+ghost use Rattle.jc_commands.specs.declared.commands.Task.TheVariants as tasks;
+ghost use Rattle.jcache.specs.Exit.{Exit, ExitOfExplore, ExitOfFault, ExitOfPlay, ExitOfShell, ExitOfTask, ExitOfThreads, FailsByStreams, IsHelp, ShowsReport};
 ghost use Rattle.jcache.specs.Exit.{status_of, status_of_end, status_without_words};
 ghost use Rattle.jcache.specs.Reports.{IsReportOf};
 
@@ -18,11 +19,13 @@ use jc_litmus::run::run as explore;
 use jc_litmus::{LitmusEnd, LitmusFault};
 use jc_script::run::run;
 use jc_script::{Noted, RunEnd, RunFault};
+use jc_shell::run::run as answer_lines;
+use jc_shell::{Save, ShellFault};
 use jc_types::SCRIPT_MAX;
 use std::alloc::{AllocError, Global};
 use std::io::{self, Read, Write};
 
-/// The script was played to its end, or each expectation holds, or the text that was asked for was shown.
+/// The script was played to its end, or a shell ended well, or each expectation holds, or the text that was asked for was shown.
 const CLEAN: u8 = 0;
 /// The transcript ends with a line's fault, or a line of the program of threads has one.
 const LINE_FAULT: u8 = 1;
@@ -54,13 +57,17 @@ For example: ./jcache run examples/put_seen_after_commit.script
 The words of a script, and all limits: docs/SCRIPT.md; of a program of threads: docs/EXPLORE.md
 ";
 
-/// Who hears what is said beside the answer.
+/// What a command has beside standard input and output.
 #[derive(Drop)]
-pub struct Listeners<E, H> {
+pub struct Console<'a, E, H, S> {
     /// Gets what is wrong: standard error.
     pub err: E,
     /// Is told how far a search is.
     pub watch: H,
+    /// What a shell writes before each line is typed. Empty if nobody types.
+    pub prompt: &'a str,
+    /// Where a shell saves scripts.
+    pub saves: S,
 }
 
 /// Says what failed. Nobody is left to hear of it if that fails, too.
@@ -156,6 +163,31 @@ fn play<R: Read, W: Write, E: Write>(
     }
 }
 
+/// Answers the lines of a script as they are typed, and answers the status.
+fn converse<R: Read, W: Write, E: Write, H, S: Save>(
+    alloc: Global,
+    reader: &mut Noted<R>,
+    out: &mut Noted<W>,
+    console: &mut Console<'_, E, H, S>,
+) -> u8
+    ensures answered { ExitOfShell console.old.prompt.now result (R.remaining reader.old.inner) (R.remaining reader.new.inner)
+        (W.contents out.old.inner) (W.contents out.new.inner) (S.saved console.old.saves) (S.saved console.new.saves) }
+    ensures streams { reader.old.failed ≡ false → out.old.failed ≡ false
+        → FailsByStreams result reader.new.failed out.new.failed (R.remaining reader.old.inner) (Unit {0}) }
+{
+    let err = &mut console.err;
+    match answer_lines(alloc, console.prompt, reader, out, &mut console.saves) {
+        Ok(()) => CLEAN,
+        Err(ShellFault::Read) => {
+            complain_of(reader, err, "read failed");
+            STREAMS
+        }
+        Err(ShellFault::Write) => end_of_output(out, err),
+        Err(ShellFault::TooLong) => end_of_long_input(err),
+        Err(ShellFault::OutOfMemory) => end_without_memory(err),
+    }
+}
+
 /// The status of an exploration whose answer was written.
 fn status_of_end(end: LitmusEnd) -> u8
     ensures status { result ≡ status_of_end end }
@@ -170,27 +202,27 @@ fn status_of_end(end: LitmusEnd) -> u8
 }
 
 /// Writes the outcomes of a program of threads, of which at most `states` states are followed, and answers the status.
-fn explore_and_show<R: Read, W: Write, E: Write, H: Watch>(
+fn explore_and_show<R: Read, W: Write, E: Write, H: Watch, S>(
     alloc: Global,
     states: u32,
     reader: &mut Noted<R>,
     out: &mut Noted<W>,
-    listeners: &mut Listeners<E, H>,
+    console: &mut Console<'_, E, H, S>,
 ) -> u8
     ensures explored { ExitOfExplore states result (R.remaining reader.old.inner) (R.remaining reader.new.inner)
         (W.contents out.old.inner) (W.contents out.new.inner) (out.new ≡ out.old) }
     ensures streams { reader.old.failed ≡ false → out.old.failed ≡ false
         → FailsByStreams result reader.new.failed out.new.failed (R.remaining reader.old.inner) (out.new ≡ out.old) }
 {
-    match explore(alloc, reader, out, states as usize, &mut listeners.watch) {
+    match explore(alloc, reader, out, states as usize, &mut console.watch) {
         Ok(end) => status_of_end(end),
         Err(LitmusFault::Read) => {
-            complain_of(reader, &mut listeners.err, "read failed");
+            complain_of(reader, &mut console.err, "read failed");
             STREAMS
         }
-        Err(LitmusFault::Write) => end_of_output(out, &mut listeners.err),
-        Err(LitmusFault::TooLong) => end_of_long_input(&mut listeners.err),
-        Err(LitmusFault::OutOfMemory) => end_without_memory(&mut listeners.err),
+        Err(LitmusFault::Write) => end_of_output(out, &mut console.err),
+        Err(LitmusFault::TooLong) => end_of_long_input(&mut console.err),
+        Err(LitmusFault::OutOfMemory) => end_without_memory(&mut console.err),
     }
 }
 
@@ -308,13 +340,20 @@ fn count_and_show<F: FnOnce(&Plan) -> Result<Report, AllocError>, W: Write, E: W
 }
 
 /// Carries a task out, and answers the status.
-fn carry_out<F: FnOnce(&Plan) -> Result<Report, AllocError>, R: Read, W: Write, E: Write, H: Watch>(
+fn carry_out<
+    F: FnOnce(&Plan) -> Result<Report, AllocError>,
+    R: Read,
+    W: Write,
+    E: Write,
+    H: Watch,
+    S: Save,
+>(
     alloc: Global,
     count: F,
     task: &Task,
     reader: &mut Noted<R>,
     out: &mut Noted<W>,
-    listeners: &mut Listeners<E, H>,
+    console: &mut Console<'_, E, H, S>,
 ) -> u8
     requires callable { (plan : _) → F.pre count plan }
     requires reports { (plan : _) (r : _) → F.post count plan r → IfOk r (IsReportOf plan.now) }
@@ -323,26 +362,37 @@ fn carry_out<F: FnOnce(&Plan) -> Result<Report, AllocError>, R: Read, W: Write, 
         (W.contents out.new.inner) (out.new ≡ out.old))
         (λ states. ExitOfExplore states result (R.remaining reader.old.inner) (R.remaining reader.new.inner) (W.contents out.old.inner)
         (W.contents out.new.inner) (out.new ≡ out.old))
+        (ExitOfShell console.old.prompt.now result (R.remaining reader.old.inner) (R.remaining reader.new.inner) (W.contents out.old.inner)
+        (W.contents out.new.inner) (S.saved console.old.saves) (S.saved console.new.saves))
         (λ plan. ExitOfThreads plan result (W.contents out.old.inner) (W.contents out.new.inner) (out.new ≡ out.old))
         (reader.new ≡ reader.old) }
     ensures streams { reader.old.failed ≡ false → out.old.failed ≡ false
-        → FailsByStreams result reader.new.failed out.new.failed (R.remaining reader.old.inner) (out.new ≡ out.old) }
+        → FailsByStreams result reader.new.failed out.new.failed (R.remaining reader.old.inner)
+        ((task.now ≡ tasks.Shell) ⊎ (out.new ≡ out.old)) }
 {
     match task {
-        Task::Run => play(alloc, reader, out, &mut listeners.err),
-        Task::Explore { states } => explore_and_show(alloc, *states, reader, out, listeners),
-        Task::Threads(plan) => count_and_show(alloc, count, plan, out, &mut listeners.err),
+        Task::Run => play(alloc, reader, out, &mut console.err),
+        Task::Shell => converse(alloc, reader, out, console),
+        Task::Explore { states } => explore_and_show(alloc, *states, reader, out, console),
+        Task::Threads(plan) => count_and_show(alloc, count, plan, out, &mut console.err),
     }
 }
 
 /// Does what these words ask for, and answers the status.
-fn do_words<F: FnOnce(&Plan) -> Result<Report, AllocError>, R: Read, W: Write, E: Write, H: Watch>(
+fn do_words<
+    F: FnOnce(&Plan) -> Result<Report, AllocError>,
+    R: Read,
+    W: Write,
+    E: Write,
+    H: Watch,
+    S: Save,
+>(
     alloc: Global,
     count: F,
     words: &[String],
     reader: &mut Noted<R>,
     out: &mut Noted<W>,
-    listeners: &mut Listeners<E, H>,
+    console: &mut Console<'_, E, H, S>,
 ) -> u8
     requires callable { (plan : _) → F.pre count plan }
     requires reports { (plan : _) (r : _) → F.post count plan r → IfOk r (IsReportOf plan.now) }
@@ -352,26 +402,29 @@ fn do_words<F: FnOnce(&Plan) -> Result<Report, AllocError>, R: Read, W: Write, E
         (W.contents out.new.inner) (out.new ≡ out.old))
         (λ states. ExitOfExplore states result (R.remaining reader.old.inner) (R.remaining reader.new.inner) (W.contents out.old.inner)
         (W.contents out.new.inner) (out.new ≡ out.old))
+        (ExitOfShell console.old.prompt.now result (R.remaining reader.old.inner) (R.remaining reader.new.inner) (W.contents out.old.inner)
+        (W.contents out.new.inner) (S.saved console.old.saves) (S.saved console.new.saves))
         (λ plan. ExitOfThreads plan result (W.contents out.old.inner) (W.contents out.new.inner) (out.new ≡ out.old))
         (reader.new ≡ reader.old))
         (reader.new ≡ reader.old) (W.contents out.old.inner) (W.contents out.new.inner) (out.new ≡ out.old) }
     ensures streams { reader.old.failed ≡ false → out.old.failed ≡ false
-        → FailsByStreams result reader.new.failed out.new.failed (R.remaining reader.old.inner) (out.new ≡ out.old) }
+        → FailsByStreams result reader.new.failed out.new.failed (R.remaining reader.old.inner)
+        (Names (subcommand_at (map string_bytes words.now)) (codes "shell") ⊎ (out.new ≡ out.old)) }
 {
     match read_task(alloc, words) {
-        Ok(task) => carry_out(alloc, count, &task, reader, out, listeners),
+        Ok(task) => carry_out(alloc, count, &task, reader, out, console),
         Err(error) => {
             if error.kind() == ErrorKind::OutOfMemory {
-                return end_without_memory(&mut listeners.err);
+                return end_without_memory(&mut console.err);
             }
-            answer(alloc, &error, out, &mut listeners.err)
+            answer(alloc, &error, out, &mut console.err)
         }
     }
 }
 
-/// Does what the words of a command line ask for, and answers the status: 0 if the script was played to its end, if all outcomes of
-/// a program of threads were written and each expectation holds, if threads counted right, or if a text was asked for and shown, as
-/// by `--help` and `--version`; 1 if the transcript ends with a line's fault, of which standard error gets the column and the word, or
+/// Does what the words of a command line ask for, and answers the status: 0 if the script was played to its end, if the lines that
+/// were typed were answered, also those with a fault, if all outcomes of a program of threads were written and each expectation holds,
+/// if threads counted right, or if a text was asked for and shown, as by `--help` and `--version`; 1 if the transcript ends with a line's fault, of which standard error gets the column and the word, or
 /// a line of the program of threads has one; 2 if the words are none of this program's, ask for too much work or aren't UTF-8, which
 /// is written to standard error; 3 if the input or output failed, or the input is too long; 4 if an allocation failed; 5 if the report
 /// that was written shows a wrong number, or that the history isn't legal, or an expectation fails; 6 if no expectation fails, and not
@@ -382,13 +435,20 @@ fn do_words<F: FnOnce(&Plan) -> Result<Report, AllocError>, R: Read, W: Write, E
 /// outcomes are looked for.
 ///
 /// Conditions: `count` may be called, and what it reports is on the plan that it was given.
-pub fn exec<F: FnOnce(&Plan) -> Result<Report, AllocError>, R: Read, W: Write, E: Write, H: Watch>(
+pub fn exec<
+    F: FnOnce(&Plan) -> Result<Report, AllocError>,
+    R: Read,
+    W: Write,
+    E: Write,
+    H: Watch,
+    S: Save,
+>(
     alloc: Global,
     count: F,
     words: io::Result<Vec<String>>,
     reader: &mut Noted<R>,
     out: &mut Noted<W>,
-    listeners: &mut Listeners<E, H>,
+    console: &mut Console<'_, E, H, S>,
 ) -> u8
     requires callable { (plan : _) → F.pre count plan }
     requires reports { (plan : _) (r : _) → F.post count plan r → IfOk r (IsReportOf plan.now) }
@@ -400,17 +460,21 @@ pub fn exec<F: FnOnce(&Plan) -> Result<Report, AllocError>, R: Read, W: Write, E
         (W.contents out.new.inner) (out.new ≡ out.old))
         (λ states. ExitOfExplore states result (R.remaining reader.old.inner) (R.remaining reader.new.inner) (W.contents out.old.inner)
         (W.contents out.new.inner) (out.new ≡ out.old))
+        (ExitOfShell console.old.prompt.now result (R.remaining reader.old.inner) (R.remaining reader.new.inner) (W.contents out.old.inner)
+        (W.contents out.new.inner) (S.saved console.old.saves) (S.saved console.new.saves))
         (λ plan. ExitOfThreads plan result (W.contents out.old.inner) (W.contents out.new.inner) (out.new ≡ out.old))
         (reader.new ≡ reader.old))
         (reader.new ≡ reader.old) (W.contents out.old.inner) (W.contents out.new.inner) (out.new ≡ out.old)) }
     // Without words nothing is read or written.
     ensures without_words { IfErr words (λ e. (result ≡ status_without_words (error_kind e)) × (reader.new ≡ reader.old) × (out.new ≡ out.old)) }
-    // Status 3 comes if a stream failed in this call, and only then or if the script is too long.
-    ensures streams { reader.old.failed ≡ false → out.old.failed ≡ false
-        → FailsByStreams result reader.new.failed out.new.failed (R.remaining reader.old.inner) (out.new ≡ out.old) }
+    // Status 3 comes if a stream failed in this call, and only then or if the script is too long. After a failed read nothing was
+    // written, unless a shell had answered lines before.
+    ensures streams { IfOk words (λ w. reader.old.failed ≡ false → out.old.failed ≡ false
+        → FailsByStreams result reader.new.failed out.new.failed (R.remaining reader.old.inner)
+        (Names (subcommand_at (map string_bytes w.items)) (codes "shell") ⊎ (out.new ≡ out.old))) }
 {
     match words {
-        Ok(words) => do_words(alloc, count, &words, reader, out, listeners),
-        Err(error) => end_without_words(error.kind(), &mut listeners.err),
+        Ok(words) => do_words(alloc, count, &words, reader, out, console),
+        Err(error) => end_without_words(error.kind(), &mut console.err),
     }
 }

@@ -1,4 +1,5 @@
-//! The program: a command line, the script that it plays, the program of threads whose outcomes it looks for, and threads that count.
+//! The program: a command line, the script that it plays, the shell that answers lines of one, the program of threads whose outcomes
+//! it looks for, and threads that count.
 //!
 //! Why it is so:
 //! - The command line is what `clap`'s contract says of its words; a law computes it at the words that matter. A help text is put
@@ -13,22 +14,27 @@ ghost use Rattle.jcache.specs.Reports.{IsReportOf};
 mod exec;
 mod progress;
 mod report;
+mod script_files;
 #[cfg(test)]
 mod tests;
 mod threads;
 
-use exec::Listeners;
+use exec::Console;
 use jc_cache::{CacheLoader, CacheWriter, EntryProcessor};
 use jc_commands::plan::Plan;
 use jc_script::Noted;
 use jc_store::{Increment, SharedStore, Store};
 use progress::ProgressLine;
 use report::Report;
+use script_files::ScriptFiles;
 use std::alloc::AllocError;
 use std::env::{self, Env};
 use std::io::{self, IsTerminal};
 use std::process::ExitCode;
 use threads::{Crew, OUTFITS, Outfit, count_on_threads};
+
+/// What a shell on a terminal writes before each line is typed.
+const PROMPT: &str = "jcache> ";
 
 /// The words of the command line, the program's name first.
 fn words<R: Env + AllocGlobal>(rt: &R) -> io::Result<Vec<String>> {
@@ -55,9 +61,11 @@ fn main(rt: HostRuntime) -> ExitCode {
         count_on_threads(&rt, alloc, Crew { store, outfits }, plan)
     };
     let err = rt.stderr();
-    let mut listeners = Listeners {
+    let mut console = Console {
         err,
         watch: ProgressLine::new(err, err.is_terminal()),
+        prompt: if rt.stdin().is_terminal() { PROMPT } else { "" },
+        saves: ScriptFiles::new(rt),
     };
     let status = exec::exec(
         alloc,
@@ -65,7 +73,7 @@ fn main(rt: HostRuntime) -> ExitCode {
         words(&rt),
         &mut Noted::new(rt.reader()),
         &mut Noted::new(io::writer(&rt)),
-        &mut listeners,
+        &mut console,
     );
     ExitCode::from(status)
 }

@@ -1,8 +1,8 @@
 //! Each exit status, and what stands on standard output and standard error beside it.
-ghost use Rattle.std.specs.Prelude.{Result, IfOk};
+ghost use Rattle.std.specs.Prelude.{None, Result, IfOk};
 ghost use Rattle.jcache.specs.Reports.{IsReportOf};
 
-use crate::exec::{Listeners, exec};
+use crate::exec::{Console, exec};
 use crate::progress::ProgressLine;
 use crate::report::Report;
 use crate::threads::{Crew, Outfit, count_on_threads};
@@ -10,6 +10,7 @@ use jc_cache::{CacheLoader, CacheWriter, EntryProcessor, Value};
 use jc_commands::plan::Plan;
 use jc_explore::{Unwatched, Watch};
 use jc_script::Noted;
+use jc_shell::Save;
 use jc_store::{Increment, SharedStore, Store};
 use std::alloc::{AllocError, Global};
 use std::io;
@@ -41,11 +42,39 @@ fn words(rt: &impl Abort, alloc: Global, text: &str) -> Vec<String> {
     all
 }
 
-/// Standard error, and nobody who is told how far a search is.
-fn unwatched(alloc: Global) -> Listeners<Vec<u8>, Unwatched> {
-    Listeners {
+/// A folder that keeps each name with its script, and has no room for one named `full`.
+#[derive(Drop)]
+struct Folder(Vec<u8>);
+
+impl Save for Folder {
+    ghost saved = { λ _. None };
+
+    fn save(&mut self, name: &[u8], script: &[u8]) -> Result<(), &'static str> {
+        if name == b"full".as_slice() {
+            return Err("no room");
+        }
+        match self.put(name, script) {
+            Ok(()) => Ok(()),
+            Err(_) => Err("out of memory"),
+        }
+    }
+}
+
+impl Folder {
+    fn put(&mut self, name: &[u8], script: &[u8]) -> Result<(), AllocError> {
+        self.0.extend_from_slice(name)?;
+        self.0.push(b'\n')?;
+        self.0.extend_from_slice(script)
+    }
+}
+
+/// Standard error, nobody who is told how far a search is, nobody who types, and an empty folder.
+fn unwatched(alloc: Global) -> Console<'static, Vec<u8>, Unwatched, Folder> {
+    Console {
         err: Vec::new(alloc),
         watch: Unwatched,
+        prompt: "",
+        saves: Folder(Vec::new(alloc)),
     }
 }
 
@@ -62,18 +91,18 @@ fn ends<F: FnOnce(&Plan) -> Result<Report, AllocError>>(
     requires reports { (plan : _) (r : _) → F.post count plan r → IfOk r (IsReportOf plan.now) }
 {
     let mut out = Vec::new(alloc);
-    let mut listeners = unwatched(alloc);
+    let mut console = unwatched(alloc);
     let status = exec(
         alloc,
         count,
         Ok(words(rt, alloc, text)),
         &mut Noted::new(script),
         &mut Noted::new(&mut out),
-        &mut listeners,
+        &mut console,
     );
     assert_eq!(rt; status, wanted.status, "{text}");
     assert_eq!(rt; out.as_slice(), wanted.out.as_bytes(), "{text}");
-    assert_eq!(rt; listeners.err.as_slice(), wanted.err.as_bytes(), "{text}");
+    assert_eq!(rt; console.err.as_slice(), wanted.err.as_bytes(), "{text}");
 }
 
 /// The same, of words that don't have threads count.
@@ -112,6 +141,33 @@ fn tells_a_fault(rt: HostRuntime) {
             err: "jcache: line 3, column 1: not now 'end' (it fits if the call has a started key, and waits for no loader, writer or processor)\n",
         },
     );
+}
+
+#[test]
+fn answers_lines(rt: HostRuntime) {
+    let alloc = rt.alloc();
+    let count = |plan: &Plan| -> Result<Report, AllocError>
+        ensures { IfOk result (IsReportOf plan.entry.now) }
+    { Err(AllocError) };
+    let (mut out, mut console) = (Vec::new(alloc), unwatched(alloc));
+    console.prompt = "> ";
+    let input =
+        b"open 1 2 100\nend 1\nbegin 1 s1 put a 1\nsave full\nsave here\nquit\naudit\n".as_slice();
+    let status = exec(
+        alloc,
+        count,
+        Ok(words(&rt, alloc, "jcache shell")),
+        &mut Noted::new(input),
+        &mut Noted::new(&mut out),
+        &mut console,
+    );
+    assert_eq!(&rt; status, 0);
+    let shown =
+        "> open\n> line 2, column 5: no such call '1'\n> 1 a is ok at 0.0\n> not saved full: no room\n> saved here\n> ";
+    assert_eq!(&rt; out.as_slice(), shown.as_bytes());
+    let saved = b"here\nopen 1 2 100\nbegin 1 s1 put a 1\n";
+    assert_eq!(&rt; console.saves.0.as_slice(), saved.as_slice());
+    assert_eq!(&rt; console.err.len(), 0);
 }
 
 /// A program of threads with one outcome and two states, and how the answer begins.
@@ -180,13 +236,15 @@ fn is_told(
         ensures { IfOk result (IsReportOf plan.entry.now) }
     { Err(AllocError) };
     let mut out = Vec::new(alloc);
-    let mut listeners = Listeners {
+    let mut console = Console {
         err: Vec::new(alloc),
         watch: Told {
             numbers: (0, 0, 0),
             times: 0,
             ends: 0,
         },
+        prompt: "",
+        saves: Folder(Vec::new(alloc)),
     };
     let _status = exec(
         alloc,
@@ -194,12 +252,12 @@ fn is_told(
         Ok(words(rt, alloc, text)),
         &mut Noted::new(input),
         &mut Noted::new(&mut out),
-        &mut listeners,
+        &mut console,
     );
-    let told = &listeners.watch;
+    let told = &console.watch;
     let found = (told.numbers, told.times, told.ends);
     assert!(rt; found == wanted, "{text}");
-    assert_eq!(rt; listeners.err.len(), 0, "{text}");
+    assert_eq!(rt; console.err.len(), 0, "{text}");
 }
 
 #[test]
@@ -306,7 +364,7 @@ impl io::Write for Broken {
 #[test]
 fn says_why_a_read_failed(rt: HostRuntime) {
     let alloc = rt.alloc();
-    let (mut out, mut listeners) = (Vec::new(alloc), unwatched(alloc));
+    let (mut out, mut console) = (Vec::new(alloc), unwatched(alloc));
     let count = |plan: &Plan| -> Result<Report, AllocError>
         ensures { IfOk result (IsReportOf plan.entry.now) }
     { Err(AllocError) };
@@ -316,17 +374,17 @@ fn says_why_a_read_failed(rt: HostRuntime) {
         Ok(words(&rt, alloc, "jcache run")),
         &mut Noted::new(Broken(io::ErrorKind::IsADirectory)),
         &mut Noted::new(&mut out),
-        &mut listeners,
+        &mut console,
     );
     assert_eq!(&rt; status, 3);
     assert_eq!(&rt; out.len(), 0);
     let said = "jcache: read failed: is a directory\n";
-    assert_eq!(&rt; listeners.err.as_slice(), said.as_bytes());
+    assert_eq!(&rt; console.err.as_slice(), said.as_bytes());
 }
 
 /// Shows the version on a standard output that fails so.
 fn write_fails(rt: &impl Abort, alloc: Global, why: io::ErrorKind, said: &str) {
-    let mut listeners = unwatched(alloc);
+    let mut console = unwatched(alloc);
     let count = |plan: &Plan| -> Result<Report, AllocError>
         ensures { IfOk result (IsReportOf plan.entry.now) }
     { Err(AllocError) };
@@ -336,10 +394,10 @@ fn write_fails(rt: &impl Abort, alloc: Global, why: io::ErrorKind, said: &str) {
         Ok(words(rt, alloc, "jcache --version")),
         &mut Noted::new(io::empty()),
         &mut Noted::new(Broken(why)),
-        &mut listeners,
+        &mut console,
     );
     assert_eq!(rt; status, 3, "{said}");
-    assert_eq!(rt; listeners.err.as_slice(), said.as_bytes(), "{said}");
+    assert_eq!(rt; console.err.as_slice(), said.as_bytes(), "{said}");
 }
 
 #[test]
@@ -355,7 +413,7 @@ fn says_nothing_to_a_closed_pipe(rt: HostRuntime) {
 
 /// The command line without its words.
 fn has_no_words(rt: &impl Abort, alloc: Global, why: io::ErrorKind, status: u8, said: &str) {
-    let (mut out, mut listeners) = (Vec::new(alloc), unwatched(alloc));
+    let (mut out, mut console) = (Vec::new(alloc), unwatched(alloc));
     let count = |plan: &Plan| -> Result<Report, AllocError>
         ensures { IfOk result (IsReportOf plan.entry.now) }
     { Err(AllocError) };
@@ -365,11 +423,11 @@ fn has_no_words(rt: &impl Abort, alloc: Global, why: io::ErrorKind, status: u8, 
         Err(io::Error::from(why)),
         &mut Noted::new(io::empty()),
         &mut Noted::new(&mut out),
-        &mut listeners,
+        &mut console,
     );
     assert_eq!(rt; found, status, "{said}");
     assert_eq!(rt; out.len(), 0, "{said}");
-    assert_eq!(rt; listeners.err.as_slice(), said.as_bytes(), "{said}");
+    assert_eq!(rt; console.err.as_slice(), said.as_bytes(), "{said}");
 }
 
 #[test]
