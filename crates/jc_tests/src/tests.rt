@@ -1,4 +1,4 @@
-//! What scripts with their whole transcripts can't say: those are in `examples/tests`, and `examples/check` plays them with the built
+//! What scripts with their whole transcripts can't say: those are in `tests/cases`, and `tests/check` plays them with the built
 //! program.
 mod script;
 mod world;

@@ -1,6 +1,6 @@
 //! Calls of which an allocation is refused, and what they leave then.
 //!
-//! Nothing here refuses an allocation. `examples/library_allocations` does, one in each run, and reads what is printed: before each
+//! Nothing here refuses an allocation. `tools/library_allocations` does, one in each run, and reads what is printed: before each
 //! call a line `> CALL KEYS`, after it a line `=`, and then a line `< END`. While all memory is there, each call ends in `done`.
 ghost use Rattle.std.specs.Prelude.{◌≡◌, ◌∷◌, [], All};
 ghost use Rattle.jc_cache.specs.Meeting.{TellEach};

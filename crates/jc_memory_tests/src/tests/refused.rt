@@ -1,6 +1,6 @@
 //! Each call that takes memory and is no session's own, made once.
 //!
-//! Nothing here refuses an allocation. `examples/library_allocations` does, one in each run, and reads what is printed: before each
+//! Nothing here refuses an allocation. `tools/library_allocations` does, one in each run, and reads what is printed: before each
 //! call a line `> CALL`, after it a line `=`, and then a line `< END`. While all memory is there, each call ends in `done`.
 use jc_types::{Config, Key, Value};
 use std::alloc::Global;

@@ -1,5 +1,5 @@
 //! The public face of a world, and what scripts can't say: events that don't fit, a writer's change and its return apart, a
-//! withdrawal whose call isn't over. What scripts can say is in `examples/tests`.
+//! withdrawal whose call isn't over. What scripts can say is in `tests/cases`.
 //!
 //! Each test ends with `close`, since a world can't be dropped.
 use courses::{event_of, plays};

@@ -1,5 +1,5 @@
 //! The phases of a stripe, each once, and its limits of 64, as lines of text. What scripts can say, as which entry goes and when a
-//! history is full, is in `examples/tests`, and so is the last phase of an entry processor.
+//! history is full, is in `tests/cases`, and so is the last phase of an entry processor.
 //!
 //! A line has what is done, ` = `, and what is seen:
 //!

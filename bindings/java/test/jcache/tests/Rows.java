@@ -13,14 +13,14 @@ import java.util.stream.Collectors;
 import jcache.tests.Check.Test;
 
 /**
- * The scripts of examples/ that a provider can play, through the provider, beside the program that plays scripts: each
- * call replies the same, asks the same, and leaves the same. The property {@code jcache.examples} is the folder of
- * scripts, {@code jcache.program} the program.
+ * The scripts of examples/ and cases of tests/cases that a provider can play, through the provider, beside the program
+ * that plays scripts: each call replies the same, asks the same, and leaves the same. The property
+ * {@code jcache.repository} is the folder that has both, {@code jcache.program} the program.
  */
 final class Rows {
     private Rows() {}
 
-    private static final Path EXAMPLES = Path.of(System.getProperty("jcache.examples", "../../examples"));
+    private static final Path REPOSITORY = Path.of(System.getProperty("jcache.repository", "../.."));
 
     /** The transcript that the program writes of a script. */
     private static List<String> transcript(Script script) throws IOException {
@@ -38,7 +38,7 @@ final class Rows {
 
     @Test
     static void theProviderDoesWhatTheProgramDoes() throws Exception {
-        List<Script> playable = new ArrayList<>(Script.all(EXAMPLES));
+        List<Script> playable = new ArrayList<>(Script.all(REPOSITORY));
         playable.removeIf(script -> !script.isPlayable());
         for (Script script : playable) {
             List<String> transcript = transcript(script);

@@ -11,7 +11,7 @@ import java.util.Set;
 import java.util.TreeMap;
 import java.util.regex.Pattern;
 
-/** A script of examples/ with its transcript. */
+/** A script of examples/, or a case of tests/cases, with its transcript. */
 final class Script {
     /** The words of calls of many keys. */
     private static final Set<String> BULK =
@@ -61,12 +61,13 @@ final class Script {
         return INSIDE.contains(line[0]) || line[0].equals("begin") && BULK.contains(line[3]);
     }
 
-    /** All scripts of examples/ and the cases of examples/tests, by their files' names. */
-    static List<Script> all(Path examples) throws IOException {
+    /** All scripts of examples/ and the cases of tests/cases, by their files' names. */
+    static List<Script> all(Path repository) throws IOException {
+        Path examples = repository.resolve("examples");
         List<Script> all = new ArrayList<>();
         files(examples, "*.script").forEach((name, text) ->
                 all.add(new Script(name, text, read(examples.resolve(name.replace(".script", ".transcript"))))));
-        files(examples.resolve("tests"), "*.cases").forEach((name, text) -> {
+        files(repository.resolve("tests/cases"), "*.cases").forEach((name, text) -> {
             for (String one : text.split("(?m)^==\n")) {
                 String[] parts = one.split("(?m)^--\n", 2);
                 if (parts.length == 2) {
