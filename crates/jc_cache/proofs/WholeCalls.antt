@@ -9,6 +9,7 @@
 --     may_begin          the seat's own steps let the next call come
 --     writes_as          the stripe writes through if the cache does
 --     may_call           the session's next call may be made there
+--     completes_as       a whole call of which less is told
 --     called, invoked, tried
 --                        a whole call, one that runs a processor, and one that waits for nobody: what is said of the session, and that
 --                        it may call again
@@ -41,8 +42,9 @@ use Rattle.jc_lock.specs.Views.{Finds}
 use Rattle.jc_session.specs.declared.agent.Agent.{Agent}
 use Rattle.jc_engine.specs.Asking.{own_after}
 use Rattle.jc_engine.specs.Needs.{BeginsIfClear}
-use Rattle.jc_engine.specs.Calls.{IsCall, IsInvocation, IsTried, MayCallAt}
+use Rattle.jc_engine.specs.Calls.{IsCall, IsInvocation, IsTried, MayCallHere}
 use Rattle.jc_engine.specs.Doors.{IsReady}
+use Rattle.jc_engine.specs.declared.access.Access.{Access}
 use Rattle.jc_engine.specs.Rows.{PhaseLaws}
 use Rattle.jc_engine.specs.Turns.{HasLookedFirst, state_decided, state_found}
 use Rattle.jc_engine.proofs.CallerLemmas.{call_in}
@@ -105,15 +107,21 @@ module _ {I J : Type 0} {D : I → Type 0} {E : J → Type 0} where
       let is : slice_get cache.locks at ≡ Some lock = ap (λ (ls : List TableId). slice_get ls at) (sym are) ∙ slice_get_read locks _ at lock refl within read in
       (lock_there session.seats.items cache.locks at t lock own.locks there is, (own.seats at t there).free)
 
-  pub ready : {G : Type 0} {is_free : G → TableId × View → Type 0} {g : G} (cache : CacheState) (old : Session I J D E) (at : ℕ) (t : TableId × View) → IsOf cache old → slice_get old.seats.items at ≡ Some t → is_free g t
-      → IsReady is_free lock_speaks_for g t old.agent
-  ready cache old at t own there free = record { held = own.held; free = free; speaks = (own.seats at t there).of_session }
+  module _ {G : Type 0} {is_free : G → TableId × View → Type 0} (cache : CacheState) (old : Session I J D E) (at : ℕ) (access : Access G (TableId × View) I J D E) (own : IsOf cache old)
+      (there : slice_get old.seats.items at ≡ Some access.token.now) (free : is_free access.gate.now access.token.now) where
+    pub ready : access.agent.now ≡ old.agent → IsReady is_free lock_speaks_for access
+    ready is = record {
+      held = ap (λ (a : Agent I J D E). a.hands.held) is ∙ own.held;
+      free = free;
+      speaks = subst (lock_speaks_for access.token.now) (sym (ap (λ (a : Agent I J D E). a.caller.session) is)) (own.seats at access.token.now there).of_session;
+    }
 
-  pub ready_next : {G : Type 0} {is_free : G → TableId × View → Type 0} {g : G} (cache : CacheState) (old : Session I J D E) (a : Agent I J D E) (at : ℕ) (t : TableId × View) → IsOf cache old → a ≡ (next_call old).agent
-      → slice_get old.seats.items at ≡ Some t → is_free g t → IsReady is_free lock_speaks_for g t a
-  ready_next {G} {is_free} {g} cache old a at t own is there free =
-      let r : IsReady is_free lock_speaks_for g t old.agent = ready cache old at t own there free in
-      subst (λ (z : Agent I J D E). IsReady is_free lock_speaks_for g t z) (sym is) record { held = r.held; free = r.free; speaks = r.speaks }
+    pub ready_next : access.agent.now ≡ (next_call old).agent → IsReady is_free lock_speaks_for access
+    ready_next is = record {
+      held = ap (λ (a : Agent I J D E). a.hands.held) is ∙ own.held;
+      free = free;
+      speaks = subst (lock_speaks_for access.token.now) (sym (ap (λ (a : Agent I J D E). a.caller.session) is)) (own.seats at access.token.now there).of_session;
+    }
 
   pub may_begin : OwnNumbers → (cache : CacheState) (old : Session I J D E) (a : Agent I J D E) (at : ℕ) (t : TableId × View) (key : Bytes) (state : State) → MayCall cache old → a ≡ (next_call old).agent → slice_get old.seats.items at ≡ Some t → Finds t.1 state
       → BeginsIfClear a.caller key state
@@ -128,9 +136,9 @@ module _ {I J : Type 0} {D : I → Type 0} {E : J → Type 0} where
   pub writes_as : (cache : CacheState) (old : Session I J D E) (at : ℕ) (t : TableId × View) (state : State) → MayCall cache old → slice_get old.seats.items at ≡ Some t → Finds t.1 state → state.config.write_through ≡ cache.config.write_through
   writes_as cache old at t state may there finds = ap (λ c. c.write_through) (finds.same.config ∙ (may.own.seats at t there).config_is)
 
-  pub may_call : {G : Type 0} → OwnNumbers → (cache : CacheState) (old : Session I J D E) (a : Agent I J D E) (at : ℕ) (g : G) (t : TableId × View) (key : Bytes) → MayCall cache old → a ≡ (next_call old).agent
-      → slice_get old.seats.items at ≡ Some t → MayCallAt lock_finds key g t a
-  may_call law cache old a at g t key may is there = record {
+  pub may_call : OwnNumbers → (cache : CacheState) (old : Session I J D E) (a : Agent I J D E) (at : ℕ) (t : TableId × View) (key : Bytes) → MayCall cache old → a ≡ (next_call old).agent
+      → slice_get old.seats.items at ≡ Some t → MayCallHere (Finds t.1) key a
+  may_call law cache old a at t key may is there = record {
     reservations = ap (λ (z : Agent I J D E). z.counts.reservations) is ∙ may.reservations;
     joins = ap (λ (z : Agent I J D E). z.counts.joins) is ∙ may.joins;
     begins = λ state finds. may_begin law cache old a at t key state may is there finds;
@@ -168,6 +176,9 @@ module _ {I J : Type 0} {D : I → Type 0} {E : J → Type 0} where
           types = (ap (λ z. option_map (λ k. k.vtable) z.outside.loader) hands, ap (λ z. option_map (λ k. k.vtable) z.outside.writer) hands);
         };
       }
+
+  pub completes_as : (cache : CacheState) (new : Session I J D E) (Made Told : Type 0) → (Made → Told) → Completes cache new Made → Completes cache new Told
+  completes_as cache new Made Told tells x = record { call = tells x.call; may = x.may }
 
   module _ {G : Type 0} (loads : LoadRelation ((i : I) × D i)) (load_state : (i : I) × D i → List ℕ) (writes : WriteRelation ((j : J) × E j)) (write_state : (j : J) × E j → List ℕ) where
     abbrev Whole : Agent I J D E → Bytes → Op → G → TableId × View → Result Reply Refusal → Agent I J D E → G → TableId × View → Type 0
@@ -215,11 +226,11 @@ module _ {I J : Type 0} {D : I → Type 0} {E : J → Type 0} where
         may_after numbers cache old new at t.0 t.1 u.1 ended may there (now ∙ ap (slice_set old.seats.items at) (seat_is t u left.lock)) after.0 after.1 record { left = x.agent; held = x.held; types = x.types }
 
     pub called : PhaseLaws → StepsBehind → OwnNumbers
-        → (cache : CacheState) (old new : Session I J D E) (a : Agent I J D E) (key : Bytes) (op : Op) (at : ℕ) (ended : Result Reply Refusal) (g : G) (t : TableId × View) (h : G) (u : TableId × View)
-        → MayCall cache old → a ≡ (next_call old).agent → at ≡ stripe_of key cache.config.stripes → slice_get old.seats.items at ≡ Some t → new.seats.items ≡ slice_set old.seats.items at u
-        → Whole a key op g t ended new.agent h u → Completes cache new (CallsAt loads load_state writes write_state cache (next_call old) key op ended new)
-    called law behind numbers cache old new a key op at ended g t h u may is at_is there now y =
-        let x = subst (λ (z : Agent I J D E). Whole z key op g t ended new.agent h u) is y in
+        → (cache : CacheState) (old new : Session I J D E) (a b : Agent I J D E) (key : Bytes) (op : Op) (at : ℕ) (ended : Result Reply Refusal) (g : G) (t : TableId × View) (h : G) (u : TableId × View)
+        → MayCall cache old → a ≡ (next_call old).agent → new.agent ≡ b → at ≡ stripe_of key cache.config.stripes → slice_get old.seats.items at ≡ Some t → new.seats.items ≡ slice_set old.seats.items at u
+        → Whole a key op g t ended b h u → Completes cache new (CallsAt loads load_state writes write_state cache (next_call old) key op ended new)
+    called law behind numbers cache old new a b key op at ended g t h u may is left_is at_is there now y =
+        let x = subst (λ (z : Agent I J D E). Whole z key op g t ended new.agent h u) is (subst (λ (z : Agent I J D E). Whole a key op g t ended z h u) (sym left_is) y) in
         let left = left_of law behind numbers cache old new key op at ended g t h u may there x in
         record {
           call = calls_at cache old new key op at ended g t h u at_is there now x left.0 left.1;
@@ -228,12 +239,13 @@ module _ {I J : Type 0} {D : I → Type 0} {E : J → Type 0} where
 
     -- a get, by what its first lending was
     pub got : PhaseLaws → StepsBehind → OwnNumbers
-        → (cache : CacheState) (old new : Session I J D E) (a : Agent I J D E) (key : Bytes) (at : ℕ) (ended : Result Reply Refusal) (g : G) (t : TableId × View) (h : G) (u : TableId × View)
-        → MayCall cache old → a ≡ (next_call old).agent → at ≡ stripe_of key cache.config.stripes → slice_get old.seats.items at ≡ Some t → new.seats.items ≡ slice_set old.seats.items at u
-        → (y : Whole a key Get g t ended new.agent h u) → HasLookedFirst a.caller key y.row
+        → (cache : CacheState) (old new : Session I J D E) (a b : Agent I J D E) (key : Bytes) (at : ℕ) (ended : Result Reply Refusal) (g : G) (t : TableId × View) (h : G) (u : TableId × View)
+        → MayCall cache old → a ≡ (next_call old).agent → new.agent ≡ b → at ≡ stripe_of key cache.config.stripes → slice_get old.seats.items at ≡ Some t → new.seats.items ≡ slice_set old.seats.items at u
+        → (y : Whole a key Get g t ended b h u) → HasLookedFirst a.caller key y.row
         → Completes cache new ((did : CallsAt loads load_state writes write_state cache (next_call old) key Get ended new) × HasLookedFirst (next_call old).agent.caller key did.row)
-    got law behind numbers cache old new a key at ended g t h u may is at_is there now y looked =
-        let x = subst (λ (z : Agent I J D E). (w : Whole z key Get g t ended new.agent h u) × HasLookedFirst z.caller key w.row) is (y, looked) in
+    got law behind numbers cache old new a b key at ended g t h u may is left_is at_is there now y looked =
+        let left = subst (λ (z : Agent I J D E). (w : Whole a key Get g t ended z h u) × HasLookedFirst a.caller key w.row) (sym left_is) (y, looked) in
+        let x = subst (λ (z : Agent I J D E). (w : Whole z key Get g t ended new.agent h u) × HasLookedFirst z.caller key w.row) is left in
         let left = left_of law behind numbers cache old new key Get at ended g t h u may there x.0 in
         record {
           call = (calls_at cache old new key Get at ended g t h u at_is there now x.0 left.0 left.1, x.1);
@@ -242,12 +254,13 @@ module _ {I J : Type 0} {D : I → Type 0} {E : J → Type 0} where
 
     pub invoked : {P Z : Type 0} {F : P → Type 0} → PhaseLaws → StepsBehind → OwnNumbers
         → (processes : ProcessRelation (DynBox P Z F)) (process_state : DynBox P Z F → List ℕ)
-        → (cache : CacheState) (old new : Session I J D E) (a : Agent I J D E) (key : Bytes) (args : List Bytes) (before after : DynBox P Z F) (at : ℕ) (ended : Result Reply Refusal) (g : G) (t : TableId × View) (h : G) (u : TableId × View)
-        → MayCall cache old → a ≡ (next_call old).agent → at ≡ stripe_of key cache.config.stripes → slice_get old.seats.items at ≡ Some t → new.seats.items ≡ slice_set old.seats.items at u
-        → IsInvocation loads load_state writes write_state processes process_state lock_takes lock_gives lock_finds a key args before g t ended new.agent after h u
+        → (cache : CacheState) (old new : Session I J D E) (a b : Agent I J D E) (key : Bytes) (args : List Bytes) (before ran after : DynBox P Z F) (at : ℕ) (ended : Result Reply Refusal) (g : G) (t : TableId × View) (h : G) (u : TableId × View)
+        → MayCall cache old → a ≡ (next_call old).agent → new.agent ≡ b → after ≡ ran → at ≡ stripe_of key cache.config.stripes → slice_get old.seats.items at ≡ Some t → new.seats.items ≡ slice_set old.seats.items at u
+        → IsInvocation loads load_state writes write_state processes process_state lock_takes lock_gives lock_finds a key args before g t ended b ran h u
         → Completes cache new (Invoked loads load_state writes write_state processes process_state cache old key args before ended new after)
-    invoked law behind numbers processes process_state cache old new a key args before after at ended g t h u may is at_is there now y =
-        let x = subst (λ (z : Agent I J D E). IsInvocation loads load_state writes write_state processes process_state lock_takes lock_gives lock_finds z key args before g t ended new.agent after h u) is y in
+    invoked {P} {Z} {F} law behind numbers processes process_state cache old new a b key args before ran after at ended g t h u may is left_is ran_is at_is there now y =
+        let made = subst (λ (z : Agent I J D E × DynBox P Z F). IsInvocation loads load_state writes write_state processes process_state lock_takes lock_gives lock_finds a key args before g t ended z.0 z.1 h u) (λ i. (sym left_is i, sym ran_is i)) y in
+        let x = subst (λ (z : Agent I J D E). IsInvocation loads load_state writes write_state processes process_state lock_takes lock_gives lock_finds z key args before g t ended new.agent after h u) is made in
         let left = left_of law behind numbers cache old new key Invoke at ended g t h u may there x.call in
         let first : State = state_found x.call.did in
         let decided : State = state_decided x.call.did in

@@ -13,7 +13,7 @@ ghost use Rattle.jc_cache.specs.Calls.{Called, Gets, Tried, Invoked, value_in, v
 use crate::calls::value_of;
 use crate::session::Session;
 use jc_engine::laws::one_lending;
-use jc_engine::{call, get_into, invoke, try_call};
+use jc_engine::{Access, Invocation};
 use jc_lock::HistLock;
 use jc_model::{Op, Reply};
 use jc_mutentry::EntryProcessor;
@@ -83,8 +83,12 @@ impl Cache {
         let at = stripe_of(key, self.config.stripes);
         session.agent.next_call();
         let mut lock = &self.locks[at];
-        let seat = &mut session.seats[at];
-        call(rt, &mut lock, seat, &mut session.agent, key, op, reply)
+        let mut access = Access {
+            gate: &mut lock,
+            token: &mut session.seats[at],
+            agent: &mut session.agent,
+        };
+        access.call(rt, key, op, reply)
     }
 
     /// The key's value (`get`), written to `value`, as [`get`](Cache::get) reads it: for a caller that keeps a room for values, since no
@@ -108,8 +112,12 @@ impl Cache {
         let at = stripe_of(key, self.config.stripes);
         session.agent.next_call();
         let mut lock = &self.locks[at];
-        let seat = &mut session.seats[at];
-        get_into(rt, &mut lock, seat, &mut session.agent, key, value)
+        let mut access = Access {
+            gate: &mut lock,
+            token: &mut session.seats[at],
+            agent: &mut session.agent,
+        };
+        access.get_into(rt, key, value)
     }
 
     /// The session's next call on one key, if it can be done at once. What it replies is written to `reply`.
@@ -128,8 +136,12 @@ impl Cache {
         let at = stripe_of(key, self.config.stripes);
         session.agent.next_call();
         let mut lock = &self.locks[at];
-        let seat = &mut session.seats[at];
-        try_call(&mut lock, seat, &mut session.agent, key, op, reply)
+        let mut access = Access {
+            gate: &mut lock,
+            token: &mut session.seats[at],
+            agent: &mut session.agent,
+        };
+        access.try_call(key, op, reply)
     }
 
     /// The session's next call, whole, which runs a processor on one key (JSR 107, "Entry Processors"). It gives the processor's
@@ -158,19 +170,15 @@ impl Cache {
         let at = stripe_of(key, self.config.stripes);
         session.agent.next_call();
         let mut lock = &self.locks[at];
-        let seat = &mut session.seats[at];
+        let mut access = Access {
+            gate: &mut lock,
+            token: &mut session.seats[at],
+            agent: &mut session.agent,
+        };
+        let mut invocation = Invocation { processor, args };
         let mut reply = Reply::Unit;
-        let ended = invoke(
-            rt,
-            &mut lock,
-            seat,
-            &mut session.agent,
-            key,
-            self.config.write_through,
-            processor,
-            args,
-            &mut reply,
-        );
+        let through = self.config.write_through;
+        let ended = access.invoke(rt, key, through, &mut invocation, &mut reply);
         value_of(ended, &reply)
     }
 }

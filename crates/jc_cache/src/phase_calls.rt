@@ -26,7 +26,7 @@ ghost use Rattle.jc_cache.specs.Turns.{looking, picking_late, picking_now, start
 use crate::cache::Cache;
 use crate::session::Session;
 use jc_engine::laws::one_lending;
-use jc_engine::{Answer, Commit, First, How, Phase, PickUp, Processed, Withdraw, lend};
+use jc_engine::{Access, Answer, Commit, First, How, Phase, PickUp, Processed, Withdraw};
 use jc_model::{Op, Reply};
 use jc_session::Counted;
 use jc_stripe::{Appended, Ask, Join, LoadDone, Picked, ProcDone, Started, Ticket, WriteDone};
@@ -54,12 +54,7 @@ impl Cache {
             (counted_started result) session.new) }
     {
         let at = stripe_of(key, self.config.stripes);
-        let first = First {
-            caller: session.agent.caller(),
-            key,
-            op,
-            how: How::Now,
-        };
+        let first = First::of(&session.agent, key, op, How::Now);
         self.phase_at(rt, session, at, first, reply)
     }
 
@@ -240,7 +235,7 @@ impl Cache {
     /// Conditions: the session is of this cache, and the phase is of the session; there is a stripe of this number, and each state in
     /// which the session may find it has what the phase needs.
     ///
-    /// In line, as `lend` is.
+    /// In line, as [`Access::lend`] is.
     #[inline(always)]
     fn phase_at<P: Phase, R: Wait>(
         &self,
@@ -259,7 +254,11 @@ impl Cache {
     {
         one_lending();
         let mut lock = &self.locks[number];
-        let seat = &mut session.seats[number];
-        lend(rt, &mut lock, seat, &mut session.agent, phase, reply)
+        let mut access = Access {
+            gate: &mut lock,
+            token: &mut session.seats[number],
+            agent: &mut session.agent,
+        };
+        access.lend(rt, phase, reply)
     }
 }

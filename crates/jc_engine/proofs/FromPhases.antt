@@ -19,14 +19,14 @@ use Rattle.jc_session.specs.Boxed.{boxed}
 use Rattle.jc_session.specs.Counting.{counts_ended}
 use Rattle.jc_session.specs.declared.agent.Agent.{Agent}
 use Rattle.jc_engine.specs.Answered.{CallAnswer, out_of}
-use Rattle.jc_engine.specs.Asking.{AsksLoader, AsksWriter, IsAsked, KeepsTypes, change_wanted, own_after}
+use Rattle.jc_engine.specs.Asking.{AsksLoader, AsksWriter, KeepsTypes, change_wanted, own_after}
 use Rattle.jc_engine.specs.Entering.{counts_entered}
 use Rattle.jc_engine.specs.Rows.{LentPhase, Row}
 use Rattle.jc_engine.specs.Turns.{IsBegunRow, IsCallRow, committing}
 use Rattle.jc_engine.specs.Calls.{AsksAndEnds, IsCall}
 use Rattle.jc_engine.proofs.AgentAfter.{after_first, after_both}
 use Rattle.jc_engine.proofs.Asked.{of_caller}
-use Rattle.jc_engine.proofs.Asking.{loader_for, writer_for}
+use Rattle.jc_engine.proofs.Asking.{IsAsked, loader_for, writer_for}
 use Rattle.jc_engine.proofs.Rows.{row_append}
 
 module _ {G T : Type 0} (takes gives : G → T → State → G → T → Type 0) (finds : G → T → State → Type 0) where

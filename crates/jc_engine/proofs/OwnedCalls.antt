@@ -4,6 +4,7 @@
 --     no_rejoins    nobody is told to retry on an idle stripe
 --     ends_owned    how the call ends there
 --     owned_call    the whole call
+--     owned_as      the same of an equal agent and an equal owner after it
 use Rattle.std.proofs.Common.{◌≡◌, ◌⊎◌, ⊎_elim, ◌+◌, ◌∙◌, ℕ, zero, suc, List, [], ◌∷◌, Bool, true, false, cond, Option, Some, None, IsSome, Result, refl, sym, ap, subst}
 use Rattle.std.proofs.lemmas.Option.{same_Some}
 use Rattle.jc_types.specs.declared.caller.Caller.{Caller}
@@ -27,6 +28,7 @@ use Rattle.jc_stripe.specs.Phases.{Steps, Begins, Commits}
 use Rattle.jc_stripe.specs.Reached.{IsReached}
 use Rattle.jc_stripe.specs.OwnSteps.{WholeCall, JoinsOnlyLoads}
 use Rattle.jc_stripe.proofs.CallerLemmas.{stays_alone, stays_or_renews}
+use Rattle.jc_session.specs.Boxed.{boxed}
 use Rattle.jc_session.specs.declared.agent.Agent.{Agent}
 use Rattle.jc_gate.specs.Owned.{OwnerState}
 use Rattle.jc_engine.specs.Rows.{AllLend, IsTurn, Row, Turn}
@@ -34,6 +36,7 @@ use Rattle.jc_engine.specs.Doors.{HasWaited}
 use Rattle.jc_engine.specs.Turns.{AreRejoins, EndsBy, IsCallRow, StartWaits, committing, starting, state_found}
 use Rattle.jc_engine.specs.Needs.{HasMissed, Starts}
 use Rattle.jc_engine.specs.declared.first.How.TheVariants.{Waits}
+use Rattle.jc_engine.specs.Asking.{AsksLoader, AsksWriter, KeepsTypes, change_wanted, own_after}
 use Rattle.jc_engine.specs.Calls.{IsCall}
 use Rattle.jc_engine.specs.Owned.{next_after, OneStep, EndsCall, IsOwnedCall}
 use Rattle.jc_engine.proofs.Rows.{all_map, row_split}
@@ -188,3 +191,22 @@ module _ {I J T : Type 0} {D : I → Type 0} {E : J → Type 0}
         held = x.held;
         agent = x.agent;
       }
+
+module _ {I J : Type 0} {D : I → Type 0} {E : J → Type 0}
+    (loads : LoadRelation ((i : I) × D i)) (load_state : (i : I) × D i → List ℕ)
+    (writes : WriteRelation ((j : J) × E j)) (write_state : (j : J) × E j → List ℕ) where
+  abbrev pub owned_as : (old : Agent I J D E) (key : Bytes) (op : Op) (owner : Option State) (ended : Result Reply Refusal) (one two : Agent I J D E) (here there : Option State) → two ≡ one → there ≡ here
+      → IsOwnedCall loads load_state writes write_state old key op owner ended one here → IsOwnedCall loads load_state writes write_state old key op owner ended two there
+  owned_as old key op owner ended one two here there same is x = record {
+    before = x.before;
+    after = x.after;
+    out = x.out;
+    was = x.was;
+    is = is ∙ x.is;
+    ends = x.ends;
+    loader = subst (λ (a : Agent I J D E). AsksLoader (boxed loads) (boxed load_state) old.hands.outside.loader key x.out.load a.hands.outside.loader) (sym same) x.loader;
+    writer = subst (λ (a : Agent I J D E). AsksWriter (boxed writes) (boxed write_state) old.hands.outside.writer key (change_wanted x.before key op x.out.process) x.out.write a.hands.outside.writer) (sym same) x.writer;
+    types = subst (λ (a : Agent I J D E). KeepsTypes old a) (sym same) x.types;
+    held = ap (λ (a : Agent I J D E). a.hands.held) same ∙ x.held;
+    agent = subst (λ (a : Agent I J D E). a ≡ record old { counts = record old.counts { own = own_after old.counts.own ended }; hands = a.hands }) (sym same) x.agent;
+  }

@@ -3,12 +3,14 @@
 --     rounds_start, rounds_on
 --                   before the first of them; one round more
 --     needs_on      what a first phase needs stays
+--     fits_first    what a first phase needs of a state, under another name of the phase
 --     starts_by     a first phase of a caller, under another name of it and of its session
+--     tried_by      a first phase that waits for nobody, under another name of it and of what came of it
 --     begun_by      these rounds, and a first phase that is the last one
 --     at_once       no rounds, and a first phase
 --     done_row      a call that ends with its first phase
 --     shared_row    one that picks the answer of a load up
-use Rattle.std.proofs.Common.{◌≡◌, inl, ℕ, zero, suc, List, [], ◌++◌, Result, Ok, refl, sym, subst, append-nil}
+use Rattle.std.proofs.Common.{◌≡◌, Bor, inl, ℕ, zero, suc, List, [], ◌++◌, Result, Ok, refl, sym, subst, append-nil}
 use Rattle.jc_types.specs.declared.caller.Caller.{Caller}
 use Rattle.jc_types.specs.declared.refusal.Refusal.{Refusal}
 use Rattle.jc_model.specs.Cache.{Bytes}
@@ -19,11 +21,17 @@ use Rattle.jc_stripe.specs.State.{State}
 use Rattle.jc_stripe.specs.declared.begun.Begun.{Begun}
 use Rattle.jc_stripe.specs.declared.begun.Begun.TheVariants as begun
 use Rattle.jc_stripe.specs.declared.begun.Picked.TheVariants as picked
+use Rattle.jc_stripe.specs.declared.begun.Started.{Started}
+use Rattle.jc_stripe.specs.Phases.{begun_with}
 use Rattle.jc_stripe.specs.Tickets.{JoinClaim}
-use Rattle.jc_engine.specs.Rows.{IsTurn, LentPhase, PhaseLaws, Row, turn_of}
-use Rattle.jc_engine.specs.Needs.{BeginsIfClear, Starts}
-use Rattle.jc_engine.specs.Turns.{AreRejoins, EndsBy, IsBegunRow, IsCallRow, StartWaits, picking, starting}
-use Rattle.jc_engine.specs.declared.first.How.TheVariants.{Waits}
+use Rattle.jc_engine.specs.Rows.{IsTurn, LentPhase, PhaseLaws, Row, Turn, turn_of}
+use Rattle.jc_engine.specs.Calls.{TriesTo}
+use Rattle.jc_engine.specs.Doors.{IsAgain}
+use Rattle.jc_engine.specs.Needs.{BeginsIfClear, StartsBy}
+use Rattle.jc_engine.specs.Turns.{AreRejoins, EndsBy, IsBegunRow, IsCallRow, StartWaits, picking, starting, trying}
+use Rattle.jc_engine.specs.declared.first.First.{First}
+use Rattle.jc_engine.specs.declared.first.How.{How}
+use Rattle.jc_engine.specs.declared.first.How.TheVariants.{Waits, Alone}
 use Rattle.jc_engine.specs.Stays.{begins-stays}
 use Rattle.jc_engine.proofs.Rows.{lent_map, rejoins_keep, row_append, row_since, since_found}
 
@@ -33,6 +41,32 @@ module _ (caller : Caller) (key : Bytes) (op : Op) where
 
   abbrev pub done_row : (b : Begun) (ended : Result Reply Refusal) (row : List (State × State)) → IsBegunRow caller key op b row → EndsBy b nothing_said ended [] → IsCallRow caller key op nothing_said ended row
   done_row b ended row x ends = record { begun = b; start = row; last = []; row_is = sym (append-nil row); begins = x; ends = ends }
+
+abbrev first_of : Caller → Bor Bytes → Bor Op → How → First
+first_of caller key op how = record { caller = caller; key = key; op = op; how = how }
+
+pub fits_first : (first : First) (caller : Caller) (key : Bor Bytes) (op : Bor Op) (how : How) (a : State) → first ≡ first_of caller key op how → BeginsIfClear caller key.now a → BeginsIfClear first.caller first.key.now a
+fits_first first caller key op how a is needs = subst (λ (p : First). BeginsIfClear p.caller p.key.now a) (sym is) needs
+
+abbrev as_first : First → Begun → Turn
+as_first p b = turn_of (StartWaits p.how p.caller p.key.now p.op.now) (StartsBy p.how p.caller p.key.now p.op.now b)
+
+pub starts_by : {G T : Type 0} (takes gives : G → T → State → G → T → Type 0) (finds : G → T → State → Type 0) (caller : Caller) (key : Bor Bytes) (op : Bor Op) (n : ℕ) (first : First) (who : Caller) (b : Begun) (g : G) (t : T) (h : G) (u : T)
+    → n ≡ caller.session → who ≡ caller → first ≡ first_of who key op Waits
+    → LentPhase takes gives finds n g t (as_first first b) h u → LentPhase takes gives finds caller.session g t (starting caller key.now op.now b) h u
+starts_by takes gives finds caller key op n first who b g t h u session same is x =
+    lent_map takes gives finds caller.session g t (as_first (first_of caller key op Waits) b) (starting caller key.now op.now b) h u (λ x y waits. inl waits) (λ x y makes. makes)
+    (subst (λ (c : Caller). LentPhase takes gives finds caller.session g t (as_first (first_of c key op Waits) b) h u) same
+    (subst (λ (p : First). LentPhase takes gives finds caller.session g t (as_first p b) h u) is
+    (subst (λ (m : ℕ). LentPhase takes gives finds m g t (as_first first b) h u) session x)))
+
+pub tried_by : {G T : Type 0} (takes gives : G → T → State → G → T → Type 0) (finds : G → T → State → Type 0) (misses : G → T → G → T → Type 0) (caller : Caller) (key : Bor Bytes) (op : Bor Op) (first : First) (one other : Started) (reply : Reply) (g : G) (t : T) (h : G) (u : T)
+    → first ≡ first_of caller key op Alone → one ≡ other → (lent : LentPhase takes gives finds caller.session g t (as_first first (begun_with one reply)) h u) × IsAgain lent.did.waits
+    → TriesTo takes gives finds misses caller key.now op.now g t (begun_with other reply) h u
+tried_by takes gives finds misses caller key op first one other reply g t h u is same x =
+    let y = subst (λ (p : First). (lent : LentPhase takes gives finds caller.session g t (as_first p (begun_with one reply)) h u) × IsAgain lent.did.waits) is x in
+    let z = subst (λ (s : Started). (lent : LentPhase takes gives finds caller.session g t (trying caller key.now op.now (begun_with s reply)) h u) × IsAgain lent.did.waits) same y in
+    record { lent = z.0; again = z.1 }
 
 module _ {G T : Type 0} (takes gives : G → T → State → G → T → Type 0) (finds : G → T → State → Type 0) (caller : Caller) (key : Bytes) (op : Op) where
   abbrev Phase : G → T → Begun → G → T → Type 0
@@ -63,13 +97,6 @@ module _ {G T : Type 0} (takes gives : G → T → State → G → T → Type 0)
   needs_on law g t h u so needs a found =
       let s = row_since takes gives finds caller.session law g t so.row h u so.lent (rejoins_keep law caller key op so.rounds so.row so.rejoined) a (since_found takes gives finds caller.session h u a found) in
       begins-stays caller key s.0 a s.2 (needs s.0 s.1)
-
-  pub starts_by : (n : ℕ) (who : Caller) (b : Begun) (g : G) (t : T) (h : G) (u : T) → n ≡ caller.session → who ≡ caller
-      → LentPhase takes gives finds n g t (turn_of (StartWaits Waits who key op) (Starts who key op b)) h u → Phase g t b h u
-  starts_by n who b g t h u session is x =
-      lent_map takes gives finds caller.session g t (turn_of (StartWaits Waits caller key op) (Starts caller key op b)) (starting caller key op b) h u (λ x y waits. inl waits) (λ x y makes. makes)
-      (subst (λ (c : Caller). LentPhase takes gives finds caller.session g t (turn_of (StartWaits Waits c key op) (Starts c key op b)) h u) is
-      (subst (λ (m : ℕ). LentPhase takes gives finds m g t (turn_of (StartWaits Waits who key op) (Starts who key op b)) h u) session x))
 
   pub begun_by : (b : Begun) (g : G) (t : T) (h : G) (u : T) (m : G) (w : T) → Rounds g t h u → Phase h u b m w → (row : List (State × State)) × Row takes gives finds caller.session g t row m w × IsBegunRow caller key op b row
   begun_by b g t h u m w so x = (

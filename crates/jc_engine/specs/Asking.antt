@@ -3,8 +3,6 @@
 --     AsksLoader       what a step's answer says of the loader: it was called once, with this key, and answered this; or it is untouched
 --     AsksWriter       the same of the writer, for the change that was asked for
 --     KeepsTypes       the agent's loader and writer are of the types that they had before
---     IsAsked          a ticket's loader or writer, whichever its reservation asks first, was asked once, and answered this; all else of the
---                      agent stays
 --     WritesEffect     the writer was asked once for what a processor's run changes, if that is to be written and there is a change; all else
 --                      of the agent stays
 --     IsProcessed      a ticket's processor was run once, on the entry that the ticket's first phase found, and the writer was asked for its
@@ -52,21 +50,6 @@ AsksWriter writes state old key change answer new = MatchBool (is_write_given an
 -- so what their traits say of a second call is said of the same types
 abbrev pub KeepsTypes : {I J : Type 0} {D : I → Type 0} {E : J → Type 0} → Agent I J D E → Agent I J D E → Type 0
 KeepsTypes old new = KeepsType old.hands.outside.loader new.hands.outside.loader × KeepsType old.hands.outside.writer new.hands.outside.writer
-
-pub record IsAsked
-    {I J : Type 0} {D : I → Type 0} {E : J → Type 0}
-    (loads : LoadRelation ((i : I) × D i)) (load_state : (i : I) × D i → List ℕ)
-    (writes : WriteRelation ((j : J) × E j)) (write_state : (j : J) × E j → List ℕ)
-    (old : Agent I J D E) (ticket : TicketClaim) (answer : CallAnswer) (new : Agent I J D E) (ticket' : TicketClaim) : Type 0 where
-  pub reservation : ticket'.reservation ≡ ticket.reservation
-  pub answered : IsAnswered ticket' answer
-  pub loader : AsksLoader (boxed loads) (boxed load_state) old.hands.outside.loader ticket.reservation.key (out_of answer).load new.hands.outside.loader
-  pub writer : (wanted : Option Change) → (asks_writer ticket.reservation.first ≡ true → wanted ≡ change_asked ticket.reservation.first)
-      → AsksWriter (boxed writes) (boxed write_state) old.hands.outside.writer ticket.reservation.key wanted (out_of answer).write new.hands.outside.writer
-  pub process : (out_of answer).process ≡ NotAsked
-  pub types : KeepsTypes old new
-  pub held : new.hands.held ≡ 0
-  pub rest : new ≡ record old { hands = new.hands }
 
 pub record WritesEffect
     {I J : Type 0} {D : I → Type 0} {E : J → Type 0} (writes : WriteRelation ((j : J) × E j)) (write_state : (j : J) × E j → List ℕ)

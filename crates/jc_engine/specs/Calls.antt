@@ -1,6 +1,7 @@
 -- Whole calls of an agent on one key, over any gate.
---     MayCallAt       an agent may make its current call at a key: it has nothing out; each state in which a take may find the stripe is
+--     MayCallHere     an agent may make its current call at a key: it has nothing out; each state in which a take may find the stripe is
 --                     live, and the session's own steps there let the call come; with write-through on there, the agent has a writer
+--     MayCallAt       the same of an access
 --     MayEnd          an agent may have a ticket's call answered and committed: the ticket has asked nobody and is of its session; each
 --                     state in which a take may find the stripe is live; if the writer is asked first, the agent has one
 --     Enters          a call up to where it is done, refused, or has somebody to ask: a row of lendings
@@ -35,6 +36,7 @@ use Rattle.jc_stripe.specs.declared.ticket.Reservation.{Reservation}
 use Rattle.jc_session.specs.Boxed.{boxed}
 use Rattle.jc_session.specs.Counting.{counts_ended}
 use Rattle.jc_session.specs.declared.agent.Agent.{Agent}
+use Rattle.jc_engine.specs.declared.access.Access.{Access}
 use Rattle.jc_engine.specs.Entering.{EntersBy}
 use Rattle.jc_engine.specs.Rows.{LentPhase, Row}
 use Rattle.jc_engine.specs.Doors.{HasTried, IsAgain}
@@ -45,17 +47,21 @@ use Rattle.jc_engine.specs.Asking.{AsksLoader, AsksWriter, KeepsTypes, RunsProce
 
 -- 0. Who may call.
 
-pub record MayCallAt {I J G T : Type 0} {D : I → Type 0} {E : J → Type 0} (finds : G → T → State → Type 0) (key : Bytes) (g : G) (t : T) (agent : Agent I J D E) : Type 0 where
+pub record MayCallHere {I J : Type 0} {D : I → Type 0} {E : J → Type 0} (finds : State → Type 0) (key : Bytes) (agent : Agent I J D E) : Type 0 where
   pub reservations : agent.counts.reservations ≡ 0
   pub joins : agent.counts.joins ≡ 0
-  pub begins : (a : State) → finds g t a → BeginsIfClear agent.caller key a
-  pub writes : (a : State) → finds g t a → a.config.write_through ≡ true → IsSome agent.hands.outside.writer
+  pub begins : (a : State) → finds a → BeginsIfClear agent.caller key a
+  pub writes : (a : State) → finds a → a.config.write_through ≡ true → IsSome agent.hands.outside.writer
 
-pub record MayEnd {I J G T : Type 0} {D : I → Type 0} {E : J → Type 0} (finds : G → T → State → Type 0) (ticket : TicketClaim) (g : G) (t : T) (agent : Agent I J D E) : Type 0 where
-  pub unasked : ticket.asked ≡ false
-  pub who : ticket.reservation.caller.session ≡ agent.caller.session
-  pub live : (a : State) → finds g t a → a.origin ≡ Live
-  pub writes : asks_writer ticket.reservation.first ≡ true → IsSome agent.hands.outside.writer
+module _ {G T I J : Type 0} {D : I → Type 0} {E : J → Type 0} (finds : G → T → State → Type 0) where
+  abbrev pub MayCallAt : Bytes → Access G T I J D E → Type 0
+  MayCallAt key access = MayCallHere (finds access.gate.now access.token.now) key access.agent.now
+
+  pub record MayEnd (ticket : TicketClaim) (access : Access G T I J D E) : Type 0 where
+    pub unasked : ticket.asked ≡ false
+    pub who : ticket.reservation.caller.session ≡ access.agent.now.caller.session
+    pub live : (a : State) → finds access.gate.now access.token.now a → a.origin ≡ Live
+    pub writes : asks_writer ticket.reservation.first ≡ true → IsSome access.agent.now.hands.outside.writer
 
 -- 1. Up to where it is done, refused, or has somebody to ask, and from there on.
 

@@ -1,4 +1,5 @@
 -- What a session brings to the door of a stripe, and what it leaves there.
+--     KeepsAccess  the access still borrows the same gate, token and agent
 --     IsReady      the agent holds no stripe, and the token has not taken the gate's and speaks for the agent's session
 --     FitsGate     a phase is of this session, and each state in which a take may find the stripe has what the phase needs
 --     MakesPhase   the session is at the door again, with these counts, after this phase, or up to there
@@ -18,27 +19,35 @@ use Rattle.std.specs.Prelude.{◌≡◌, ◌⊎◌, ℕ, zero, suc, List, [], �
 use Rattle.jc_stripe.specs.Renewal.{RenewsIfFull, is_renewable}
 use Rattle.jc_stripe.specs.State.{State}
 use Rattle.jc_gate.specs.Lending.{ComesAfter}
-use Rattle.jc_session.specs.declared.agent.Agent.{Agent}
 use Rattle.jc_session.specs.declared.counts.Counts.{Counts}
+use Rattle.jc_engine.specs.declared.access.Access.{Access}
 use Rattle.jc_engine.specs.Rows.{AllLend, IsLending, Row, Turn, turn_of}
 
-pub record IsReady {I J G T : Type 0} {D : I → Type 0} {E : J → Type 0} (is_free : G → T → Type 0) (speaks_for : T → ℕ → Type 0) (g : G) (t : T) (agent : Agent I J D E) : Type 0 where
-  pub held : agent.hands.held ≡ 0
-  pub free : is_free g t
-  pub speaks : speaks_for t agent.caller.session
+module _ {G T I J : Type 0} {D : I → Type 0} {E : J → Type 0} where
+  pub record KeepsAccess (old new : Access G T I J D E) : Type 0 where
+    pub gate : new.gate.ghost_name ≡ old.gate.ghost_name
+    pub token : new.token.ghost_name ≡ old.token.ghost_name
+    pub agent : new.agent.ghost_name ≡ old.agent.ghost_name
 
-pub record FitsGate {G T : Type 0} (finds : G → T → State → Type 0) (needs : State → Type 0) (who : ℕ) (g : G) (t : T) (session : ℕ) : Type 0 where
-  pub who_is : who ≡ session
-  pub needs_it : (a : State) → finds g t a → needs a
+  pub record IsReady (is_free : G → T → Type 0) (speaks_for : T → ℕ → Type 0) (access : Access G T I J D E) : Type 0 where
+    pub held : access.agent.now.hands.held ≡ 0
+    pub free : is_free access.gate.now access.token.now
+    pub speaks : speaks_for access.token.now access.agent.now.caller.session
 
-pub record MakesPhase {I J G T : Type 0} {D : I → Type 0} {E : J → Type 0} (is_free : G → T → Type 0) (speaks_for : T → ℕ → Type 0) (old : Agent I J D E) (counts : Counts) (h : G) (u : T) (new : Agent I J D E) (Made : Type 0) : Type 0 where
-  pub ready : IsReady is_free speaks_for h u new
-  pub agent : new ≡ record old { counts = counts }
-  pub phase : Made
+  pub record FitsGate (finds : G → T → State → Type 0) (needs : State → Type 0) (who : ℕ) (access : Access G T I J D E) : Type 0 where
+    pub who_is : who ≡ access.agent.now.caller.session
+    pub needs_it : (a : State) → finds access.gate.now access.token.now a → needs a
 
-pub record MakesCall {I J G T : Type 0} {D : I → Type 0} {E : J → Type 0} (is_free : G → T → Type 0) (speaks_for : T → ℕ → Type 0) (h : G) (u : T) (new : Agent I J D E) (Made : Type 0) : Type 0 where
-  pub ready : IsReady is_free speaks_for h u new
-  pub call : Made
+  pub record MakesPhase (is_free : G → T → Type 0) (speaks_for : T → ℕ → Type 0) (old : Access G T I J D E) (counts : Counts) (new : Access G T I J D E) (Made : Type 0) : Type 0 where
+    pub same : KeepsAccess old new
+    pub ready : IsReady is_free speaks_for new
+    pub agent : new.agent.now ≡ record old.agent.now { counts = counts }
+    pub phase : Made
+
+  pub record MakesCall (is_free : G → T → Type 0) (speaks_for : T → ℕ → Type 0) (old new : Access G T I J D E) (Made : Type 0) : Type 0 where
+    pub same : KeepsAccess old new
+    pub ready : IsReady is_free speaks_for new
+    pub call : Made
 
 pub record IsLeft {G T : Type 0} (gives : G → T → State → G → T → Type 0) (finds : G → T → State → Type 0) (is_free : G → T → Type 0) (speaks_for : T → ℕ → Type 0) (g : G) (t : T) (found : State) (h : G) (u : T) : Type 0 where
   pub left : State

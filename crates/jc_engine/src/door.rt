@@ -4,13 +4,14 @@ ghost use Rattle.jc_stripe.specs.State.{State};
 ghost use Rattle.jc_stripe.specs.OnePhase.{IsPhaseOf};
 ghost use Rattle.jc_stripe.specs.Reached.{IsReached};
 ghost use Rattle.jc_session.specs.Counting.{IsCounted, counts_after};
-ghost use Rattle.jc_engine.specs.Doors.{FitsGate, HasTried, HasTriedOnce, HasWaited, IsAgain, IsLeft, IsReady, MakesPhase, waiting};
+ghost use Rattle.jc_engine.specs.Doors.{FitsGate, HasTried, HasTriedOnce, HasWaited, IsAgain, IsLeft, IsReady, KeepsAccess, MakesPhase, waiting};
 ghost use Rattle.jc_engine.specs.Rows.{IsLending, LentPhase};
 
+use crate::access::Access;
 use crate::laws::one_lending;
 use jc_gate::Gate;
 use jc_model::Reply;
-use jc_session::{Agent, Counted};
+use jc_session::Counted;
 use jc_stripe::Stripe;
 use jc_stripe::phase_laws::renewal;
 use std::sync::Wait;
@@ -66,145 +67,147 @@ pub trait Phase {
     ghost stays: { (p : Self) (a b : State) → ComesAfter (who p) a b → needs p a → needs p b };
 }
 
-/// Lends a stripe to a phase, as soon as the phase can be made there. What the call replies, if the phase ends it, is written to `reply`.
-///
-/// It waits while somebody else holds the stripe. If the phase can't be made on the stripe that it finds, or is put off, it gives the
-/// stripe back, with its generation ended if that may end, and tries again, after a pause if the agent has no reservation out. Nothing
-/// says that it returns.
-///
-/// Conditions: the agent holds no stripe; the token has not taken the gate's and speaks for the session, whose phase it is; each
-/// stripe that a take may find has what the phase needs.
-///
-/// In line: a phase may have what was answered outside, and shouldn't be copied once more.
-#[inline(always)]
-pub fn lend<G: Gate, P: Phase, R: Wait>(
-    rt: &R,
-    gate: &mut G,
-    token: &mut G::Token,
-    agent: &mut Agent,
-    phase: P,
-    reply: &mut Reply,
-) -> P::Answer
-    requires ready { IsReady G.is_free G.speaks_for gate.old token.old agent.old }
-    requires fits { FitsGate G.finds (P.needs phase) (P.who phase) gate.old token.old agent.old.caller.session }
-    ensures { MakesPhase G.is_free G.speaks_for agent.old (counts_after agent.old.counts (P.counts result)) gate.new token.new agent.new
-        ((lent : LentPhase G.takes G.gives G.finds agent.old.caller.session gate.old token.old
-        (waiting (P.due phase) (P.puts_off phase) (λ a b. P.makes phase a result reply.new b)) gate.new token.new)
-        × IsCounted (P.counts result) agent.old.caller.session lent.did.found lent.did.left) }
-{
-    let mut next = phase;
-    for _ in rt.forever() {
-        let mut stripe = agent.take(rt, gate, token);
-        if !next.is_due(&stripe) {
-            leave(gate, token, agent, stripe);
-            agent.pause(rt, gate, token);
-            continue;
+impl<'a, G: Gate> Access<'a, G> {
+    /// Lends a stripe to a phase, as soon as the phase can be made there. What the call replies, if the phase ends it, is written to
+    /// `reply`.
+    ///
+    /// It waits while somebody else holds the stripe. If the phase can't be made on the stripe that it finds, or is put off, it gives
+    /// the stripe back, with its generation ended if that may end, and tries again, after a pause if the agent has no reservation out.
+    /// Nothing says that it returns.
+    ///
+    /// Conditions: the agent holds no stripe; the token has not taken the gate's and speaks for the session, whose phase it is; each
+    /// stripe that a take may find has what the phase needs.
+    ///
+    /// In line: a phase may have what was answered outside, and shouldn't be copied once more.
+    #[inline(always)]
+    pub fn lend<P: Phase, R: Wait>(&mut self, rt: &R, phase: P, reply: &mut Reply) -> P::Answer
+        requires ready { IsReady G.is_free G.speaks_for self.old }
+        requires fits { FitsGate G.finds (P.needs phase) (P.who phase) self.old }
+        ensures { MakesPhase G.is_free G.speaks_for
+            self.old (counts_after self.old.agent.now.counts (P.counts result)) self.new
+            ((lent : LentPhase G.takes G.gives G.finds
+            self.old.agent.now.caller.session self.old.gate.now self.old.token.now
+            (waiting (P.due phase) (P.puts_off phase) (λ a b. P.makes phase a result reply.new b))
+            self.new.gate.now self.new.token.now)
+            × IsCounted (P.counts result) self.old.agent.now.caller.session lent.did.found lent.did.left) }
+    {
+        let mut next = phase;
+        for _ in rt.forever() {
+            let mut stripe = self.agent.take(rt, self.gate, self.token);
+            if !next.is_due(&stripe) {
+                self.leave(stripe);
+                self.agent.pause(rt, self.gate, self.token);
+                continue;
+            }
+            match next.make(&mut stripe, reply) {
+                Ok(answer) => {
+                    self.agent
+                        .give(self.gate, self.token, stripe, P::counted(&answer));
+                    return answer;
+                }
+                Err(back) => {
+                    self.leave(stripe);
+                    self.agent.pause(rt, self.gate, self.token);
+                    next = back;
+                }
+            }
         }
-        match next.make(&mut stripe, reply) {
+        unreachable!()
+    }
+
+    /// Makes a phase, if the stripe is there and the phase can be made now, or after the generation that stood in its way has ended. An
+    /// `Err` gives it back: nothing was done, but that the stripe's generation may have ended. Then the stripe wasn't there, or each that
+    /// was found was one on which the phase can't be made, or on which it is put off.
+    ///
+    /// It never waits. Conditions: those of [`lend`](Access::lend).
+    pub fn try_lend<P: Phase>(&mut self, phase: P, reply: &mut Reply) -> Result<P::Answer, P>
+        requires ready { IsReady G.is_free G.speaks_for self.old }
+        requires fits { FitsGate G.finds (P.needs phase) (P.who phase) self.old }
+        ensures ready { KeepsAccess self.old self.new × IsReady G.is_free G.speaks_for self.new }
+        ensures made { IfOk result (λ answer. (self.new.agent.now
+            ≡ record self.old.agent.now { counts = counts_after self.old.agent.now.counts (P.counts answer) })
+            × (lent : LentPhase G.takes G.gives G.finds
+            self.old.agent.now.caller.session self.old.gate.now self.old.token.now
+            (waiting (P.due phase) (P.puts_off phase) (λ a b. P.makes phase a answer reply.new b))
+            self.new.gate.now self.new.token.now)
+            × IsAgain lent.did.waits) }
+        ensures back { IfErr result (λ back. (back ≡ phase) × (self.new.agent.now ≡ self.old.agent.now)
+            × HasTried G.takes G.gives G.finds G.misses self.old.agent.now.caller.session
+            (HasWaited (P.due phase) (P.puts_off phase))
+            self.old.gate.now self.old.token.now self.new.gate.now self.new.token.now) }
+    {
+        one_lending();
+        let (back, ends) = match self.lend_once(phase, reply) {
+            Ok(answer) => return Ok(answer),
+            Err(back) => back,
+        };
+        if !ends {
+            return Err(back);
+        }
+        match self.lend_once(back, reply) {
+            Ok(answer) => Ok(answer),
+            Err((back, _)) => Err(back),
+        }
+    }
+
+    /// Makes a phase, if the stripe is there and the phase can be made now. An `Err` gives it back: nothing was done, but that the
+    /// stripe's generation may have ended. It also says whether the stripe was there and its generation was one that may end, so that
+    /// another try may do.
+    ///
+    /// It never waits. Conditions: those of [`lend`](Access::lend).
+    fn lend_once<P: Phase>(&mut self, phase: P, reply: &mut Reply) -> Result<P::Answer, (P, bool)>
+        requires ready { IsReady G.is_free G.speaks_for self.old }
+        requires fits { FitsGate G.finds (P.needs phase) (P.who phase) self.old }
+        ensures ready { KeepsAccess self.old self.new × IsReady G.is_free G.speaks_for self.new }
+        ensures made { IfOk result (λ answer. (self.new.agent.now
+            ≡ record self.old.agent.now { counts = counts_after self.old.agent.now.counts (P.counts answer) })
+            × (found : State) × (left : State) × P.makes phase found answer reply.new left
+            × IsPhaseOf self.old.agent.now.caller.session found left
+            × IsLending G.takes G.gives G.finds self.old.agent.now.caller.session
+            self.old.gate.now self.old.token.now found left self.new.gate.now self.new.token.now) }
+        ensures back { IfErr result (λ back. (back.0 ≡ phase) × (self.new.agent.now ≡ self.old.agent.now)
+            × HasTriedOnce G.takes G.gives G.finds G.misses self.old.agent.now.caller.session
+            (HasWaited (P.due phase) (P.puts_off phase)) back.1
+            self.old.gate.now self.old.token.now self.new.gate.now self.new.token.now) }
+    {
+        let mut stripe = match self.agent.try_take(self.gate, self.token) {
+            Some(stripe) => stripe,
+            None => return Err((phase, false)),
+        };
+        let ends = stripe.is_renewable();
+        if !phase.is_due(&stripe) {
+            self.leave(stripe);
+            return Err((phase, ends));
+        }
+        match phase.make(&mut stripe, reply) {
             Ok(answer) => {
-                agent.give(gate, token, stripe, P::counted(&answer));
-                return answer;
+                self.agent
+                    .give(self.gate, self.token, stripe, P::counted(&answer));
+                Ok(answer)
             }
             Err(back) => {
-                leave(gate, token, agent, stripe);
-                agent.pause(rt, gate, token);
-                next = back;
+                self.leave(stripe);
+                Err((back, ends))
             }
         }
     }
-    unreachable!()
-}
 
-/// Gives a stripe back on which no phase was made, with its generation ended if that may end.
-///
-/// Conditions: the agent holds the stripe, as the token has taken it; the token speaks for the session.
-fn leave<G: Gate>(gate: &mut G, token: &mut G::Token, agent: &mut Agent, stripe: Box<Stripe>)
-    requires held { (agent.old.hands.held ≡ 1) × G.speaks_for token.old agent.old.caller.session }
-    requires taken { G.has gate.old token.old stripe.value × IsReached stripe.value }
-    ensures agent { agent.new ≡ record agent.old { hands = record agent.old.hands { held = 0 } } }
-    ensures left { IsLeft G.gives G.finds G.is_free G.speaks_for gate.old token.old stripe.value gate.new token.new }
-{
-    renewal();
-    let mut stripe = stripe;
-    stripe.renew_if_full();
-    agent.give_back(gate, token, stripe);
-}
-
-/// Makes a phase, if the stripe is there and the phase can be made now. An `Err` gives it back: nothing was done, but that the
-/// stripe's generation may have ended. It also says whether the stripe was there and its generation was one that may end, so that
-/// another try may do.
-///
-/// It never waits. Conditions: those of [`lend`].
-fn lend_once<G: Gate, P: Phase>(
-    gate: &mut G,
-    token: &mut G::Token,
-    agent: &mut Agent,
-    phase: P,
-    reply: &mut Reply,
-) -> Result<P::Answer, (P, bool)>
-    requires ready { IsReady G.is_free G.speaks_for gate.old token.old agent.old }
-    requires fits { FitsGate G.finds (P.needs phase) (P.who phase) gate.old token.old agent.old.caller.session }
-    ensures ready { IsReady G.is_free G.speaks_for gate.new token.new agent.new }
-    ensures made { IfOk result (λ answer. (agent.new ≡ record agent.old { counts = counts_after agent.old.counts (P.counts answer) })
-        × (found : State) × (left : State) × P.makes phase found answer reply.new left
-        × IsPhaseOf agent.old.caller.session found left
-        × IsLending G.takes G.gives G.finds agent.old.caller.session gate.old token.old found left gate.new token.new) }
-    ensures back { IfErr result (λ back. (back.0 ≡ phase) × (agent.new ≡ agent.old)
-        × HasTriedOnce G.takes G.gives G.finds G.misses agent.old.caller.session (HasWaited (P.due phase) (P.puts_off phase)) back.1 gate.old token.old gate.new token.new) }
-{
-    let mut stripe = match agent.try_take(gate, token) {
-        Some(stripe) => stripe,
-        None => return Err((phase, false)),
-    };
-    let ends = stripe.is_renewable();
-    if !phase.is_due(&stripe) {
-        leave(gate, token, agent, stripe);
-        return Err((phase, ends));
-    }
-    match phase.make(&mut stripe, reply) {
-        Ok(answer) => {
-            agent.give(gate, token, stripe, P::counted(&answer));
-            Ok(answer)
-        }
-        Err(back) => {
-            leave(gate, token, agent, stripe);
-            Err((back, ends))
-        }
-    }
-}
-
-/// Makes a phase, if the stripe is there and the phase can be made now, or after the generation that stood in its way has ended. An
-/// `Err` gives it back: nothing was done, but that the stripe's generation may have ended. Then the stripe wasn't there, or each that
-/// was found was one on which the phase can't be made, or on which it is put off.
-///
-/// It never waits. Conditions: those of [`lend`].
-pub fn try_lend<G: Gate, P: Phase>(
-    gate: &mut G,
-    token: &mut G::Token,
-    agent: &mut Agent,
-    phase: P,
-    reply: &mut Reply,
-) -> Result<P::Answer, P>
-    requires ready { IsReady G.is_free G.speaks_for gate.old token.old agent.old }
-    requires fits { FitsGate G.finds (P.needs phase) (P.who phase) gate.old token.old agent.old.caller.session }
-    ensures ready { IsReady G.is_free G.speaks_for gate.new token.new agent.new }
-    ensures made { IfOk result (λ answer. (agent.new ≡ record agent.old { counts = counts_after agent.old.counts (P.counts answer) })
-        × (lent : LentPhase G.takes G.gives G.finds agent.old.caller.session gate.old token.old
-        (waiting (P.due phase) (P.puts_off phase) (λ a b. P.makes phase a answer reply.new b)) gate.new token.new)
-        × IsAgain lent.did.waits) }
-    ensures back { IfErr result (λ back. (back ≡ phase) × (agent.new ≡ agent.old)
-        × HasTried G.takes G.gives G.finds G.misses agent.old.caller.session (HasWaited (P.due phase) (P.puts_off phase)) gate.old token.old gate.new token.new) }
-{
-    one_lending();
-    let (back, ends) = match lend_once(gate, token, agent, phase, reply) {
-        Ok(answer) => return Ok(answer),
-        Err(back) => back,
-    };
-    if !ends {
-        return Err(back);
-    }
-    match lend_once(gate, token, agent, back, reply) {
-        Ok(answer) => Ok(answer),
-        Err((back, _)) => Err(back),
+    /// Gives a stripe back on which no phase was made, with its generation ended if that may end.
+    ///
+    /// Conditions: the agent holds the stripe, as the token has taken it; the token speaks for the session.
+    fn leave(&mut self, stripe: Box<Stripe>)
+        requires held { (self.old.agent.now.hands.held ≡ 1)
+            × G.speaks_for self.old.token.now self.old.agent.now.caller.session }
+        requires taken { G.has self.old.gate.now self.old.token.now stripe.value × IsReached stripe.value }
+        ensures same { KeepsAccess self.old self.new }
+        ensures agent { self.new.agent.now
+            ≡ record self.old.agent.now { hands = record self.old.agent.now.hands { held = 0 } } }
+        ensures left { IsLeft G.gives G.finds G.is_free G.speaks_for
+            self.old.gate.now self.old.token.now stripe.value self.new.gate.now self.new.token.now }
+    {
+        renewal();
+        let mut stripe = stripe;
+        stripe.renew_if_full();
+        self.agent.give_back(self.gate, self.token, stripe);
     }
 }

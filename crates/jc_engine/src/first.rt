@@ -6,7 +6,7 @@ ghost use Rattle.jc_engine.specs.Needs.{can_start, is_alone, puts_off};
 
 use crate::door::Phase;
 use jc_model::{Op, Reply};
-use jc_session::Counted;
+use jc_session::{Agent, Counted};
 use jc_stripe::phase_laws::caller_numbers;
 use jc_stripe::{Started, Stripe};
 use jc_types::{Caller, Key};
@@ -69,6 +69,19 @@ pub struct First<'a> {
 }
 
 impl<'a> First<'a> {
+    /// The first phase of this agent's current call at a key.
+    #[inline]
+    pub fn of(agent: &Agent, key: &'a Key, op: &'a Op, how: How) -> First<'a>
+        ensures { result ≡ record { caller = agent.now.caller; key = key.entry; op = op.entry; how = how } }
+    {
+        First {
+            caller: agent.caller(),
+            key,
+            op,
+            how,
+        }
+    }
+
     /// Whether the phase may run now, on this stripe.
     fn can_start(&self, stripe: &Stripe) -> bool
         ensures { result ≡ can_start self.now.how stripe.now self.now.caller self.now.key.now self.now.op.now }

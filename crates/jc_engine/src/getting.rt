@@ -13,62 +13,88 @@ ghost use Rattle.jc_engine.specs.Values.{value_into};
 ghost use Rattle.jc_engine.specs.Calls.{IsCall, MayCallAt};
 ghost use Rattle.jc_engine.specs.Doors.{IsReady, MakesCall, MakesPhase};
 
-use crate::calling::call;
+use crate::access::Access;
 use crate::laws::one_lending;
 use jc_gate::Gate;
 use jc_model::{Op, Reply};
-use jc_session::{Agent, Counted};
+use jc_session::Counted;
 use jc_stripe::Stripe;
 use jc_stripe::phase_laws::caller_numbers;
 use jc_types::{Caller, Key, Refusal, Value};
 use std::sync::Wait;
 
-/// The agent's current call, if it is a `get`, whole: a hit, or else as [`call`] makes it. It writes the key's value to `value`, and
-/// says whether there is one; if not, `value` stays. An `Err` is a fault of the loader, or `HistoryFull`; then `value` stays, too.
-///
-/// It may wait as any call does. Conditions: those of [`call`].
-pub fn get_into<G: Gate, R: Wait>(
-    rt: &R,
-    gate: &mut G,
-    token: &mut G::Token,
-    agent: &mut Agent,
-    key: &Key,
-    value: &mut Value,
-) -> Result<bool, Refusal>
-    requires ready { IsReady G.is_free G.speaks_for gate.old token.old agent.old }
-    requires may { MayCallAt G.finds key.now gate.old token.old agent.old }
-    ensures { MakesCall G.is_free G.speaks_for gate.new token.new agent.new
-        ((ended : Result Reply Refusal) × (called : IsCall loads load_state writes write_state G.takes G.gives G.finds
-        agent.old key.now Get gate.old token.old ended agent.new gate.new token.new)
-        × ((result, value.new) ≡ value_into value.old ended) × HasLookedFirst agent.old.caller key.now called.row) }
-{
-    one_lending();
-    if hit(rt, gate, token, agent, key, value) {
-        return Ok(true);
+impl<'a, G: Gate> Access<'a, G> {
+    /// The agent's current call, if it is a `get`, whole: a hit, or else as [`call`](Access::call) makes it. It writes the key's value to
+    /// `value`, and says whether there is one; if not, `value` stays. An `Err` is a fault of the loader, or `HistoryFull`; then `value`
+    /// stays, too.
+    ///
+    /// It may wait as any call does. Conditions: those of [`call`](Access::call).
+    pub fn get_into<R: Wait>(
+        &mut self,
+        rt: &R,
+        key: &Key,
+        value: &mut Value,
+    ) -> Result<bool, Refusal>
+        requires ready { IsReady G.is_free G.speaks_for self.old }
+        requires may { MayCallAt G.finds key.now self.old }
+        ensures { MakesCall G.is_free G.speaks_for self.old self.new
+            ((ended : Result Reply Refusal)
+            × (called : IsCall loads load_state writes write_state G.takes G.gives G.finds
+            self.old.agent.now key.now Get self.old.gate.now self.old.token.now ended
+            self.new.agent.now self.new.gate.now self.new.token.now)
+            × ((result, value.new) ≡ value_into value.old ended)
+            × HasLookedFirst self.old.agent.now.caller key.now called.row) }
+    {
+        one_lending();
+        if self.hit(rt, key, value) {
+            return Ok(true);
+        }
+        self.get_in_phases(rt, key, value)
     }
-    get_in_phases(rt, gate, token, agent, key, value)
-}
 
-/// The agent's current call, if it is a `get` and isn't a hit. It is a function of its own so that a hit doesn't clear the room of a
-/// reply.
-fn get_in_phases<G: Gate, R: Wait>(
-    rt: &R,
-    gate: &mut G,
-    token: &mut G::Token,
-    agent: &mut Agent,
-    key: &Key,
-    value: &mut Value,
-) -> Result<bool, Refusal>
-    requires ready { IsReady G.is_free G.speaks_for gate.old token.old agent.old }
-    requires may { MayCallAt G.finds key.now gate.old token.old agent.old }
-    ensures { MakesCall G.is_free G.speaks_for gate.new token.new agent.new
-        ((ended : Result Reply Refusal) × IsCall loads load_state writes write_state G.takes G.gives G.finds
-        agent.old key.now Get gate.old token.old ended agent.new gate.new token.new
-        × ((result, value.new) ≡ value_into value.old ended)) }
-{
-    let mut reply = Reply::Unit;
-    call(rt, gate, token, agent, key, &Op::Get, &mut reply)?;
-    write_value(&reply, value)
+    /// The agent's current call, if it is a `get` and isn't a hit. It is a function of its own so that a hit doesn't clear the room of a
+    /// reply.
+    fn get_in_phases<R: Wait>(
+        &mut self,
+        rt: &R,
+        key: &Key,
+        value: &mut Value,
+    ) -> Result<bool, Refusal>
+        requires ready { IsReady G.is_free G.speaks_for self.old }
+        requires may { MayCallAt G.finds key.now self.old }
+        ensures { MakesCall G.is_free G.speaks_for self.old self.new
+            ((ended : Result Reply Refusal)
+            × IsCall loads load_state writes write_state G.takes G.gives G.finds
+            self.old.agent.now key.now Get self.old.gate.now self.old.token.now ended
+            self.new.agent.now self.new.gate.now self.new.token.now
+            × ((result, value.new) ≡ value_into value.old ended)) }
+    {
+        let mut reply = Reply::Unit;
+        self.call(rt, key, &Op::Get, &mut reply)?;
+        write_value(&reply, value)
+    }
+
+    /// The first phase of the agent's current call, if it is a `get` that finds its entry. It writes the value to `value`, and says
+    /// whether it found one. If not, nothing was done, and `value` stays.
+    ///
+    /// It waits while somebody else holds the stripe, and never for anything else. Conditions: those of [`call`](Access::call).
+    fn hit<R: Wait>(&mut self, rt: &R, key: &Key, value: &mut Value) -> bool
+        requires ready { IsReady G.is_free G.speaks_for self.old }
+        requires may { MayCallAt G.finds key.now self.old }
+        ensures made { MakesPhase G.is_free G.speaks_for
+            self.old (counts_after self.old.agent.now.counts (counted_hit result)) self.new
+            ((found : State) × (left : State)
+            × Hits self.old.agent.now.caller key.now result value.new found left
+            × IsLending G.takes G.gives G.finds self.old.agent.now.caller.session
+            self.old.gate.now self.old.token.now found left self.new.gate.now self.new.token.now) }
+        ensures stays { OnFalse result (value.new ≡ value.old) }
+    {
+        let mut stripe = self.agent.take(rt, self.gate, self.token);
+        let is_hit = hit_on(&mut stripe, self.agent.caller(), key, value);
+        self.agent
+            .give(self.gate, self.token, stripe, counted_hit(is_hit));
+        is_hit
+    }
 }
 
 /// Writes the value of a reply to `value`, if it has one, and says whether it does.
@@ -83,31 +109,6 @@ fn write_value(reply: &Reply, value: &mut Value) -> Result<bool, Refusal>
         Reply::Value(None) | Reply::Flag(_) | Reply::Unit => Ok(false),
         Reply::Fault(fault) => Err(*fault),
     }
-}
-
-/// The first phase of the agent's current call, if it is a `get` that finds its entry. It writes the value to `value`, and says whether
-/// it found one. If not, nothing was done, and `value` stays.
-///
-/// It waits while somebody else holds the stripe, and never for anything else. Conditions: those of [`call`].
-fn hit<G: Gate, R: Wait>(
-    rt: &R,
-    gate: &mut G,
-    token: &mut G::Token,
-    agent: &mut Agent,
-    key: &Key,
-    value: &mut Value,
-) -> bool
-    requires ready { IsReady G.is_free G.speaks_for gate.old token.old agent.old }
-    requires may { MayCallAt G.finds key.now gate.old token.old agent.old }
-    ensures made { MakesPhase G.is_free G.speaks_for agent.old (counts_after agent.old.counts (counted_hit result)) gate.new token.new agent.new
-        ((found : State) × (left : State) × Hits agent.old.caller key.now result value.new found left
-        × IsLending G.takes G.gives G.finds agent.old.caller.session gate.old token.old found left gate.new token.new) }
-    ensures stays { OnFalse result (value.new ≡ value.old) }
-{
-    let mut stripe = agent.take(rt, gate, token);
-    let is_hit = hit_on(&mut stripe, agent.caller(), key, value);
-    agent.give(gate, token, stripe, counted_hit(is_hit));
-    is_hit
 }
 
 /// Answers a hit from a stripe that was taken.

@@ -1,20 +1,14 @@
 //! A whole call that runs a processor.
-ghost use Rattle.std.specs.Prelude.{◌≡◌, true, false, None, IsSome, is_some, if◌then◌else◌};
-ghost use Rattle.jc_model.specs.Table.{process_ask};
-ghost use Rattle.jc_outside.specs.declared.done.Origin.TheVariants.{Live};
-ghost use Rattle.jc_mutentry.specs.Done.{effect_change};
-ghost use Rattle.jc_stripe.specs.Effects.{HasReport, report_answer};
+ghost use Rattle.std.specs.Prelude.{◌≡◌, true, false, IsSome};
 ghost use Rattle.jc_stripe.specs.State.{State};
 ghost use Rattle.jc_stripe.specs.Tickets.{asks_processor, claim_of};
-ghost use Rattle.jc_session.specs.Boxed.{boxed};
 ghost use Rattle.jc_engine.specs.Asking.{IsProcessed, WritesEffect};
 ghost use Rattle.jc_engine.specs.Calls.{IsInvocation, MayCallAt};
 ghost use Rattle.jc_engine.specs.Entering.{ended_with};
 ghost use Rattle.jc_engine.specs.Doors.{IsReady, MakesCall};
 
-use crate::calling::end;
-use crate::door::lend;
-use crate::ending::Processed;
+use crate::access::Access;
+use crate::ending::{Commit, Processed};
 use crate::first::{First, How};
 use crate::laws::one_lending;
 use jc_gate::Gate;
@@ -25,96 +19,91 @@ use jc_stripe::{Ask, ProcDone, Started, Ticket, WriteDone};
 use jc_types::{Key, Refusal, Value};
 use std::sync::Wait;
 
-/// The agent's current call, whole, which runs a processor: its first phase, then the processor and, if its net effect is to be
-/// written, the writer, while no stripe is held, and its last phase. It writes what the call replies to `reply`.
-///
-/// It waits as [`call`](crate::call) does, but joins no load.
-///
-/// Conditions: those of [`call`](crate::call), but for the operation; and write-through is on or off as the stripe has it.
-pub fn invoke<G: Gate, R: Wait>(
-    rt: &R,
-    gate: &mut G,
-    token: &mut G::Token,
-    agent: &mut Agent,
-    key: &Key,
-    write_through: bool,
-    processor: &mut Box<dyn EntryProcessor + Send + Drop>,
-    args: &[Value],
-    reply: &mut Reply,
-) -> Result<(), Refusal>
-    requires ready { IsReady G.is_free G.speaks_for gate.old token.old agent.old }
-    requires may { MayCallAt G.finds key.now gate.old token.old agent.old }
-    requires through { (a : State) → G.finds gate.old token.old a → a.config.write_through ≡ write_through }
-    ensures { MakesCall G.is_free G.speaks_for gate.new token.new agent.new
-        (IsInvocation loads load_state writes write_state processes process_state
-        G.takes G.gives G.finds
-        agent.old key.now args.now processor.old gate.old token.old
-        (ended_with result reply.new) agent.new processor.new gate.new token.new) }
-{
-    one_lending();
-    let first = First {
-        caller: agent.caller(),
-        key,
-        op: &Op::Invoke,
-        how: How::Waits,
-    };
-    match lend(rt, gate, token, agent, first, reply) {
-        Started::Refused(refusal) => Err(refusal),
-        Started::Asks(ticket) => {
-            let mut ticket = ticket;
-            let processed = run(
-                rt,
-                gate,
-                token,
-                agent,
-                write_through,
-                &mut ticket,
-                processor,
-                args,
-            );
-            end(rt, gate, token, agent, ticket, processed, reply);
-            Ok(())
+/// What a call runs on its key: an entry processor, with its arguments.
+#[derive(Drop)]
+pub struct Invocation<'a> {
+    /// The processor.
+    pub processor: &'a mut Box<dyn EntryProcessor + Send + Drop>,
+    /// Its arguments.
+    pub args: &'a [Value],
+}
+
+impl<'a, G: Gate> Access<'a, G> {
+    /// The agent's current call, whole, which runs a processor: its first phase, then the processor and, if its net effect is to be
+    /// written, the writer, while no stripe is held, and its last phase. It writes what the call replies to `reply`.
+    ///
+    /// It waits as [`call`](Access::call) does, but joins no load.
+    ///
+    /// Conditions: those of [`call`](Access::call), but for the operation; and write-through is on or off as the stripe has it.
+    pub fn invoke<R: Wait>(
+        &mut self,
+        rt: &R,
+        key: &Key,
+        write_through: bool,
+        invocation: &mut Invocation<'_>,
+        reply: &mut Reply,
+    ) -> Result<(), Refusal>
+        requires ready { IsReady G.is_free G.speaks_for self.old }
+        requires may { MayCallAt G.finds key.now self.old }
+        requires through { (a : State) → G.finds self.old.gate.now self.old.token.now a
+            → a.config.write_through ≡ write_through }
+        ensures same { invocation.new.processor.ghost_name ≡ invocation.old.processor.ghost_name }
+        ensures call { MakesCall G.is_free G.speaks_for self.old self.new
+            (IsInvocation loads load_state writes write_state processes process_state
+            G.takes G.gives G.finds
+            self.old.agent.now key.now invocation.old.args.now invocation.old.processor.now self.old.gate.now self.old.token.now
+            (ended_with result reply.new)
+            self.new.agent.now invocation.new.processor.now self.new.gate.now self.new.token.now) }
+    {
+        one_lending();
+        let first = First::of(self.agent, key, &Op::Invoke, How::Waits);
+        match self.lend(rt, first, reply) {
+            Started::Refused(refusal) => Err(refusal),
+            Started::Asks(ticket) => {
+                let mut ticket = ticket;
+                let answer = run(rt, self.agent, write_through, &mut ticket, invocation);
+                self.lend(rt, Commit { ticket, answer }, reply);
+                Ok(())
+            }
+            Started::Done(_step) => unreachable!(),
+            Started::Joined(_join) => unreachable!(),
         }
-        Started::Done(_step) => unreachable!(),
-        Started::Joined(_join) => unreachable!(),
     }
 }
 
-/// Runs the processor, and has its net effect written if it is to be: the call may then be committed. No stripe is held meanwhile.
-fn run<G: Gate, R: Wait>(
+/// Runs the processor, and has its net effect written if it is to be: the call may then be committed. The agent holds no stripe
+/// meanwhile.
+fn run<R: Wait>(
     rt: &R,
-    gate: &G,
-    token: &G::Token,
     agent: &mut Agent,
     write_through: bool,
     ticket: &mut Ticket,
-    processor: &mut Box<dyn EntryProcessor + Send + Drop>,
-    args: &[Value],
+    invocation: &mut Invocation<'_>,
 ) -> Processed
-    requires ready { IsReady G.is_free G.speaks_for gate.now token.now agent.old }
+    requires held { agent.old.hands.held ≡ 0 }
     requires unasked { (ticket.old.asked ≡ false) × (ticket.old.writer_asked ≡ false)
         × (asks_processor ticket.old.reservation.first ≡ true) }
     requires writer { write_through ≡ true → IsSome agent.old.hands.outside.writer }
-    ensures { IsProcessed loads load_state writes write_state processes process_state
-        write_through agent.old ticket.old args.now processor.old result.done result.report agent.new ticket.new processor.new }
+    ensures same { invocation.new.processor.ghost_name ≡ invocation.old.processor.ghost_name }
+    ensures run { IsProcessed loads load_state writes write_state processes process_state
+        write_through agent.old ticket.old invocation.old.args.now invocation.old.processor.now
+        result.done result.report agent.new ticket.new invocation.new.processor.now }
 {
-    let done = agent.run_processor(rt, ticket.ask(), processor, args);
-    let report = write_effect(rt, gate, token, agent, write_through, ticket, &done);
+    let done = agent.run_processor(rt, ticket.ask(), invocation.processor, invocation.args);
+    let report = write_effect(rt, agent, write_through, ticket, &done);
     Processed { done, report }
 }
 
-/// Calls the writer for a processor's net effect: once, with write-through on, if there is a change to ask for. No stripe is held
-/// meanwhile.
-fn write_effect<G: Gate, R: Wait>(
+/// Calls the writer for a processor's net effect: once, with write-through on, if there is a change to ask for. The agent holds no
+/// stripe meanwhile.
+fn write_effect<R: Wait>(
     rt: &R,
-    _gate: &G,
-    _token: &G::Token,
     agent: &mut Agent,
     write_through: bool,
     ticket: &mut Ticket,
     done: &ProcDone<Ask>,
 ) -> Option<WriteDone<Ask>>
-    requires ready { IsReady G.is_free G.speaks_for _gate.now _token.now agent.old }
+    requires held { agent.old.hands.held ≡ 0 }
     requires writer { write_through ≡ true → IsSome agent.old.hands.outside.writer }
     requires asked { (ticket.old.asked ≡ true) × (ticket.old.writer_asked ≡ false) }
     requires claim { done.now.ask ≡ claim_of ticket.old.reservation }

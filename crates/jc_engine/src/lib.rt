@@ -13,6 +13,7 @@
 //! - `invoke` shares the phases of the eleven; only its middle differs.
 #![tactic(auto)]
 
+mod access;
 mod calling;
 mod door;
 mod ending;
@@ -25,12 +26,10 @@ pub mod laws;
 mod owned;
 mod trying;
 
-pub use calling::call;
-pub use door::{Phase, lend, try_lend};
+pub use access::Access;
+pub use door::Phase;
 pub use ending::{Answer, Commit, Processed, Withdraw};
 pub use first::{First, How};
-pub use getting::get_into;
-pub use invoking::invoke;
+pub use invoking::Invocation;
 pub use joining::PickUp;
 pub use owned::{call_owned, invoke_owned};
-pub use trying::try_call;

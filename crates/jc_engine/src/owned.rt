@@ -2,18 +2,17 @@
 ghost use Rattle.std.specs.Prelude.{◌≡◌, true, false, Some, IsSome};
 ghost use Rattle.jc_model.specs.Table.{is_invoke};
 ghost use Rattle.jc_stripe.specs.State.{State, IsIdle};
-ghost use Rattle.jc_engine.specs.Calls.{MayCallAt};
+ghost use Rattle.jc_engine.specs.Calls.{MayCallHere};
 ghost use Rattle.jc_engine.specs.Entering.{ended_with};
 ghost use Rattle.jc_engine.specs.Owned.{IsOwnedCall, IsOwnedInvocation};
 
-use crate::calling::call;
-use crate::invoking::invoke;
+use crate::access::Access;
+use crate::invoking::Invocation;
 use jc_gate::Owner;
 use jc_model::{Op, Reply};
-use jc_mutentry::EntryProcessor;
 use jc_session::Agent;
 use jc_stripe::phase_laws::{joins_only_loads, whole_call};
-use jc_types::{Key, Refusal, Value};
+use jc_types::{Key, Refusal};
 use std::sync::Wait;
 
 /// The agent's current call, whole, on a stripe that nobody else has: it is one step there, whose
@@ -21,7 +20,7 @@ use std::sync::Wait;
 ///
 /// It waits for the loader or the writer.
 ///
-/// Conditions: those of [`call`](crate::call), and the owner has its stripe, which doesn't live on, and no reservation and no join is
+/// Conditions: those of [`call`](Access::call), and the owner has its stripe, which doesn't live on, and no reservation and no join is
 /// out there.
 pub fn call_owned<R: Wait>(
     rt: &R,
@@ -32,7 +31,7 @@ pub fn call_owned<R: Wait>(
     reply: &mut Reply,
 ) -> Result<(), Refusal>
     requires ready { (agent.old.hands.held ≡ 0) × IsSome owner.old.here }
-    requires may { MayCallAt (λ o u. λ a. o.here ≡ Some a) key.now owner.old (tt {0}) agent.old }
+    requires may { MayCallHere (λ a. owner.old.here ≡ Some a) key.now agent.old }
     requires idle { (a : State) → owner.old.here ≡ Some a → IsIdle a × (a.lives ≡ false) }
     requires op { is_invoke op.now ≡ false }
     ensures call { IsOwnedCall loads load_state writes write_state
@@ -40,7 +39,13 @@ pub fn call_owned<R: Wait>(
 {
     joins_only_loads();
     whole_call();
-    call(rt, owner, &mut (), agent, key, op, reply)
+    let token = &mut ();
+    let mut access = Access {
+        gate: owner,
+        token,
+        agent,
+    };
+    access.call(rt, key, op, reply)
 }
 
 /// The agent's current call, whole, which runs a processor, on a stripe that nobody else has: it is one step there, on the entry that
@@ -54,29 +59,25 @@ pub fn invoke_owned<R: Wait>(
     owner: &mut Owner,
     agent: &mut Agent,
     key: &Key,
-    processor: &mut Box<dyn EntryProcessor + Send + Drop>,
-    args: &[Value],
+    invocation: &mut Invocation<'_>,
     reply: &mut Reply,
 ) -> Result<(), Refusal>
     requires ready { (agent.old.hands.held ≡ 0) × IsSome owner.old.here }
-    requires may { MayCallAt (λ o u. λ a. o.here ≡ Some a) key.now owner.old (tt {0}) agent.old }
+    requires may { MayCallHere (λ a. owner.old.here ≡ Some a) key.now agent.old }
     requires idle { (a : State) → owner.old.here ≡ Some a → IsIdle a × (a.lives ≡ false) }
+    ensures same { invocation.new.processor.ghost_name ≡ invocation.old.processor.ghost_name }
     ensures call { IsOwnedInvocation loads load_state writes write_state processes process_state
-        agent.old key.now args.now processor.old owner.old.here (ended_with result reply.new) agent.new processor.new owner.new.here }
+        agent.old key.now invocation.old.args.now invocation.old.processor.now owner.old.here (ended_with result reply.new)
+        agent.new invocation.new.processor.now owner.new.here }
 {
     joins_only_loads();
     whole_call();
     let write_through = owner.stripe().config().write_through;
     let token = &mut ();
-    invoke(
-        rt,
-        owner,
+    let mut access = Access {
+        gate: owner,
         token,
         agent,
-        key,
-        write_through,
-        processor,
-        args,
-        reply,
-    )
+    };
+    access.invoke(rt, key, write_through, invocation, reply)
 }

@@ -7,48 +7,40 @@ ghost use Rattle.jc_engine.specs.Calls.{IsTried};
 ghost use Rattle.jc_engine.specs.Entering.{ended_with};
 ghost use Rattle.jc_engine.specs.Doors.{IsReady, MakesPhase};
 
-use crate::door::try_lend;
+use crate::access::Access;
 use crate::first::{First, How};
 use jc_gate::Gate;
 use jc_model::{Op, Reply};
-use jc_session::Agent;
 use jc_stripe::Started;
 use jc_types::{Key, Refusal};
 
-/// The agent's current call, if it can be done at once; what it replies is written to `reply`: it never waits, never joins a load and never asks anybody outside.
-///
-/// It is refused as `Busy` if somebody else holds the stripe, if the stripe has a call of this session out, and if the call would
-/// have to ask the loader, the writer or a processor, or to join a load; and else as any call is.
-///
-/// Conditions: the agent holds no stripe; the token has not taken the gate's and speaks for the session; the stripe that a take
-/// finds is live, and the session's own steps there let the call come.
-pub fn try_call<G: Gate>(
-    gate: &mut G,
-    token: &mut G::Token,
-    agent: &mut Agent,
-    key: &Key,
-    op: &Op,
-    reply: &mut Reply,
-) -> Result<(), Refusal>
-    requires ready { IsReady G.is_free G.speaks_for gate.old token.old agent.old }
-    requires begins { (a : State) → G.finds gate.old token.old a → BeginsIfClear agent.old.caller key.now a }
-    ensures { MakesPhase G.is_free G.speaks_for agent.old (record agent.old.counts { own = own_after agent.old.counts.own (ended_with result reply.new) }) gate.new token.new agent.new
-        (IsTried G.takes G.gives G.finds G.misses agent.old.caller key.now op.now
-        gate.old token.old (ended_with result reply.new) gate.new token.new) }
-{
-    let first = First {
-        caller: agent.caller(),
-        key,
-        op,
-        how: How::Alone,
-    };
-    match try_lend(gate, token, agent, first, reply) {
-        Ok(started) => match started {
-            Started::Done(_step) => Ok(()),
-            Started::Refused(refusal) => Err(refusal),
-            Started::Asks(_ticket) => unreachable!(),
-            Started::Joined(_join) => unreachable!(),
-        },
-        Err(_first) => Err(Refusal::Busy),
+impl<'a, G: Gate> Access<'a, G> {
+    /// The agent's current call, if it can be done at once; what it replies is written to `reply`: it never waits, never joins a load and
+    /// never asks anybody outside.
+    ///
+    /// It is refused as `Busy` if somebody else holds the stripe, if the stripe has a call of this session out, and if the call would
+    /// have to ask the loader, the writer or a processor, or to join a load; and else as any call is.
+    ///
+    /// Conditions: the agent holds no stripe; the token has not taken the gate's and speaks for the session; the stripe that a take
+    /// finds is live, and the session's own steps there let the call come.
+    pub fn try_call(&mut self, key: &Key, op: &Op, reply: &mut Reply) -> Result<(), Refusal>
+        requires ready { IsReady G.is_free G.speaks_for self.old }
+        requires begins { (a : State) → G.finds self.old.gate.now self.old.token.now a
+            → BeginsIfClear self.old.agent.now.caller key.now a }
+        ensures { MakesPhase G.is_free G.speaks_for
+            self.old (record self.old.agent.now.counts { own = own_after self.old.agent.now.counts.own (ended_with result reply.new) }) self.new
+            (IsTried G.takes G.gives G.finds G.misses self.old.agent.now.caller key.now op.now
+            self.old.gate.now self.old.token.now (ended_with result reply.new) self.new.gate.now self.new.token.now) }
+    {
+        let first = First::of(self.agent, key, op, How::Alone);
+        match self.try_lend(first, reply) {
+            Ok(started) => match started {
+                Started::Done(_step) => Ok(()),
+                Started::Refused(refusal) => Err(refusal),
+                Started::Asks(_ticket) => unreachable!(),
+                Started::Joined(_join) => unreachable!(),
+            },
+            Err(_first) => Err(Refusal::Busy),
+        }
     }
 }

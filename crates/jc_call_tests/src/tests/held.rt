@@ -4,7 +4,7 @@ ghost use Rattle.jc_outside.specs.declared.done.Origin.TheVariants.{Live};
 ghost use Rattle.jc_lock.specs.Views.{after_split};
 
 use super::*;
-use jc_engine::try_call;
+use jc_engine::Access;
 use jc_lock::{HistLock, Seat};
 use jc_model::{Op, Reply};
 use jc_session::Agent;
@@ -41,8 +41,13 @@ fn tried(
     requires held { agent.old.hands.held ≡ 0 }
 {
     let mut gate = lock;
+    let mut access = Access {
+        gate: &mut gate,
+        token: seat,
+        agent,
+    };
     let mut reply = Reply::Unit;
-    try_call(&mut gate, seat, agent, key, op, &mut reply)?;
+    access.try_call(key, op, &mut reply)?;
     Ok(reply)
 }
 

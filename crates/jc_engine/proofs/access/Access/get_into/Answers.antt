@@ -1,4 +1,4 @@
-use Rattle.std.proofs.Common.{◌≡◌, ◌∙◌, Bool, inl, inr, IsSome, Ok, Some, [], ◌∷◌, length, sym, ap, refl, subst}
+use Rattle.std.proofs.Common.{rules, ◌≡◌, ◌∙◌, Bool, inl, inr, IsSome, Ok, Some, [], ◌∷◌, length, sym, ap, refl, subst}
 use Rattle.std.specs.Bool.{OnFalse}
 use Rattle.jc_types.specs.declared.caller.Caller.{Caller}
 use Rattle.jc_model.specs.Cache.{Bytes}
@@ -18,20 +18,21 @@ use Rattle.jc_engine.proofs.FromPhases.{unasked_call}
 use Rattle.jc_engine.proofs.Later.{later_call}
 use Rattle.jc_engine.proofs.Rounds.{at_once, done_row}
 use Rattle.jc_engine.proofs.Rows.{once}
-use Rattle.jc_engine.proofs.getting.get_into.Goals as goal
+use Rattle.jc_engine.proofs.access.Access.get_into.Goals as goal
 
 pub returns-then-hit : goal.returns-then-hit
 returns-then-hit g c = record {
+  same = search rules;
   ready = c.hit.ensures.made.ready;
   call =
-      let old = c.args.agent.now in
+      let old = c.args.self.now.agent.now in
       let x = c.hit.ensures.made.phase in
       let value = c.hit.new.value in
       let made : Starts old.caller c.args.key.now Get (Done (hit_done (length x.0.history) value)) x.0 x.1 = subst (λ (b : Bool). Hits old.caller c.args.key.now b value x.0 x.1) c.if-hit.true x.2 in
       let turn : IsTurn (starting old.caller c.args.key.now Get (Done (hit_done (length x.0.history) value))) ((x.0, x.1) ∷ []) = record { waits = []; found = x.0; left = x.1; row_is = refl; waited = tt; made = made } in (
         Ok (Value (Some value)),
-        unasked_call _ _ _ _ g.G.Gate.takes g.G.Gate.gives g.G.Gate.finds old c.hit.new.agent c.args.key.now Get c.args.gate.now c.args.token.now ((x.0, x.1) ∷ []) (Ok (Value (Some value))) c.hit.new.gate c.hit.new.token
-            (once g.G.Gate.takes g.G.Gate.gives g.G.Gate.finds old.caller.session c.args.gate.now c.args.token.now x.0 x.1 c.hit.new.gate c.hit.new.token x.3)
+        unasked_call _ _ _ _ g.G.Gate.takes g.G.Gate.gives g.G.Gate.finds old c.hit.new.self.agent.now c.args.key.now Get c.args.self.now.gate.now c.args.self.now.token.now ((x.0, x.1) ∷ []) (Ok (Value (Some value))) c.hit.new.self.gate.now c.hit.new.self.token.now
+            (once g.G.Gate.takes g.G.Gate.gives g.G.Gate.finds old.caller.session c.args.self.now.gate.now c.args.self.now.token.now x.0 x.1 c.hit.new.self.gate.now c.hit.new.self.token.now x.3)
             (done_row old.caller c.args.key.now Get (Done (hit_done (length x.0.history) value)) (Ok (Value (Some value))) ((x.0, x.1) ∷ []) (at_once old.caller c.args.key.now Get (Done (hit_done (length x.0.history) value)) ((x.0, x.1) ∷ []) turn) (refl, refl, refl))
             (c.hit.ensures.made.agent ∙ ap (λ (b : Bool). record old { counts = counts_after old.counts (counted_hit b) }) c.if-hit.true)
             c.requires.ready.held,
@@ -42,11 +43,11 @@ returns-then-hit g c = record {
 
 pub get_in_phases-requires-clause-may : goal.get_in_phases-requires-clause-may
 get_in_phases-requires-clause-may g c =
-    let old = c.args.agent.now in
-    let same : c.hit.new.agent ≡ old = c.hit.ensures.made.agent ∙ ap (λ (b : Bool). record old { counts = counts_after old.counts (counted_hit b) }) c.if-hit.false in
+    let old = c.args.self.now.agent.now in
+    let same : c.hit.new.self.agent.now ≡ old = c.hit.ensures.made.agent ∙ ap (λ (b : Bool). record old { counts = counts_after old.counts (counted_hit b) }) c.if-hit.false in
     let x = c.hit.ensures.made.phase in
     let missed : HasMissed old.caller c.args.key.now x.0 x.1 = subst (λ (b : Bool). Hits old.caller c.args.key.now b c.hit.new.value x.0 x.1) c.if-hit.false x.2 in
-    let since : (a : State) → g.G.Gate.finds c.hit.new.gate c.hit.new.token a → ComesAfter old.caller.session x.0 a = λ a found. subst (λ s. ComesAfter old.caller.session s a) missed.same (x.3.next a found) in
+    let since : (a : State) → g.G.Gate.finds c.hit.new.self.gate.now c.hit.new.self.token.now a → ComesAfter old.caller.session x.0 a = λ a found. subst (λ s. ComesAfter old.caller.session s a) missed.same (x.3.next a found) in
     record {
       reservations = ap (λ z. z.counts.reservations) same ∙ c.requires.may.reservations;
       joins = ap (λ z. z.counts.joins) same ∙ c.requires.may.joins;
@@ -56,16 +57,17 @@ get_in_phases-requires-clause-may g c =
 
 pub returns : goal.returns
 returns g c = record {
+  same = search rules;
   ready = c.get_in_phases.ensures.ready;
   call =
-      let old = c.args.agent.now in
+      let old = c.args.self.now.agent.now in
       let x = c.hit.ensures.made.phase in
       let missed : HasMissed old.caller c.args.key.now x.0 x.1 = subst (λ (b : Bool). Hits old.caller c.args.key.now b c.hit.new.value x.0 x.1) c.if-hit.false x.2 in
       let stays : c.hit.new.value ≡ c.args.value.now = subst (λ (b : Bool). OnFalse b (c.hit.new.value ≡ c.args.value.now)) c.if-hit.false c.hit.ensures.stays in
       let r = c.get_in_phases.ensures.call in (
         r.0,
-        later_call _ _ _ _ g.G.Gate.takes g.G.Gate.gives g.G.Gate.finds old c.hit.new.agent c.get_in_phases.new.agent c.args.key.now c.args.gate.now c.args.token.now x.0 x.1 c.hit.new.gate c.hit.new.token
-            r.0 c.get_in_phases.new.gate c.get_in_phases.new.token
+        later_call _ _ _ _ g.G.Gate.takes g.G.Gate.gives g.G.Gate.finds old c.hit.new.self.agent.now c.get_in_phases.new.self.agent.now c.args.key.now c.args.self.now.gate.now c.args.self.now.token.now x.0 x.1 c.hit.new.self.gate.now c.hit.new.self.token.now
+            r.0 c.get_in_phases.new.self.gate.now c.get_in_phases.new.self.token.now
             (c.hit.ensures.made.agent ∙ ap (λ (b : Bool). record old { counts = counts_after old.counts (counted_hit b) }) c.if-hit.false)
             missed x.3 r.1,
         r.2 ∙ ap (λ (room : Bytes). value_into room r.0) stays,

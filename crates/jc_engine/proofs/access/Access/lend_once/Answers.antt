@@ -5,7 +5,7 @@ use Rattle.jc_session.proofs.CallerLemmas.{phase_of}
 use Rattle.jc_stripe.specs.Renewal.{is_renewable}
 use Rattle.jc_engine.specs.Doors.{IsLeft}
 use Rattle.jc_engine.proofs.Rows.{left_once}
-use Rattle.jc_engine.proofs.door.lend_once.Goals as goal
+use Rattle.jc_engine.proofs.access.Access.lend_once.Goals as goal
 
 pub make-requires-clause-needs : goal.make-requires-clause-needs
 make-requires-clause-needs g c = rw (c.deref_mut.ensures.value) (c.requires.fits.needs_it _ c.in-Some.ensures.some.found.0)
@@ -33,11 +33,14 @@ returns-in-Ok-clause-made g c = (
 )
 
 pub returns-in-None-clause-ready : goal.returns-in-None-clause-ready
-returns-in-None-clause-ready g c = record {
-  held = ap (λ a. a.hands.held) c.in-None.ensures.none.none ∙ c.requires.ready.held;
-  free = c.in-None.ensures.none.free;
-  speaks = rw (ap (λ a. a.caller.session) c.in-None.ensures.none.none) (c.in-None.ensures.none.speaks _ c.requires.ready.speaks);
-}
+returns-in-None-clause-ready g c = (
+  record { gate = refl; token = refl; agent = refl },
+  record {
+    held = ap (λ a. a.hands.held) c.in-None.ensures.none.none ∙ c.requires.ready.held;
+    free = c.in-None.ensures.none.free;
+    speaks = rw (ap (λ a. a.caller.session) c.in-None.ensures.none.none) (c.in-None.ensures.none.speaks _ c.requires.ready.speaks);
+  },
+)
 
 pub returns-in-None-clause-back : goal.returns-in-None-clause-back
 returns-in-None-clause-back g c = (refl, c.in-None.ensures.none.none, inl ((refl, c.in-None.ensures.none.missed, c.in-None.ensures.none.still), refl))
@@ -51,7 +54,7 @@ returns-then-not-is_due-clause-back g c =
       search rules,
       inr (
         (found, c.leave.ensures.left.left),
-        left_once g.G.Gate.takes g.G.Gate.gives g.G.Gate.finds _ g.G.Gate.is_free g.G.Gate.speaks_for _ _ found c.try_take.new.gate c.try_take.new.token c.leave.new.gate c.leave.new.token some.takes some.found.0 some.found.1 (some.speaks _ c.requires.ready.speaks) c.leave.ensures.left,
+        left_once g.G.Gate.takes g.G.Gate.gives g.G.Gate.finds _ g.G.Gate.is_free g.G.Gate.speaks_for _ _ found c.try_take.new.gate c.try_take.new.token c.leave.new.self.gate.now c.leave.new.self.token.now some.takes some.found.0 some.found.1 (some.speaks _ c.requires.ready.speaks) c.leave.ensures.left,
         record { why = inl (λ due. true≢false (sym (c.is_due.ensures.1 (subst (g.P.Phase.due c.args.phase) (sym c.deref-2.ensures) due)) ∙ c.if-not-is_due.true)); renewed = c.leave.ensures.left.renewed },
         sym (c.is_renewable-ends.ensures ∙ ap is_renewable c.deref.ensures),
       ),
@@ -61,14 +64,14 @@ pub returns-in-Err-clause-back : goal.returns-in-Err-clause-back
 returns-in-Err-clause-back g c =
     let found : State = c.in-Some.stripe.value in
     let some = c.in-Some.ensures.some in
-    let left : IsLeft g.G.Gate.gives g.G.Gate.finds g.G.Gate.is_free g.G.Gate.speaks_for c.try_take.new.gate c.try_take.new.token found c.leave-in-Err.new.gate c.leave-in-Err.new.token =
-    subst (λ (s : State). IsLeft g.G.Gate.gives g.G.Gate.finds g.G.Gate.is_free g.G.Gate.speaks_for c.try_take.new.gate c.try_take.new.token s c.leave-in-Err.new.gate c.leave-in-Err.new.token)
+    let left : IsLeft g.G.Gate.gives g.G.Gate.finds g.G.Gate.is_free g.G.Gate.speaks_for c.try_take.new.gate c.try_take.new.token found c.leave-in-Err.new.self.gate.now c.leave-in-Err.new.self.token.now =
+    subst (λ (s : State). IsLeft g.G.Gate.gives g.G.Gate.finds g.G.Gate.is_free g.G.Gate.speaks_for c.try_take.new.gate c.try_take.new.token s c.leave-in-Err.new.self.gate.now c.leave-in-Err.new.self.token.now)
     (c.in-Err.ensures.back.1 ∙ c.deref_mut.ensures.value) c.leave-in-Err.ensures.left in (
       c.in-Err.ensures.back.0,
       search rules,
       inr (
         (found, left.left),
-        left_once g.G.Gate.takes g.G.Gate.gives g.G.Gate.finds _ g.G.Gate.is_free g.G.Gate.speaks_for _ _ found c.try_take.new.gate c.try_take.new.token c.leave-in-Err.new.gate c.leave-in-Err.new.token some.takes some.found.0 some.found.1 (some.speaks _ c.requires.ready.speaks) left,
+        left_once g.G.Gate.takes g.G.Gate.gives g.G.Gate.finds _ g.G.Gate.is_free g.G.Gate.speaks_for _ _ found c.try_take.new.gate c.try_take.new.token c.leave-in-Err.new.self.gate.now c.leave-in-Err.new.self.token.now some.takes some.found.0 some.found.1 (some.speaks _ c.requires.ready.speaks) left,
         record { why = inr (subst (g.P.Phase.puts_off c.args.phase) c.deref_mut.ensures.value c.in-Err.ensures.back.2); renewed = left.renewed },
         sym (c.is_renewable-ends.ensures ∙ ap is_renewable c.deref.ensures),
       ),

@@ -1,6 +1,6 @@
 use Rattle.std.proofs.Common.{rules, ◌≡◌, ◌∙◌, ap, inl}
 use Rattle.jc_session.proofs.CallerLemmas.{phase_of}
-use Rattle.jc_engine.proofs.getting.hit.Goals as goal
+use Rattle.jc_engine.proofs.access.Access.hit.Goals as goal
 
 pub give-requires-clause-phase : goal.give-requires-clause-phase
 give-requires-clause-phase g c = (
@@ -11,8 +11,9 @@ give-requires-clause-phase g c = (
 
 pub returns-clause-made : goal.returns-clause-made
 returns-clause-made g c =
-    let who : c.caller.result ≡ c.args.agent.now.caller = c.caller.ensures ∙ ap (λ a. a.caller) c.take-stripe.ensures.agent in
+    let who : c.caller.result ≡ c.args.self.now.agent.now.caller = c.caller.ensures ∙ ap (λ a. a.caller) c.take-stripe.ensures.agent in
     record {
+      same = search rules;
       ready = search rules;
       agent = search rules;
       phase = (

@@ -2,7 +2,7 @@ use Rattle.std.proofs.Common.{subst}
 use Rattle.jc_stripe.specs.Renewal.{RenewsIfFull}
 use Rattle.jc_stripe.proofs.CallerLemmas.{stays_or_renews}
 use Rattle.jc_engine.proofs.Rows.{comes_left}
-use Rattle.jc_engine.proofs.door.leave.Goals as goal
+use Rattle.jc_engine.proofs.access.Access.leave.Goals as goal
 
 pub give_back-requires-clause-rest : goal.give_back-requires-clause-rest
 give_back-requires-clause-rest g c = (c.args.stripe.value, c.requires.taken.0, stays_or_renews _ _ (subst (λ s. RenewsIfFull s c.renew_if_full.new.self) c.deref_mut.ensures.value c.renew_if_full.ensures))

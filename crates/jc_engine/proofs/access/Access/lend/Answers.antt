@@ -6,7 +6,7 @@ use Rattle.jc_stripe.specs.State.{State}
 use Rattle.jc_engine.specs.Doors.{HasWaited, IsLeft}
 use Rattle.jc_engine.proofs.Rows.{once, row_append}
 use Rattle.jc_engine.proofs.Tries.{tries_start, tries_left}
-use Rattle.jc_engine.proofs.door.lend.Goals as goal
+use Rattle.jc_engine.proofs.access.Access.lend.Goals as goal
 
 pub take-stripe-requires : goal.take-stripe-requires
 take-stripe-requires g c = (ap (λ a. a.hands.held) c.loop.invariant.0 ∙ c.requires.ready.held, c.loop.invariant.2.free)
@@ -45,6 +45,7 @@ give-requires-clause-phase g c = (
 
 pub returns-in-Ok : goal.returns-in-Ok
 returns-in-Ok g c = record {
+  same = search rules;
   ready = record {
     held = ap (λ a. a.hands.held) c.give.ensures.agent;
     free = c.give.ensures.free;
@@ -56,10 +57,10 @@ returns-in-Ok g c = record {
       let a : State = c.take-stripe.result.value in
       let b : State = c.make.new.stripe in
       let so = c.loop.invariant.2 in
-      let one : IsPhaseOf c.args.agent.now.caller.session a b = rw (← c.requires.fits.who_is, ← c.loop.invariant.1, ← c.deref_mut.ensures.value) (phase_of _ _ _ _ c.in-Ok.ensures.made.1) in (
+      let one : IsPhaseOf c.args.self.now.agent.now.caller.session a b = rw (← c.requires.fits.who_is, ← c.loop.invariant.1, ← c.deref_mut.ensures.value) (phase_of _ _ _ _ c.in-Ok.ensures.made.1) in (
         record {
           row = so.row ++ (a, b) ∷ [];
-          lent = row_append g.G.Gate.takes g.G.Gate.gives g.G.Gate.finds _ _ _ so.row c.loop.gate c.loop.token ((a, b) ∷ []) c.give.new.gate c.give.new.token so.lent
+          lent = row_append g.G.Gate.takes g.G.Gate.gives g.G.Gate.finds _ _ _ so.row c.loop.self.gate.now c.loop.self.token.now ((a, b) ∷ []) c.give.new.gate c.give.new.token so.lent
               (once g.G.Gate.takes g.G.Gate.gives g.G.Gate.finds _ _ _ a b c.give.new.gate c.give.new.token record {
                 lends = record { gate = c.take-stripe.new.gate; token = c.take-stripe.new.token; took = c.take-stripe.ensures.takes; reached = c.take-stripe.ensures.found.1; gave = c.give.ensures.gives };
                 finds_it = c.take-stripe.ensures.found.0;
@@ -74,28 +75,30 @@ returns-in-Ok g c = record {
 }
 
 pub loop-init : goal.loop-init
-loop-init g c = (refl, refl, tries_start g.G.Gate.takes g.G.Gate.gives g.G.Gate.finds g.G.Gate.is_free g.G.Gate.speaks_for _ _ _ _ _ c.requires.ready.free c.requires.fits.needs_it)
+loop-init g c = (refl, refl, tries_start g.G.Gate.takes g.G.Gate.gives g.G.Gate.finds g.G.Gate.is_free g.G.Gate.speaks_for _ _ _ _ _ c.requires.ready.free c.requires.fits.needs_it, record { gate = refl; token = refl; agent = refl })
 
 pub loop-preserved-then-not-is_due : goal.loop-preserved-then-not-is_due
 loop-preserved-then-not-is_due g c = (
   search rules,
   c.loop.invariant.1,
-  tries_left g.G.Gate.takes g.G.Gate.gives g.G.Gate.finds g.G.Gate.is_free g.G.Gate.speaks_for (HasWaited (g.P.Phase.due c.args.phase) (g.P.Phase.puts_off c.args.phase)) (g.P.Phase.needs c.args.phase) c.args.agent.now.caller.session _ _ _ _ c.take-stripe.result.value _ _ _ _
+  tries_left g.G.Gate.takes g.G.Gate.gives g.G.Gate.finds g.G.Gate.is_free g.G.Gate.speaks_for (HasWaited (g.P.Phase.due c.args.phase) (g.P.Phase.puts_off c.args.phase)) (g.P.Phase.needs c.args.phase) c.args.self.now.agent.now.caller.session _ _ _ _ c.take-stripe.result.value _ _ _ _
       (λ x y after. g.met.P.Phase.stays c.args.phase x y (rw c.requires.fits.who_is after))
       c.loop.invariant.2 c.take-stripe.ensures.takes c.take-stripe.ensures.found.0 c.take-stripe.ensures.found.1 c.take-stripe.ensures.speaks c.requires.ready.speaks c.leave.ensures.left
       record { why = inl (λ due. true≢false (sym (c.is_due.ensures.1 (rw (c.loop.invariant.1, c.deref.ensures) due)) ∙ c.if-not-is_due.true)); renewed = c.leave.ensures.left.renewed },
+  search rules,
 )
 
 pub loop-preserved : goal.loop-preserved
 loop-preserved g c =
     let found : State = c.take-stripe.result.value in
-    let left : IsLeft g.G.Gate.gives g.G.Gate.finds g.G.Gate.is_free g.G.Gate.speaks_for c.take-stripe.new.gate c.take-stripe.new.token found c.leave-in-Err.new.gate c.leave-in-Err.new.token =
-    subst (λ (s : State). IsLeft g.G.Gate.gives g.G.Gate.finds g.G.Gate.is_free g.G.Gate.speaks_for c.take-stripe.new.gate c.take-stripe.new.token s c.leave-in-Err.new.gate c.leave-in-Err.new.token)
+    let left : IsLeft g.G.Gate.gives g.G.Gate.finds g.G.Gate.is_free g.G.Gate.speaks_for c.take-stripe.new.gate c.take-stripe.new.token found c.leave-in-Err.new.self.gate.now c.leave-in-Err.new.self.token.now =
+    subst (λ (s : State). IsLeft g.G.Gate.gives g.G.Gate.finds g.G.Gate.is_free g.G.Gate.speaks_for c.take-stripe.new.gate c.take-stripe.new.token s c.leave-in-Err.new.self.gate.now c.leave-in-Err.new.self.token.now)
     (c.in-Err.ensures.back.1 ∙ c.deref_mut.ensures.value) c.leave-in-Err.ensures.left in (
       search rules,
       c.in-Err.ensures.back.0 ∙ c.loop.invariant.1,
-      tries_left g.G.Gate.takes g.G.Gate.gives g.G.Gate.finds g.G.Gate.is_free g.G.Gate.speaks_for (HasWaited (g.P.Phase.due c.args.phase) (g.P.Phase.puts_off c.args.phase)) (g.P.Phase.needs c.args.phase) c.args.agent.now.caller.session _ _ _ _ found c.take-stripe.new.gate c.take-stripe.new.token c.leave-in-Err.new.gate c.leave-in-Err.new.token
+      tries_left g.G.Gate.takes g.G.Gate.gives g.G.Gate.finds g.G.Gate.is_free g.G.Gate.speaks_for (HasWaited (g.P.Phase.due c.args.phase) (g.P.Phase.puts_off c.args.phase)) (g.P.Phase.needs c.args.phase) c.args.self.now.agent.now.caller.session _ _ _ _ found c.take-stripe.new.gate c.take-stripe.new.token c.leave-in-Err.new.self.gate.now c.leave-in-Err.new.self.token.now
           (λ x y after. g.met.P.Phase.stays c.args.phase x y (rw c.requires.fits.who_is after))
           c.loop.invariant.2 c.take-stripe.ensures.takes c.take-stripe.ensures.found.0 c.take-stripe.ensures.found.1 c.take-stripe.ensures.speaks c.requires.ready.speaks left
           record { why = inr (rw (← c.loop.invariant.1, ← c.deref_mut.ensures.value) c.in-Err.ensures.back.2); renewed = left.renewed },
+      search rules,
     )
