@@ -59,7 +59,7 @@ module _ {I J : Type 0} {D : I → Type 0} {E : J → Type 0} (loads_all : LoadA
   ends_so cache old new call later over runs =
       let carried = carried_out cache (record { caller = (next_call old).agent.caller; first = old.seats.items; rounds = runs.rounds }) old new later refl refl over runs.agent runs.run in (
         runs.rounds,
-        record { carried = carried.0; calls = runs.calls; types = runs.types },
+        record { carried = carried.0; calls = runs.asked.calls; types = runs.asked.types },
         subst (λ rs. IsCauseIn later.cause (rs ++ faults_in runs.rounds)) (sym (failures_are (ops_of later.targets.now) later.progress.items runs.run.between.on.under.so_far.many)) runs.run.between.cause,
         carried.1,
       )

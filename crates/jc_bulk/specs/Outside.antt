@@ -9,7 +9,6 @@
 --     HasOneToAsk     there is the one whom calls of this kind ask, if there must be
 --     AsksAs          calls of this kind ask outside for this operation, if it asks at all; a `Clear` asks nobody
 --     MayFill         these tickets may be asked for in a call: none has asked, all are of its kind, their keys differ, and there is room
---     IsFilled        each ticket has asked
 --     CallsOnce       the loader or the writer was called once for a round, and the other wasn't
 --     CallsInRounds   the loader or the writer was called once for each of these rounds, in their order, and neither was called otherwise
 --     wanted_changes  each reservation's key, with the change that it asks for
@@ -18,8 +17,7 @@
 --     IsRest          what such a call, with room for so many, leaves for a later round: of a call of the loader all its memory
 --     IsSpent         the same once none of the answers is left
 --     Answered        so it was called for these tickets, and has answered each of them
-use Rattle.std.specs.Prelude.{◌≡◌, ◌≤◌, ◌⊎◌, ◌-◌, ◌++◌, ◌==◌, ℕ, List, [], ◌∷◌, length, map, Bool, true, false, Option, None, Some, IsSome, vec_capacity}
-use Rattle.std.specs.Global.{Vec}
+use Rattle.std.specs.Prelude.{◌≡◌, ◌≤◌, ◌⊎◌, ◌-◌, ◌++◌, ◌==◌, ℕ, List, [], ◌∷◌, length, map, Bool, true, false, Option, None, Some, IsSome}
 use Rattle.std.specs.List.{AllByRecursion, IsDistinct}
 use Rattle.std.specs.Cmp.Lexicographic.{pointwise}
 use Rattle.jc_types.specs.declared.config.Config.{Config}
@@ -104,10 +102,6 @@ pub record MayFill (call : OutsideState) (tickets : List TicketClaim) : Type 0 w
   pub kind : AllByRecursion (λ (t : TicketClaim). fits_first call.kind t.reservation.first ≡ true) tickets
   pub distinct : IsDistinct (pointwise ◌==◌) (reserved_keys (map reserved_by tickets))
   pub room : length tickets ≤ call.room
-
-pub record IsFilled (before after : Vec TicketClaim) : Type 0 where
-  pub same : map reserved_by after.items ≡ map reserved_by before.items
-  pub room : vec_capacity after ≡ vec_capacity before
 
 -- 2. What was called.
 

@@ -3,8 +3,8 @@
 --     IsReady     what a round asks outside with: nothing is asked for yet, it is of the call's kind, and there is room for all keys that a
 --                 round may reserve
 --     TakesNew    a round of a call of this kind, after one that has asked, takes memory: it writes or deletes, in a cache that writes through
---     RunsOn      rounds of a call, which have asked this outside: the call goes on, and the loader and the writer were called for exactly
---                 these rounds
+--     HaveAsked   the loader and the writer were called for exactly these rounds
+--     RunsOn      rounds of a call, which have asked so
 use Rattle.std.specs.Prelude.{◌≡◌, ◌≤◌, ℕ, List, [], true, Some, slice_get}
 use Rattle.jc_types.specs.declared.config.Config.{Config}
 use Rattle.jc_model.specs.Cache.{Bytes}
@@ -16,7 +16,7 @@ use Rattle.jc_cache.specs.Caches.{CacheState}
 use Rattle.jc_cache.specs.declared.session.Session.{Session}
 use Rattle.jc_rounds.specs.declared.bulk_call.BulkCall.{BulkCall}
 use Rattle.jc_rounds.specs.Rounds.{Round}
-use Rattle.jc_rounds.specs.Running.{HasRun, with_rounds}
+use Rattle.jc_rounds.specs.Ran.{Ran}
 use Rattle.jc_rounds.specs.Targets.{ops_of}
 use Rattle.jc_rounds.specs.Underway.{Past}
 use Rattle.jc_bulk.specs.declared.outside.Kind.{Kind}
@@ -36,16 +36,13 @@ TakesNew Load config = ⊥
 TakesNew Write config = config.write_through ≡ true
 TakesNew Delete config = config.write_through ≡ true
 
-pub record RunsOn
-    {I J : Type 0} {D : I → Type 0} {E : J → Type 0}
+module _ {I J : Type 0} {D : I → Type 0} {E : J → Type 0}
     (loads_all : LoadAllRelation ((i : I) × D i)) (load_state : (i : I) × D i → List ℕ)
-    (writes_all : WriteAllRelation ((j : J) × E j)) (deletes_all : DeleteAllRelation ((j : J) × E j)) (write_state : (j : J) × E j → List ℕ)
-    (cache : CacheState) (past : Past) (old : Session I J D E) (call : BulkCall) (new : Session I J D E) (later : BulkCall) : Type 0 where
-  pub rounds : List Round
-  pub run : HasRun cache (with_rounds past rounds) new later
-  pub calls : CallsInRounds (boxed loads_all) (boxed load_state) (boxed writes_all) (boxed deletes_all) (boxed write_state)
-      old.agent.hands.outside.loader old.agent.hands.outside.writer rounds new.agent.hands.outside.loader new.agent.hands.outside.writer
-  pub types : KeepsTypes old.agent new.agent
-  pub agent : new.agent ≡ record old.agent { counts = new.agent.counts; hands = new.agent.hands }
-  pub targets : later.targets ≡ call.targets
-  pub most : later.most ≡ call.most
+    (writes_all : WriteAllRelation ((j : J) × E j)) (deletes_all : DeleteAllRelation ((j : J) × E j)) (write_state : (j : J) × E j → List ℕ) where
+  pub record HaveAsked (old new : Session I J D E) (rounds : List Round) : Type 0 where
+    pub calls : CallsInRounds (boxed loads_all) (boxed load_state) (boxed writes_all) (boxed deletes_all) (boxed write_state)
+        old.agent.hands.outside.loader old.agent.hands.outside.writer rounds new.agent.hands.outside.loader new.agent.hands.outside.writer
+    pub types : KeepsTypes old.agent new.agent
+
+  abbrev pub RunsOn : CacheState → Past → Session I J D E → BulkCall → Session I J D E → BulkCall → Type 0
+  RunsOn cache past old call new later = Ran (HaveAsked old new) cache past old call new later

@@ -4,7 +4,8 @@ ghost use Rattle.jc_model.specs.Batches.{is_among};
 ghost use Rattle.jc_cache.specs.Sessions.{HasAsked, HoldsNothing};
 ghost use Rattle.jc_rounds.specs.OutsideCalls.{asked_keys};
 ghost use Rattle.jc_rounds.specs.Rounds.{fault_of};
-ghost use Rattle.jc_bulk.specs.Outside.{Answered, HasOneToAsk, IsFilled, IsRest, IsSpent, MayFill, fits, no_asks, with_ask};
+ghost use Rattle.jc_rounds.specs.Ran.{KeepsTickets};
+ghost use Rattle.jc_bulk.specs.Outside.{Answered, HasOneToAsk, IsRest, IsSpent, MayFill, fits, no_asks, with_ask};
 ghost use Rattle.jc_bulk.specs.declared.outside.Kind.{Kind as KindState};
 ghost use Rattle.jc_bulk.specs.declared.outside.Kind.TheVariants.{Load as LoadKind};
 
@@ -113,7 +114,7 @@ impl OutsideCall {
         requires nothing { HoldsNothing session.old }
         requires fill { MayFill self tickets.old.items }
         requires writer { HasOneToAsk self.kind session.old.agent.hands.outside.writer }
-        ensures tickets { IsFilled tickets.old tickets.new }
+        ensures tickets { KeepsTickets tickets.old tickets.new }
         ensures asked { HasAsked session.old session.new (Answered loads_all load_state writes_all deletes_all write_state
             session.old self.kind tickets.old.items result.0 result.1 session.new) }
         ensures rest { IsRest self.kind self.room result.0 result.2 }

@@ -1,9 +1,8 @@
-//! All rounds of a bulk call.
-ghost use Rattle.std.specs.Prelude.{◌≡◌, ◌≤◌, [], IfNone, IfSome, IfErr, IfOk, None};
+//! The rounds of a bulk call: what each of them asks outside, and with which memory.
+ghost use Rattle.std.specs.Prelude.{◌≡◌, ◌≤◌, [], IfSome, IfErr, IfOk, None};
 ghost use Rattle.jc_rounds.specs.Underway.{IsOver, Past};
 ghost use Rattle.jc_rounds.specs.Running.{HasRun};
-ghost use Rattle.jc_bulk.specs.Outside.{no_asks};
-ghost use Rattle.jc_bulk.specs.RoundsRun.{IsReady, KeysAskAs, RunsOn, TakesNew};
+ghost use Rattle.jc_bulk.specs.RoundsRun.{IsReady, RunsOn};
 
 use crate::outside::{Kind, OutsideCall};
 use jc_cache::{Cache, Session};
@@ -11,7 +10,7 @@ use jc_rounds::BulkCall;
 use std::alloc::{AllocError, Global};
 use std::sync::Wait;
 
-/// All rounds, until each key has ended.
+/// All rounds, until each key has ended. Each that has reserved keys asks the loader or the writer once for them.
 ///
 /// Between two rounds it waits for a change on the stripe of a key that was put off, with no reservation out. Nothing says that it
 /// returns. Each round uses the memory of the first one, but for a batch that was handed to the writer: that is taken anew before the first
@@ -31,16 +30,21 @@ pub(crate) fn run_rounds<R: Wait>(
         → RunsOn loads_all load_state writes_all deletes_all write_state cache.now past session.old call.old session.new call.new }
 {
     let kind = outside.kind();
-    let mut left = run_round(rt, cache, session, call, outside);
+    let mut next = outside;
     for _ in rt.forever() {
+        if !call.reserve(rt, cache, session) {
+            next.end();
+            return;
+        }
+        let (answers, fault, rest) = next.ask_for(rt, session, &mut call.tickets);
+        let spent = call.end_round(rt, cache, session, answers, fault);
+        let left = OutsideCall::again(spent, rest);
         if !call.wait(rt, cache, session) {
             end_left(left);
             return;
         }
         match ready(alloc, kind, call.most(), left) {
-            Ok(outside) => {
-                left = run_round(rt, cache, session, call, outside);
-            }
+            Ok(outside) => next = outside,
             Err(_failed) => {
                 call.refuse_rest();
                 return;
@@ -48,35 +52,6 @@ pub(crate) fn run_rounds<R: Wait>(
         }
     }
     unreachable!()
-}
-
-/// One round: it starts every key that it can, asks the loader or the writer once for those that were reserved, if any were, and
-/// ends them. It returns what the next round is to ask outside with, unless it has handed that to the writer.
-fn run_round<R: Wait>(
-    rt: &R,
-    cache: &Cache,
-    session: &mut Session,
-    call: &mut BulkCall<'_>,
-    outside: OutsideCall,
-) -> Option<OutsideCall>
-    requires ready { IsReady call.old outside }
-    requires run { (past : Past) × HasRun cache.now past session.old call.old }
-    ensures left { IfSome result (λ left. left ≡ outside) }
-    ensures runs { (past : Past) → HasRun cache.now past session.old call.old
-        → (runs : RunsOn loads_all load_state writes_all deletes_all write_state cache.now past session.old call.old session.new call.new)
-        × IfNone result (runs.rounds ≡ [] → ⊥) }
-    ensures spent { IfNone result (TakesNew outside.kind cache.now.config) }
-{
-    call.start(rt, cache, session);
-    if call.tickets.len() == 0 {
-        call.pick_up(rt, cache, session);
-        return Some(outside);
-    }
-    let (answers, fault, rest) = outside.ask_for(rt, session, &mut call.tickets);
-    call.note(fault);
-    let spent = call.commit(rt, cache, session, answers);
-    call.pick_up(rt, cache, session);
-    OutsideCall::again(spent, rest)
 }
 
 /// What a round is to ask outside with: what the round before has left, or, if it was spent, memory for as many keys. An `Err` says

@@ -1,33 +1,30 @@
--- One round of a call with many keys, each with a processor.
+-- The rounds of a call with many keys, each with a processor.
 --     op_there         each operation of the call is an `Invoke`
 --     IsCalled         a reservation is of a key of the call, and asks the processor
 --     asks_for         the runs are on keys of the call, each shown what is due
---     left_room, left_none    what a round that has asked has left
---     some_long        a vector that isn't empty has items
---     all_called       so is each reservation that a round has made
+--     each_invoked     each key of the call may be refused since an allocation failed
+--     left_room, left_none, left_there   what a round that has asked has left
+--     all_called       each reservation that a round has made is of a key of the call
+--     ready_later      the memory for what the next round asks outside
 --     may_run          the processor may be run for each ticket that a round has
---     quiet_round      a round that has reserved no key
---     agent_by         an agent of the same caller
---     same_keys        for which keys the round has asked
---     answered_round   what was asked outside answers each ticket
---     asked_round      a round that has asked
+--     asked_by, told_of    what was answered for the keys that a round has reserved
+--     calls_then       the calls of rounds, and of those after them
+--     have_none, have_same, have_more    what the rounds have asked
 use Rattle.std.specs.declared.dyn_box.DynBox.{DynBox}
-use Rattle.std.proofs.Common.{◌≡◌, ℕ, zero, suc, List, [], ◌∷◌, append-nil, length, map, slice_get, Bool, true, Option, None, Some, IfNone, IfSome, ◌≤◌, vec_len, refl, sym, ap, subst, ◌∙◌, arith}
+use Rattle.std.proofs.Common.{◌≡◌, ◌≤◌, ◌++◌, ℕ, zero, suc, List, [], ◌∷◌, map, slice_get, Bool, true, Option, None, Some, IfNone, IfSome, refl, sym, ap, subst, ◌∙◌}
+use Rattle.std.proofs.lemmas.List.{map-append}
 use Rattle.std.proofs.lemmas.Option.{same_Some}
 use Rattle.std.specs.Global.{Vec}
 use Rattle.std.specs.List.{All, AllByRecursion, IsAmong}
-use Rattle.std.specs.Option.{option_or}
 use Rattle.jc_types.specs.declared.caller.Caller.{Caller}
 use Rattle.jc_types.specs.declared.config.Config.{Config}
-use Rattle.jc_types.specs.declared.refusal.Refusal.{Refusal}
 use Rattle.jc_model.specs.Cache.{Bytes}
 use Rattle.jc_model.specs.declared.event.Op.{Op}
-use Rattle.jc_model.specs.declared.event.Op.TheVariants.{Invoke}
+use Rattle.jc_model.specs.declared.event.Op.TheVariants.{Clear, Get, Invoke, LoadAll}
 use Rattle.jc_outside.specs.Calling.{KeepsType, LoadRelation}
 use Rattle.jc_outside.specs.CallingAll.{DeleteAllRelation, WriteAllRelation}
 use Rattle.jc_mutentry.specs.Running.{ProcessRelation}
 use Rattle.jc_session.specs.Boxed.{boxed}
-use Rattle.jc_session.specs.declared.agent.Agent.{Agent}
 use Rattle.jc_stripe.specs.Refusals.{first_asked}
 use Rattle.jc_stripe.specs.Tickets.{TicketClaim, asks_processor, entry_seen, is_loadable}
 use Rattle.jc_stripe.specs.declared.ticket.Reservation.{Reservation}
@@ -37,27 +34,22 @@ use Rattle.jc_cache.specs.declared.session.Session.{Session}
 use Rattle.jc_rounds.specs.declared.answers.Answers.{Answers}
 use Rattle.jc_rounds.specs.declared.bulk_call.BulkCall.{BulkCall}
 use Rattle.jc_rounds.specs.declared.progress.Progress.{Progress}
-use Rattle.jc_rounds.specs.Answers.{AreAnswers, RunState, done_room, key_run, reservations_of}
+use Rattle.jc_rounds.specs.Answers.{RunState, done_room, key_run, reservations_of}
 use Rattle.jc_rounds.specs.Asking.{AsksFor, reserved_keys}
 use Rattle.jc_rounds.specs.KeyProgress.{is_reserved}
 use Rattle.jc_rounds.specs.Keys.{IsTicketFor}
-use Rattle.jc_rounds.proofs.Failures.{keeps_both}
-use Rattle.jc_rounds.proofs.Started.{some_one}
-use Rattle.jc_rounds.specs.Rounds.{IsShown, KeyRun, ProcessAll, ProcessRound, Round, keys_asked}
-use Rattle.jc_rounds.specs.SoFar.{GoesOn}
+use Rattle.jc_rounds.specs.Rounds.{IsShown, KeyRun, ProcessAll, ProcessRound, Round}
+use Rattle.jc_rounds.specs.Ran.{HasReserved, IsTold, KeepsTickets}
+use Rattle.jc_rounds.specs.Running.{EachTakesMemory}
 use Rattle.jc_rounds.specs.Targets.{ops_of, ops_with}
-use Rattle.jc_rounds.specs.Underway.{Advances, HasCommitted, HasStarted, IsAnswered, IsBetween, Past, are_fresh, reserved_by, with_round}
-use Rattle.jc_rounds.proofs.Asked.{IsOutAt, all_map, all_mapped, all_out, among_there, distinct_reserved}
-use Rattle.jc_rounds.proofs.Held.{goes_both}
-use Rattle.jc_rounds.proofs.SeatPhases.{Seated}
-use Rattle.jc_rounds.proofs.SoFar.{among_last}
-use Rattle.jc_rounds.proofs.Whole.{asked_call, nobody_asked, round_of}
+use Rattle.jc_rounds.specs.Underway.{Past, are_fresh, reserved_by}
+use Rattle.jc_rounds.proofs.CallerLemmas.{IsOutAt, all_map, all_mapped, all_out, among_there, distinct_reserved, types_on}
 use Rattle.jc_invoke.specs.declared.room.Batches.{Batches}
 use Rattle.jc_invoke.specs.declared.room.RoundRoom.{RoundRoom}
-use Rattle.jc_invoke.specs.InvokeRounds.{HasMadeRound, IsInvoked}
-use Rattle.jc_invoke.specs.Processing.{IsRoundAsked, IsToBeRun, KeepsTickets, MayRunEach}
+use Rattle.jc_invoke.specs.InvokeRounds.{HaveAsked, IsInvoked, IsReady}
+use Rattle.jc_invoke.specs.Processing.{IsRoundAsked, IsToBeRun, MayRunEach}
 use Rattle.jc_invoke.specs.RoundRooms.{LeavesBatches, IsRoomFor, IsNextRoom}
-use Rattle.jc_invoke.specs.Runs.{CallsRound}
+use Rattle.jc_invoke.specs.Runs.{CallsEach}
 use Rattle.jc_invoke.proofs.RoundAsked.{keys_run}
 
 -- 1. Keys.
@@ -97,9 +89,16 @@ to_be_run : (config : Config) (targets : List (Bytes × Op)) (rounds : List Roun
 to_be_run config targets rounds [] fresh all = tt
 to_be_run config targets rounds (t ∷ ts) fresh all = ((fresh.0.0, fresh.0.1, ap asks_processor all.0.4 ∙ all.0.3), to_be_run config targets rounds ts fresh.1 all.1)
 
-none_any : {X : Type 0} (P : Type 0) (left : Option X) → P → IfNone left P
-none_any P None it = it
-none_any P (Some x) it = tt
+-- the call runs a processor at each key, so its later rounds take memory if the cache writes through
+pub each_invoked : (config : Config) (call : BulkCall) → IsInvoked call → config.write_through ≡ true → EachTakesMemory config (ops_of call.targets.now)
+each_invoked config call invoked through place key op at =
+    let is : op ≡ Invoke = op_there invoked.0 place key op (ap (λ ts. slice_get ts place) (sym invoked.1) ∙ at) in
+    record {
+      through = through;
+      not_get = λ same. let bad : Invoke ≡ Get = sym is ∙ same in cc;
+      not_load = λ replace same. let bad : Invoke ≡ LoadAll replace = sym is ∙ same in cc;
+      not_clear = λ same. let bad : Invoke ≡ Clear = sym is ∙ same in cc;
+    }
 
 -- what a round that has asked has left
 pub left_room : (most : ℕ) (through : Bool) (room : RoundRoom) (answers : Answers) (rest : Option Batches) (left : Option RoundRoom) → IsRoomFor most through room → LeavesBatches room rest → IsNextRoom rest answers left → most ≤ done_room answers
@@ -116,145 +115,120 @@ left_none most through room answers None (Some n) is quiet next = tt
 left_none most through room answers (Some b) None is quiet next = absurd next
 left_none most through room answers (Some b) (Some n) is quiet next = tt
 
-none_more : (o : Option Refusal) → option_or o None ≡ o
-none_more None = refl
-none_more (Some r) = refl
-
-pub some_long : (v : Vec TicketClaim) (n : ℕ) → n ≡ vec_len v → (n ≡ 0 → ⊥) → v.items ≡ [] → ⊥
-some_long v n is some none = some (is ∙ v.ok.0 ∙ ap length none)
+pub left_there : {X : Type 0} (P : Type 0) (left : Option X) → left ≡ None → IfNone left P → P
+left_there P None is it = it
+left_there P (Some x) is it = cc
 
 -- 2. A round.
 
+pub ready_later : (config : Config) (call begun : BulkCall) (room : RoundRoom) → begun.targets ≡ call.targets → begun.most ≡ call.most → IsReady config call room → IsReady config begun room
+ready_later config call begun room targets most ready = record {
+  invoked = (ready.invoked.0, ap (λ t. ops_of t.now) targets ∙ ready.invoked.1);
+  room_is = subst (λ n. IsRoomFor n config.write_through room) (sym most) ready.room_is;
+}
+
 module _ {I J : Type 0} {D : I → Type 0} {E : J → Type 0} (cache : CacheState) where
   -- each ticket is of a key of the call, and asks its processor
-  pub all_called : (past : Past) (old mid : Session I J D E) (begun : BulkCall) → IsInvoked begun → HasStarted cache past old mid begun → AllByRecursion (IsCalled cache.config (ops_of begun.targets.now)) (map reserved_by begun.tickets.items)
-  all_called past old mid begun invoked started =
+  pub all_called : (past : Past) (mid : Session I J D E) (begun : BulkCall) → IsInvoked begun → HasReserved cache past mid begun → AllByRecursion (IsCalled cache.config (ops_of begun.targets.now)) (map reserved_by begun.tickets.items)
+  all_called past mid begun invoked reserved =
       let ops = ops_of begun.targets.now in
       all_map (IsOutAt is_reserved (IsTicketFor past.caller cache.config) ops begun.progress.items) (IsCalled cache.config ops) (map reserved_by begun.tickets.items)
       (λ r out. called past.caller cache.config ops invoked.0 begun.progress.items r invoked.1 out)
-      (all_out is_reserved (IsTicketFor past.caller cache.config) ops begun.progress.items (map reserved_by begun.tickets.items) started.on.under.calls_are)
+      (all_out is_reserved (IsTicketFor past.caller cache.config) ops begun.progress.items (map reserved_by begun.tickets.items) reserved.started.on.under.calls_are)
 
-  pub invoked_on : (old mid : Session I J D E) (call begun : BulkCall) → Advances old mid call begun → IsInvoked call → IsInvoked begun
-  invoked_on old mid call begun one invoked = (invoked.0, ap (λ t. ops_of t.now) one.targets ∙ invoked.1)
+  pub may_run : (past : Past) (mid : Session I J D E) (begun : BulkCall) (room : RoundRoom) → IsReady cache.config begun room → HasReserved cache past mid begun → MayRunEach mid begun.tickets room
+  may_run past mid begun room ready reserved =
+      let started = reserved.started in
+      record {
+        cache = cache;
+        own = started.on.under.own;
+        fresh = to_be_run cache.config (ops_of begun.targets.now) past.rounds begun.tickets.items started.fresh (all_called past mid begun ready.invoked reserved);
+        distinct = distinct_reserved past.caller cache.config (ops_of begun.targets.now) begun.progress.items (map reserved_by begun.tickets.items) started.on.distinct started.on.under.calls_are;
+        most = begun.most;
+        few = started.few;
+        room_is = ready.room_is;
+      }
 
-  pub may_run : (past : Past) (old mid : Session I J D E) (call begun : BulkCall) (room : RoundRoom) → IsInvoked call → IsRoomFor call.most cache.config.write_through room → Advances old mid call begun → HasStarted cache past old mid begun → MayRunEach mid begun.tickets room
-  may_run past old mid call begun room invoked is one started = record {
-    cache = cache;
-    own = started.on.under.own;
-    fresh = to_be_run cache.config (ops_of begun.targets.now) past.rounds begun.tickets.items started.fresh (all_called past old mid begun (invoked_on old mid call begun one invoked) started);
-    distinct = distinct_reserved past.caller cache.config (ops_of begun.targets.now) begun.progress.items (map reserved_by begun.tickets.items) started.on.distinct started.on.under.calls_are;
-    most = begun.most;
-    few = started.few;
-    room_is = subst (λ n. IsRoomFor n cache.config.write_through room) (sym one.most) is;
-  }
+-- 3. What is asked outside.
 
-pub agent_by : {I J : Type 0} {D : I → Type 0} {E : J → Type 0} (a b : Agent I J D E) → b.caller ≡ a.caller → b ≡ record a { counts = b.counts; hands = b.hands }
-agent_by a b same = λ i. record b { caller = same i }
+module _ {P L W : Type 0} (processes : ProcessRelation P) (process_state : P → List ℕ) (loads : LoadRelation L) (load_state : L → List ℕ)
+    (writes_all : WriteAllRelation W) (deletes_all : DeleteAllRelation W) (write_state : W → List ℕ) (args : List Bytes) (through : Bool) where
+  pub calls_then : (rounds more : List ProcessRound) (p q r : P) (l m n : Option L) (u v w : Option W)
+      → CallsEach processes process_state loads load_state writes_all deletes_all write_state args through p l u rounds q m v
+      → CallsEach processes process_state loads load_state writes_all deletes_all write_state args through q m v more r n w
+      → CallsEach processes process_state loads load_state writes_all deletes_all write_state args through p l u (rounds ++ more) r n w
+  calls_then [] more p q r l m n u v w each later =
+      subst (λ x. CallsEach processes process_state loads load_state writes_all deletes_all write_state args through x l u more r n w) each.0
+      (subst (λ x. CallsEach processes process_state loads load_state writes_all deletes_all write_state args through q x u more r n w) each.1
+      (subst (λ x. CallsEach processes process_state loads load_state writes_all deletes_all write_state args through q m x more r n w) each.2 later))
+  calls_then (x ∷ rounds) more p q r l m n u v w each later =
+      (each.0, each.1, each.2, each.3, calls_then rounds more each.0 q r each.1 m n each.2 v w each.4 later)
 
 module _ {I J P Z : Type 0} {D : I → Type 0} {E : J → Type 0} {F : P → Type 0}
     (loads : LoadRelation ((i : I) × D i)) (load_state : (i : I) × D i → List ℕ)
     (writes_all : WriteAllRelation ((j : J) × E j)) (deletes_all : DeleteAllRelation ((j : J) × E j)) (write_state : (j : J) × E j → List ℕ)
     (processes : ProcessRelation (DynBox P Z F)) (process_state : DynBox P Z F → List ℕ) (args : List Bytes) (cache : CacheState) where
-  pub quiet_round : (old mid new : Session I J D E) (call begun later : BulkCall) (processor : DynBox P Z F) (room : RoundRoom) → IsRoomFor call.most cache.config.write_through room → begun.tickets.items ≡ []
-      → Advances old mid call begun → ((past : Past) → IsBetween cache past old call → HasStarted cache past old mid begun)
-      → Advances mid new begun later → ((past : Past) → HasCommitted cache past mid begun → IsBetween cache past new later)
-      → HasMadeRound loads load_state writes_all deletes_all write_state processes process_state args cache old call processor new later processor (Some room)
-  quiet_round old mid new call begun later processor room is none one starts two picks =
-      let hands = ap (λ (a : Agent I J D E). a.hands) two.agent ∙ ap (λ (a : Agent I J D E). a.hands) one.agent in
-      let loader = ap (λ (h : _). h.outside.loader) hands in
-      let writer = ap (λ (h : _). h.outside.writer) hands in
+  abbrev Asked : Session I J D E → Bool → List TicketClaim → DynBox P Z F → Session I J D E → Answers → DynBox P Z F → Type 0
+  Asked mid through tickets processor after answers p =
+      HasAsked mid after (IsRoundAsked loads load_state writes_all deletes_all write_state processes process_state args through mid.agent tickets processor after.agent answers p)
+
+  -- the room is the cache's, and the arguments are those of the call
+  pub asked_by : (mid after : Session I J D E) (through : Bool) (tickets : List TicketClaim) (processor p : DynBox P Z F) (answers : Answers) (given : List Bytes) → given ≡ args → through ≡ cache.config.write_through
+      → HasAsked mid after (IsRoundAsked loads load_state writes_all deletes_all write_state processes process_state given through mid.agent tickets processor after.agent answers p) → Asked mid cache.config.write_through tickets processor after answers p
+  asked_by mid after through tickets processor p answers given same_args same has =
+      subst (λ t. Asked mid t tickets processor after answers p) same
+      (subst (λ xs. HasAsked mid after (IsRoundAsked loads load_state writes_all deletes_all write_state processes process_state xs through mid.agent tickets processor after.agent answers p)) same_args has)
+
+  pub told_of : (past : Past) (mid after : Session I J D E) (begun filled : BulkCall) (v : Vec TicketClaim) (processor p : DynBox P Z F) (answers : Answers) → HasReserved cache past mid begun → IsInvoked begun
+      → KeepsTickets begun.tickets v → filled ≡ record begun { tickets = v } → (has : Asked mid cache.config.write_through begun.tickets.items processor after answers p) → IsTold cache past (ProcessAll has.asked.round) after filled answers None
+  told_of past mid after begun filled v processor p answers reserved invoked kept is has =
+      let a = has.asked in
+      subst (λ (x : BulkCall). IsTold cache past (ProcessAll a.round) after x answers None) (sym is) (record {
+        asking = mid;
+        reserving = begun;
+        reserved = reserved;
+        own = has.own cache reserved.started.on.under.own;
+        rest = has.rest;
+        kept = kept;
+        call_is = refl;
+        keys = ap (map (λ (run : KeyRun). run.key)) a.runs_are ∙ keys_run a.runs ∙ ap reserved_keys a.calls_are;
+        asks = asks_for cache.config (ops_of begun.targets.now) a.round a.runs (map reserved_by begun.tickets.items) a.runs_are a.calls_are (all_called cache past mid begun invoked reserved);
+        fault_is = refl;
+        answered = a.answered cache.config refl;
+      })
+
+  -- what the rounds have asked
+
+  abbrev Have : Session I J D E → DynBox P Z F → Session I J D E → DynBox P Z F → List Round → Type 0
+  Have old processor new p rounds = HaveAsked loads load_state writes_all deletes_all write_state processes process_state args cache old processor new p rounds
+
+  pub have_none : (session : Session I J D E) (processor : DynBox P Z F) → Have session processor session processor []
+  have_none session processor = record { runs = []; rounds_are = refl; calls = (refl, refl, refl); types = (refl, refl); processor_type = refl }
+
+  pub have_same : (old mid new : Session I J D E) (processor p : DynBox P Z F) (rounds : List Round) → new.agent.hands ≡ mid.agent.hands → Have old processor mid p rounds → Have old processor new p rounds
+  have_same old mid new processor p rounds same have = record {
+    runs = have.runs;
+    rounds_are = have.rounds_are;
+    calls = subst (λ h. CallsEach processes process_state (boxed loads) (boxed load_state) (boxed writes_all) (boxed deletes_all) (boxed write_state) args cache.config.write_through processor old.agent.hands.outside.loader old.agent.hands.outside.writer have.runs p h.outside.loader h.outside.writer) (sym same) have.calls;
+    types = (
+      subst (λ h. KeepsType old.agent.hands.outside.loader h.outside.loader) (sym same) have.types.0,
+      subst (λ h. KeepsType old.agent.hands.outside.writer h.outside.writer) (sym same) have.types.1,
+    );
+    processor_type = have.processor_type;
+  }
+
+  pub have_more : (old mid asking after : Session I J D E) (processor p q : DynBox P Z F) (rounds : List Round) (tickets : List TicketClaim) (answers : Answers) → asking.agent.hands ≡ mid.agent.hands → Have old processor mid p rounds
+      → (has : Asked asking cache.config.write_through tickets p after answers q) → Have old processor after q (rounds ++ ProcessAll has.asked.round ∷ [])
+  unfolding have_same
+  have_more old mid asking after processor p q rounds tickets answers from have has =
+      let a = has.asked in
+      let here = have_same old mid asking processor p rounds from have in
       record {
-        left_is = is;
-        taken = tt;
-        continues = record {
-          agent = agent_by old.agent new.agent (ap (λ (a : Agent I J D E). a.caller) two.agent ∙ ap (λ (a : Agent I J D E). a.caller) one.agent);
-          targets = two.targets ∙ one.targets;
-          most = two.most ∙ one.most;
-          cause = keeps_both call.cause begun.cause later.cause one.cause two.cause;
-          types = (subst (KeepsType old.agent.hands.outside.loader) (sym loader) refl, subst (KeepsType old.agent.hands.outside.writer) (sym writer) refl);
-          processor_type = refl;
-        };
-        made = λ past between.
-            let started = starts past between in
-            record {
-              rounds = [];
-              asked = (refl, loader, writer);
-              round = round_of cache past old mid new call begun later [] between started one.targets one.goes two.goes (omega arith) (sym (ap (λ ts. reserved_keys (map reserved_by ts)) none));
-              between = subst (λ rs. IsBetween cache (record past { rounds = rs }) new later) (sym (append-nil past.rounds)) (picks past (nobody_asked cache past old mid begun started none));
-            };
-        spent = λ past between. tt;
+        runs = have.runs ++ a.round ∷ [];
+        rounds_are = ap (λ rs. rs ++ ProcessAll a.round ∷ []) have.rounds_are ∙ sym (map-append ProcessAll have.runs (a.round ∷ []));
+        calls = calls_then processes process_state (boxed loads) (boxed load_state) (boxed writes_all) (boxed deletes_all) (boxed write_state) args cache.config.write_through have.runs (a.round ∷ []) processor p q
+            old.agent.hands.outside.loader asking.agent.hands.outside.loader after.agent.hands.outside.loader old.agent.hands.outside.writer asking.agent.hands.outside.writer after.agent.hands.outside.writer here.calls
+            (q, after.agent.hands.outside.loader, after.agent.hands.outside.writer, a.asked, (refl, refl, refl));
+        types = types_on old.agent asking.agent after.agent here.types a.types;
+        processor_type = a.processor_type ∙ have.processor_type;
       }
-
-  module _ (old mid told done new : Session I J D E) (call begun committed later : BulkCall) (v : Vec TicketClaim) (processor p : DynBox P Z F) (answers : Answers) where
-    -- the room is the cache's
-    pub in_cache : (through : Bool) → through ≡ cache.config.write_through
-        → HasAsked mid told (IsRoundAsked loads load_state writes_all deletes_all write_state processes process_state args through mid.agent begun.tickets.items processor told.agent answers p)
-        → HasAsked mid told (IsRoundAsked loads load_state writes_all deletes_all write_state processes process_state args cache.config.write_through mid.agent begun.tickets.items processor told.agent answers p)
-    in_cache through same has =
-        subst (λ t. HasAsked mid told (IsRoundAsked loads load_state writes_all deletes_all write_state processes process_state args t mid.agent begun.tickets.items processor told.agent answers p)) same has
-
-    -- for which keys the round has asked
-    pub same_keys : (is : IsRoundAsked loads load_state writes_all deletes_all write_state processes process_state args cache.config.write_through mid.agent begun.tickets.items processor told.agent answers p)
-        → keys_asked (ProcessAll is.round) ≡ reserved_keys (map reserved_by begun.tickets.items)
-    same_keys is = ap (map (λ (run : KeyRun). run.key)) is.runs_are ∙ keys_run is.runs ∙ ap reserved_keys is.calls_are
-
-    pub answered_round : (past : Past) → IsInvoked call → Advances old mid call begun → HasStarted cache past old mid begun → (begun.tickets.items ≡ [] → ⊥) → KeepsTickets begun.tickets v
-        → (has : HasAsked mid told (IsRoundAsked loads load_state writes_all deletes_all write_state processes process_state args cache.config.write_through mid.agent begun.tickets.items processor told.agent answers p))
-        → IsAnswered cache (with_round past (ProcessAll has.asked.round)) (ProcessAll has.asked.round) told (record begun { tickets = v }) answers
-    answered_round past invoked one started some kept has =
-        let is = has.asked in
-        let ops = ops_of begun.targets.now in
-        record {
-          on = asked_call cache past old mid told begun (record begun { tickets = v }) v (ProcessAll is.round) started (λ i. record begun { tickets = v; cause = sym (none_more begun.cause) i }) kept.reservations kept.room some (same_keys is)
-              (asks_for cache.config ops is.round is.runs (map reserved_by begun.tickets.items) is.runs_are is.calls_are (all_called cache past old mid begun (invoked_on cache old mid call begun one invoked) started))
-              (has.own cache started.on.under.own) has.rest;
-          among = among_last past.rounds (ProcessAll is.round);
-          answered = subst (AreAnswers cache.config (ProcessAll is.round) answers) (sym kept.reservations) (is.answered cache.config refl);
-        }
-
-    pub asked_round : IsInvoked call → (begun.tickets.items ≡ [] → ⊥)
-        → Advances old mid call begun → ((past : Past) → IsBetween cache past old call → HasStarted cache past old mid begun)
-        → HasAsked mid told (IsRoundAsked loads load_state writes_all deletes_all write_state processes process_state args cache.config.write_through mid.agent begun.tickets.items processor told.agent answers p) → KeepsTickets begun.tickets v
-        → Advances told done (record begun { tickets = v }) committed → ((past : Past) (round : Round) → IsAnswered cache past round told (record begun { tickets = v }) answers → HasCommitted cache past done committed)
-        → Advances done new committed later → ((past : Past) → HasCommitted cache past done committed → IsBetween cache past new later)
-        → (left : Option RoundRoom) → IfSome left (λ room. IsRoomFor call.most cache.config.write_through room) → IfNone left (cache.config.write_through ≡ true)
-        → HasMadeRound loads load_state writes_all deletes_all write_state processes process_state args cache old call processor new later p left
-    asked_round invoked some one starts has kept two commits three picks left left_is taken =
-        let is = has.asked in
-        let from = ap (λ (a : Agent I J D E). a.hands) one.agent in
-        let to = ap (λ (a : Agent I J D E). a.hands) three.agent ∙ ap (λ (a : Agent I J D E). a.hands) two.agent in
-        let seats : told.seats.items ≡ mid.seats.items = ap (λ (s : Session I J D E). s.seats.items) has.rest in
-        record {
-          left_is = left_is;
-          taken = taken;
-          continues = record {
-            agent = agent_by old.agent new.agent (ap (λ (a : Agent I J D E). a.caller) three.agent ∙ ap (λ (a : Agent I J D E). a.caller) two.agent ∙ ap (λ (s : Session I J D E). s.agent.caller) has.rest ∙ ap (λ (a : Agent I J D E). a.caller) one.agent);
-            targets = three.targets ∙ two.targets ∙ one.targets;
-            most = three.most ∙ two.most ∙ one.most;
-            cause = keeps_both call.cause begun.cause later.cause one.cause (keeps_both begun.cause committed.cause later.cause two.cause three.cause);
-            types = (
-              subst (λ h. KeepsType h.outside.loader new.agent.hands.outside.loader) from (subst (λ h. KeepsType mid.agent.hands.outside.loader h.outside.loader) (sym to) is.types.0),
-              subst (λ h. KeepsType h.outside.writer new.agent.hands.outside.writer) from (subst (λ h. KeepsType mid.agent.hands.outside.writer h.outside.writer) (sym to) is.types.1),
-            );
-            processor_type = is.processor_type;
-          };
-          made = λ past between.
-              let started = starts past between in
-              let keys = same_keys is in
-              record {
-                rounds = is.round ∷ [];
-                asked = (
-                  p,
-                  told.agent.hands.outside.loader,
-                  told.agent.hands.outside.writer,
-                  subst (λ h. CallsRound processes process_state (boxed loads) (boxed load_state) (boxed writes_all) (boxed deletes_all) (boxed write_state) args cache.config.write_through processor h.outside.loader h.outside.writer is.round p told.agent.hands.outside.loader told.agent.hands.outside.writer) from is.asked,
-                  (refl, ap (λ h. h.outside.loader) to, ap (λ h. h.outside.writer) to),
-                );
-                round = round_of cache past old mid new call begun later (ProcessAll is.round ∷ []) between started one.targets one.goes
-                    (subst (λ (s : List Seated). GoesOn s new.seats.items begun.progress.items later.progress.items) seats
-                    (goes_both told.seats.items done.seats.items new.seats.items begun.progress.items committed.progress.items later.progress.items two.goes three.goes))
-                    (omega arith) (append-nil (keys_asked (ProcessAll is.round)) ∙ keys);
-                between = picks (with_round past (ProcessAll is.round)) (commits (with_round past (ProcessAll is.round)) (ProcessAll is.round) (answered_round past invoked one started some kept has));
-              };
-          spent = λ past between. none_any (is.round ∷ [] ≡ [] → ⊥) left (λ none. some_one is.round none);
-        }

@@ -1,6 +1,5 @@
 -- A whole call with many keys, each with a processor, from its rounds.
 --     before_it      what the session's next call has behind it
---     opened         it may make its first round
 --     has_begun      it has made no round yet
 --     over           after the last round nothing is out, and each key has an end
 --     invoked        then the call is carried out
@@ -25,12 +24,9 @@ use Rattle.jc_rounds.specs.Rounds.{ProcessAll, ProcessRound}
 use Rattle.jc_rounds.specs.Running.{HasRun, IsCarriedOut, with_rounds}
 use Rattle.jc_rounds.specs.Targets.{ops_of, ops_with}
 use Rattle.jc_rounds.specs.Underway.{IsBetween, IsNew, IsOver, Past}
-use Rattle.jc_rounds.proofs.Started.{none_run}
-use Rattle.jc_rounds.proofs.Whole.{carried_out, may_again, opens_call}
-use Rattle.jc_invoke.specs.declared.room.RoundRoom.{RoundRoom}
+use Rattle.jc_rounds.proofs.CallerLemmas.{carried_out, may_again, none_run, opens_call}
 use Rattle.jc_invoke.specs.Invoke.{IsInvokedAll}
-use Rattle.jc_invoke.specs.InvokeRounds.{HasMadeRounds, MayMakeRound}
-use Rattle.jc_invoke.specs.RoundRooms.{IsRoomFor}
+use Rattle.jc_invoke.specs.InvokeRounds.{RunsOn}
 use Rattle.jc_invoke.proofs.KeyResults.{as_many, keys_distinct}
 
 module _ {I J : Type 0} {D : I → Type 0} {E : J → Type 0} (cache : CacheState) (old mid : Session I J D E) (call : BulkCall) (keys : List Bytes) where
@@ -42,10 +38,6 @@ module _ {I J : Type 0} {D : I → Type 0} {E : J → Type 0} (cache : CacheStat
       subst (λ (s : Session I J D E). IsBetween cache before_it s call) (sym begun)
       (opens_call cache old call.targets.now call may (subst (λ ops. IsDistinct (pointwise ◌==◌) (keys_of ops)) (sym are) (keys_distinct Invoke keys distinct)) new)
 
-  pub opened : (room : RoundRoom) → MayCall cache old → mid ≡ next_call old → IsNew call.targets.now cache.config.stripes call → ops_of call.targets.now ≡ ops_with Invoke keys → IsDistinct (pointwise ◌==◌) keys
-      → IsRoomFor call.most cache.config.write_through room → MayMakeRound cache mid call room
-  opened room may begun new are distinct is = record { past = before_it; between = between may begun new are distinct; invoked = (keys, are); room_is = is }
-
   pub has_begun : MayCall cache old → mid ≡ next_call old → IsNew call.targets.now cache.config.stripes call → ops_of call.targets.now ≡ ops_with Invoke keys → IsDistinct (pointwise ◌==◌) keys → HasRun cache before_it mid call
   has_begun may begun new are distinct = none_run cache before_it mid call refl (ap (λ (s : Session I J D E). s.seats.items) (sym begun)) (between may begun new are distinct)
 
@@ -55,33 +47,32 @@ module _ {I J P Z : Type 0} {D : I → Type 0} {E : J → Type 0} {F : P → Typ
     (processes : ProcessRelation (DynBox P Z F)) (process_state : DynBox P Z F → List ℕ) (args : List Bytes) (cache : CacheState)
     (old mid new : Session I J D E) (call later : BulkCall) (processor p : DynBox P Z F) (keys : List Bytes) where
   abbrev Made : Session I J D E → Type 0
-  Made session = HasMadeRounds loads load_state writes_all deletes_all write_state processes process_state args cache session call processor new later p
+  Made session = RunsOn loads load_state writes_all deletes_all write_state processes process_state args cache (before_it cache old mid call keys) session call processor new later p
 
   targets_later : Made mid → ops_of call.targets.now ≡ ops_with Invoke keys → ops_of later.targets.now ≡ ops_with Invoke keys
-  targets_later many are = ap (λ t. ops_of t.now) many.continues.targets ∙ are
+  targets_later made are = ap (λ t. ops_of t.now) made.targets ∙ are
 
-  pub over : HasRun cache (before_it cache old mid call keys) mid call → ops_of call.targets.now ≡ ops_with Invoke keys → Made mid
-      → MayCall cache new × ((later.tickets.items ≡ []) × (later.joins.items ≡ [])) × (length later.progress.items ≡ length keys)
-  over run are many =
-      let made = many.made (before_it cache old mid call keys) run in
-      let after = with_rounds (before_it cache old mid call keys) (map ProcessAll made.0) in
-      let b = made.2.between in
-      (may_again cache after new later b, (b.no_tickets, b.no_joins), b.on.under.so_far.many ∙ ap length (targets_later many are) ∙ as_many Invoke keys)
+  pub over : ops_of call.targets.now ≡ ops_with Invoke keys → Made mid → MayCall cache new × ((later.tickets.items ≡ []) × (later.joins.items ≡ [])) × (length later.progress.items ≡ length keys)
+  over are made =
+      let after = with_rounds (before_it cache old mid call keys) made.rounds in
+      let b = made.run.between in
+      (may_again cache after new later b, (b.no_tickets, b.no_joins), b.on.under.so_far.many ∙ ap length (targets_later made are) ∙ as_many Invoke keys)
 
-  pub invoked : HasRun cache (before_it cache old mid call keys) mid call → mid ≡ next_call old → ops_of call.targets.now ≡ ops_with Invoke keys → IsOver later → Made mid
+  pub invoked : mid ≡ next_call old → ops_of call.targets.now ≡ ops_with Invoke keys → IsOver later → Made mid
       → (rounds : List ProcessRound) × IsInvokedAll loads load_state writes_all deletes_all write_state processes process_state cache old keys args processor (key_ends (ops_with Invoke keys) later.progress.items) rounds new p
-  invoked run begun are late many =
+  invoked begun are late many =
       let past = before_it cache old mid call keys in
-      let from : Made (next_call old) = subst Made begun many in
-      let made = from.made past (subst (λ (s : Session I J D E). HasRun cache past s call) begun run) in
-      let after = with_rounds past (map ProcessAll made.0) in (
-        made.0,
+      let made : Made (next_call old) = subst Made begun many in
+      let asked = made.asked in
+      let after = with_rounds past made.rounds in (
+        asked.runs,
         record {
-          carried = subst (λ ops. IsCarriedOut cache old ops (key_ends ops later.progress.items) (map ProcessAll made.0) new) (targets_later many are)
-              (carried_out cache after old new later refl refl late from.continues.agent made.2).0;
-          calls = made.1;
-          types = from.continues.types;
-          processor_type = from.continues.processor_type;
+          carried = subst (λ ops. IsCarriedOut cache old ops (key_ends ops later.progress.items) (map ProcessAll asked.runs) new) (targets_later many are)
+              (subst (λ rs. IsCarriedOut cache old (ops_of later.targets.now) (key_ends (ops_of later.targets.now) later.progress.items) rs new) asked.rounds_are
+              (carried_out cache after old new later refl refl late made.agent made.run).0);
+          calls = asked.calls;
+          types = asked.types;
+          processor_type = asked.processor_type;
         },
       )
 

@@ -15,8 +15,7 @@ use Rattle.jc_rounds.specs.declared.progress.Progress.{Progress}
 use Rattle.jc_rounds.specs.declared.progress.Progress.TheVariants.{Waiting, Reserved, Joined, Ended}
 use Rattle.jc_rounds.specs.Ends.{key_end, key_ends}
 use Rattle.jc_rounds.specs.Targets.{ops_with}
-use Rattle.jc_rounds.proofs.KeyEnds.{entries_more, entries_new, entries_whole}
-use Rattle.jc_rounds.proofs.TargetOps.{same_keys}
+use Rattle.jc_rounds.proofs.CallerLemmas.{entries_more, entries_new, entries_whole, same_keys}
 use Rattle.jc_invoke.specs.Invoke.{result_at, result_entries, result_of}
 
 pub as_many : (op : Op) (keys : List Bytes) → length (ops_with op keys) ≡ length keys

@@ -3,5 +3,4 @@ mod RunEach
 mod RoundAsked
 mod InvokeRound
 mod KeyResults
-mod InvokeRounds
 mod Invoked

@@ -31,8 +31,7 @@ use Rattle.jc_rounds.specs.Asking.{reserved_keys}
 use Rattle.jc_rounds.specs.OutsideCalls.{WriteCallAsked, WritesBatch, wanted}
 use Rattle.jc_rounds.specs.Rounds.{KeyRun, ProcessAll, ProcessRound, keys_asked}
 use Rattle.jc_rounds.specs.Underway.{reserved_by}
-use Rattle.jc_rounds.proofs.OutsideCalls.{no_batch}
-use Rattle.jc_rounds.proofs.SoFar.{or_true}
+use Rattle.jc_rounds.proofs.CallerLemmas.{no_batch, or_true}
 use Rattle.jc_invoke.specs.declared.room.RoundRoom.{RoundRoom}
 use Rattle.jc_invoke.specs.Processing.{HasRunEach, IsRoundAsked, IsToBeRun}
 use Rattle.jc_invoke.specs.Runs.{RunsEach, WritesKind, batch_changes}

@@ -3,7 +3,6 @@
 --     MayNote        it may note what the writer is to be asked for after this ticket's processor, which did this
 --     HasNoted       it has noted that of this run
 --     IsToBeRun      a ticket whose processor is to be run: nobody was asked
---     KeepsTickets   the tickets stand for the same reservations, with as much room for them
 --     KeepsRunsRoom  there is as much room for runs, and in a cache that doesn't write through the batches are as they were
 --     IsTicketRun    the processor was run for a ticket, and this is in the room after it
 --     MayRunEach     the processor may be run for each of these tickets, and then the writer be asked: nobody was asked, and the room is empty
@@ -90,10 +89,6 @@ pub record IsTicketRun
   pub processor_type : processor'.vtable ≡ processor.vtable
 
 -- 2. All tickets.
-
-pub record KeepsTickets (tickets tickets' : Vec TicketClaim) : Type 0 where
-  pub reservations : map reserved_by tickets'.items ≡ map reserved_by tickets.items
-  pub room : vec_capacity tickets' ≡ vec_capacity tickets
 
 pub record MayRunEach {I J : Type 0} {D : I → Type 0} {E : J → Type 0} (session : Session I J D E) (tickets : Vec TicketClaim) (room : RoundRoom) : Type 0 where
   pub cache : CacheState

@@ -1,7 +1,8 @@
-//! All rounds of a call with many keys, each with a processor.
+//! The rounds of a call with many keys, each with a processor: what each of them asks outside, and with which memory.
 ghost use Rattle.std.specs.Prelude.{◌≡◌, ℕ, Bool, IfErr, IfOk, IfSome, None};
-ghost use Rattle.jc_rounds.specs.Underway.{IsOver};
-ghost use Rattle.jc_invoke.specs.InvokeRounds.{HasMadeRound, HasMadeRounds, MayMakeRound};
+ghost use Rattle.jc_rounds.specs.Underway.{IsOver, Past};
+ghost use Rattle.jc_rounds.specs.Running.{HasRun};
+ghost use Rattle.jc_invoke.specs.InvokeRounds.{IsReady, RunsOn};
 ghost use Rattle.jc_invoke.specs.RoundRooms.{IsRoomFor};
 
 use crate::room::RoundRoom;
@@ -11,7 +12,7 @@ use jc_rounds::BulkCall;
 use std::alloc::{AllocError, Global};
 use std::sync::Wait;
 
-/// All rounds, until each key has ended.
+/// All rounds, until each key has ended. Each that has reserved keys runs the processor on them, and then asks the writer.
 ///
 /// Between two rounds it pauses until something has changed on the stripe of a key that was put off, with no reservation out. Nothing
 /// says that it returns. Without write-through each round uses the memory of the first one. With it, the memory for what a round after one
@@ -24,17 +25,24 @@ pub(crate) fn run_rounds<R: Wait>(
     room: RoundRoom,
     processing: &mut Processing<'_>,
 )
-    requires may { MayMakeRound cache.now session.old call.old room }
+    requires ready { IsReady cache.now.config call.old room }
+    requires run { (past : Past) × HasRun cache.now past session.old call.old }
     ensures over { IsOver call.new }
-    ensures made { HasMadeRounds loads load_state writes_all deletes_all write_state processes process_state
-        processing.old.args.now cache.now session.old call.old processing.old.processor.now
-        session.new call.new processing.new.processor.now }
+    ensures runs { (past : Past) → HasRun cache.now past session.old call.old
+        → RunsOn loads load_state writes_all deletes_all write_state processes process_state processing.old.args.now cache.now past
+        session.old call.old processing.old.processor.now session.new call.new processing.new.processor.now }
     ensures same { (processing.new.processor.ghost_name ≡ processing.old.processor.ghost_name)
         × (processing.new.args ≡ processing.old.args) }
 {
-    let mut room = room;
+    let mut next = room;
     for _ in rt.forever() {
-        let left = run_round(rt, cache, session, call, room, processing);
+        if !call.reserve(rt, cache, session) {
+            next.end();
+            return;
+        }
+        let (answers, rest) = next.ask(rt, session, &mut call.tickets, processing);
+        let spent = call.end_round(rt, cache, session, answers, None);
+        let left = RoundRoom::again(spent, rest);
         if !call.wait(rt, cache, session) {
             end_room(left);
             return;
@@ -45,7 +53,7 @@ pub(crate) fn run_rounds<R: Wait>(
             call.most(),
             left,
         ) {
-            Ok(next) => room = next,
+            Ok(room) => next = room,
             Err(_failed) => {
                 call.refuse_rest();
                 return;
@@ -53,34 +61,6 @@ pub(crate) fn run_rounds<R: Wait>(
         }
     }
     unreachable!()
-}
-
-/// One round: its first phases, what it asks outside, and its last phases. It returns the memory for what the next round asks outside,
-/// unless a batch of it was handed to the writer.
-fn run_round<R: Wait>(
-    rt: &R,
-    cache: &Cache,
-    session: &mut Session,
-    call: &mut BulkCall<'_>,
-    room: RoundRoom,
-    processing: &mut Processing<'_>,
-) -> Option<RoundRoom>
-    requires may { MayMakeRound cache.now session.old call.old room }
-    ensures made { HasMadeRound loads load_state writes_all deletes_all write_state processes process_state
-        processing.old.args.now cache.now session.old call.old processing.old.processor.now
-        session.new call.new processing.new.processor.now result }
-    ensures same { (processing.new.processor.ghost_name ≡ processing.old.processor.ghost_name)
-        × (processing.new.args ≡ processing.old.args) }
-{
-    call.start(rt, cache, session);
-    if call.tickets.len() == 0 {
-        call.pick_up(rt, cache, session);
-        return Some(room);
-    }
-    let (answers, rest) = room.ask(rt, session, &mut call.tickets, processing);
-    let spent = call.commit(rt, cache, session, answers);
-    call.pick_up(rt, cache, session);
-    RoundRoom::again(spent, rest)
 }
 
 /// The memory for what the next round asks outside: what the last one has left, or as much anew. An `Err` says that an allocation

@@ -2,8 +2,9 @@
 ghost use Rattle.std.specs.Prelude.{◌≡◌, vec_capacity};
 ghost use Rattle.jc_cache.specs.Sessions.{HasAsked, HoldsNothing};
 ghost use Rattle.jc_rounds.specs.Answers.{done_room};
+ghost use Rattle.jc_rounds.specs.Ran.{KeepsTickets};
 ghost use Rattle.jc_invoke.specs.RoundRooms.{LeavesBatches};
-ghost use Rattle.jc_invoke.specs.Processing.{HasNoted, HasRunEach, IsRoundAsked, IsTicketRun, IsToBeRun, KeepsRunsRoom, KeepsTickets, MayNote, MayRunEach, TakesKey};
+ghost use Rattle.jc_invoke.specs.Processing.{HasNoted, HasRunEach, IsRoundAsked, IsTicketRun, IsToBeRun, KeepsRunsRoom, MayNote, MayRunEach, TakesKey};
 
 use crate::room::{Batches, RoundRoom};
 use jc_cache::Session;

@@ -69,7 +69,7 @@ impl<'a> BulkCall<'a> {
     }
 
     /// Notes a fault that the call has met, unless one was noted before.
-    pub fn note(&mut self, fault: Option<Refusal>)
+    pub(crate) fn note(&mut self, fault: Option<Refusal>)
         ensures { self.new ≡ record self.old { cause = option_or self.old.cause fault } }
     {
         self.cause = self.cause.or(fault);

@@ -21,7 +21,7 @@ impl<'a> BulkCall<'a> {
     ///
     /// Conditions: the call is the session's current one; these answers are what a round of the call has said of the keys that are
     /// reserved.
-    pub fn commit<R: Wait>(
+    pub(crate) fn commit<R: Wait>(
         &mut self,
         rt: &R,
         cache: &Cache,

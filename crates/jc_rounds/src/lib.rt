@@ -2,14 +2,16 @@
 //! `clear`, `loadAll`, `invokeAll`), for the crates that have these calls.
 //!
 //! Such a call is one call of its session, with one number, and one step of the key's stripe for each key that isn't refused. It works
-//! in rounds. A round begins each key that it can, without waiting ([`BulkCall::start`]); then whoever makes the call asks outside for
-//! those that were reserved, and hands the answers in ([`BulkCall::commit`]); then the round waits for the loads that it has joined
-//! ([`BulkCall::pick_up`]). A key that another call has reserved is put off to a later round, before which the call pauses
-//! ([`BulkCall::wait`]).
+//! in rounds. A round begins each key that it can, without waiting. If it has reserved any, whoever makes the call asks outside for
+//! these, in [`LoadCall`]s, [`WriteCall`]s or by a processor; until then rounds are made by [`BulkCall::reserve`]. [`BulkCall::end_round`]
+//! commits the keys by the answers, and waits for the loads that the round has joined. A key that another call has reserved is put off
+//! to a later round, before which the call pauses ([`BulkCall::wait`]).
 //!
 //! Why it is so:
-//! - Rounds are a struct, not a trait: a trait for what comes between would carry the processor's relations into calls without one.
-//!   Tickets and joins are two vectors with room for what all stripes may have out.
+//! - What is asked between is the caller's, and not a trait's: the toolchain states no method with a `dyn` in its signature (here the
+//!   session's loader and writer) of a type that holds another one (the processor). What a round is, and what rounds have asked one after
+//!   the other, is stated and proved here, for any caller.
+//! - Tickets and joins are two vectors with room for what all stripes may have out.
 //! - A round's room is for all its keys, or one more than all stripes may have reserved. Contracts state the calls outside by
 //!   step and by round.
 #![tactic(auto)]
@@ -21,6 +23,7 @@ mod key;
 mod load_call;
 mod picking;
 mod progress;
+mod rounds;
 mod starting;
 mod targets;
 mod write_call;

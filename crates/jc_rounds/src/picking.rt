@@ -20,7 +20,7 @@ impl<'a> BulkCall<'a> {
     /// back. Nothing is reserved meanwhile.
     ///
     /// Conditions: the call is the session's current one, and no key of it is reserved.
-    pub fn pick_up<R: Wait>(&mut self, rt: &R, cache: &Cache, session: &mut Session)
+    pub(crate) fn pick_up<R: Wait>(&mut self, rt: &R, cache: &Cache, session: &mut Session)
         requires committed { (past : Past) × HasCommitted cache.now past session.old self.old }
         ensures advances { Advances session.old session.new self.old self.new }
         ensures cause { IsNoted self.old.cause (failures self.new.progress.items) self.new.cause }

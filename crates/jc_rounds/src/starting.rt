@@ -20,7 +20,7 @@ impl<'a> BulkCall<'a> {
     /// The first phases of a round: at each key that waits, in their order and without waiting. A key that is put off waits on.
     ///
     /// Conditions: the call is the session's current one, and has nothing out.
-    pub fn start<R: Wait>(&mut self, rt: &R, cache: &Cache, session: &mut Session)
+    pub(crate) fn start<R: Wait>(&mut self, rt: &R, cache: &Cache, session: &mut Session)
         requires between { (past : Past) × IsBetween cache.now past session.old self.old }
         ensures advances { Advances session.old session.new self.old self.new }
         ensures cause { IsNoted self.old.cause (failures self.new.progress.items) self.new.cause }

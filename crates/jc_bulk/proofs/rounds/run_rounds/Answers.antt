@@ -1,73 +1,227 @@
-use Rattle.std.proofs.Common.{◌≤◌, IfNone, subst, sym}
-use Rattle.jc_rounds.specs.Targets.{ops_of}
+use Rattle.std.proofs.Common.{◌≡◌, ◌≤◌, ◌∙◌, ◌++◌, [], ◌∷◌, IfSome, ap, map, refl, subst, sym}
 use Rattle.jc_rounds.specs.Running.{with_rounds}
-use Rattle.jc_rounds.proofs.CallerLemmas.{refused_over, spent_none}
-use Rattle.jc_bulk.specs.RoundsRun.{KeysAskAs, TakesNew}
-use Rattle.jc_bulk.proofs.RoundsOn.{each_takes, left_empty, left_most, left_ready, none_said, runs_refused, runs_then}
+use Rattle.jc_rounds.specs.Targets.{ops_of}
+use Rattle.jc_rounds.specs.Underway.{reserved_by, with_round}
+use Rattle.jc_rounds.proofs.CallerLemmas.{holds_none, ran_more, ran_none, ran_quiet, ran_refused, refused_over}
+use Rattle.jc_bulk.specs.Outside.{no_asks}
+use Rattle.jc_bulk.specs.RoundsRun.{KeysAskAs}
+use Rattle.jc_bulk.proofs.Filling.{may_fill, may_write}
+use Rattle.jc_bulk.proofs.RoundsOn.{each_takes, have_more, have_none, have_same, left_as, left_empty, left_ready, none_said, ready_later, spent_of, takes_new, told_of}
 use Rattle.jc_bulk.proofs.rounds.run_rounds.Goals as goal
 
 pub loop-init : goal.loop-init
-loop-init g c =
+loop-init g c = record {
+  kind = sym c.kind-kind.ensures;
+  ready = c.requires.ready;
+  runs = λ past run. ran_none _ c.args.cache.now past c.args.session.now c.args.call.now (have_none (λ v. (goal.CacheLoader-dyn g v).loads_all v.1) (λ v. (goal.CacheLoader-dyn g v).load_state v.1)
+      (λ v. (goal.CacheWriter-dyn g v).writes_all v.1) (λ v. (goal.CacheWriter-dyn g v).deletes_all v.1) (λ v. (goal.CacheWriter-dyn g v).write_state v.1)
+      c.args.session.now) run;
+}
+
+pub reserve-requires : goal.reserve-requires
+reserve-requires g c =
     let r = c.requires.run in
-    let one = (c.run_round-left.ensures.runs r.0 r.1).0 in
-    record {
-      left = left_most c.kind-kind.result _ _ c.run_round-left.result one.most (left_ready c.kind-kind.result _ c.args.outside c.run_round-left.result c.run_round-left.ensures.left (sym c.kind-kind.ensures, c.requires.ready.none, c.requires.ready.room));
-      spent = subst (λ k. IfNone c.run_round-left.result (TakesNew k c.args.cache.now.config)) (sym c.kind-kind.ensures) c.run_round-left.ensures.spent;
-      keys = subst (λ k. KeysAskAs k (ops_of c.run_round-left.new.call.targets.now)) (sym c.kind-kind.ensures) (subst (λ t. KeysAskAs c.args.outside.kind (ops_of t.now)) (sym one.targets) c.requires.ready.kind);
-      runs = c.run_round-left.ensures.runs;
-    }
+    let so_far = c.loop.invariant.runs r.0 r.1 in
+    record { run = (with_rounds r.0 so_far.rounds, so_far.run) }
+
+pub end-requires : goal.end-requires
+end-requires g c = c.loop.invariant.ready.none
+
+pub returns-then-not-reserve-clause-runs : goal.returns-then-not-reserve-clause-runs
+returns-then-not-reserve-clause-runs g c past run =
+    let so_far = c.loop.invariant.runs past run in
+    ran_quiet _ c.args.cache.now past c.args.session.now c.args.call.now _ c.loop.session c.reserve.new.session c.loop.call c.reserve.new.self so_far
+    (have_same (λ v. (goal.CacheLoader-dyn g v).loads_all v.1) (λ v. (goal.CacheLoader-dyn g v).load_state v.1)
+    (λ v. (goal.CacheWriter-dyn g v).writes_all v.1) (λ v. (goal.CacheWriter-dyn g v).deletes_all v.1) (λ v. (goal.CacheWriter-dyn g v).write_state v.1)
+    c.args.session.now c.loop.session c.reserve.new.session so_far.rounds (ap (λ a. a.hands) c.reserve.ensures.advances.agent) so_far.asked)
+    (c.if-not-reserve.ensures.run refl (with_rounds past so_far.rounds) so_far.run) c.reserve.ensures.advances
+
+pub ask_for-answers-requires-clause-nothing : goal.ask_for-answers-requires-clause-nothing
+ask_for-answers-requires-clause-nothing g c =
+    let r = c.requires.run in
+    let so_far = c.loop.invariant.runs r.0 r.1 in
+    let then = with_rounds r.0 so_far.rounds in
+    holds_none c.args.cache.now then c.reserve.new.session (c.if-not-reserve.ensures.reserved refl then so_far.run).started.on.under.own
+
+pub ask_for-answers-requires-clause-fill : goal.ask_for-answers-requires-clause-fill
+ask_for-answers-requires-clause-fill g c =
+    let r = c.requires.run in
+    let so_far = c.loop.invariant.runs r.0 r.1 in
+    let then = with_rounds r.0 so_far.rounds in
+    let reserved = c.if-not-reserve.ensures.reserved refl then so_far.run in
+    let ready = ready_later c.loop.call c.reserve.new.self c.loop.next c.reserve.ensures.advances.targets c.reserve.ensures.advances.most c.loop.invariant.ready in
+    (may_fill c.args.cache.now then reserved.old c.reserve.new.session c.reserve.new.self c.loop.next reserved.started ready reserved.some).0
+
+pub ask_for-answers-requires-clause-writer : goal.ask_for-answers-requires-clause-writer
+ask_for-answers-requires-clause-writer g c =
+    let r = c.requires.run in
+    let so_far = c.loop.invariant.runs r.0 r.1 in
+    let then = with_rounds r.0 so_far.rounds in
+    let reserved = c.if-not-reserve.ensures.reserved refl then so_far.run in
+    let ready = ready_later c.loop.call c.reserve.new.self c.loop.next c.reserve.ensures.advances.targets c.reserve.ensures.advances.most c.loop.invariant.ready in
+    (may_fill c.args.cache.now then reserved.old c.reserve.new.session c.reserve.new.self c.loop.next reserved.started ready reserved.some).1
+
+pub end_round-spent-requires : goal.end_round-spent-requires
+end_round-spent-requires g c =
+    let r = c.requires.run in
+    let so_far = c.loop.invariant.runs r.0 r.1 in
+    let then = with_rounds r.0 so_far.rounds in
+    let reserved = c.if-not-reserve.ensures.reserved refl then so_far.run in
+    let ready = ready_later c.loop.call c.reserve.new.self c.loop.next c.reserve.ensures.advances.targets c.reserve.ensures.advances.most c.loop.invariant.ready in
+    let asked = c.ask_for-answers.ensures.asked in
+    let told = told_of (λ v. (goal.CacheLoader-dyn g v).loads_all v.1) (λ v. (goal.CacheLoader-dyn g v).load_state v.1)
+    (λ v. (goal.CacheWriter-dyn g v).writes_all v.1) (λ v. (goal.CacheWriter-dyn g v).deletes_all v.1) (λ v. (goal.CacheWriter-dyn g v).write_state v.1)
+    c.args.cache.now then c.reserve.new.session c.ask_for-answers.new.session c.reserve.new.self _ c.loop.next c.ask_for-answers.new.tickets c.ask_for-answers.result.0 c.ask_for-answers.result.1
+    reserved ready c.ask_for-answers.ensures.tickets refl asked in
+    record { told = (then, asked.asked.round, told) }
+
+pub again-left-requires : goal.again-left-requires
+again-left-requires g c =
+    let r = c.requires.run in
+    let so_far = c.loop.invariant.runs r.0 r.1 in
+    let then = with_rounds r.0 so_far.rounds in
+    let reserved = c.if-not-reserve.ensures.reserved refl then so_far.run in
+    let ready = ready_later c.loop.call c.reserve.new.self c.loop.next c.reserve.ensures.advances.targets c.reserve.ensures.advances.most c.loop.invariant.ready in
+    let asked = c.ask_for-answers.ensures.asked in
+    let told = told_of (λ v. (goal.CacheLoader-dyn g v).loads_all v.1) (λ v. (goal.CacheLoader-dyn g v).load_state v.1)
+    (λ v. (goal.CacheWriter-dyn g v).writes_all v.1) (λ v. (goal.CacheWriter-dyn g v).deletes_all v.1) (λ v. (goal.CacheWriter-dyn g v).write_state v.1)
+    c.args.cache.now then c.reserve.new.session c.ask_for-answers.new.session c.reserve.new.self _ c.loop.next c.ask_for-answers.new.tickets c.ask_for-answers.result.0 c.ask_for-answers.result.1
+    reserved ready c.ask_for-answers.ensures.tickets refl asked in
+    let spent = spent_of c.loop.next.kind c.loop.next.room c.args.cache.now.config (map reserved_by c.reserve.new.self.tickets.items) asked.asked.round c.ask_for-answers.result.0 c.end_round-spent.result c.ask_for-answers.result.2
+    asked.asked.asked (c.end_round-spent.ensures.spent then asked.asked.round told) c.end_round-spent.ensures.room c.ask_for-answers.ensures.rest in
+    (c.loop.next.kind, c.loop.next.room, spent)
 
 pub wait-requires : goal.wait-requires
 wait-requires g c =
     let r = c.requires.run in
-    let so_far = (c.loop.invariant.runs r.0 r.1).0 in
-    (with_rounds r.0 so_far.rounds, so_far.run.between)
+    let so_far = c.loop.invariant.runs r.0 r.1 in
+    let then = with_rounds r.0 so_far.rounds in
+    let reserved = c.if-not-reserve.ensures.reserved refl then so_far.run in
+    let ready = ready_later c.loop.call c.reserve.new.self c.loop.next c.reserve.ensures.advances.targets c.reserve.ensures.advances.most c.loop.invariant.ready in
+    let asked = c.ask_for-answers.ensures.asked in
+    let told = told_of (λ v. (goal.CacheLoader-dyn g v).loads_all v.1) (λ v. (goal.CacheLoader-dyn g v).load_state v.1)
+    (λ v. (goal.CacheWriter-dyn g v).writes_all v.1) (λ v. (goal.CacheWriter-dyn g v).deletes_all v.1) (λ v. (goal.CacheWriter-dyn g v).write_state v.1)
+    c.args.cache.now then c.reserve.new.session c.ask_for-answers.new.session c.reserve.new.self _ c.loop.next c.ask_for-answers.new.tickets c.ask_for-answers.result.0 c.ask_for-answers.result.1
+    reserved ready c.ask_for-answers.ensures.tickets refl asked in
+    let on = c.end_round-spent.ensures.run then asked.asked.round told in
+    (with_round then asked.asked.round, on.between)
 
 pub end_left-requires : goal.end_left-requires
-end_left-requires g c = left_empty c.kind-kind.result c.loop.call.most c.loop.left c.loop.invariant.left
+end_left-requires g c =
+    let r = c.requires.run in
+    let so_far = c.loop.invariant.runs r.0 r.1 in
+    let then = with_rounds r.0 so_far.rounds in
+    let reserved = c.if-not-reserve.ensures.reserved refl then so_far.run in
+    let ready = ready_later c.loop.call c.reserve.new.self c.loop.next c.reserve.ensures.advances.targets c.reserve.ensures.advances.most c.loop.invariant.ready in
+    let asked = c.ask_for-answers.ensures.asked in
+    let told = told_of (λ v. (goal.CacheLoader-dyn g v).loads_all v.1) (λ v. (goal.CacheLoader-dyn g v).load_state v.1)
+    (λ v. (goal.CacheWriter-dyn g v).writes_all v.1) (λ v. (goal.CacheWriter-dyn g v).deletes_all v.1) (λ v. (goal.CacheWriter-dyn g v).write_state v.1)
+    c.args.cache.now then c.reserve.new.session c.ask_for-answers.new.session c.reserve.new.self _ c.loop.next c.ask_for-answers.new.tickets c.ask_for-answers.result.0 c.ask_for-answers.result.1
+    reserved ready c.ask_for-answers.ensures.tickets refl asked in
+    let spent = spent_of c.loop.next.kind c.loop.next.room c.args.cache.now.config (map reserved_by c.reserve.new.self.tickets.items) asked.asked.round c.ask_for-answers.result.0 c.end_round-spent.result c.ask_for-answers.result.2
+    asked.asked.asked (c.end_round-spent.ensures.spent then asked.asked.round told) c.end_round-spent.ensures.room c.ask_for-answers.ensures.rest in
+    let left = left_ready c.loop.next.kind c.loop.call.most (no_asks c.loop.next.kind c.loop.next.room) c.again-left.result (c.again-left.ensures.left c.loop.next.kind c.loop.next.room spent) (refl, refl, c.loop.invariant.ready.room) in
+    left_empty c.loop.next.kind c.loop.call.most c.again-left.result left
 
 pub returns-then-not-wait-clause-runs : goal.returns-then-not-wait-clause-runs
-returns-then-not-wait-clause-runs g c past run = (c.loop.invariant.runs past run).0
+returns-then-not-wait-clause-runs g c past run =
+    let so_far = c.loop.invariant.runs past run in
+    let then = with_rounds past so_far.rounds in
+    let reserved = c.if-not-reserve.ensures.reserved refl then so_far.run in
+    let ready = ready_later c.loop.call c.reserve.new.self c.loop.next c.reserve.ensures.advances.targets c.reserve.ensures.advances.most c.loop.invariant.ready in
+    let asked = c.ask_for-answers.ensures.asked in
+    let told = told_of (λ v. (goal.CacheLoader-dyn g v).loads_all v.1) (λ v. (goal.CacheLoader-dyn g v).load_state v.1)
+    (λ v. (goal.CacheWriter-dyn g v).writes_all v.1) (λ v. (goal.CacheWriter-dyn g v).deletes_all v.1) (λ v. (goal.CacheWriter-dyn g v).write_state v.1)
+    c.args.cache.now then c.reserve.new.session c.ask_for-answers.new.session c.reserve.new.self _ c.loop.next c.ask_for-answers.new.tickets c.ask_for-answers.result.0 c.ask_for-answers.result.1
+    reserved ready c.ask_for-answers.ensures.tickets refl asked in
+    let on = c.end_round-spent.ensures.run then asked.asked.round told in
+    (ran_more _ c.args.cache.now past c.args.session.now c.args.call.now _ c.loop.session c.reserve.new.session c.ask_for-answers.new.session c.end_round-spent.new.session c.loop.call c.reserve.new.self _ c.end_round-spent.new.self so_far asked.asked.round
+    (have_same (λ v. (goal.CacheLoader-dyn g v).loads_all v.1) (λ v. (goal.CacheLoader-dyn g v).load_state v.1)
+    (λ v. (goal.CacheWriter-dyn g v).writes_all v.1) (λ v. (goal.CacheWriter-dyn g v).deletes_all v.1) (λ v. (goal.CacheWriter-dyn g v).write_state v.1)
+    c.args.session.now c.ask_for-answers.new.session c.end_round-spent.new.session (so_far.rounds ++ asked.asked.round ∷ []) (ap (λ a. a.hands) c.end_round-spent.ensures.advances.agent)
+    (have_more (λ v. (goal.CacheLoader-dyn g v).loads_all v.1) (λ v. (goal.CacheLoader-dyn g v).load_state v.1)
+    (λ v. (goal.CacheWriter-dyn g v).writes_all v.1) (λ v. (goal.CacheWriter-dyn g v).deletes_all v.1) (λ v. (goal.CacheWriter-dyn g v).write_state v.1)
+    c.args.session.now c.loop.session c.reserve.new.session c.ask_for-answers.new.session so_far.rounds c.loop.next c.reserve.new.self.tickets.items c.ask_for-answers.result.0 c.ask_for-answers.result.1
+    (ap (λ a. a.hands) c.reserve.ensures.advances.agent) so_far.asked asked))
+    on c.reserve.ensures.advances asked.rest refl c.end_round-spent.ensures.advances).0
 
 pub ready-requires : goal.ready-requires
-ready-requires g c = left_most c.kind-kind.result c.loop.call.most c.most.result c.loop.left c.most.ensures c.loop.invariant.left
-
-pub run_round-left-requires-in-Ok-clause-ready : goal.run_round-left-requires-in-Ok-clause-ready
-run_round-left-requires-in-Ok-clause-ready g c = record {
-  none = c.in-Ok.ensures.ok.1;
-  kind = subst (λ k. KeysAskAs k (ops_of c.loop.call.targets.now)) (sym c.in-Ok.ensures.ok.0) c.loop.invariant.keys;
-  room = subst (λ n. n ≤ c.in-Ok.outside.room) c.most.ensures c.in-Ok.ensures.ok.2;
-}
-
-pub run_round-left-requires-in-Ok-clause-run : goal.run_round-left-requires-in-Ok-clause-run
-run_round-left-requires-in-Ok-clause-run g c =
+ready-requires g c =
     let r = c.requires.run in
-    let so_far = (c.loop.invariant.runs r.0 r.1).0 in
-    (with_rounds r.0 so_far.rounds, so_far.run)
+    let so_far = c.loop.invariant.runs r.0 r.1 in
+    let then = with_rounds r.0 so_far.rounds in
+    let reserved = c.if-not-reserve.ensures.reserved refl then so_far.run in
+    let ready = ready_later c.loop.call c.reserve.new.self c.loop.next c.reserve.ensures.advances.targets c.reserve.ensures.advances.most c.loop.invariant.ready in
+    let asked = c.ask_for-answers.ensures.asked in
+    let told = told_of (λ v. (goal.CacheLoader-dyn g v).loads_all v.1) (λ v. (goal.CacheLoader-dyn g v).load_state v.1)
+    (λ v. (goal.CacheWriter-dyn g v).writes_all v.1) (λ v. (goal.CacheWriter-dyn g v).deletes_all v.1) (λ v. (goal.CacheWriter-dyn g v).write_state v.1)
+    c.args.cache.now then c.reserve.new.session c.ask_for-answers.new.session c.reserve.new.self _ c.loop.next c.ask_for-answers.new.tickets c.ask_for-answers.result.0 c.ask_for-answers.result.1
+    reserved ready c.ask_for-answers.ensures.tickets refl asked in
+    let spent = spent_of c.loop.next.kind c.loop.next.room c.args.cache.now.config (map reserved_by c.reserve.new.self.tickets.items) asked.asked.round c.ask_for-answers.result.0 c.end_round-spent.result c.ask_for-answers.result.2
+    asked.asked.asked (c.end_round-spent.ensures.spent then asked.asked.round told) c.end_round-spent.ensures.room c.ask_for-answers.ensures.rest in
+    let left = left_ready c.loop.next.kind c.loop.call.most (no_asks c.loop.next.kind c.loop.next.room) c.again-left.result (c.again-left.ensures.left c.loop.next.kind c.loop.next.room spent) (refl, refl, c.loop.invariant.ready.room) in
+    left_as c.loop.next.kind c.kind-kind.result c.loop.call.most c.most.result c.again-left.result c.loop.invariant.kind (c.most.ensures ∙ c.end_round-spent.ensures.advances.most ∙ c.reserve.ensures.advances.most) left
 
 pub loop-preserved : goal.loop-preserved
-loop-preserved g c =
-    let r = c.requires.run in
-    let so_far = (c.loop.invariant.runs r.0 r.1).0 in
-    let one = (c.run_round-left-in-Ok.ensures.runs (with_rounds r.0 so_far.rounds) so_far.run).0 in
-    record {
-      left = left_most c.kind-kind.result _ _ c.run_round-left-in-Ok.result one.most
-          (left_ready c.kind-kind.result _ c.in-Ok.outside c.run_round-left-in-Ok.result c.run_round-left-in-Ok.ensures.left (c.in-Ok.ensures.ok.0, c.in-Ok.ensures.ok.1, subst (λ n. n ≤ c.in-Ok.outside.room) c.most.ensures c.in-Ok.ensures.ok.2));
-      spent = subst (λ k. IfNone c.run_round-left-in-Ok.result (TakesNew k c.args.cache.now.config)) c.in-Ok.ensures.ok.0 c.run_round-left-in-Ok.ensures.spent;
-      keys = subst (λ t. KeysAskAs c.kind-kind.result (ops_of t.now)) (sym one.targets) c.loop.invariant.keys;
-      runs = λ past run.
-          let before = (c.loop.invariant.runs past run).0 in
-          runs_then (λ v. (goal.CacheLoader-dyn g v).loads_all v.1) (λ v. (goal.CacheLoader-dyn g v).load_state v.1) (λ v. (goal.CacheWriter-dyn g v).writes_all v.1) (λ v. (goal.CacheWriter-dyn g v).deletes_all v.1) (λ v. (goal.CacheWriter-dyn g v).write_state v.1)
-          c.args.cache.now c.run_round-left-in-Ok.result past c.args.session.now c.loop.session c.run_round-left-in-Ok.new.session c.args.call.now c.loop.call c.run_round-left-in-Ok.new.call before
-          (c.run_round-left-in-Ok.ensures.runs (with_rounds past before.rounds) before.run);
-    }
+loop-preserved g c = record {
+  kind = c.in-Ok.ensures.ok.0;
+  ready = record {
+    none = c.in-Ok.ensures.ok.1;
+    kind = subst (λ k. KeysAskAs k (ops_of c.end_round-spent.new.self.targets.now)) (c.loop.invariant.kind ∙ sym c.in-Ok.ensures.ok.0)
+        (subst (λ t. KeysAskAs c.loop.next.kind (ops_of t.now)) (sym (c.end_round-spent.ensures.advances.targets ∙ c.reserve.ensures.advances.targets)) c.loop.invariant.ready.kind);
+    room = subst (λ n. n ≤ c.in-Ok.outside.room) c.most.ensures c.in-Ok.ensures.ok.2;
+  };
+  runs = λ past run.
+      let so_far = c.loop.invariant.runs past run in
+      let then = with_rounds past so_far.rounds in
+      let reserved = c.if-not-reserve.ensures.reserved refl then so_far.run in
+      let ready = ready_later c.loop.call c.reserve.new.self c.loop.next c.reserve.ensures.advances.targets c.reserve.ensures.advances.most c.loop.invariant.ready in
+      let asked = c.ask_for-answers.ensures.asked in
+      let told = told_of (λ v. (goal.CacheLoader-dyn g v).loads_all v.1) (λ v. (goal.CacheLoader-dyn g v).load_state v.1)
+      (λ v. (goal.CacheWriter-dyn g v).writes_all v.1) (λ v. (goal.CacheWriter-dyn g v).deletes_all v.1) (λ v. (goal.CacheWriter-dyn g v).write_state v.1)
+      c.args.cache.now then c.reserve.new.session c.ask_for-answers.new.session c.reserve.new.self _ c.loop.next c.ask_for-answers.new.tickets c.ask_for-answers.result.0 c.ask_for-answers.result.1
+      reserved ready c.ask_for-answers.ensures.tickets refl asked in
+      let on = c.end_round-spent.ensures.run then asked.asked.round told in
+      (ran_more _ c.args.cache.now past c.args.session.now c.args.call.now _ c.loop.session c.reserve.new.session c.ask_for-answers.new.session c.end_round-spent.new.session c.loop.call c.reserve.new.self _ c.end_round-spent.new.self so_far asked.asked.round
+      (have_same (λ v. (goal.CacheLoader-dyn g v).loads_all v.1) (λ v. (goal.CacheLoader-dyn g v).load_state v.1)
+      (λ v. (goal.CacheWriter-dyn g v).writes_all v.1) (λ v. (goal.CacheWriter-dyn g v).deletes_all v.1) (λ v. (goal.CacheWriter-dyn g v).write_state v.1)
+      c.args.session.now c.ask_for-answers.new.session c.end_round-spent.new.session (so_far.rounds ++ asked.asked.round ∷ []) (ap (λ a. a.hands) c.end_round-spent.ensures.advances.agent)
+      (have_more (λ v. (goal.CacheLoader-dyn g v).loads_all v.1) (λ v. (goal.CacheLoader-dyn g v).load_state v.1)
+      (λ v. (goal.CacheWriter-dyn g v).writes_all v.1) (λ v. (goal.CacheWriter-dyn g v).deletes_all v.1) (λ v. (goal.CacheWriter-dyn g v).write_state v.1)
+      c.args.session.now c.loop.session c.reserve.new.session c.ask_for-answers.new.session so_far.rounds c.loop.next c.reserve.new.self.tickets.items c.ask_for-answers.result.0 c.ask_for-answers.result.1
+      (ap (λ a. a.hands) c.reserve.ensures.advances.agent) so_far.asked asked))
+      on c.reserve.ensures.advances asked.rest refl c.end_round-spent.ensures.advances).0;
+}
 
 pub returns-in-Err-clause-over : goal.returns-in-Err-clause-over
-returns-in-Err-clause-over g c = refused_over c.loop.call c.refuse_rest.new.self c.refuse_rest.ensures.progress
+returns-in-Err-clause-over g c = refused_over c.end_round-spent.new.self c.refuse_rest.new.self c.refuse_rest.ensures.progress
 
 pub returns-in-Err-clause-runs : goal.returns-in-Err-clause-runs
 returns-in-Err-clause-runs g c past run =
-    runs_refused (λ v. (goal.CacheLoader-dyn g v).loads_all v.1) (λ v. (goal.CacheLoader-dyn g v).load_state v.1) (λ v. (goal.CacheWriter-dyn g v).writes_all v.1) (λ v. (goal.CacheWriter-dyn g v).deletes_all v.1) (λ v. (goal.CacheWriter-dyn g v).write_state v.1)
-    c.args.cache.now past c.args.session.now c.loop.session c.args.call.now c.loop.call c.refuse_rest.new.self c.refuse_rest.ensures.rest c.refuse_rest.ensures.progress c.refuse_rest.ensures.cause (c.loop.invariant.runs past run).0
-    (spent_none c.loop.left (c.loop.invariant.runs past run).0.rounds c.in-Err.ensures.err (c.loop.invariant.runs past run).1)
-    (each_takes c.kind-kind.result c.args.cache.now.config (ops_of c.loop.call.targets.now) c.loop.invariant.keys (none_said (TakesNew c.kind-kind.result c.args.cache.now.config) c.loop.left c.in-Err.ensures.err c.loop.invariant.spent))
+    let so_far = c.loop.invariant.runs past run in
+    let then = with_rounds past so_far.rounds in
+    let reserved = c.if-not-reserve.ensures.reserved refl then so_far.run in
+    let ready = ready_later c.loop.call c.reserve.new.self c.loop.next c.reserve.ensures.advances.targets c.reserve.ensures.advances.most c.loop.invariant.ready in
+    let asked = c.ask_for-answers.ensures.asked in
+    let told = told_of (λ v. (goal.CacheLoader-dyn g v).loads_all v.1) (λ v. (goal.CacheLoader-dyn g v).load_state v.1)
+    (λ v. (goal.CacheWriter-dyn g v).writes_all v.1) (λ v. (goal.CacheWriter-dyn g v).deletes_all v.1) (λ v. (goal.CacheWriter-dyn g v).write_state v.1)
+    c.args.cache.now then c.reserve.new.session c.ask_for-answers.new.session c.reserve.new.self _ c.loop.next c.ask_for-answers.new.tickets c.ask_for-answers.result.0 c.ask_for-answers.result.1
+    reserved ready c.ask_for-answers.ensures.tickets refl asked in
+    let spent = spent_of c.loop.next.kind c.loop.next.room c.args.cache.now.config (map reserved_by c.reserve.new.self.tickets.items) asked.asked.round c.ask_for-answers.result.0 c.end_round-spent.result c.ask_for-answers.result.2
+    asked.asked.asked (c.end_round-spent.ensures.spent then asked.asked.round told) c.end_round-spent.ensures.room c.ask_for-answers.ensures.rest in
+    let on = c.end_round-spent.ensures.run then asked.asked.round told in
+    let may = may_write c.args.cache.now then reserved.old c.reserve.new.session c.reserve.new.self c.loop.next reserved.started ready reserved.some in
+    let new = takes_new c.loop.next.kind c.args.cache.now.config may (none_said _ c.again-left.result c.in-Err.ensures.err (c.again-left.ensures.none c.loop.next.kind c.loop.next.room spent)) in
+    let keys = subst (λ t. KeysAskAs c.loop.next.kind (ops_of t.now)) (sym c.end_round-spent.ensures.advances.targets) ready.kind in
+    let all = ran_more _ c.args.cache.now past c.args.session.now c.args.call.now _ c.loop.session c.reserve.new.session c.ask_for-answers.new.session c.end_round-spent.new.session c.loop.call c.reserve.new.self _ c.end_round-spent.new.self so_far asked.asked.round
+    (have_same (λ v. (goal.CacheLoader-dyn g v).loads_all v.1) (λ v. (goal.CacheLoader-dyn g v).load_state v.1)
+    (λ v. (goal.CacheWriter-dyn g v).writes_all v.1) (λ v. (goal.CacheWriter-dyn g v).deletes_all v.1) (λ v. (goal.CacheWriter-dyn g v).write_state v.1)
+    c.args.session.now c.ask_for-answers.new.session c.end_round-spent.new.session (so_far.rounds ++ asked.asked.round ∷ []) (ap (λ a. a.hands) c.end_round-spent.ensures.advances.agent)
+    (have_more (λ v. (goal.CacheLoader-dyn g v).loads_all v.1) (λ v. (goal.CacheLoader-dyn g v).load_state v.1)
+    (λ v. (goal.CacheWriter-dyn g v).writes_all v.1) (λ v. (goal.CacheWriter-dyn g v).deletes_all v.1) (λ v. (goal.CacheWriter-dyn g v).write_state v.1)
+    c.args.session.now c.loop.session c.reserve.new.session c.ask_for-answers.new.session so_far.rounds c.loop.next c.reserve.new.self.tickets.items c.ask_for-answers.result.0 c.ask_for-answers.result.1
+    (ap (λ a. a.hands) c.reserve.ensures.advances.agent) so_far.asked asked))
+    on c.reserve.ensures.advances asked.rest refl c.end_round-spent.ensures.advances in
+    ran_refused _ c.args.cache.now past c.args.session.now c.args.call.now c.end_round-spent.new.session c.end_round-spent.new.self c.refuse_rest.new.self
+    all.0
+    c.refuse_rest.ensures.rest c.refuse_rest.ensures.progress c.refuse_rest.ensures.cause all.1 (each_takes c.loop.next.kind c.args.cache.now.config (ops_of c.end_round-spent.new.self.targets.now) keys new)

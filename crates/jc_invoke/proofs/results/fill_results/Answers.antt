@@ -3,7 +3,7 @@ use Rattle.std.proofs.lemmas.Option.{slice_get-get_or}
 use Rattle.jc_model.specs.declared.event.Op.TheVariants.{Invoke}
 use Rattle.jc_rounds.specs.Targets.{ops_with}
 use Rattle.jc_invoke.proofs.KeyResults.{as_many, keys_distinct, results_more, results_new, results_whole}
-use Rattle.jc_rounds.proofs.TargetOps.{same_keys}
+use Rattle.jc_rounds.proofs.CallerLemmas.{same_keys}
 use Rattle.jc_invoke.proofs.results.fill_results.Goals as goal
 
 pub insert_result-requires-clause-new : goal.insert_result-requires-clause-new

@@ -34,7 +34,7 @@ loop-place-preserved g c =
 
 pub returns-in-Loads-clause-tickets : goal.returns-in-Loads-clause-tickets
 returns-in-Loads-clause-tickets g c = record {
-  same = whole_tickets c.args.tickets.now.items c.loop-place.place c.loop-place.tickets.items (omega (arith, c.loop-place-test.false, c.len-place-end.ensures, c.args.tickets.now.ok.0)) c.loop-place.invariant.tickets;
+  reservations = whole_tickets c.args.tickets.now.items c.loop-place.place c.loop-place.tickets.items (omega (arith, c.loop-place-test.false, c.len-place-end.ensures, c.args.tickets.now.ok.0)) c.loop-place.invariant.tickets;
   room = c.loop-place.invariant.room;
 }
 
@@ -52,7 +52,7 @@ returns-in-Loads-clause-asked g c =
 
 pub returns-in-Writes-clause-tickets : goal.returns-in-Writes-clause-tickets
 returns-in-Writes-clause-tickets g c = record {
-  same = whole_tickets c.args.tickets.now.items c.loop-place.place c.loop-place.tickets.items (omega (arith, c.loop-place-test.false, c.len-place-end.ensures, c.args.tickets.now.ok.0)) c.loop-place.invariant.tickets;
+  reservations = whole_tickets c.args.tickets.now.items c.loop-place.place c.loop-place.tickets.items (omega (arith, c.loop-place-test.false, c.len-place-end.ensures, c.args.tickets.now.ok.0)) c.loop-place.invariant.tickets;
   room = c.loop-place.invariant.room;
 }
 

@@ -1,7 +1,8 @@
 use Rattle.std.proofs.Common.{◌≡◌, length, take, drop}
 use Rattle.std.specs.List.{AllByRecursion}
 use Rattle.jc_cache.specs.Sessions.{HasAsked}
-use Rattle.jc_invoke.specs.Processing.{HasRunEach, IsToBeRun, KeepsRunsRoom, KeepsTickets}
+use Rattle.jc_invoke.specs.Processing.{HasRunEach, IsToBeRun, KeepsRunsRoom}
+use Rattle.jc_rounds.specs.Ran.{KeepsTickets}
 use Rattle.jc_invoke.proofs.RunEach.{RoomLeft}
 use Rattle.jc_invoke.proofs.room.RoundRoom.run_each.Given as goal
 

@@ -1,0 +1,70 @@
+//! The rounds of a call with many keys, but for what they ask outside.
+ghost use Rattle.std.specs.Prelude.{◌≡◌, [], true, false};
+ghost use Rattle.jc_rounds.specs.Answers.{AreAnswers, done_room};
+ghost use Rattle.jc_rounds.specs.Rounds.{Round};
+ghost use Rattle.jc_rounds.specs.Ran.{HasReserved, IsTold};
+ghost use Rattle.jc_rounds.specs.Running.{HasRun};
+ghost use Rattle.jc_rounds.specs.Underway.{Advances, IsOver, Past, with_round};
+
+use crate::answers::Answers;
+use crate::bulk_call::BulkCall;
+use jc_cache::{Cache, Session};
+use jc_types::Refusal;
+use std::sync::Wait;
+
+impl<'a> BulkCall<'a> {
+    /// Makes rounds until one has reserved keys, or each key has ended. It returns whether one has: then somebody outside is to be
+    /// asked for its keys, and [`BulkCall::end_round`] ends it. A round that reserves no key asks nobody.
+    ///
+    /// A round begins each key that waits, in their order. Between two rounds the call waits for a change on the stripe of a key that
+    /// was put off, with no reservation out. Nothing says that it returns.
+    ///
+    /// Conditions: the call is the session's current one, and has nothing out.
+    pub fn reserve<R: Wait>(&mut self, rt: &R, cache: &Cache, session: &mut Session) -> bool
+        requires run { (past : Past) × HasRun cache.now past session.old self.old }
+        ensures advances { Advances session.old session.new self.old self.new }
+        ensures reserved { result ≡ true → (past : Past) → HasRun cache.now past session.old self.old
+            → HasReserved cache.now past session.new self.new }
+        ensures over { result ≡ false → IsOver self.new }
+        ensures run { result ≡ false → (past : Past) → HasRun cache.now past session.old self.old
+            → HasRun cache.now past session.new self.new }
+    {
+        for _ in rt.forever() {
+            self.start(rt, cache, session);
+            if self.tickets.len() > 0 {
+                return true;
+            }
+            self.pick_up(rt, cache, session);
+            if !self.wait(rt, cache, session) {
+                return false;
+            }
+        }
+        unreachable!()
+    }
+
+    /// Ends a round that has reserved keys: it commits them by what was answered for them, and waits for the loads that it has joined.
+    /// `fault` is what the writer returned, if it failed. It returns the answers, of which none is left, with the memory that they had.
+    ///
+    /// Condition: this was answered for the keys of the call that are reserved.
+    pub fn end_round<R: Wait>(
+        &mut self,
+        rt: &R,
+        cache: &Cache,
+        session: &mut Session,
+        answers: Answers,
+        fault: Option<Refusal>,
+    ) -> Answers
+        requires told { (past : Past) × (round : Round) × IsTold cache.now past round session.old self.old answers fault }
+        ensures advances { Advances session.old session.new self.old self.new }
+        ensures run { (past : Past) (round : Round) → IsTold cache.now past round session.old self.old answers fault
+            → HasRun cache.now (with_round past round) session.new self.new }
+        ensures spent { (past : Past) (round : Round) → IsTold cache.now past round session.old self.old answers fault
+            → AreAnswers cache.now.config round result [] }
+        ensures room { done_room result ≡ done_room answers }
+    {
+        self.note(fault);
+        let spent = self.commit(rt, cache, session, answers);
+        self.pick_up(rt, cache, session);
+        spent
+    }
+}
