@@ -5,8 +5,8 @@
 --     elsewhere                 what it leaves of the others
 --     looked_none, looked_next  no stripe, and one stripe more
 --     apart_next                the keys still differ, and are of the stripes that were looked at
---     sweep_ok, sweep_err       a call that is carried out for the keys that were found
-use Rattle.std.proofs.Common.{◌≡◌, ◌==◌, ◌&&◌, ◌⊎◌, ⊎_elim, inl, inr, ◌+◌, ◌<◌, ◌++◌, ℕ, zero, suc, List, [], ◌∷◌, length, Bool, true, false, nat_lt, None, Some, slice_get, refl, sym, ap, subst, ◌∙◌, arith}
+--     sweeps_of                 a call that is carried out for the keys that were found
+use Rattle.std.proofs.Common.{◌≡◌, ◌==◌, ◌&&◌, ◌⊎◌, ⊎_elim, inl, inr, ◌+◌, ◌<◌, ◌++◌, ℕ, zero, suc, List, [], ◌∷◌, length, Bool, true, false, nat_lt, None, Some, Result, slice_get, refl, sym, ap, subst, ◌∙◌, arith}
 use Rattle.std.proofs.lemmas.Bool.{and_parts}
 use Rattle.std.proofs.lemmas.Bool.Decides.{nat_tests}
 use Rattle.std.proofs.lemmas.List.{append-nil, append_assoc, length-append}
@@ -17,7 +17,6 @@ use Rattle.std.specs.List.{AllByRecursion, IsDistinct, flat_map, list_all}
 use Rattle.std.specs.Cmp.Lexicographic.{pointwise, same_text}
 use Rattle.jc_types.proofs.CallerLemmas.{all_imply}
 use Rattle.jc_types.specs.Stripes.{stripe_of}
-use Rattle.jc_types.specs.declared.refusal.Refusal.{Refusal}
 use Rattle.jc_model.specs.Cache.{Bytes}
 use Rattle.jc_model.specs.declared.event.Op.{Op}
 use Rattle.jc_outside.specs.CallingAll.{LoadAllRelation, WriteAllRelation, DeleteAllRelation}
@@ -36,7 +35,9 @@ use Rattle.jc_cache.specs.Turns.{HasLent, looking}
 use Rattle.jc_engine.specs.Rows.{AllLend}
 use Rattle.jc_cache.specs.Sessions.{IsOf, MayCall}
 use Rattle.jc_cache.specs.declared.session.Session.{Session}
-use Rattle.jc_bulk.specs.Bulk.{FailsInPart, HasLooked, IsLookedAt, IsOutOfMemory, IsSweepRefused, LooksOnce, OnlyLooks, Succeeds, LooksFirst}
+use Rattle.jc_bulk.specs.Bulk.{DoesAll, HasLooked, IsLookedAt, LooksOnce, OnlyLooks, OrNoMemory, SweepsAll}
+use Rattle.jc_bulk.specs.declared.fault.BulkFault.{BulkFault}
+use Rattle.jc_rounds.specs.Targets.{ops_with}
 use Rattle.jc_rounds.specs.Seats.{HasGrown, view_at}
 use Rattle.jc_rounds.proofs.CallerLemmas.{Seated, all_early, front_found, grown_itself, grown_on, grown_phase, seen_own, view_set, view_there}
 
@@ -228,17 +229,9 @@ module _ {I J : Type 0} {D : I → Type 0} {E : J → Type 0} where
 -- 4. The call.
 
 module _ {I J : Type 0} {D : I → Type 0} {E : J → Type 0} (loads_all : LoadAllRelation ((i : I) × D i)) (load_state : (i : I) × D i → List ℕ) (writes_all : WriteAllRelation ((j : J) × E j)) (deletes_all : DeleteAllRelation ((j : J) × E j)) (write_state : (j : J) × E j → List ℕ) where
-  pub sweep_ok : (cache : CacheState) (old mid new : Session I J D E) (ops : List Bytes → List (Bytes × Op)) (list keys : List Bytes) → OnlyLooks old mid → HasLooked cache.config.stripes old.seats.items mid.seats.items keys → list ≡ keys
-      → Succeeds loads_all load_state writes_all deletes_all write_state cache mid (ops list) new
-      → (found : List Bytes) × LooksFirst cache.config.stripes old found (λ looked. Succeeds loads_all load_state writes_all deletes_all write_state cache looked (ops found) new)
-  sweep_ok cache old mid new ops list keys looks looked is r =
-      (keys, record { looked = mid; only = looks; found = looked; done = subst (λ ks. Succeeds loads_all load_state writes_all deletes_all write_state cache mid (ops ks) new) is r })
-
-  pub sweep_err : (cache : CacheState) (old mid new : Session I J D E) (ops : List Bytes → List (Bytes × Op)) (list keys : List Bytes) (cause : Refusal) (failed : List (Bytes × Refusal)) (found : List (Bytes × Bytes))
-      → OnlyLooks old mid → HasLooked cache.config.stripes old.seats.items mid.seats.items keys → list ≡ keys
-      → FailsInPart loads_all load_state writes_all deletes_all write_state cache mid (ops list) cause failed new × (found ≡ []) ⊎ IsOutOfMemory mid cause failed found new
-      → ((ks : List Bytes) × LooksFirst cache.config.stripes old ks (λ looked. FailsInPart loads_all load_state writes_all deletes_all write_state cache looked (ops ks) cause failed new) × (found ≡ []))
-      ⊎ IsSweepRefused old cause failed found new
-  sweep_err cache old mid new ops list keys cause failed found looks looked is (inl r) =
-      inl (keys, record { looked = mid; only = looks; found = looked; done = subst (λ ks. FailsInPart loads_all load_state writes_all deletes_all write_state cache mid (ops ks) cause failed new) is r.0 }, r.1)
-  sweep_err cache old mid new ops list keys cause failed found looks looked is (inr r) = inr (r.0, r.1, r.2, subst (OnlyLooks old) (sym r.3) looks)
+  pub sweeps_of : (cache : CacheState) (old mid new : Session I J D E) (op : Op) (list keys : List Bytes) (result : Result (Unit {0}) BulkFault) → OnlyLooks old mid → HasLooked cache.config.stripes old.seats.items mid.seats.items keys → list ≡ keys
+      → OrNoMemory (DoesAll loads_all load_state writes_all deletes_all write_state cache mid (ops_with op list)) mid result new
+      → SweepsAll cache.config.stripes (λ looked found. DoesAll loads_all load_state writes_all deletes_all write_state cache looked (ops_with op found)) old result new
+  sweeps_of cache old mid new op list keys result looks looked is (inl h) =
+      inl (keys, record { looked = mid; only = looks; found = looked; done = subst (λ ks. DoesAll loads_all load_state writes_all deletes_all write_state cache mid (ops_with op ks) result new) is h })
+  sweeps_of cache old mid new op list keys result looks looked is (inr h) = inr (h.0, subst (OnlyLooks old) (sym h.1) looks)

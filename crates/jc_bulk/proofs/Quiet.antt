@@ -1,8 +1,7 @@
 -- A call that clears asks nobody.
 --     none_outside          it has no call outside
---     quiet_ok, quiet_err   so its session's loader and writer are as they were
---     either_way            what is so by the value and by the error of a result
-use Rattle.std.proofs.Common.{◌≡◌, ◌⊎◌, inl, inr, ℕ, zero, suc, List, [], ◌∷◌, All, map, Bool, true, false, cond, Option, None, Some, IfOk, IfErr, Result, Ok, Err, refl, sym, ap, subst, ◌∙◌, arith, true≢false}
+--     quiet_sweep           so its session's loader and writer are as they were
+use Rattle.std.proofs.Common.{◌≡◌, inl, inr, ℕ, zero, suc, List, [], ◌∷◌, All, map, Bool, true, false, cond, Option, None, Some, Result, refl, sym, ap, subst, ◌∙◌, arith, true≢false}
 use Rattle.std.proofs.lemmas.List.Elements.{All-head}
 use Rattle.std.specs.List.{IsAmong}
 use Rattle.jc_types.specs.declared.config.Config.{Config}
@@ -22,16 +21,13 @@ use Rattle.jc_stripe.specs.declared.ticket.First.TheVariants.{Nobody}
 use Rattle.jc_session.specs.Boxed.{boxed}
 use Rattle.jc_cache.specs.Caches.{CacheState}
 use Rattle.jc_cache.specs.declared.session.Session.{Session}
-use Rattle.jc_bulk.specs.Bulk.{FailsInPart, IsBulkCall, IsOutOfMemory, OnlyLooks, Succeeds}
+use Rattle.jc_bulk.specs.Bulk.{DoesAll, IsBulkCall, OnlyLooks, SweepsAll}
+use Rattle.jc_bulk.specs.declared.fault.BulkFault.{BulkFault}
 use Rattle.jc_rounds.specs.Asking.{AsksEachOnce, AsksFor}
 use Rattle.jc_rounds.specs.Ends.{KeyEnd}
 use Rattle.jc_rounds.specs.Rounds.{IsShown, KeyRun, LoadAll, ProcessAll, Round, WriteAll, keys_asked}
 use Rattle.jc_bulk.specs.Outside.{CallsInRounds}
 use Rattle.jc_bulk.specs.Targets.{clear_ops}
-
-pub either_way : {T E X : Type 0} (r : Result T E) → IfOk r (λ v. X) → IfErr r (λ e. X) → X
-either_way (Ok v) ok err = ok
-either_way (Err e) ok err = err
 
 -- 1. A `Clear` asks nobody.
 
@@ -95,20 +91,17 @@ module _ (config : Config) (keys : List Bytes) where
 -- 2. The call.
 
 module _ {I J : Type 0} {D : I → Type 0} {E : J → Type 0} (loads_all : LoadAllRelation ((i : I) × D i)) (load_state : (i : I) × D i → List ℕ) (writes_all : WriteAllRelation ((j : J) × E j)) (deletes_all : DeleteAllRelation ((j : J) × E j)) (write_state : (j : J) × E j → List ℕ) where
-  quiet : (cache : CacheState) (old mid new : Session I J D E) (keys : List Bytes) (ends : List KeyEnd) (rounds : List Round) → OnlyLooks old mid
-      → IsBulkCall loads_all load_state writes_all deletes_all write_state cache mid (clear_ops keys) ends rounds new → new.agent.hands.outside ≡ old.agent.hands.outside
-  quiet cache old mid new keys ends rounds looks carried =
+  quiet : (cache : CacheState) (old mid new : Session I J D E) (keys : List Bytes) (ends : List KeyEnd) (cause : Option Refusal) → OnlyLooks old mid
+      → IsBulkCall loads_all load_state writes_all deletes_all write_state cache mid (clear_ops keys) ends cause new → new.agent.hands.outside ≡ old.agent.hands.outside
+  quiet cache old mid new keys ends cause looks call =
       let calls =
       subst (λ rs. CallsInRounds (boxed loads_all) (boxed load_state) (boxed writes_all) (boxed deletes_all) (boxed write_state) mid.agent.hands.outside.loader mid.agent.hands.outside.writer rs new.agent.hands.outside.loader new.agent.hands.outside.writer)
-      (none_outside cache.config keys rounds carried.carried.asked) carried.calls in
+      (none_outside cache.config keys call.rounds call.carried.asked) call.calls in
       let same : new.agent.hands.outside ≡ mid.agent.hands.outside = λ i. record new.agent.hands.outside { loader = calls.0 i; writer = calls.1 i } in
       same ∙ ap (λ a. a.hands.outside) looks.agent
 
-  pub quiet_ok : (cache : CacheState) (old mid new : Session I J D E) (keys : List Bytes) → OnlyLooks old mid
-      → Succeeds loads_all load_state writes_all deletes_all write_state cache mid (clear_ops keys) new → new.agent.hands.outside ≡ old.agent.hands.outside
-  quiet_ok cache old mid new keys looks r = quiet cache old mid new keys r.0 r.1 looks r.2
-
-  pub quiet_err : (cache : CacheState) (old mid new : Session I J D E) (keys : List Bytes) (cause : Refusal) (failed : List (Bytes × Refusal)) (found : List (Bytes × Bytes)) → OnlyLooks old mid
-      → FailsInPart loads_all load_state writes_all deletes_all write_state cache mid (clear_ops keys) cause failed new × (found ≡ []) ⊎ IsOutOfMemory mid cause failed found new → new.agent.hands.outside ≡ old.agent.hands.outside
-  quiet_err cache old mid new keys cause failed found looks (inl r) = quiet cache old mid new keys r.0.0 r.0.1 looks r.0.2
-  quiet_err cache old mid new keys cause failed found looks (inr r) = ap (λ (s : Session I J D E). s.agent.hands.outside) r.3 ∙ ap (λ a. a.hands.outside) looks.agent
+  pub quiet_sweep : (cache : CacheState) (old new : Session I J D E) (result : Result (Unit {0}) BulkFault)
+      → SweepsAll cache.config.stripes (λ looked keys. DoesAll loads_all load_state writes_all deletes_all write_state cache looked (clear_ops keys)) old result new
+      → new.agent.hands.outside ≡ old.agent.hands.outside
+  quiet_sweep cache old new result (inl h) = quiet cache old h.1.looked new h.0 h.1.done.0 h.1.done.1 h.1.only h.1.done.2
+  quiet_sweep cache old new result (inr h) = ap (λ a. a.hands.outside) h.1.agent

@@ -1,19 +1,22 @@
--- What follows of a result.
---     then_ok, then_err    of its value, and of its error
---     put_keys             the keys of a call that puts are those of its entries
-use Rattle.std.proofs.Common.{◌≡◌, List, [], ◌∷◌, IfOk, IfErr, Result, Ok, Err, refl, ap}
+-- The keys of a call, as it is given them.
+--     put_keys     the keys of a call that puts are those of its entries
+--     each_asks    the keys of a call that does the same at each differ, and each asks as the call does
+use Rattle.std.proofs.Common.{◌≡◌, ◌==◌, List, [], ◌∷◌, refl, sym, ap, subst, ◌∙◌}
+use Rattle.std.specs.List.{IsDistinct}
 use Rattle.std.specs.Map.{keys_of}
+use Rattle.std.specs.Cmp.Lexicographic.{pointwise}
 use Rattle.jc_model.specs.Cache.{Bytes}
-use Rattle.jc_rounds.specs.Targets.{put_ops}
-
-pub then_ok : {T E : Type 0} {P Q : T → Type 0} (r : Result T E) → ((v : T) → P v → Q v) → IfOk r P → IfOk r Q
-then_ok (Ok v) f p = f v p
-then_ok (Err e) f p = tt
-
-pub then_err : {T E : Type 0} {P Q : E → Type 0} (r : Result T E) → ((e : E) → P e → Q e) → IfErr r P → IfErr r Q
-then_err (Ok v) f p = tt
-then_err (Err e) f p = f e p
+use Rattle.jc_model.specs.declared.event.Op.{Op}
+use Rattle.jc_rounds.specs.Targets.{ops_with, put_ops}
+use Rattle.jc_rounds.proofs.CallerLemmas.{same_keys}
+use Rattle.jc_bulk.specs.declared.outside.Kind.{Kind}
+use Rattle.jc_bulk.specs.Outside.{AsksAs}
+use Rattle.jc_bulk.specs.RoundsRun.{KeysAskAs}
+use Rattle.jc_bulk.proofs.Filling.{same_asks}
 
 pub put_keys : (entries : List (Bytes × Bytes)) → keys_of (put_ops entries) ≡ keys_of entries
 put_keys [] = refl
 put_keys (e ∷ entries) = ap (λ ks. e.0 ∷ ks) (put_keys entries)
+
+pub each_asks : (kind : Kind) (op : Op) (list keys : List Bytes) → AsksAs kind op → list ≡ keys → IsDistinct (pointwise ◌==◌) keys → IsDistinct (pointwise ◌==◌) (keys_of (ops_with op list)) × KeysAskAs kind (ops_with op list)
+each_asks kind op list keys asks is distinct = (subst (IsDistinct (pointwise ◌==◌)) (sym (same_keys op list ∙ is)) distinct, same_asks kind op list asks)

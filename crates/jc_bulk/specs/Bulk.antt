@@ -1,26 +1,29 @@
 -- Whole calls with many keys.
 --     causes_of      the faults and refusals that a call has met: those of its keys, and those that the writer returned
+--     TellsDone      a call that has this cause, if any, and of which these keys failed, returns this: that it is done, or the cause with
+--                    the keys that failed
+--     TellsFound     the same of a call that gets, with the values that it has found
 --     IsBulkCall     a session's next call, carried out for these keys, each of which ended in one way; the loader or the writer was called
---                    once for each of its rounds, and neither was called otherwise
---     TellsFirst     such a call's cause is one of the first that it met
---     Succeeds       the same, and it has met no fault and no refusal
---     FailsInPart    the same, with one of the first faults and refusals that it has met as its cause, and the keys that failed
---     GetsAll        a call that gets has met no fault and no refusal: it found each key that has a value
---     FailsToGet     it has met some, as FailsInPart says, and found each key that has a value
---     EndsSo         such a call has a cause exactly if it has met a fault or a refusal, and that is one of the first
---     IsOutOfMemory  a call for which an allocation failed before its first phase: it names no key, and nothing changes
---     IsRefusedWhole the same, or a call with too many keys
+--                    once for each of its rounds, and neither was called otherwise. It has a cause exactly if it has met a fault or a
+--                    refusal, and that is one of the first that it met
+--     DoesAll        such a call, by what it returns that returns nothing of its keys but what failed
+--     GetsAll        the same of a call that gets: it returns each key that has a value
+--     NamesNoKey     the fault of a call that is refused whole, with this cause
+--     IsRefused      a call that is refused whole returns this
+--     OrNoMemory     a call has ended so, or it was refused since an allocation failed before its first phase, and nothing has changed
+--     OrRefused      the same, or it was refused since it has too many keys
 --     IsLookedAt     the keys that a stripe had as a seat found it between two views, in its one lending there, in which it left it so
 --     HasLooked      the keys of all stripes, in their order, of one look at each
 --     LooksOnce      a seat has taken the stripe at most once between two views, and has left it as it found it
 --     OnlyLooks      the session has looked at each stripe at most once; its steps, its number and all else that it has are as they were
 --     LooksFirst     a call on all keys: it has looked at each stripe and found these, and then, from what the session had seen, this was
 --                    done
---     IsSweepRefused a call on all keys for which an allocation failed: it names no key, and has only looked
-use Rattle.std.specs.Prelude.{◌≡◌, ◌≤◌, ◌<◌, ◌⊎◌, ◌++◌, ℕ, List, [], ◌∷◌, length, map, Option, Some, slice_get}
-use Rattle.std.specs.List.{IsAmong, flat_map}
+--     SweepsAll      a call on all keys has ended so for the keys that it found, or an allocation failed, and it has only looked
+use Rattle.std.specs.Prelude.{◌≡◌, ◌≤◌, ◌<◌, ◌⊎◌, ◌++◌, ℕ, List, [], ◌∷◌, length, map, Option, None, Some, Result, Ok, Err, slice_get}
+use Rattle.std.specs.List.{flat_map}
 use mathlib.Core.List.{IsPrefix}
 use Rattle.atomic_table.specs.Seated.{TableId}
+use Rattle.indexmap.specs.IndexMap.{IndexMap}
 use Rattle.jc_types.specs.declared.limits.TheConstants.{BULK_KEYS_MAX}
 use Rattle.jc_types.specs.declared.refusal.Refusal.{Refusal}
 use Rattle.jc_types.specs.declared.refusal.Refusal.TheVariants.{OutOfMemory, TooManyKeys}
@@ -38,6 +41,7 @@ use Rattle.jc_cache.specs.Caches.{CacheState}
 use Rattle.jc_cache.specs.declared.session.Session.{Session}
 use Rattle.jc_cache.specs.Calls.{next_call}
 use Rattle.jc_cache.specs.Turns.{HasLent}
+use Rattle.jc_bulk.specs.declared.fault.BulkFault.{BulkFault}
 use Rattle.jc_rounds.specs.Causes.{IsFirst}
 use Rattle.jc_rounds.specs.Ends.{KeyEnd, failed_entries, found_entries}
 use Rattle.jc_rounds.specs.KeyProgress.{IsCauseIn}
@@ -51,49 +55,55 @@ use Rattle.jc_bulk.specs.Outside.{CallsInRounds}
 abbrev pub causes_of : List KeyEnd → List Round → List Refusal
 causes_of ends rounds = map (λ (e : Bytes × Refusal). e.1) (failed_entries ends) ++ faults_in rounds
 
+abbrev pub TellsDone : Result (Unit {0}) BulkFault → Option Refusal → List (Bytes × Refusal) → Type 0
+TellsDone (Ok done) cause failed = (cause ≡ None) × (failed ≡ [])
+TellsDone (Err fault) cause failed = (cause ≡ Some fault.cause) × (failed ≡ fault.failed.entries) × (fault.found.entries ≡ [])
+
+abbrev pub TellsFound : {S : Type 0} → Result (IndexMap Bytes Bytes S) BulkFault → Option Refusal → List (Bytes × Refusal) → List (Bytes × Bytes) → Type 0
+TellsFound (Ok values) cause failed found = (cause ≡ None) × (failed ≡ []) × (found ≡ values.entries)
+TellsFound (Err fault) cause failed found = (cause ≡ Some fault.cause) × (failed ≡ fault.failed.entries) × (found ≡ fault.found.entries)
+
 module _ {I J : Type 0} {D : I → Type 0} {E : J → Type 0}
     (loads_all : LoadAllRelation ((i : I) × D i)) (load_state : (i : I) × D i → List ℕ)
     (writes_all : WriteAllRelation ((j : J) × E j)) (deletes_all : DeleteAllRelation ((j : J) × E j)) (write_state : (j : J) × E j → List ℕ)
     (cache : CacheState) (old : Session I J D E) (targets : List (Bytes × Op)) where
   -- `old` and `new` are the session before and after
-  pub record IsBulkCall (ends : List KeyEnd) (rounds : List Round) (new : Session I J D E) : Type 0 where
+  pub record IsBulkCall (ends : List KeyEnd) (cause : Option Refusal) (new : Session I J D E) : Type 0 where
+    pub rounds : List Round
     pub carried : IsCarriedOut cache old targets ends rounds new
     pub calls : CallsInRounds (boxed loads_all) (boxed load_state) (boxed writes_all) (boxed deletes_all) (boxed write_state)
         old.agent.hands.outside.loader old.agent.hands.outside.writer rounds new.agent.hands.outside.loader new.agent.hands.outside.writer
     pub types : KeepsTypes old.agent new.agent
+    pub met : IsCauseIn cause (causes_of ends rounds)
+    pub first : IsFirst cache.config (next_call old).agent.caller targets old.seats.items [] carried.started.ends cause
 
-  abbrev pub TellsFirst : {ends : List KeyEnd} {rounds : List Round} {new : Session I J D E} → IsBulkCall ends rounds new → Option Refusal → Type 0
-  TellsFirst call cause = IsFirst cache.config (next_call old).agent.caller targets old.seats.items [] call.carried.started.ends cause
+  abbrev pub DoesAll : Result (Unit {0}) BulkFault → Session I J D E → Type 0
+  DoesAll result new = (ends : List KeyEnd) × (cause : Option Refusal) × IsBulkCall ends cause new × TellsDone result cause (failed_entries ends)
 
-  abbrev pub Succeeds : Session I J D E → Type 0
-  Succeeds new = (ends : List KeyEnd) × (rounds : List Round) × IsBulkCall ends rounds new × (causes_of ends rounds ≡ [])
+  abbrev pub GetsAll : {S : Type 0} → Result (IndexMap Bytes Bytes S) BulkFault → Session I J D E → Type 0
+  GetsAll result new =
+      (ends : List KeyEnd) × (cause : Option Refusal) × IsBulkCall ends cause new × TellsFound result cause (failed_entries ends) (found_entries ends)
 
-  abbrev pub FailsInPart : Refusal → List (Bytes × Refusal) → Session I J D E → Type 0
-  FailsInPart cause failed new =
-      (ends : List KeyEnd) × (rounds : List Round) × (call : IsBulkCall ends rounds new)
-      × IsAmong (causes_of ends rounds) cause × (failed ≡ failed_entries ends) × TellsFirst call (Some cause)
+-- 2. A call that is refused whole.
 
-  abbrev pub GetsAll : List (Bytes × Bytes) → Session I J D E → Type 0
-  GetsAll found new = (ends : List KeyEnd) × (rounds : List Round) × IsBulkCall ends rounds new × (causes_of ends rounds ≡ []) × (found ≡ found_entries ends)
+abbrev pub NamesNoKey : BulkFault → Refusal → Type 0
+NamesNoKey fault cause = (fault.cause ≡ cause) × (fault.failed.entries ≡ []) × (fault.found.entries ≡ [])
 
-  abbrev pub FailsToGet : Refusal → List (Bytes × Refusal) → List (Bytes × Bytes) → Session I J D E → Type 0
-  FailsToGet cause failed found new =
-      (ends : List KeyEnd) × (rounds : List Round) × (call : IsBulkCall ends rounds new)
-      × IsAmong (causes_of ends rounds) cause × (failed ≡ failed_entries ends) × (found ≡ found_entries ends) × TellsFirst call (Some cause)
+abbrev pub IsRefused : {T : Type 0} → Result T BulkFault → Refusal → Type 0
+IsRefused (Ok done) cause = ⊥
+IsRefused (Err fault) cause = NamesNoKey fault cause
 
-  abbrev pub EndsSo : List KeyEnd → Option Refusal → Session I J D E → Type 0
-  EndsSo ends cause new = (rounds : List Round) × (call : IsBulkCall ends rounds new) × IsCauseIn cause (causes_of ends rounds) × TellsFirst call cause
+-- `Ends` is how the call ends that isn't refused; `old` and `new` are who makes it, before and after
+module _ {T S : Type 0} (Ends : Result T BulkFault → S → Type 0) where
+  abbrev pub OrNoMemory : S → Result T BulkFault → S → Type 0
+  OrNoMemory old result new = Ends result new ⊎ (IsRefused result OutOfMemory × (new ≡ old))
 
-abbrev pub IsOutOfMemory : {S : Type 0} → S → Refusal → List (Bytes × Refusal) → List (Bytes × Bytes) → S → Type 0
-IsOutOfMemory old cause failed found new = (cause ≡ OutOfMemory) × (failed ≡ []) × (found ≡ []) × (new ≡ old)
+  -- `keys` is how many keys it has
+  abbrev pub OrRefused : ℕ → S → Result T BulkFault → S → Type 0
+  OrRefused keys old result new =
+      ((keys ≤ BULK_KEYS_MAX) × OrNoMemory old result new) ⊎ ((BULK_KEYS_MAX < keys) × IsRefused result TooManyKeys × (new ≡ old))
 
--- `keys` is how many keys it has
-abbrev pub IsRefusedWhole : {S : Type 0} → S → ℕ → Refusal → List (Bytes × Refusal) → List (Bytes × Bytes) → S → Type 0
-IsRefusedWhole old keys cause failed found new =
-    ((cause ≡ TooManyKeys) × (BULK_KEYS_MAX < keys) ⊎ (cause ≡ OutOfMemory) × (keys ≤ BULK_KEYS_MAX))
-    × (failed ≡ []) × (found ≡ []) × (new ≡ old)
-
--- 2. A call on all keys that there are.
+-- 3. A call on all keys that there are.
 
 pub record IsLookedAt (before after : View) (keys : List Bytes) : Type 0 where
   pub seen : State
@@ -125,5 +135,8 @@ pub record LooksFirst {I J : Type 0} {D : I → Type 0} {E : J → Type 0} (stri
   pub found : HasLooked stripes old.seats.items looked.seats.items keys
   pub done : Done looked
 
-abbrev pub IsSweepRefused : {I J : Type 0} {D : I → Type 0} {E : J → Type 0} → Session I J D E → Refusal → List (Bytes × Refusal) → List (Bytes × Bytes) → Session I J D E → Type 0
-IsSweepRefused old cause failed found new = (cause ≡ OutOfMemory) × (failed ≡ []) × (found ≡ []) × OnlyLooks old new
+-- `Ends` is how the call ends for the keys that it has found
+abbrev pub SweepsAll : {I J T : Type 0} {D : I → Type 0} {E : J → Type 0} → ℕ → (Session I J D E → List Bytes → Result T BulkFault → Session I J D E → Type 0)
+    → Session I J D E → Result T BulkFault → Session I J D E → Type 0
+SweepsAll stripes Ends old result new =
+    ((keys : List Bytes) × LooksFirst stripes old keys (λ looked. Ends looked keys result new)) ⊎ (IsRefused result OutOfMemory × OnlyLooks old new)

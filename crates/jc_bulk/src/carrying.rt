@@ -1,22 +1,20 @@
 //! A bulk call as a whole: its memory, and how it is carried out.
-ghost use Rattle.std.specs.Prelude.{◌≡◌, ◌==◌, ◌≤◌, ◌<◌, ◌+◌, ◌++◌, ◌⊎◌, [], length, false, option_map, None, Some, IfOk, IfErr};
-ghost use Rattle.std.specs.List.{IsDistinct, cons_option, list_any};
+ghost use Rattle.std.specs.Prelude.{◌≡◌, ◌==◌, length};
+ghost use Rattle.std.specs.List.{IsDistinct};
 ghost use Rattle.std.specs.Map.{keys_of};
 ghost use Rattle.std.specs.Cmp.Lexicographic.{pointwise};
-ghost use Rattle.indexmap.specs.IndexMap.{spare};
 ghost use Rattle.jc_cache.specs.Sessions.{MayCall};
 ghost use Rattle.jc_rounds.specs.Ends.{failed_entries, key_ends};
-ghost use Rattle.jc_rounds.specs.KeyProgress.{failure_at};
 ghost use Rattle.jc_rounds.specs.Targets.{ops_of};
-ghost use Rattle.jc_bulk.specs.Bulk.{EndsSo, FailsInPart, IsOutOfMemory, Succeeds};
+ghost use Rattle.jc_bulk.specs.Bulk.{DoesAll, IsBulkCall, OrNoMemory};
 ghost use Rattle.jc_bulk.specs.Carrying.{IsRoomOf};
 ghost use Rattle.jc_bulk.specs.RoundsRun.{KeysAskAs};
 
+use crate::entries::add_failed;
 use crate::fault::BulkFault;
 use crate::outside::{Kind, OutsideCall};
 use crate::rounds::run_rounds;
 use indexmap::IndexMap;
-use jc_batch::insert_new;
 use jc_cache::{Cache, Session};
 use jc_model::Reply;
 use jc_rounds::{BulkCall, Progress, Rooms, Targets};
@@ -88,7 +86,7 @@ pub(crate) fn carry_out<R: Wait>(
     requires room { IsRoomOf room.outside.kind (length (ops_of targets.now)) cache.now.config.stripes room
         × KeysAskAs room.outside.kind (ops_of targets.now) }
     ensures may { MayCall cache.now session.new }
-    ensures carried { EndsSo loads_all load_state writes_all deletes_all write_state cache.now session.old
+    ensures carried { IsBulkCall loads_all load_state writes_all deletes_all write_state cache.now session.old
         (ops_of targets.now) (key_ends (ops_of targets.now) result.progress.items) result.cause session.new }
     ensures failed { (result.failed.entries ≡ failed_entries (key_ends (ops_of targets.now) result.progress.items))
         × (length result.progress.items ≡ length (ops_of targets.now)) }
@@ -112,31 +110,6 @@ pub(crate) fn carry_out<R: Wait>(
     }
 }
 
-/// Adds each key that failed, with its fault or its refusal, in the order of the keys. It takes no memory.
-fn add_failed(targets: &Targets<'_>, progress: &[Progress], failed: &mut IndexMap<Key, Refusal>)
-    requires distinct { IsDistinct (pointwise ◌==◌) (keys_of (ops_of targets.now)) }
-    requires many { length progress.now ≡ length (ops_of targets.now) }
-    requires empty { (failed.old.entries ≡ []) × (length (ops_of targets.now) ≤ spare failed.old) }
-    ensures { failed.new.entries ≡ failed_entries (key_ends (ops_of targets.now) progress.now) }
-{
-    for place in 0..progress.len() {
-        add_failure(targets.key(place), &progress[place], failed);
-    }
-}
-
-/// Adds a key, if it failed.
-fn add_failure(key: &Key, progress: &Progress, failed: &mut IndexMap<Key, Refusal>)
-    requires new { list_any (pointwise ◌==◌ key.now) (keys_of failed.old.entries) ≡ false }
-    requires room { 0 < spare failed.old }
-    ensures entries { failed.new.entries ≡ failed.old.entries
-        ++ cons_option (option_map (λ refusal. (key.now, refusal)) (failure_at progress.now)) [] }
-    ensures room { spare failed.old ≤ spare failed.new + 1 }
-{
-    if let Some(refusal) = progress.failure() {
-        insert_new(failed, key, refusal);
-    }
-}
-
 /// A call that returns nothing of its keys but what failed. There is no limit on how many they are.
 pub(crate) fn call_all<R: Wait>(
     alloc: Global,
@@ -149,40 +122,16 @@ pub(crate) fn call_all<R: Wait>(
     requires may { MayCall cache.now session.old }
     requires keys { IsDistinct (pointwise ◌==◌) (keys_of (ops_of targets.now)) × KeysAskAs kind (ops_of targets.now) }
     ensures may { MayCall cache.now session.new }
-    ensures ok { IfOk result (λ done. Succeeds loads_all load_state writes_all deletes_all write_state
-        cache.now session.old (ops_of targets.now) session.new) }
-    ensures err { IfErr result (λ fault. FailsInPart loads_all load_state writes_all deletes_all write_state
-        cache.now session.old (ops_of targets.now) fault.cause fault.failed.entries session.new
-        × (fault.found.entries ≡ [])
-        ⊎ IsOutOfMemory session.old fault.cause fault.failed.entries fault.found.entries session.new) }
+    ensures ended { OrNoMemory (DoesAll loads_all load_state writes_all deletes_all write_state
+        cache.now session.old (ops_of targets.now)) session.old result session.new }
 {
     let _types: Option<&(Reply, Value)> = None;
     match Room::new(alloc, kind, targets.len(), cache.config().stripes) {
         Err(_failed) => Err(BulkFault::of_whole_call(alloc, Refusal::OutOfMemory)),
         Ok(room) => {
             let outcome = carry_out(alloc, rt, cache, session, targets, room);
-            without_values(alloc, outcome)
+            let CallEnd { cause, failed, .. } = outcome;
+            BulkFault::unless_done(alloc, cause, failed)
         }
-    }
-}
-
-/// What a call returns that has no values to return: if it has a cause, that and the keys that failed.
-fn without_values(alloc: Global, outcome: CallEnd) -> Result<(), BulkFault>
-    ensures ok { IfOk result (λ done. outcome.cause ≡ None) }
-    ensures err { IfErr result (λ fault. (outcome.cause ≡ Some fault.cause)
-        × (fault.failed.entries ≡ outcome.failed.entries) × (fault.found.entries ≡ [])) }
-{
-    let CallEnd {
-        cause,
-        progress: _,
-        failed,
-    } = outcome;
-    match cause {
-        None => Ok(()),
-        Some(cause) => Err(BulkFault {
-            cause,
-            failed,
-            found: IndexMap::new(alloc),
-        }),
     }
 }

@@ -1,5 +1,6 @@
 //! Bulk calls that failed, in whole or in part.
-ghost use Rattle.std.specs.Prelude.{◌≡◌, []};
+ghost use Rattle.std.specs.Prelude.{◌≡◌, [], IfNone};
+ghost use Rattle.jc_bulk.specs.Bulk.{NamesNoKey, TellsDone};
 
 use indexmap::IndexMap;
 use jc_types::{Key, Refusal, Value};
@@ -23,14 +24,33 @@ pub struct BulkFault {
 impl BulkFault {
     /// What a call returns that is refused whole, and so names no key. It takes no memory.
     pub fn of_whole_call(alloc: Global, cause: Refusal) -> BulkFault
-        ensures cause { result.cause ≡ cause }
-        ensures failed { result.failed.entries ≡ [] }
-        ensures found { result.found.entries ≡ [] }
+        ensures { NamesNoKey result cause }
     {
         BulkFault {
             cause,
             failed: IndexMap::new(alloc),
             found: IndexMap::new(alloc),
+        }
+    }
+    /// What a call returns that has this cause, if it has one, and of which these keys failed: that it is done, or its fault. It takes no
+    /// memory.
+    ///
+    /// Condition: without a cause no key failed.
+    pub fn unless_done(
+        alloc: Global,
+        cause: Option<Refusal>,
+        failed: IndexMap<Key, Refusal>,
+    ) -> Result<(), BulkFault>
+        requires { IfNone cause (failed.entries ≡ []) }
+        ensures { TellsDone result cause failed.entries }
+    {
+        match cause {
+            None => Ok(()),
+            Some(cause) => Err(BulkFault {
+                cause,
+                failed,
+                found: IndexMap::new(alloc),
+            }),
         }
     }
 }

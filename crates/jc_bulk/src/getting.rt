@@ -1,27 +1,20 @@
 //! `getAll`: the values of many keys.
-ghost use Rattle.std.specs.Prelude.{◌≡◌, ◌==◌, ◌≤◌, ◌<◌, ◌+◌, ◌⊎◌, ◌++◌, List, [], length, false, option_map, None, Some, IfOk, IfErr};
-ghost use Rattle.std.specs.List.{IsDistinct, cons_option, list_any};
-ghost use Rattle.std.specs.Map.{keys_of};
-ghost use Rattle.std.specs.Cmp.Lexicographic.{pointwise};
+ghost use Rattle.std.specs.Prelude.{◌≡◌, ◌≤◌, [], length, IfNone, IfOk};
 ghost use Rattle.indexmap.specs.IndexMap.{spare};
-ghost use Rattle.jc_types.specs.declared.limits.TheConstants.{BULK_KEYS_MAX};
 ghost use Rattle.jc_cache.specs.Sessions.{MayCall};
-ghost use Rattle.jc_bulk.specs.Bulk.{FailsToGet, GetsAll, IsRefusedWhole};
+ghost use Rattle.jc_bulk.specs.Bulk.{GetsAll, OrRefused, TellsFound};
 ghost use Rattle.jc_bulk.specs.Carrying.{IsRoomOf};
-ghost use Rattle.jc_bulk.specs.declared.outside.Kind.TheVariants.{Load};
-ghost use Rattle.jc_rounds.specs.Ends.{found_entries, key_ends, value_at};
-ghost use Rattle.jc_rounds.specs.Targets.{ops_of};
-ghost use Rattle.jc_bulk.specs.RoundsRun.{KeysAskAs};
 ghost use Rattle.jc_bulk.specs.Targets.{get_ops};
+ghost use Rattle.jc_bulk.specs.declared.outside.Kind.TheVariants.{Load};
 
 use crate::carrying::{CallEnd, Room, carry_out};
+use crate::entries::add_found;
 use crate::fault::BulkFault;
 use crate::outside::Kind;
 use indexmap::{IndexMap, IndexSet};
-use jc_batch::insert_new;
 use jc_cache::{Cache, Session};
 use jc_model::{Op, Reply};
-use jc_rounds::{Progress, Targets};
+use jc_rounds::Targets;
 use jc_types::{BULK_KEYS_MAX, Key, Refusal, Value};
 use std::alloc::{AllocError, Global};
 use std::sync::Wait;
@@ -54,22 +47,27 @@ pub fn get_all<R: Wait>(
 ) -> Result<IndexMap<Key, Value>, BulkFault>
     requires may { MayCall cache.now session.old }
     ensures may { MayCall cache.now session.new }
-    ensures ok { IfOk result (λ found. (length keys.now.keys ≤ BULK_KEYS_MAX)
-        × GetsAll loads_all load_state writes_all deletes_all write_state
-        cache.now session.old (get_ops keys.now.keys) found.entries session.new) }
-    ensures err { IfErr result (λ fault. ((length keys.now.keys ≤ BULK_KEYS_MAX)
-        × FailsToGet loads_all load_state writes_all deletes_all write_state
-        cache.now session.old (get_ops keys.now.keys) fault.cause fault.failed.entries fault.found.entries session.new)
-        ⊎ IsRefusedWhole session.old (length keys.now.keys)
-        fault.cause fault.failed.entries fault.found.entries session.new) }
+    ensures ended { OrRefused (GetsAll loads_all load_state writes_all deletes_all write_state
+        cache.now session.old (get_ops keys.now.keys)) (length keys.now.keys) session.old result session.new }
 {
+    let _types: Option<&(Reply, Value)> = None;
     if keys.len() > BULK_KEYS_MAX {
         return Err(BulkFault::of_whole_call(alloc, Refusal::TooManyKeys));
     }
     let targets = Targets::Each(keys.as_slice(), Op::Get);
     match get_room(alloc, keys.len(), cache.config().stripes) {
         Err(_failed) => Err(BulkFault::of_whole_call(alloc, Refusal::OutOfMemory)),
-        Ok((room, found)) => get_keys(alloc, rt, cache, session, &targets, room, found),
+        Ok((room, found)) => {
+            let mut found = found;
+            let outcome = carry_out(alloc, rt, cache, session, &targets, room);
+            let CallEnd {
+                cause,
+                progress,
+                failed,
+            } = outcome;
+            add_found(&targets, progress.as_slice(), &mut found);
+            with_values(cause, failed, found)
+        }
     }
 }
 
@@ -88,48 +86,14 @@ fn get_room(
     Ok((room, found))
 }
 
-/// The call, once its memory is taken.
-fn get_keys<R: Wait>(
-    alloc: Global,
-    rt: &R,
-    cache: &Cache,
-    session: &mut Session,
-    targets: &Targets<'_>,
-    room: Room,
-    found: IndexMap<Key, Value>,
-) -> Result<IndexMap<Key, Value>, BulkFault>
-    requires may { MayCall cache.now session.old }
-    requires distinct { IsDistinct (pointwise ◌==◌) (keys_of (ops_of targets.now)) }
-    requires room { IsRoomOf room.outside.kind (length (ops_of targets.now)) cache.now.config.stripes room
-        × KeysAskAs room.outside.kind (ops_of targets.now) }
-    requires found { (found.entries ≡ []) × (length (ops_of targets.now) ≤ spare found) }
-    ensures may { MayCall cache.now session.new }
-    ensures ok { IfOk result (λ found. GetsAll loads_all load_state writes_all deletes_all write_state
-        cache.now session.old (ops_of targets.now) found.entries session.new) }
-    ensures err { IfErr result (λ fault. FailsToGet loads_all load_state writes_all deletes_all write_state
-        cache.now session.old (ops_of targets.now) fault.cause fault.failed.entries fault.found.entries session.new) }
-{
-    let _types: Option<&(Reply, Value)> = None;
-    let mut found = found;
-    let outcome = carry_out(alloc, rt, cache, session, targets, room);
-    let CallEnd {
-        cause,
-        progress,
-        failed,
-    } = outcome;
-    add_found(targets, progress.as_slice(), &mut found);
-    with_values(cause, failed, found)
-}
-
 /// What a call returns that has found these values: them, or its cause with the keys that failed.
 fn with_values(
     cause: Option<Refusal>,
     failed: IndexMap<Key, Refusal>,
     found: IndexMap<Key, Value>,
 ) -> Result<IndexMap<Key, Value>, BulkFault>
-    ensures ok { IfOk result (λ values. (cause ≡ None) × (values.entries ≡ found.entries)) }
-    ensures err { IfErr result (λ fault. (cause ≡ Some fault.cause) × (fault.failed.entries ≡ failed.entries)
-        × (fault.found.entries ≡ found.entries)) }
+    requires { IfNone cause (failed.entries ≡ []) }
+    ensures { TellsFound result cause failed.entries found.entries }
 {
     match cause {
         None => Ok(found),
@@ -138,34 +102,5 @@ fn with_values(
             failed,
             found,
         }),
-    }
-}
-
-/// Adds each key that has a value, in the order of the keys. It takes no memory.
-fn add_found(targets: &Targets<'_>, progress: &[Progress], found: &mut IndexMap<Key, Value>)
-    requires distinct { IsDistinct (pointwise ◌==◌) (keys_of (ops_of targets.now)) }
-    requires many { length progress.now ≡ length (ops_of targets.now) }
-    requires empty { found.old.entries ≡ [] }
-    requires room { length (ops_of targets.now) ≤ spare found.old }
-    ensures { found.new.entries ≡ found_entries (key_ends (ops_of targets.now) progress.now) }
-{
-    for place in 0..progress.len() {
-        add_value(targets.key(place), &progress[place], found);
-    }
-}
-
-/// Adds a key, if it has a value.
-fn add_value(key: &Key, progress: &Progress, found: &mut IndexMap<Key, Value>)
-    requires new { list_any (pointwise ◌==◌ key.now) (keys_of found.old.entries) ≡ false }
-    requires room { 0 < spare found.old }
-    ensures entries { found.new.entries ≡ found.old.entries
-        ++ cons_option (option_map (λ value. (key.now, value)) (value_at progress.now)) [] }
-    ensures room { spare found.old ≤ spare found.new + 1 }
-{
-    match progress {
-        Progress::Ended(Ok(Reply::Value(Some(value)))) => insert_new(found, key, *value),
-        Progress::Ended(Ok(Reply::Value(None) | Reply::Flag(_) | Reply::Unit)) => {}
-        Progress::Ended(Ok(Reply::Fault(_)) | Err(_)) => {}
-        Progress::Waiting | Progress::Reserved | Progress::Joined => {}
     }
 }

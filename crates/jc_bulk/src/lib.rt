@@ -14,6 +14,7 @@
 #![tactic(auto)]
 
 mod carrying;
+mod entries;
 mod fault;
 mod getting;
 mod loading;
@@ -22,6 +23,7 @@ mod rounds;
 mod sweeping;
 mod writing;
 
+pub use entries::insert_some;
 pub use fault::BulkFault;
 pub use getting::get_all;
 pub use loading::load_keys;

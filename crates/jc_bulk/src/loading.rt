@@ -1,8 +1,7 @@
 //! `loadAll` of one session: many keys are loaded.
-ghost use Rattle.std.specs.Prelude.{◌≡◌, ◌≤◌, ◌⊎◌, [], length, IfOk, IfErr};
-ghost use Rattle.jc_types.specs.declared.limits.TheConstants.{BULK_KEYS_MAX};
+ghost use Rattle.std.specs.Prelude.{length};
 ghost use Rattle.jc_cache.specs.Sessions.{MayCall};
-ghost use Rattle.jc_bulk.specs.Bulk.{FailsInPart, IsRefusedWhole, Succeeds};
+ghost use Rattle.jc_bulk.specs.Bulk.{DoesAll, OrRefused};
 ghost use Rattle.jc_bulk.specs.Targets.{load_ops};
 
 use crate::carrying::call_all;
@@ -37,15 +36,8 @@ pub fn load_keys<R: Wait>(
 ) -> Result<(), BulkFault>
     requires may { MayCall cache.now session.old }
     ensures may { MayCall cache.now session.new }
-    ensures ok { IfOk result (λ done. (length keys.now.keys ≤ BULK_KEYS_MAX)
-        × Succeeds loads_all load_state writes_all deletes_all write_state
-        cache.now session.old (load_ops replace keys.now.keys) session.new) }
-    ensures err { IfErr result (λ fault. ((length keys.now.keys ≤ BULK_KEYS_MAX)
-        × FailsInPart loads_all load_state writes_all deletes_all write_state
-        cache.now session.old (load_ops replace keys.now.keys) fault.cause fault.failed.entries session.new
-        × (fault.found.entries ≡ []))
-        ⊎ IsRefusedWhole session.old (length keys.now.keys)
-        fault.cause fault.failed.entries fault.found.entries session.new) }
+    ensures ended { OrRefused (DoesAll loads_all load_state writes_all deletes_all write_state
+        cache.now session.old (load_ops replace keys.now.keys)) (length keys.now.keys) session.old result session.new }
 {
     if keys.len() > BULK_KEYS_MAX {
         return Err(BulkFault::of_whole_call(alloc, Refusal::TooManyKeys));

@@ -1,13 +1,12 @@
 //! `removeAll` without keys, and `clear`: every key of a cache.
-ghost use Rattle.std.specs.Prelude.{ℕ, ◌≡◌, ◌==◌, ◌≤◌, ◌<◌, ◌+◌, ◌*◌, ◌++◌, ◌⊎◌, List, [], true, vec_capacity, vec_len, IfOk, IfErr};
-ghost use Rattle.std.specs.List.{IsDistinct, list_all};
+ghost use Rattle.std.specs.Prelude.{◌≡◌, ◌==◌, ◌*◌, IfOk};
+ghost use Rattle.std.specs.List.{IsDistinct};
 ghost use Rattle.std.specs.Cmp.Lexicographic.{pointwise};
-ghost use Rattle.jc_types.specs.Stripes.{stripe_of};
-ghost use Rattle.jc_model.specs.Cache.{Bytes};
 ghost use Rattle.jc_cache.specs.Sessions.{MayCall};
-ghost use Rattle.jc_bulk.specs.Bulk.{FailsInPart, HasLooked, IsLookedAt, IsSweepRefused, LooksFirst, OnlyLooks, Succeeds};
-ghost use Rattle.jc_rounds.specs.Seats.{view_at};
+ghost use Rattle.jc_bulk.specs.Bulk.{DoesAll, HasLooked, OnlyLooks, SweepsAll};
+ghost use Rattle.jc_bulk.specs.Outside.{AsksAs};
 ghost use Rattle.jc_bulk.specs.Targets.{clear_ops, remove_ops};
+ghost use Rattle.jc_rounds.specs.Targets.{ops_with};
 
 use crate::carrying::call_all;
 use crate::fault::BulkFault;
@@ -40,24 +39,11 @@ pub fn remove_every<R: Wait>(
 ) -> Result<(), BulkFault>
     requires may { MayCall cache.now session.old }
     ensures may { MayCall cache.now session.new }
-    ensures ok { IfOk result (λ done. (keys : List Bytes)
-        × LooksFirst cache.now.config.stripes session.old keys
-        (λ looked. Succeeds loads_all load_state writes_all deletes_all write_state
-        cache.now looked (remove_ops keys) session.new)) }
-    ensures err { IfErr result (λ fault. ((keys : List Bytes)
-        × LooksFirst cache.now.config.stripes session.old keys
-        (λ looked. FailsInPart loads_all load_state writes_all deletes_all write_state
-        cache.now looked (remove_ops keys) fault.cause fault.failed.entries session.new)
-        × (fault.found.entries ≡ []))
-        ⊎ IsSweepRefused session.old fault.cause fault.failed.entries fault.found.entries session.new) }
+    ensures swept { SweepsAll cache.now.config.stripes
+        (λ looked keys. DoesAll loads_all load_state writes_all deletes_all write_state cache.now looked (remove_ops keys))
+        session.old result session.new }
 {
-    match look_at_all(alloc, rt, cache, session) {
-        Err(_failed) => Err(BulkFault::of_whole_call(alloc, Refusal::OutOfMemory)),
-        Ok(keys) => {
-            let targets = Targets::Each(keys.as_slice(), Op::Remove);
-            call_all(alloc, rt, cache, session, &targets, Kind::Delete)
-        }
-    }
+    sweep(alloc, rt, cache, session, Op::Remove, Kind::Delete)
 }
 
 /// Removes every entry of the cache, as the session's next call (JSR 107, `javax.cache.Cache.clear`). Neither the loader nor the
@@ -78,22 +64,34 @@ pub fn clear<R: Wait>(
     requires may { MayCall cache.now session.old }
     ensures may { MayCall cache.now session.new }
     ensures outside { session.new.agent.hands.outside ≡ session.old.agent.hands.outside }
-    ensures ok { IfOk result (λ done. (keys : List Bytes)
-        × LooksFirst cache.now.config.stripes session.old keys
-        (λ looked. Succeeds loads_all load_state writes_all deletes_all write_state
-        cache.now looked (clear_ops keys) session.new)) }
-    ensures err { IfErr result (λ fault. ((keys : List Bytes)
-        × LooksFirst cache.now.config.stripes session.old keys
-        (λ looked. FailsInPart loads_all load_state writes_all deletes_all write_state
-        cache.now looked (clear_ops keys) fault.cause fault.failed.entries session.new)
-        × (fault.found.entries ≡ []))
-        ⊎ IsSweepRefused session.old fault.cause fault.failed.entries fault.found.entries session.new) }
+    ensures swept { SweepsAll cache.now.config.stripes
+        (λ looked keys. DoesAll loads_all load_state writes_all deletes_all write_state cache.now looked (clear_ops keys))
+        session.old result session.new }
+{
+    sweep(alloc, rt, cache, session, Op::Clear, Kind::Load)
+}
+
+/// Does this at every key of the cache, which asks outside by calls of this kind, if it asks at all.
+fn sweep<R: Wait>(
+    alloc: Global,
+    rt: &R,
+    cache: &Cache,
+    session: &mut Session,
+    op: Op,
+    kind: Kind,
+) -> Result<(), BulkFault>
+    requires may { MayCall cache.now session.old }
+    requires asks { AsksAs kind op }
+    ensures may { MayCall cache.now session.new }
+    ensures swept { SweepsAll cache.now.config.stripes
+        (λ looked keys. DoesAll loads_all load_state writes_all deletes_all write_state cache.now looked (ops_with op keys))
+        session.old result session.new }
 {
     match look_at_all(alloc, rt, cache, session) {
         Err(_failed) => Err(BulkFault::of_whole_call(alloc, Refusal::OutOfMemory)),
         Ok(keys) => {
-            let targets = Targets::Each(keys.as_slice(), Op::Clear);
-            call_all(alloc, rt, cache, session, &targets, Kind::Load)
+            let targets = Targets::Each(keys.as_slice(), op);
+            call_all(alloc, rt, cache, session, &targets, kind)
         }
     }
 }
@@ -108,12 +106,14 @@ fn look_at_all<R: Wait>(
     requires may { MayCall cache.now session.old }
     ensures may { MayCall cache.now session.new }
     ensures looks { OnlyLooks session.old session.new }
-    ensures looked { IfOk result (λ keys. HasLooked cache.now.config.stripes
-        session.old.seats.items session.new.seats.items keys.items) }
-    ensures distinct { IfOk result (λ keys. IsDistinct (pointwise ◌==◌) keys.items) }
+    ensures found { IfOk result (λ keys. HasLooked cache.now.config.stripes
+        session.old.seats.items session.new.seats.items keys.items × IsDistinct (pointwise ◌==◌) keys.items) }
 {
     let mut keys = Vec::with_capacity(alloc, most_entries(cache))?;
-    look_at_each(rt, cache, session, &mut keys);
+    is_uniform();
+    for number in 0..cache.config().stripes {
+        cache.look(rt, session, number, &mut keys);
+    }
     Ok(keys)
 }
 
@@ -123,46 +123,4 @@ fn most_entries(cache: &Cache) -> usize
 {
     let config = cache.config();
     config.stripes * config.capacity
-}
-
-/// Looks at each stripe, in their order.
-fn look_at_each<R: Wait>(rt: &R, cache: &Cache, session: &mut Session, keys: &mut Vec<Key>)
-    requires may { MayCall cache.now session.old }
-    requires empty { keys.old.items ≡ [] }
-    requires room { cache.now.config.stripes * cache.now.config.capacity ≤ vec_capacity keys.old }
-    ensures may { MayCall cache.now session.new }
-    ensures looks { OnlyLooks session.old session.new }
-    ensures looked { HasLooked cache.now.config.stripes
-        session.old.seats.items session.new.seats.items keys.new.items }
-    ensures distinct { IsDistinct (pointwise ◌==◌) keys.new.items }
-{
-    for number in 0..cache.config().stripes {
-        look_at(rt, cache, session, number, keys);
-    }
-}
-
-/// Looks at a stripe, and appends its keys.
-fn look_at<R: Wait>(
-    rt: &R,
-    cache: &Cache,
-    session: &mut Session,
-    number: usize,
-    keys: &mut Vec<Key>,
-)
-    requires may { MayCall cache.now session.old }
-    requires stripe { number < cache.now.config.stripes }
-    requires room { vec_len keys.old + cache.now.config.capacity ≤ vec_capacity keys.old }
-    ensures may { MayCall cache.now session.new }
-    ensures looks { OnlyLooks session.old session.new }
-    ensures others { (i : ℕ) → (i ≡ number → ⊥)
-        → view_at session.new.seats.items i ≡ view_at session.old.seats.items i }
-    ensures looked { (found : List Bytes) × (keys.new.items ≡ keys.old.items ++ found)
-        × IsLookedAt (view_at session.old.seats.items number) (view_at session.new.seats.items number) found
-        × IsDistinct (pointwise ◌==◌) found
-        × (list_all (λ key. stripe_of key cache.now.config.stripes == number) found ≡ true) }
-    ensures few { vec_len keys.new ≤ vec_len keys.old + cache.now.config.capacity }
-    ensures room { vec_capacity keys.new ≡ vec_capacity keys.old }
-{
-    is_uniform();
-    cache.look(rt, session, number, keys);
 }

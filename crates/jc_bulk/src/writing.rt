@@ -1,8 +1,7 @@
 //! `putAll` and `removeAll`: many keys are written or deleted.
-ghost use Rattle.std.specs.Prelude.{◌≡◌, ◌≤◌, ◌⊎◌, [], length, IfOk, IfErr};
-ghost use Rattle.jc_types.specs.declared.limits.TheConstants.{BULK_KEYS_MAX};
+ghost use Rattle.std.specs.Prelude.{length};
 ghost use Rattle.jc_cache.specs.Sessions.{MayCall};
-ghost use Rattle.jc_bulk.specs.Bulk.{FailsInPart, IsRefusedWhole, Succeeds};
+ghost use Rattle.jc_bulk.specs.Bulk.{DoesAll, OrRefused};
 ghost use Rattle.jc_rounds.specs.Targets.{put_ops};
 ghost use Rattle.jc_bulk.specs.Targets.{remove_ops};
 
@@ -47,15 +46,8 @@ pub fn put_all<R: Wait>(
 ) -> Result<(), BulkFault>
     requires may { MayCall cache.now session.old }
     ensures may { MayCall cache.now session.new }
-    ensures ok { IfOk result (λ done. (length entries.now.entries ≤ BULK_KEYS_MAX)
-        × Succeeds loads_all load_state writes_all deletes_all write_state
-        cache.now session.old (put_ops entries.now.entries) session.new) }
-    ensures err { IfErr result (λ fault. ((length entries.now.entries ≤ BULK_KEYS_MAX)
-        × FailsInPart loads_all load_state writes_all deletes_all write_state
-        cache.now session.old (put_ops entries.now.entries) fault.cause fault.failed.entries session.new
-        × (fault.found.entries ≡ []))
-        ⊎ IsRefusedWhole session.old (length entries.now.entries)
-        fault.cause fault.failed.entries fault.found.entries session.new) }
+    ensures ended { OrRefused (DoesAll loads_all load_state writes_all deletes_all write_state
+        cache.now session.old (put_ops entries.now.entries)) (length entries.now.entries) session.old result session.new }
 {
     if entries.len() > BULK_KEYS_MAX {
         return Err(BulkFault::of_whole_call(alloc, Refusal::TooManyKeys));
@@ -79,15 +71,8 @@ pub fn remove_all<R: Wait>(
 ) -> Result<(), BulkFault>
     requires may { MayCall cache.now session.old }
     ensures may { MayCall cache.now session.new }
-    ensures ok { IfOk result (λ done. (length keys.now.keys ≤ BULK_KEYS_MAX)
-        × Succeeds loads_all load_state writes_all deletes_all write_state
-        cache.now session.old (remove_ops keys.now.keys) session.new) }
-    ensures err { IfErr result (λ fault. ((length keys.now.keys ≤ BULK_KEYS_MAX)
-        × FailsInPart loads_all load_state writes_all deletes_all write_state
-        cache.now session.old (remove_ops keys.now.keys) fault.cause fault.failed.entries session.new
-        × (fault.found.entries ≡ []))
-        ⊎ IsRefusedWhole session.old (length keys.now.keys)
-        fault.cause fault.failed.entries fault.found.entries session.new) }
+    ensures ended { OrRefused (DoesAll loads_all load_state writes_all deletes_all write_state
+        cache.now session.old (remove_ops keys.now.keys)) (length keys.now.keys) session.old result session.new }
 {
     if keys.len() > BULK_KEYS_MAX {
         return Err(BulkFault::of_whole_call(alloc, Refusal::TooManyKeys));

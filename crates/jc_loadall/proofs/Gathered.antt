@@ -7,17 +7,16 @@
 --     seen            how often a number is among these
 --     Gathering       what the shares of all workers say: numbers with facts, and the steps with them
 --     gathered        from shares to that
---     agrees_all      of numbers that are there once, each has its fact
 --     fits_at         what is so of all facts is so of that of each number that is there
---     led_back        the steps, with the fact that a function gives
+--     often, led_each how often each number is there, and the steps with its fact
 --     every           what each step's fact says
-use Rattle.std.proofs.Common.{◌≡◌, ◌<◌, ◌≤◌, ◌+◌, ◌++◌, ⊎_elim, ℕ, zero, suc, List, [], ◌∷◌, Bool, true, false, cond, eqb, length, map, get_or, refl, sym, ap, subst, ◌∙◌, arith, append-nil, append_assoc}
+use Rattle.std.proofs.Common.{◌≡◌, ◌<◌, ◌≤◌, ◌+◌, ◌++◌, ⊎_elim, ℕ, zero, suc, List, [], ◌∷◌, Bool, true, false, cond, eqb, length, map, get_or, nat_lt, refl, sym, ap, subst, ◌∙◌, arith, append-nil, append_assoc}
 use Rattle.std.proofs.lemmas.List.{map-append}
 use Rattle.std.proofs.lemmas.Bool.{eq-eqb}
 use Rattle.std.proofs.lemmas.Bool.Decides.{eqb_tells}
 use Rattle.std.proofs.lemmas.List.Sums.{sum_by-cons, sum_by-append}
 use Rattle.std.specs.List.{AllByRecursion, concat}
-use Rattle.jc_pool.specs.Shares.{LeadsTo, times}
+use Rattle.jc_pool.specs.Shares.{LeadsTo, once_below, times}
 
 abbrev pub fact_at : {X : Type 0} → List (ℕ × X) → X → ℕ → X
 fact_at [] d p = d
@@ -56,7 +55,7 @@ seen_times {X} p (x ∷ xs) =
     let more = sum_by-cons (λ y. cond (eqb y p) 1 0) x.0 (map (λ (e : ℕ × X). e.0) xs) in
     omega arith
 
-pub seen_shares : {X : Type 0} (p : ℕ) (dss : List (List (ℕ × X))) → seen p (joined dss) ≡ times p (concat (map (λ (ds : List (ℕ × X)). map (λ (e : ℕ × X). e.0) ds) dss))
+seen_shares : {X : Type 0} (p : ℕ) (dss : List (List (ℕ × X))) → seen p (joined dss) ≡ times p (concat (map (λ (ds : List (ℕ × X)). map (λ (e : ℕ × X). e.0) ds) dss))
 seen_shares p [] = refl
 seen_shares {X} p (ds ∷ dss) =
     let ih = seen_shares p dss in
@@ -74,7 +73,7 @@ keeps p x all (e ∷ es) d none agree =
     (eqb_tells p e.0) in
     (ap (λ b. cond b x (fact_at all d e.0)) apart ∙ agree.0, keeps p x all es d (omega arith) agree.1)
 
-pub agrees_all : {X : Type 0} (all : List (ℕ × X)) (d : X) → ((p : ℕ) → seen p all ≤ 1) → Agrees (fact_at all d) all
+agrees_all : {X : Type 0} (all : List (ℕ × X)) (d : X) → ((p : ℕ) → seen p all ≤ 1) → Agrees (fact_at all d) all
 agrees_all [] d few = tt
 agrees_all (e ∷ es) d few =
     let here : eqb e.0 e.0 ≡ true = eq-eqb e.0 e.0 refl in
@@ -99,6 +98,9 @@ agrees_left f (x ∷ xs) ys agree = (agree.0, agrees_left f xs ys agree.1)
 agrees_right : {X : Type 0} (f : ℕ → X) (xs ys : List (ℕ × X)) → Agrees f (xs ++ ys) → Agrees f ys
 agrees_right f [] ys agree = agree
 agrees_right f (x ∷ xs) ys agree = agrees_right f xs ys agree.1
+
+once_at_most : (p n : ℕ) → once_below p n ≤ 1
+once_at_most p n = elim (nat_lt p n) as (λ b. cond b 1 0 ≤ 1) [ true ↦ omega arith | false ↦ omega arith ]
 
 -- 2. Steps.
 
@@ -145,7 +147,7 @@ module _ {W X : Type 0} (Step : W → ℕ → X → W → Type 0) where
   back f old new [] agree chain = chain
   back f old new (d ∷ ds) agree chain = (chain.0, subst (λ x. Step old d.0 x chain.0) (sym agree.0) chain.1, back f chain.0 new ds agree.1 chain.2)
 
-  pub led_back : (f : ℕ → X) (olds news : List W) (dss : List (List (ℕ × X))) → Agrees f (joined dss) → Chains olds dss news → (k : ℕ) (d : W) → k < length olds
+  led_back : (f : ℕ → X) (olds news : List W) (dss : List (List (ℕ × X))) → Agrees f (joined dss) → Chains olds dss news → (k : ℕ) (d : W) → k < length olds
       → LeadsTo (λ o p n. Step o p (f p) n) (get_or olds k d) (get_or (map (λ (ds : List (ℕ × X)). map (λ (e : ℕ × X). e.0) ds) dss) k []) (get_or news k d)
   led_back f [] news dss agree chains k d lt = absurd (omega arith)
   led_back f (o ∷ os) [] [] agree chains k d lt = absurd chains
@@ -153,6 +155,18 @@ module _ {W X : Type 0} (Step : W → ℕ → X → W → Type 0) where
   led_back f (o ∷ os) [] (ds ∷ dss) agree chains k d lt = absurd chains
   led_back f (o ∷ os) (n ∷ ns) (ds ∷ dss) agree chains zero d lt = back f o n ds (agrees_left f ds (joined dss) agree) chains.0
   led_back f (o ∷ os) (n ∷ ns) (ds ∷ dss) agree chains (suc k) d lt = led_back f os ns dss (agrees_right f ds (joined dss) agree) chains.1 k d (omega arith)
+
+  -- each number below `many` is there once, and no other one
+  module _ (olds news : List W) (shares : List (List ℕ)) (team : Gathering olds news shares) (none : X) (many : ℕ) (once : (p : ℕ) → times p (concat shares) ≡ once_below p many) where
+    pub often : (p : ℕ) → seen p (joined team.dss) ≡ once_below p many
+    often p = seen_shares p team.dss ∙ ap (λ ss. times p (concat ss)) team.numbers ∙ once p
+
+    few : (p : ℕ) → seen p (joined team.dss) ≤ 1
+    few p = let a = often p in let b = once_at_most p many in omega arith
+
+    pub led_each : (k : ℕ) (d : W) → k < length olds → LeadsTo (λ o p n. Step o p (fact_at (joined team.dss) none p) n) (get_or olds k d) (get_or shares k []) (get_or news k d)
+    led_each k d lt = subst (λ (ss : List (List ℕ)). LeadsTo (λ o p n. Step o p (fact_at (joined team.dss) none p) n) (get_or olds k d) (get_or ss k []) (get_or news k d)) team.numbers
+        (led_back (fact_at (joined team.dss) none) olds news team.dss (agrees_all (joined team.dss) none few) team.chains k d lt)
 
   module _ (P : ℕ × X → Type 0) (says : (old : W) (p : ℕ) (x : X) (new : W) → Step old p x new → P (p, x)) where
     every_chain : (old new : W) (ds : List (ℕ × X)) (rest : List (ℕ × X)) → Chain old ds new → AllByRecursion P rest → AllByRecursion P (ds ++ rest)

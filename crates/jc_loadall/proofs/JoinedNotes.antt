@@ -4,8 +4,9 @@
 --     fresh_place               the key of a place isn't among entries within the keys before it
 --     within_more               one key more
 --     entries_more              what is noted of one key more
+--     none_told                 without a cause nothing failed
 --     nothing_noted, or_none    of a piece that was loaded nothing is noted to have failed, and it has no cause
-use Rattle.std.proofs.Common.{◌≡◌, ◌==◌, ◌<◌, ◌≤◌, ◌+◌, ◌||◌, ◌++◌, ℕ, zero, suc, List, [], ◌∷◌, Bool, true, false, cond, length, take, drop, get_or, Option, None, Some, option_map, refl, sym, ap, subst, ◌∙◌, nat_eq, arith}
+use Rattle.std.proofs.Common.{◌≡◌, ◌==◌, ◌<◌, ◌≤◌, ◌+◌, ◌||◌, ◌++◌, ℕ, zero, suc, List, [], ◌∷◌, Bool, true, false, cond, length, take, drop, get_or, Option, None, Some, IfNone, option_map, refl, sym, ap, subst, ◌∙◌, nat_eq, arith}
 use Rattle.std.proofs.lemmas.Cmp.{nat_list_eq_equiv}
 use Rattle.std.proofs.lemmas.List.Concat.{flat_map-cons}
 use Rattle.std.proofs.lemmas.List.Elements.{filter_map-append}
@@ -21,8 +22,9 @@ use Rattle.jc_model.specs.Cache.{Bytes, key_cmp}
 use Rattle.jc_types.specs.declared.refusal.Refusal.{Refusal}
 use Rattle.jc_loadall.specs.declared.notes.Note.{Note}
 use Rattle.jc_loadall.specs.declared.notes.PieceResult.{PieceResult}
-use Rattle.jc_loadall.specs.declared.notes.PieceResult.TheVariants.{Loaded}
-use Rattle.jc_loadall.specs.Notes.{AreWithin, entries_noted, find_note, refusal_noted}
+use Rattle.jc_loadall.specs.declared.notes.PieceResult.TheVariants.{Loaded, Failed, Refused}
+use Rattle.jc_loadall.specs.Notes.{AreWithin, all_noted, cause_noted, entries_noted, find_note, first_noted, refusal_noted}
+use Rattle.jc_loadall.specs.Pieces.{piece_at}
 
 -- 1. Notes.
 
@@ -103,3 +105,22 @@ nothing_noted (k ∷ keys) = nothing_noted keys
 pub or_none : (o : Option Refusal) → option_or o None ≡ o
 or_none None = refl
 or_none (Some r) = refl
+
+no_cause : (result : PieceResult) (keys : List Bytes) → cause_noted result ≡ None → entries_noted result keys ≡ []
+no_cause Loaded keys is = nothing_noted keys
+no_cause (Failed fault) keys is = cc
+no_cause Refused keys is = cc
+
+neither : (a b : Option Refusal) → option_or a b ≡ None → (a ≡ None) × (b ≡ None)
+neither None b is = (refl, is)
+neither (Some r) b is = cc
+
+none_noted : (keys : List Bytes) (results : ℕ → PieceResult) (n : ℕ) → first_noted results n ≡ None → all_noted results keys n ≡ []
+none_noted keys results zero is = refl
+none_noted keys results (suc n) is =
+    let both = neither (first_noted results n) (cause_noted (results n)) is in
+    λ i. none_noted keys results n both.0 i ++ no_cause (results n) (piece_at keys n) both.1 i
+
+pub none_told : (keys : List Bytes) (results : ℕ → PieceResult) (n : ℕ) (cause : Option Refusal) (failed : List (Bytes × Refusal)) → cause ≡ first_noted results n → failed ≡ all_noted results keys n → IfNone cause (failed ≡ [])
+none_told keys results n None failed is are = are ∙ none_noted keys results n (sym is)
+none_told keys results n (Some r) failed is are = tt

@@ -1,25 +1,23 @@
 -- What a call says in the end.
 --     Says        what the function that loads a piece says of each call
---     ended_ok, ended_err    what is known of the results tells what the call may say: of success, and of what failed
+--     ended       what is known of the results tells how the call ended
 --     ended_kept, ended_same    what each call keeps of its tool, all calls keep of all tools
-use Rattle.std.proofs.Common.{◌≡◌, ◌<◌, ◌≤◌, ◌⊎◌, inl, inr, ⊎_elim, ℕ, suc, List, [], ◌∷◌, Bool, length, map, get_or, All, Result, Ok, Err, IfOk, IfErr, refl, sym, ap, subst, ◌∙◌, arith}
+use Rattle.std.proofs.Common.{◌≡◌, ◌<◌, ◌≤◌, ◌⊎◌, inl, inr, ⊎_elim, ℕ, suc, List, [], ◌∷◌, Bool, Option, length, map, get_or, All, Result, refl, sym, ap, subst, ◌∙◌, arith}
 use denote.Ref.{Bor, MutBor}
 use denote.Param.Members.{Shared}
 use Rattle.indexmap.specs.IndexSet.{IndexSet}
-use Rattle.jc_types.specs.declared.limits.TheConstants.{BULK_KEYS_MAX}
 use Rattle.jc_types.specs.declared.refusal.Refusal.{Refusal}
 use Rattle.jc_model.specs.Cache.{Bytes}
 use Rattle.jc_model.specs.declared.event.Op.{Op}
 use Rattle.jc_bulk.specs.declared.fault.BulkFault.{BulkFault}
-use Rattle.jc_bulk.specs.Bulk.{IsRefusedWhole}
-use Rattle.jc_bulk.specs.Targets.{load_ops}
+use Rattle.jc_bulk.specs.Bulk.{OrRefused, TellsDone}
 use Rattle.jc_pool.specs.Shares.{LeadsTo}
 use Rattle.jc_loadall.specs.declared.notes.PieceResult.{PieceResult}
-use Rattle.jc_loadall.specs.Loading.{FailsInPieces, PieceEnd, SucceedsInPieces}
-use Rattle.jc_loadall.specs.Notes.{IsNoteOf}
+use Rattle.jc_loadall.specs.Loading.{EndsInPieces, PieceEnd}
+use Rattle.jc_loadall.specs.Notes.{LoadsAndNotes}
 use Rattle.jc_loadall.specs.Pieces.{piece_at, piece_count}
-use Rattle.jc_loadall.specs.Working.{AreLoadedBy, FailsBy, LoadsBy, SucceedsBy}
-use Rattle.jc_loadall.proofs.ToolWork.{Told, causes_are, failed_are, none_noted, tools_loaded}
+use Rattle.jc_loadall.specs.Working.{AreLoadedBy, EndsByTeam, LoadsBy}
+use Rattle.jc_loadall.proofs.ToolWork.{Told, causes_are, failed_are, tools_loaded}
 
 pointwise_same : {T X : Type 0} (f : T → X) (xs ys : List T) → length ys ≡ length xs → ((k : ℕ) (d : T) → k < length xs → f (get_or ys k d) ≡ f (get_or xs k d)) → map f ys ≡ map f xs
 pointwise_same f [] [] many each = refl
@@ -29,56 +27,26 @@ pointwise_same f (x ∷ xs) (y ∷ ys) many each = λ i. each 0 x (omega arith) 
 
 module _ {F S T : Type 0} (Loads : List (Bytes × Op) → PieceEnd → T → T → Type 0) (replace : Bool)
     (g : Shared F (Bor (IndexSet Bytes S) × (MutBor T × Unit {0})) (PieceResult × (MutBor T × Unit {0}))) (load : F) (keys : List Bytes) (olds news : List T) where
-  abbrev Said : List Bytes → T → PieceResult → T → Type 0
-  Said ks old result new = (end : PieceEnd) × Loads (load_ops replace ks) end old new × IsNoteOf ks result end
-
   abbrev pub Says : Type 0
-  Says = (shown : Bor (IndexSet Bytes S)) (lent back : MutBor T) (result : PieceResult) → g.post load (shown, (lent, tt)) (result, (back, tt)) → Said shown.now.keys lent.now result back.now
+  Says = (shown : Bor (IndexSet Bytes S)) (lent back : MutBor T) (result : PieceResult) → g.post load (shown, (lent, tt)) (result, (back, tt)) → LoadsAndNotes Loads replace shown.now.keys lent.now result back.now
 
-  said_by : Says → (ks : List Bytes) (old : T) (result : PieceResult) (new : T) → LoadsBy g load ks old result new → Said ks old result new
+  said_by : Says → (ks : List Bytes) (old : T) (result : PieceResult) (new : T) → LoadsBy g load ks old result new → LoadsAndNotes Loads replace ks old result new
   said_by says ks old result new by =
-      subst (λ (z : List Bytes × T × T). Said z.0 z.1 result z.2) (λ i. (by.keys_are i, by.before i, by.after i)) (says by.shown by.lent by.back result by.call)
-
-  succeeds : Says → SucceedsBy g load keys olds news → SucceedsInPieces Loads keys replace olds news
-  succeeds says h =
-      let told : Told Loads replace g load keys h.0 (said_by says) olds news = tools_loaded Loads replace g load keys h.0 (said_by says) olds news h.1 in (
-        told.0,
-        told.1,
-        sym (causes_are keys h.0 told.0 (piece_count (length keys)) told.2) ∙ h.2,
-        sym (failed_are keys h.0 told.0 (piece_count (length keys)) told.2) ∙ none_noted keys h.0 (piece_count (length keys)) h.2,
-      )
-
-  fails : Says → (cause : Refusal) (failed : List (Bytes × Refusal)) → FailsBy g load keys cause failed olds news → FailsInPieces Loads keys replace cause failed olds news
-  fails says cause failed h =
-      let told : Told Loads replace g load keys h.0 (said_by says) olds news = tools_loaded Loads replace g load keys h.0 (said_by says) olds news h.1 in (
-        told.0,
-        told.1,
-        sym (causes_are keys h.0 told.0 (piece_count (length keys)) told.2) ∙ h.2,
-        h.3 ∙ failed_are keys h.0 told.0 (piece_count (length keys)) told.2,
-      )
+      subst (λ (z : List Bytes × T × T). LoadsAndNotes Loads replace z.0 z.1 result z.2) (λ i. (by.keys_are i, by.before i, by.after i)) (says by.shown by.lent by.back result by.call)
 
   module _ (returned : Result (Unit {0}) BulkFault) (says : Says) where
-    pub ended_ok : IfOk returned (λ done. (length keys ≤ BULK_KEYS_MAX) × SucceedsBy g load keys olds news)
-        → IfOk returned (λ done. (length keys ≤ BULK_KEYS_MAX) × SucceedsInPieces Loads keys replace olds news)
-    ended_ok = elim returned as (λ r. IfOk r (λ done. (length keys ≤ BULK_KEYS_MAX) × SucceedsBy g load keys olds news) → IfOk r (λ done. (length keys ≤ BULK_KEYS_MAX) × SucceedsInPieces Loads keys replace olds news))
-        [ Ok done ↦ λ h. (h.0, succeeds says h.1) | Err e ↦ λ h. tt ]
+    in_pieces : EndsByTeam g load keys olds returned news → EndsInPieces Loads keys replace olds returned news
+    in_pieces h =
+        let told : Told Loads replace g load keys h.0 (said_by says) olds news = tools_loaded Loads replace g load keys h.0 (said_by says) olds news h.1 in (
+          told.0,
+          told.1,
+          subst (λ (z : Option Refusal × List (Bytes × Refusal)). TellsDone returned z.0 z.1)
+              (λ i. (causes_are keys h.0 told.0 (piece_count (length keys)) told.2 i, failed_are keys h.0 told.0 (piece_count (length keys)) told.2 i)) h.2,
+        )
 
-    abbrev FailsSo : BulkFault → Type 0
-    FailsSo fault =
-        ((length keys ≤ BULK_KEYS_MAX) × FailsBy g load keys fault.cause fault.failed.entries olds news × (fault.found.entries ≡ []))
-        ⊎ IsRefusedWhole olds (length keys) fault.cause fault.failed.entries fault.found.entries news
-
-    abbrev FailsWhole : BulkFault → Type 0
-    FailsWhole fault =
-        ((length keys ≤ BULK_KEYS_MAX) × FailsInPieces Loads keys replace fault.cause fault.failed.entries olds news × (fault.found.entries ≡ []))
-        ⊎ IsRefusedWhole olds (length keys) fault.cause fault.failed.entries fault.found.entries news
-
-    whole : (fault : BulkFault) → FailsSo fault → FailsWhole fault
-    whole fault (inl h) = inl (h.0, fails says fault.cause fault.failed.entries h.1, h.2)
-    whole fault (inr h) = inr h
-
-    pub ended_err : IfErr returned (λ fault. FailsSo fault) → IfErr returned (λ fault. FailsWhole fault)
-    ended_err = elim returned as (λ r. IfErr r (λ fault. FailsSo fault) → IfErr r (λ fault. FailsWhole fault)) [ Ok done ↦ λ h. tt | Err fault ↦ λ h. whole fault h ]
+    pub ended : OrRefused (EndsByTeam g load keys olds) (length keys) olds returned news → OrRefused (EndsInPieces Loads keys replace olds) (length keys) olds returned news
+    ended (inl h) = inl (h.0, ⊎_elim (λ e. inl (in_pieces e)) (λ r. inr r) h.1)
+    ended (inr h) = inr h
 
 -- what each call keeps of its tool, all calls keep of all tools
 module _ {F S T : Type 0} (g : Shared F (Bor (IndexSet Bytes S) × (MutBor T × Unit {0})) (PieceResult × (MutBor T × Unit {0}))) (load : F) (keys : List Bytes) where
@@ -104,20 +72,13 @@ module _ {F S T : Type 0} (g : Shared F (Bor (IndexSet Bytes S) × (MutBor T × 
         (λ k d lt. again (λ t. f t ≡ f (get_or olds k d)) (λ shown lent back result post before. same shown lent back result post ∙ before) results (get_or olds k d) (get_or news k d) (get_or loaded.shares k [])
         (loaded.each k d lt) refl)
 
-    module _ (returned : Result (Unit {0}) BulkFault)
-        (ok : IfOk returned (λ done. (length keys ≤ BULK_KEYS_MAX) × SucceedsBy g load keys olds news))
-        (err : IfErr returned (λ fault. ((length keys ≤ BULK_KEYS_MAX) × FailsBy g load keys fault.cause fault.failed.entries olds news × (fault.found.entries ≡ []))
-        ⊎ IsRefusedWhole olds (length keys) fault.cause fault.failed.entries fault.found.entries news)) where
+    module _ (returned : Result (Unit {0}) BulkFault) (is : OrRefused (EndsByTeam g load keys olds) (length keys) olds returned news) where
       -- all tools were lent to calls, or none was
-      ended : ((results : ℕ → PieceResult) × AreLoadedBy g load keys results olds news) ⊎ (news ≡ olds)
-      ended = elim returned as (λ r. IfOk r (λ done. (length keys ≤ BULK_KEYS_MAX) × SucceedsBy g load keys olds news)
-          → IfErr r (λ fault. ((length keys ≤ BULK_KEYS_MAX) × FailsBy g load keys fault.cause fault.failed.entries olds news × (fault.found.entries ≡ []))
-          ⊎ IsRefusedWhole olds (length keys) fault.cause fault.failed.entries fault.found.entries news)
-          → ((results : ℕ → PieceResult) × AreLoadedBy g load keys results olds news) ⊎ (news ≡ olds))
-          [ Ok done ↦ λ h e. inl (h.1.0, h.1.1) | Err fault ↦ λ h e. ⊎_elim (λ f. inl (f.1.0, f.1.1)) (λ f. inr f.3) e ] ok err
+      lent : ((results : ℕ → PieceResult) × AreLoadedBy g load keys results olds news) ⊎ (news ≡ olds)
+      lent = ⊎_elim (λ h. ⊎_elim (λ e. inl (e.0, e.1)) (λ r. inr r.1) h.1) (λ h. inr h.2) is
 
       pub ended_kept : (P : T → Type 0) → Keeps (λ old new. P old → P new) → All P olds → All P news
-      ended_kept P keeps all = ⊎_elim (λ h. again_all P keeps h.0 h.1 all) (λ same. subst (All P) (sym same) all) ended
+      ended_kept P keeps all = ⊎_elim (λ h. again_all P keeps h.0 h.1 all) (λ same. subst (All P) (sym same) all) lent
 
       pub ended_same : {X : Type 0} (f : T → X) → Keeps (λ old new. f new ≡ f old) → map f news ≡ map f olds
-      ended_same f same = ⊎_elim (λ h. same_all f same h.0 h.1) (λ none. ap (map f) none) ended
+      ended_same f same = ⊎_elim (λ h. same_all f same h.0 h.1) (λ none. ap (map f) none) lent

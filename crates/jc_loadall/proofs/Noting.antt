@@ -1,6 +1,6 @@
 -- What is noted of a piece, and how its keys ended.
 --     piece_end    a call that loads the keys of a piece tells how it ended, and what is noted of it tells the same
-use Rattle.std.proofs.Common.{◌≡◌, ◌==◌, ◌<◌, ◌≤◌, ◌++◌, ◌⊎◌, inl, inr, ⊎_elim, ℕ, zero, suc, List, [], ◌∷◌, Bool, false, cond, length, map, Option, None, Some, Result, Ok, Err, option_map, IfOk, IfErr, refl, sym, ap, subst, ◌∙◌, arith}
+use Rattle.std.proofs.Common.{◌≡◌, ◌==◌, ◌<◌, ◌≤◌, ◌++◌, ◌⊎◌, inl, inr, ⊎_elim, ℕ, zero, suc, List, [], ◌∷◌, Bool, false, cond, length, map, Option, None, Some, Result, Ok, Err, option_map, refl, sym, ap, subst, ◌∙◌, arith}
 use Rattle.std.proofs.lemmas.Cmp.{nat_list_eq_equiv}
 use Rattle.std.proofs.lemmas.Map.Keys.{IsDistinct-head, IsDistinct-tail}
 use Rattle.std.specs.List.{AllByRecursion, IsAmong, IsDistinct, cons_option, filter_map}
@@ -8,23 +8,24 @@ use Rattle.std.specs.Cmp.Lexicographic.{pointwise}
 use Rattle.std.specs.Map.{lookup}
 use Rattle.jc_types.specs.declared.limits.TheConstants.{BULK_KEYS_MAX}
 use Rattle.jc_types.specs.declared.refusal.Refusal.{Refusal}
-use Rattle.jc_types.specs.declared.refusal.Refusal.TheVariants.{OutOfMemory, TooManyKeys, WriterFailed}
+use Rattle.jc_types.specs.declared.refusal.Refusal.TheVariants.{OutOfMemory, WriterFailed}
 use Rattle.jc_model.specs.Cache.{Bytes}
 use Rattle.jc_model.specs.declared.event.Op.{Op}
 use Rattle.jc_outside.specs.CallingAll.{LoadAllRelation, WriteAllRelation, DeleteAllRelation}
 use Rattle.jc_cache.specs.Caches.{CacheState}
 use Rattle.jc_cache.specs.declared.session.Session.{Session}
 use Rattle.jc_bulk.specs.declared.fault.BulkFault.{BulkFault}
-use Rattle.jc_bulk.specs.Bulk.{FailsInPart, IsRefusedWhole, Succeeds}
+use Rattle.jc_bulk.specs.Bulk.{DoesAll, IsBulkCall, NamesNoKey, OrRefused}
 use Rattle.jc_rounds.specs.Ends.{KeyEnd, failed_entries, key_ops}
-use Rattle.jc_rounds.specs.KeyProgress.{refusal_in}
+use Rattle.jc_rounds.specs.KeyProgress.{IsCauseIn, refusal_in}
 use Rattle.jc_rounds.specs.Rounds.{LoadAll, ProcessAll, Round, WriteAll, fault_of, faults_in, round_fault}
 use Rattle.jc_bulk.specs.Targets.{load_ops}
 use Rattle.jc_loadall.specs.declared.limits.TheConstants.{PIECE_KEYS}
 use Rattle.jc_loadall.specs.declared.notes.PieceResult.{PieceResult}
 use Rattle.jc_loadall.specs.declared.notes.PieceResult.TheVariants.{Loaded, Refused}
 use Rattle.jc_loadall.specs.Loading.{LoadsPiece, PieceEnd, out_of_memory}
-use Rattle.jc_loadall.specs.Notes.{IsNoteOf, IsResultOf, entries_noted}
+use Rattle.jc_loadall.specs.Notes.{IsResultOf, LoadsAndNotes, cause_noted, entries_noted}
+use Rattle.jc_loadall.proofs.JoinedNotes.{nothing_noted}
 
 -- 1. The keys that failed, looked up one by one.
 
@@ -88,17 +89,9 @@ keys_ended replace (e ∷ es) (k ∷ keys) is =
 
 -- 2. What is noted.
 
-nothing_noted : (keys : List Bytes) → entries_noted Loaded keys ≡ []
-nothing_noted [] = refl
-nothing_noted (k ∷ keys) = nothing_noted keys
-
 all_refused : (replace : Bool) (keys : List Bytes) → entries_noted Refused keys ≡ failed_entries (out_of_memory (load_ops replace keys))
 all_refused replace [] = refl
 all_refused replace (k ∷ keys) = ap (λ l. (k, OutOfMemory) ∷ l) (all_refused replace keys)
-
-none_failed : (failed : List (Bytes × Refusal)) (faults : List Refusal) → map (λ (e : Bytes × Refusal). e.1) failed ++ faults ≡ [] → failed ≡ []
-none_failed [] faults is = refl
-none_failed (e ∷ failed) faults is = cc
 
 -- no call outside fails with OutOfMemory
 among_cons : (o : Option Refusal) (rs : List Refusal) (r : Refusal) → IsAmong (cons_option o rs) r → (o ≡ Some r) ⊎ IsAmong rs r
@@ -124,53 +117,47 @@ module _ {I J : Type 0} {D : I → Type 0} {E : J → Type 0}
     (cache : CacheState) (replace : Bool) (keys : List Bytes) (few : length keys ≤ PIECE_KEYS) (distinct : IsDistinct (pointwise ◌==◌) keys)
     (old new : Session I J D E) where
   abbrev pub Ends : PieceResult → Type 0
-  Ends result = (end : PieceEnd) × LoadsPiece loads_all load_state writes_all deletes_all write_state cache (load_ops replace keys) end old new × IsNoteOf keys result end
+  Ends result = LoadsAndNotes (LoadsPiece loads_all load_state writes_all deletes_all write_state cache) replace keys old result new
 
-  loaded : (result : PieceResult) → result ≡ Loaded → Succeeds loads_all load_state writes_all deletes_all write_state cache old (load_ops replace keys) new → Ends result
-  loaded result is h = (
-    record { ends = h.0; cause = None },
-    inl (h.1, h.2, h.3, tt),
-    subst (λ r. IsNoteOf keys r (record { ends = h.0; cause = None })) (sym is) record { cause = refl; failed = nothing_noted keys ∙ sym (none_failed (failed_entries h.0) (faults_in h.1) h.3) },
+  abbrev Calls : List KeyEnd → Option Refusal → Type 0
+  Calls ends cause = IsBulkCall loads_all load_state writes_all deletes_all write_state cache old (load_ops replace keys) ends cause new
+
+  loaded : (ends : List KeyEnd) (cause : Option Refusal) (result : PieceResult) → result ≡ Loaded → Calls ends cause → cause ≡ None → failed_entries ends ≡ [] → Ends result
+  loaded ends cause result is call none all = (
+    record { ends = ends; cause = cause },
+    inl call,
+    record { cause = ap cause_noted is ∙ sym none; failed = ap (λ r. entries_noted r keys) is ∙ nothing_noted keys ∙ sym all },
   )
 
-  failed : (fault : BulkFault) (result : PieceResult) → IsResultOf fault result
-      → FailsInPart loads_all load_state writes_all deletes_all write_state cache old (load_ops replace keys) fault.cause fault.failed.entries new → Ends result
-  failed fault result (inl whole) h =
-      let none : failed_entries h.0 ≡ [] = sym h.4 ∙ whole.0 in
-      let met : IsAmong (faults_in h.1) OutOfMemory = subst (IsAmong (faults_in h.1)) whole.1 (subst (λ (es : List (Bytes × Refusal)). IsAmong (map (λ (e : Bytes × Refusal). e.1) es ++ faults_in h.1) fault.cause) none h.3) in
-      absurd (no_memory_fault h.1 met)
-  failed fault result (inr part) h = (
-    record { ends = h.0; cause = Some fault.cause },
-    inl (h.1, h.2, h.3, h.5),
-    subst (λ r. IsNoteOf keys r (record { ends = h.0; cause = Some fault.cause })) (sym part.1) record {
-      cause = refl;
-      failed = (λ i. filter_map (pick (h.4 i)) (sym ended i)) ∙ looked_up h.0 (subst (IsDistinct (pointwise ◌==◌)) (sym ended) distinct);
+  failed : (ends : List KeyEnd) (cause : Option Refusal) (fault : BulkFault) (result : PieceResult) → IsResultOf (Err fault) result → Calls ends cause → cause ≡ Some fault.cause → failed_entries ends ≡ fault.failed.entries
+      → Ends result
+  failed ends cause fault result (inl whole) call is all =
+      let met : IsCauseIn (Some OutOfMemory) (map (λ (e : Bytes × Refusal). e.1) [] ++ faults_in call.rounds) =
+      subst (λ (z : Option Refusal × List (Bytes × Refusal)). IsCauseIn z.0 (map (λ (e : Bytes × Refusal). e.1) z.1 ++ faults_in call.rounds)) (λ i. ((is ∙ ap Some whole.1) i, (all ∙ whole.0) i)) call.met in
+      absurd (no_memory_fault call.rounds met)
+  failed ends cause fault result (inr part) call is all = (
+    record { ends = ends; cause = cause },
+    inl call,
+    record {
+      cause = ap cause_noted part.1 ∙ sym is;
+      failed = ap (λ r. entries_noted r keys) part.1 ∙ (λ i. filter_map (pick (sym all i)) (sym ended i)) ∙ looked_up ends (subst (IsDistinct (pointwise ◌==◌)) (sym ended) distinct);
     },
   )
     where
-      ended : map (λ (e : KeyEnd). e.key) h.0 ≡ keys
-      ended = keys_ended replace h.0 keys h.2.carried.targets_are
+      ended : map (λ (e : KeyEnd). e.key) ends ≡ keys
+      ended = keys_ended replace ends keys call.carried.targets_are
 
-  refused : (fault : BulkFault) (result : PieceResult) → IsResultOf fault result
-      → IsRefusedWhole old (length keys) fault.cause fault.failed.entries fault.found.entries new → Ends result
-  refused fault result (inl whole) h = (
+  refused : (fault : BulkFault) (result : PieceResult) → IsResultOf (Err fault) result → NamesNoKey fault OutOfMemory → new ≡ old → Ends result
+  refused fault result (inl whole) none same = (
     record { ends = out_of_memory (load_ops replace keys); cause = Some OutOfMemory },
-    inr (refl, refl, h.3),
-    subst (λ r. IsNoteOf keys r (record { ends = out_of_memory (load_ops replace keys); cause = Some OutOfMemory })) (sym whole.2) record { cause = refl; failed = all_refused replace keys },
+    inr (refl, refl, same),
+    record { cause = ap cause_noted whole.2; failed = ap (λ r. entries_noted r keys) whole.2 ∙ all_refused replace keys },
   )
-  refused fault result (inr part) h =
-      ⊎_elim
-      (λ (many : (fault.cause ≡ TooManyKeys) × (BULK_KEYS_MAX < length keys)). let lt : BULK_KEYS_MAX < length keys = many.1 in absurd (omega arith))
-      (λ (memory : (fault.cause ≡ OutOfMemory) × (length keys ≤ BULK_KEYS_MAX)). absurd (part.0 h.1 memory.0))
-      h.0
+  refused fault result (inr part) none same = absurd (part.0 none.1 none.0)
 
-  pub piece_end : (returned : Result (Unit {0}) BulkFault) (result : PieceResult)
-      → IfOk returned (λ done. (length keys ≤ BULK_KEYS_MAX) × Succeeds loads_all load_state writes_all deletes_all write_state cache old (load_ops replace keys) new)
-      → IfErr returned (λ fault. ((length keys ≤ BULK_KEYS_MAX)
-      × FailsInPart loads_all load_state writes_all deletes_all write_state cache old (load_ops replace keys) fault.cause fault.failed.entries new
-      × (fault.found.entries ≡ []))
-      ⊎ IsRefusedWhole old (length keys) fault.cause fault.failed.entries fault.found.entries new)
-      → IfOk returned (λ done. result ≡ Loaded) → IfErr returned (λ fault. IsResultOf fault result)
-      → Ends result
-  piece_end (Ok done) result ok err is-ok is-err = loaded result is-ok ok.1
-  piece_end (Err fault) result ok err is-ok is-err = ⊎_elim (λ h. failed fault result is-err h.1) (refused fault result is-err) err
+  pub piece_end : (returned : Result (Unit {0}) BulkFault) (result : PieceResult) → IsResultOf returned result
+      → OrRefused (DoesAll loads_all load_state writes_all deletes_all write_state cache old (load_ops replace keys)) (length keys) old returned new → Ends result
+  piece_end (Ok done) result is (inl h) = ⊎_elim (λ e. loaded e.0 e.1 result is e.2 e.3.0 e.3.1) (λ r. absurd r.0) h.1
+  piece_end (Err fault) result is (inl h) = ⊎_elim (λ e. failed e.0 e.1 fault result is e.2 e.3.0 e.3.1) (λ r. refused fault result is r.0 r.1) h.1
+  piece_end (Ok done) result is (inr h) = absurd h.1
+  piece_end (Err fault) result is (inr h) = let many : BULK_KEYS_MAX < length keys = h.0 in absurd (omega arith)

@@ -20,7 +20,7 @@ use Rattle.jc_loadall.specs.declared.worker.Worker.{Worker}
 use Rattle.jc_loadall.specs.Notes.{find_note, result_in}
 use Rattle.jc_loadall.specs.Pieces.{piece_at, piece_count}
 use Rattle.jc_loadall.specs.Working.{AreLoadedBy, CanLoad, CanLoadBy, DoesPiece, IsIdle, Keeps, LoadsBy}
-use Rattle.jc_loadall.proofs.Gathered.{Gathering, SomeStep, agrees_all, fact_at, gathered, joined, kept_all, led_back, seen, seen_shares}
+use Rattle.jc_loadall.proofs.Gathered.{Gathering, SomeStep, fact_at, gathered, joined, kept_all, led_each}
 
 -- what is written back of all of a list is that
 pub front : {X : Type 0} (xs ys : List X) (n : ℕ) → n ≡ length xs → take n (xs ++ ys) ≡ xs
@@ -41,9 +41,6 @@ found_fact [] p = refl
 found_fact (e ∷ all) p =
     let ih = found_fact all p in
     elim (eqb e.0 p) as (λ b. unwrap_or (cond b (Some e.1) (find_note p (map to_note all))) Loaded ≡ cond b e.1 (fact_at all Loaded p)) [ true ↦ refl | false ↦ ih ]
-
-once_at_most : (p n : ℕ) → once_below p n ≤ 1
-once_at_most p n = elim (nat_lt p n) as (λ b. cond b 1 0 ≤ 1) [ true ↦ omega arith | false ↦ omega arith ]
 
 module _ {F S T : Type 0} (g : Shared F (Bor (IndexSet Bytes S) × (MutBor T × Unit {0})) (PieceResult × (MutBor T × Unit {0}))) (load : F) (keys : List Bytes) where
   abbrev pub Can : Worker F × T → ℕ → Type 0
@@ -142,16 +139,12 @@ module _ {F S T : Type 0} (g : Shared F (Bor (IndexSet Bytes S) × (MutBor T × 
           ∙ kept_all Step (λ (b : Worker F × T). b.0.notes.items) to_note (λ o p x n step. step.0) (zip ws ts) (zip ws' ts') team.dss (no_notes pieces ws ts idle) team.chains)
           ∙ found_fact (joined team.dss) p
 
-      few : (p : ℕ) → seen p (joined team.dss) ≤ 1
-      few p = let a = seen_shares p team.dss in let b = ap (λ ss. times p (concat ss)) team.numbers in let c = done.each_piece p in let d = once_at_most p pieces in omega arith
-
       loaded : AreLoadedBy g load keys (fact_at (joined team.dss) Loaded) ts ts'
       loaded = record {
         shares = done.shares;
         share_each = done.each_worker.share_each ∙ len ∙ sym each;
         tools = many_tools;
         each = tools_led (fact_at (joined team.dss) Loaded) ws ws' ts ts' done.shares each many many_tools (done.each_worker.share_each ∙ len)
-            (λ k d lt. subst (λ (ss : List (List ℕ)). LeadsTo (λ o p n. Step o p (fact_at (joined team.dss) Loaded p) n) (get_or (zip ws ts) k d) (get_or ss k []) (get_or (zip ws' ts') k d)) team.numbers
-            (led_back Step (fact_at (joined team.dss) Loaded) (zip ws ts) (zip ws' ts') team.dss (agrees_all (joined team.dss) Loaded few) team.chains k d lt));
+            (led_each Step (zip ws ts) (zip ws' ts') done.shares team Loaded pieces done.each_piece);
         once = λ p. done.each_piece p ∙ ap (once_below p) is;
       }

@@ -1,8 +1,7 @@
 -- Tools with which pieces are loaded, by what is known of each call.
 --     tools_loaded       what is known of the pieces and of their results tells how each ended
 --     causes_are, failed_are    the first cause, and what failed, by the results and by the ends
---     none_noted         without a cause nothing failed
-use Rattle.std.proofs.Common.{◌≡◌, ◌<◌, ◌≤◌, ◌++◌, ℕ, zero, suc, List, [], ◌∷◌, Bool, length, get_or, None, Some, Option, refl, sym, ap, subst, ◌∙◌, arith, cond, nat_lt, true, false}
+use Rattle.std.proofs.Common.{◌≡◌, ◌<◌, ◌≤◌, ◌++◌, ℕ, zero, suc, List, [], ◌∷◌, Bool, length, get_or, None, refl, sym, ap, subst, ◌∙◌, arith, cond, nat_lt, true, false}
 use Rattle.std.proofs.lemmas.Bool.{lt-ltb}
 use Rattle.std.proofs.lemmas.List.Elements.{filter_map-append}
 use Rattle.std.specs.Option.{option_or}
@@ -10,20 +9,17 @@ use Rattle.std.specs.List.{concat}
 use denote.Ref.{Bor, MutBor}
 use denote.Param.Members.{Shared}
 use Rattle.indexmap.specs.IndexSet.{IndexSet}
-use Rattle.jc_types.specs.declared.refusal.Refusal.{Refusal}
 use Rattle.jc_model.specs.Cache.{Bytes}
 use Rattle.jc_model.specs.declared.event.Op.{Op}
 use Rattle.jc_rounds.specs.Ends.{failed_entries}
 use Rattle.jc_bulk.specs.Targets.{load_ops}
 use Rattle.jc_pool.specs.Shares.{LeadsTo, once_below, times}
 use Rattle.jc_loadall.specs.declared.notes.PieceResult.{PieceResult}
-use Rattle.jc_loadall.specs.declared.notes.PieceResult.TheVariants.{Loaded, Failed, Refused}
 use Rattle.jc_loadall.specs.Loading.{LoadsInPieces, PieceEnd, all_ends, first_cause}
-use Rattle.jc_loadall.specs.Notes.{IsNoteOf, all_noted, cause_noted, entries_noted, first_noted}
+use Rattle.jc_loadall.specs.Notes.{IsNoteOf, all_noted, first_noted}
 use Rattle.jc_loadall.specs.Pieces.{piece_at, piece_count}
 use Rattle.jc_loadall.specs.Working.{AreLoadedBy, LoadsBy}
-use Rattle.jc_loadall.proofs.JoinedNotes.{nothing_noted}
-use Rattle.jc_loadall.proofs.Gathered.{Gathering, SomeStep, agrees_all, counted, every, fact_at, fits_at, gathered, joined, led_back, seen, seen_shares}
+use Rattle.jc_loadall.proofs.Gathered.{Gathering, SomeStep, counted, every, fact_at, fits_at, gathered, joined, led_each, often, seen}
 
 -- 1. What the results say.
 
@@ -36,24 +32,6 @@ module _ (keys : List Bytes) (results : ℕ → PieceResult) (ends : ℕ → Pie
   failed_are zero fits = refl
   failed_are (suc n) fits =
       (λ i. failed_are n (λ p lt. fits p (omega arith)) i ++ (fits n (omega arith)).failed i) ∙ sym (filter_map-append _ (all_ends ends n) (ends n).ends)
-
-no_cause : (result : PieceResult) (keys : List Bytes) → cause_noted result ≡ None → entries_noted result keys ≡ []
-no_cause Loaded keys is = nothing_noted keys
-no_cause (Failed fault) keys is = cc
-no_cause Refused keys is = cc
-
-neither : (a b : Option Refusal) → option_or a b ≡ None → (a ≡ None) × (b ≡ None)
-neither None b is = (refl, is)
-neither (Some r) b is = cc
-
-pub none_noted : (keys : List Bytes) (results : ℕ → PieceResult) (n : ℕ) → first_noted results n ≡ None → all_noted results keys n ≡ []
-none_noted keys results zero is = refl
-none_noted keys results (suc n) is =
-    let both = neither (first_noted results n) (cause_noted (results n)) is in
-    λ i. none_noted keys results n both.0 i ++ no_cause (results n) (piece_at keys n) both.1 i
-
-once_at_most : (p n : ℕ) → once_below p n ≤ 1
-once_at_most p n = elim (nat_lt p n) as (λ b. cond b 1 0 ≤ 1) [ true ↦ omega arith | false ↦ omega arith ]
 
 once_is : (p n : ℕ) → p < n → once_below p n ≡ 1
 once_is p n lt = let yes : nat_lt p n ≡ true = lt-ltb p n lt in counted (nat_lt p n) yes
@@ -92,8 +70,7 @@ module _ {F S T : Type 0} (Loads : List (Bytes × Op) → PieceEnd → T → T �
       share_each = loaded.share_each;
       count = loaded.tools;
       each = λ k d lt. only (get_or olds k d) (get_or news k d) (get_or loaded.shares k []) (fact_at (joined team.dss) nothing)
-          (subst (λ (ss : List (List ℕ)). LeadsTo (λ o p n. Step o p (fact_at (joined team.dss) nothing p) n) (get_or olds k d) (get_or ss k []) (get_or news k d)) team.numbers
-          (led_back Step (fact_at (joined team.dss) nothing) olds news team.dss (agrees_all (joined team.dss) nothing few) team.chains k d lt));
+          (led_each Step olds news loaded.shares team nothing (piece_count (length keys)) loaded.once k d lt);
       once = loaded.once;
     },
     λ p lt. fits_at (λ e. IsNoteOf (piece_at keys e.0) (results e.0) e.1) (joined team.dss) nothing p
@@ -106,11 +83,5 @@ module _ {F S T : Type 0} (Loads : List (Bytes × Op) → PieceEnd → T → T �
       team : Gathering Step olds news loaded.shares
       team = gathered Step olds news loaded.shares loaded.tools loaded.share_each (λ k d lt. told (get_or olds k d) (get_or news k d) (get_or loaded.shares k []) (loaded.each k d lt))
 
-      often : (p : ℕ) → seen p (joined team.dss) ≡ once_below p (piece_count (length keys))
-      often p = seen_shares p team.dss ∙ ap (λ ss. times p (concat ss)) team.numbers ∙ loaded.once p
-
-      few : (p : ℕ) → seen p (joined team.dss) ≤ 1
-      few p = let a = often p in let b = once_at_most p (piece_count (length keys)) in omega arith
-
       there : (p : ℕ) → p < piece_count (length keys) → 0 < seen p (joined team.dss)
-      there p lt = let a = often p in let b = once_is p (piece_count (length keys)) lt in omega arith
+      there p lt = let a = often Step olds news loaded.shares team nothing (piece_count (length keys)) loaded.once p in let b = once_is p (piece_count (length keys)) lt in omega arith

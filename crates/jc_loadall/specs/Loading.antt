@@ -9,10 +9,11 @@
 --     first_cause     the cause of the first of so many pieces that has one
 --     LoadsInPieces   each of the pieces of these keys was loaded by one of these, sessions or clients, once, and ended so: there is a share
 --                     of the pieces for each, who loaded them one after another, and did nothing else
---     SucceedsInPieces  the same, and no key ended in a fault or a refusal
---     FailsInPieces   the same, with the cause of the first piece that has one, and each key that ended in a fault or a refusal
---     OnFault         what is so if there is no client, and what is so of the fault of a call that has failed
-use Rattle.std.specs.Prelude.{◌≡◌, ◌<◌, ◌⊎◌, ◌++◌, ℕ, zero, suc, List, [], length, map, Bool, Option, None, Some, IfSome, Err, slice_index_or}
+--     EndsInPieces    the same, and this was returned: that it is done, or the cause of the first piece that has one, with each key that
+--                     ended in a fault or a refusal
+--     completion_of   what a listener hears of a call that has returned this
+--     OnReturn        what is so if a call of clients returns that there is none, and what is so of what it returns otherwise
+use Rattle.std.specs.Prelude.{◌≡◌, ◌<◌, ◌⊎◌, ◌++◌, ℕ, zero, suc, List, [], length, map, Bool, Option, None, Some, Result, Ok, Err, slice_index_or}
 use Rattle.std.specs.Option.{option_or}
 use Rattle.std.specs.List.{concat}
 use Rattle.jc_types.specs.declared.refusal.Refusal.{Refusal}
@@ -25,10 +26,8 @@ use Rattle.jc_cache.specs.Clients.{OnSameCache}
 use Rattle.jc_cache.specs.declared.client.Client.{Client}
 use Rattle.jc_cache.specs.declared.session.Session.{Session}
 use Rattle.jc_bulk.specs.declared.fault.BulkFault.{BulkFault}
-use Rattle.jc_bulk.specs.Bulk.{IsBulkCall, TellsFirst, causes_of}
+use Rattle.jc_bulk.specs.Bulk.{IsBulkCall, TellsDone}
 use Rattle.jc_rounds.specs.Ends.{KeyEnd, failed_entries}
-use Rattle.jc_rounds.specs.KeyProgress.{IsCauseIn}
-use Rattle.jc_rounds.specs.Rounds.{Round}
 use Rattle.jc_bulk.specs.Targets.{load_ops}
 use Rattle.jc_pool.specs.Shares.{LeadsTo, once_below, times}
 use Rattle.jc_loadall.specs.declared.fault.LoadAllFault.{LoadAllFault}
@@ -50,9 +49,7 @@ module _ {I J : Type 0} {D : I → Type 0} {E : J → Type 0}
   -- `old` and `new` are the session before and after
   abbrev pub LoadsPiece : CacheState → List (Bytes × Op) → PieceEnd → Session I J D E → Session I J D E → Type 0
   LoadsPiece cache targets end old new =
-      ((rounds : List Round) × (call : IsBulkCall loads_all load_state writes_all deletes_all write_state cache old targets end.ends rounds new)
-      × IsCauseIn end.cause (causes_of end.ends rounds)
-      × IfSome end.cause (λ (cause : Refusal). TellsFirst loads_all load_state writes_all deletes_all write_state cache old targets call (Some cause)))
+      IsBulkCall loads_all load_state writes_all deletes_all write_state cache old targets end.ends end.cause new
       ⊎ ((end.cause ≡ Some OutOfMemory) × (end.ends ≡ out_of_memory targets) × (new ≡ old))
 
   -- `old` and `new` are the client before and after
@@ -81,18 +78,18 @@ module _ {T : Type 0} (Loads : List (Bytes × Op) → PieceEnd → T → T → T
         (slice_index_or old k d) (slice_index_or shares k []) (slice_index_or new k d)
     pub once : (piece : ℕ) → times piece (concat shares) ≡ once_below piece (piece_count (length keys))
 
-  abbrev pub SucceedsInPieces : List Bytes → Bool → List T → List T → Type 0
-  SucceedsInPieces keys replace old new =
+  abbrev pub EndsInPieces : List Bytes → Bool → List T → Result (Unit {0}) BulkFault → List T → Type 0
+  EndsInPieces keys replace old result new =
       (ends : ℕ → PieceEnd) × LoadsInPieces keys replace ends old new
-      × (first_cause ends (piece_count (length keys)) ≡ None) × (failed_entries (all_ends ends (piece_count (length keys))) ≡ [])
+      × TellsDone result (first_cause ends (piece_count (length keys))) (failed_entries (all_ends ends (piece_count (length keys))))
 
-  abbrev pub FailsInPieces : List Bytes → Bool → Refusal → List (Bytes × Refusal) → List T → List T → Type 0
-  FailsInPieces keys replace cause failed old new =
-      (ends : ℕ → PieceEnd) × LoadsInPieces keys replace ends old new
-      × (first_cause ends (piece_count (length keys)) ≡ Some cause) × (failed ≡ failed_entries (all_ends ends (piece_count (length keys))))
+-- 3. Who is told.
 
--- 3. Clients.
+abbrev pub completion_of : Result (Unit {0}) BulkFault → Result (Unit {0}) Refusal
+completion_of (Ok done) = Ok done
+completion_of (Err fault) = Err fault.cause
 
-abbrev pub OnFault : LoadAllFault → Type 0 → (BulkFault → Type 0) → Type 0
-OnFault NoClient Nobody Fails = Nobody
-OnFault (Failed fault) Nobody Fails = Fails fault
+abbrev pub OnReturn : Result (Unit {0}) LoadAllFault → Type 0 → (Result (Unit {0}) BulkFault → Type 0) → Type 0
+OnReturn (Ok done) Nobody Ended = Ended (Ok done)
+OnReturn (Err NoClient) Nobody Ended = Nobody
+OnReturn (Err (Failed fault)) Nobody Ended = Ended (Err fault)

@@ -1,25 +1,29 @@
 -- What a worker notes of a piece, and what a call makes of the notes of all workers.
---     IsResultOf      what is noted of a piece whose call returned this fault: a call that names no key, and whose cause is that an
---                     allocation failed, was refused whole
+--     IsResultOf      what is noted of a piece whose call returned this: a call that names no key, and whose cause is that an allocation
+--                     failed, was refused whole
 --     cause_noted     the cause of a piece that failed
 --     refusal_noted   the fault or refusal that a key of a piece ended in, if it did
 --     entries_noted   each of these keys that ended in one, with it, in their order
 --     IsNoteOf        what was noted of a piece with these keys tells how it ended
+--     LoadsAndNotes   the keys of a piece were loaded so, and this was noted of it
 --     find_note       what is noted of a piece, if it is
 --     result_in       the same, of a piece of which something is noted
 --     first_noted     the first cause that is noted of so many pieces, by what is noted of each
 --     AreWithin       the keys of these entries are among the first so many of these
+--     MayAdd          the keys of this map are among the first so many of these, and there is room in it for the others
 --     all_noted       each key of so many pieces that ended in a fault or a refusal, with it, in the order of the keys
-use Rattle.std.specs.Prelude.{◌≡◌, ◌==◌, ◌⊎◌, ◌++◌, ℕ, zero, suc, List, [], ◌∷◌, true, Option, None, Some, option_map, take, unwrap_or, if◌then◌else◌}
+use Rattle.std.specs.Prelude.{◌≡◌, ◌==◌, ◌≤◌, ◌+◌, ◌⊎◌, ◌++◌, ℕ, zero, suc, List, [], ◌∷◌, length, Bool, true, Option, None, Some, Result, Ok, Err, option_map, take, unwrap_or, if◌then◌else◌}
 use Rattle.std.specs.Option.{option_or}
 use Rattle.std.specs.List.{AllByRecursion, filter_map}
 use Rattle.std.specs.Cmp.Lexicographic.{pointwise}
-use Rattle.indexmap.specs.IndexMap.{get}
+use Rattle.indexmap.specs.IndexMap.{IndexMap, get, spare}
 use Rattle.jc_types.specs.declared.refusal.Refusal.{Refusal}
 use Rattle.jc_types.specs.declared.refusal.Refusal.TheVariants.{OutOfMemory}
 use Rattle.jc_model.specs.Batches.{is_among}
 use Rattle.jc_model.specs.Cache.{Bytes}
+use Rattle.jc_model.specs.declared.event.Op.{Op}
 use Rattle.jc_bulk.specs.declared.fault.BulkFault.{BulkFault}
+use Rattle.jc_bulk.specs.Targets.{load_ops}
 use Rattle.jc_rounds.specs.Ends.{failed_entries}
 use Rattle.jc_loadall.specs.declared.notes.Note.{Note}
 use Rattle.jc_loadall.specs.declared.notes.PieceResult.{PieceResult}
@@ -29,10 +33,10 @@ use Rattle.jc_loadall.specs.Pieces.{piece_at}
 
 -- 1. One piece.
 
-abbrev pub IsResultOf : BulkFault → PieceResult → Type 0
-IsResultOf fault result =
-    ((fault.failed.entries ≡ []) × (fault.cause ≡ OutOfMemory) × (result ≡ Refused))
-    ⊎ ((fault.failed.entries ≡ [] → fault.cause ≡ OutOfMemory → ⊥) × (result ≡ Failed fault))
+abbrev pub IsResultOf : Result (Unit {0}) BulkFault → PieceResult → Type 0
+IsResultOf (Ok done) result = result ≡ Loaded
+IsResultOf (Err fault) result =
+    ((fault.failed.entries ≡ []) × (fault.cause ≡ OutOfMemory) × (result ≡ Refused)) ⊎ ((fault.failed.entries ≡ [] → fault.cause ≡ OutOfMemory → ⊥) × (result ≡ Failed fault))
 
 abbrev pub cause_noted : PieceResult → Option Refusal
 cause_noted Loaded = None
@@ -50,6 +54,10 @@ entries_noted result keys = filter_map (λ (key : Bytes). option_map (λ (r : Re
 pub record IsNoteOf (keys : List Bytes) (result : PieceResult) (end : PieceEnd) : Type 0 where
   pub cause : cause_noted result ≡ end.cause
   pub failed : entries_noted result keys ≡ failed_entries end.ends
+
+-- `Loads` is what was done to load a piece; `old` and `new` are who did it, before and after
+abbrev pub LoadsAndNotes : {T : Type 0} → (List (Bytes × Op) → PieceEnd → T → T → Type 0) → Bool → List Bytes → T → PieceResult → T → Type 0
+LoadsAndNotes Loads replace keys old result new = (end : PieceEnd) × Loads (load_ops replace keys) end old new × IsNoteOf keys result end
 
 -- 2. All pieces.
 
@@ -70,3 +78,7 @@ all_noted results keys (suc n) = all_noted results keys n ++ entries_noted (resu
 
 abbrev pub AreWithin : List Bytes → ℕ → List (Bytes × Refusal) → Type 0
 AreWithin keys n entries = AllByRecursion (λ (e : Bytes × Refusal). is_among (take n keys) e.0 ≡ true) entries
+
+pub record MayAdd {S : Type 0} (keys : List Bytes) (n : ℕ) (failed : IndexMap Bytes Refusal S) : Type 0 where
+  pub within : AreWithin keys n failed.entries
+  pub room : length keys ≤ spare failed + n

@@ -7,17 +7,18 @@
 --     DoesPiece    a piece was loaded with the tool, and the worker noted how it ended
 --     AreLoadedBy  each piece of these keys was loaded once, with this result: there is a share of the pieces for each tool, with which
 --                  they were loaded one after another
---     SucceedsBy   the same, and nothing is noted as a cause
---     FailsBy      the same, with the first cause that is noted, and each key of which a fault or a refusal is noted
+--     EndsByTeam   the same, and this was returned: that it is done, or the first cause that is noted, with each key of which a fault or
+--                  a refusal is noted
 --     IsIdle       a worker has loaded nothing, and has room for so many notes
-use Rattle.std.specs.Prelude.{◌≡◌, ◌==◌, ◌<◌, ◌≤◌, ◌+◌, ◌++◌, ℕ, List, [], ◌∷◌, length, slice_index_or, vec_capacity, None, Some}
+use Rattle.std.specs.Prelude.{◌≡◌, ◌==◌, ◌<◌, ◌≤◌, ◌+◌, ◌++◌, ℕ, List, [], ◌∷◌, length, slice_index_or, vec_capacity, Result}
 use Rattle.std.specs.List.{IsDistinct, concat}
 use Rattle.std.specs.Cmp.Lexicographic.{pointwise}
 use denote.Ref.{Bor, MutBor}
 use denote.Param.Members.{Shared}
 use Rattle.indexmap.specs.IndexSet.{IndexSet, spare}
-use Rattle.jc_types.specs.declared.refusal.Refusal.{Refusal}
 use Rattle.jc_model.specs.Cache.{Bytes}
+use Rattle.jc_bulk.specs.declared.fault.BulkFault.{BulkFault}
+use Rattle.jc_bulk.specs.Bulk.{TellsDone}
 use Rattle.jc_pool.specs.Shares.{LeadsTo, once_below, times}
 use Rattle.jc_loadall.specs.declared.limits.TheConstants.{PIECE_KEYS}
 use Rattle.jc_loadall.specs.declared.notes.Note.{Note}
@@ -68,13 +69,10 @@ module _ {F S T : Type 0} (g : Shared F (Bor (IndexSet Bytes S) × (MutBor T × 
         → LeadsTo (λ before piece after. LoadsBy (piece_at keys piece) before (results piece) after) (slice_index_or old k d) (slice_index_or shares k []) (slice_index_or new k d)
     pub once : (piece : ℕ) → times piece (concat shares) ≡ once_below piece (piece_count (length keys))
 
-  abbrev pub SucceedsBy : List Bytes → List T → List T → Type 0
-  SucceedsBy keys old new = (results : ℕ → PieceResult) × AreLoadedBy keys results old new × (first_noted results (piece_count (length keys)) ≡ None)
-
-  abbrev pub FailsBy : List Bytes → Refusal → List (Bytes × Refusal) → List T → List T → Type 0
-  FailsBy keys cause failed old new =
+  abbrev pub EndsByTeam : List Bytes → List T → Result (Unit {0}) BulkFault → List T → Type 0
+  EndsByTeam keys old result new =
       (results : ℕ → PieceResult) × AreLoadedBy keys results old new
-      × (first_noted results (piece_count (length keys)) ≡ Some cause) × (failed ≡ all_noted results keys (piece_count (length keys)))
+      × TellsDone result (first_noted results (piece_count (length keys))) (all_noted results keys (piece_count (length keys)))
 
 pub record IsIdle {F : Type 0} (load : F) (keys : List Bytes) (pieces : ℕ) (worker : Worker F) : Type 0 where
   pub load_is : worker.load.now ≡ load

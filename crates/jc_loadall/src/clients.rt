@@ -1,12 +1,10 @@
 //! `loadAll` by many clients.
-ghost use Rattle.std.specs.Prelude.{◌≡◌, ◌==◌, ◌≤◌, ◌<◌, ◌⊎◌, [], Err, IfErr, IfOk, Ok, length, map};
+ghost use Rattle.std.specs.Prelude.{◌≡◌, ◌==◌, ◌≤◌, ◌<◌, [], length, map};
 ghost use Rattle.std.specs.List.{IsDistinct};
 ghost use Rattle.std.specs.Cmp.Lexicographic.{pointwise};
-ghost use Rattle.jc_types.specs.declared.limits.TheConstants.{BULK_KEYS_MAX};
-ghost use Rattle.jc_bulk.specs.Bulk.{IsRefusedWhole};
-ghost use Rattle.jc_bulk.specs.Targets.{load_ops};
-ghost use Rattle.jc_loadall.specs.Loading.{ClientLoadsPiece, FailsInPieces, OnFault, PieceEnd, SucceedsInPieces};
-ghost use Rattle.jc_loadall.specs.Notes.{IsNoteOf};
+ghost use Rattle.jc_bulk.specs.Bulk.{OrRefused};
+ghost use Rattle.jc_loadall.specs.Loading.{ClientLoadsPiece, EndsInPieces, OnReturn, completion_of};
+ghost use Rattle.jc_loadall.specs.Notes.{LoadsAndNotes};
 ghost use Rattle.jc_loadall.specs.declared.limits.TheConstants.{PIECE_KEYS};
 
 use crate::fault::LoadAllFault;
@@ -43,24 +41,20 @@ pub fn load_all_by_clients<'a, R: Wait + Threads + Sync, L: CompletionListener>(
     listener: &mut L,
 ) -> Result<(), LoadAllFault>
     ensures caches { map (λ c. c.cache) clients.new ≡ map (λ c. c.cache) clients.old }
-    ensures ok { IfOk result (λ done. (0 < length clients.old) × (length keys.now.keys ≤ BULK_KEYS_MAX)
-        × SucceedsInPieces (ClientLoadsPiece loads_all load_state writes_all deletes_all write_state)
-        keys.now.keys replace clients.old clients.new
-        × L.hears listener.old (Ok done) (L.listener_state listener.new)) }
-    ensures err { IfErr result (λ why. OnFault why ((clients.old ≡ []) × (listener.new ≡ listener.old))
-        (λ fault. (0 < length clients.old)
-        × (((length keys.now.keys ≤ BULK_KEYS_MAX)
-        × FailsInPieces (ClientLoadsPiece loads_all load_state writes_all deletes_all write_state)
-        keys.now.keys replace fault.cause fault.failed.entries clients.old clients.new
-        × (fault.found.entries ≡ []))
-        ⊎ IsRefusedWhole clients.old (length keys.now.keys)
-        fault.cause fault.failed.entries fault.found.entries clients.new)
-        × L.hears listener.old (Err fault.cause) (L.listener_state listener.new))) }
+    ensures ended { OnReturn result ((clients.old ≡ []) × (listener.new ≡ listener.old)) (λ ended. (0 < length clients.old)
+        × OrRefused (EndsInPieces (ClientLoadsPiece loads_all load_state writes_all deletes_all write_state)
+        keys.now.keys replace clients.old) (length keys.now.keys) clients.old ended clients.new
+        × L.hears listener.old (completion_of ended) (L.listener_state listener.new)) }
 {
     if clients.is_empty() {
         return Err(LoadAllFault::NoClient);
     }
-    let ended = load_by_clients(alloc, rt, clients, keys, replace);
+    let load = |piece_keys: &IndexSet<Key>, client: &mut Client<'_>| -> PieceResult
+        requires { (length piece_keys.now.keys ≤ PIECE_KEYS) × IsDistinct (pointwise ◌==◌) piece_keys.now.keys }
+        ensures { LoadsAndNotes (ClientLoadsPiece loads_all load_state writes_all deletes_all write_state)
+            replace piece_keys.now.keys client.entry.now result client.exit.now }
+    { load_client_piece(alloc, rt, client, piece_keys, replace) };
+    let ended = load_or_refuse(alloc, rt, &load, clients, keys);
     tell(listener, &ended);
     match ended {
         Ok(()) => Ok(()),
@@ -70,44 +64,12 @@ pub fn load_all_by_clients<'a, R: Wait + Threads + Sync, L: CompletionListener>(
 
 /// Tells the listener, once, how a call ended.
 fn tell<L: CompletionListener>(listener: &mut L, ended: &Result<(), BulkFault>)
-    ensures ok { IfOk ended.now (λ done. L.hears listener.old (Ok done) (L.listener_state listener.new)) }
-    ensures err { IfErr ended.now (λ fault. L.hears listener.old (Err fault.cause) (L.listener_state listener.new)) }
+    ensures { L.hears listener.old (completion_of ended.now) (L.listener_state listener.new) }
 {
     match ended {
         Ok(()) => listener.on_completion(),
         Err(fault) => listener.on_exception(fault.cause),
     }
-}
-
-/// Loads many keys, as [`load_all_by_clients`] does, and tells nobody.
-///
-/// Condition: there is at least one client.
-fn load_by_clients<'a, R: Wait + Threads + Sync>(
-    alloc: Global,
-    rt: &R,
-    clients: &mut [Client<'a>],
-    keys: &IndexSet<Key>,
-    replace: bool,
-) -> Result<(), BulkFault>
-    requires some { 0 < length clients.old }
-    ensures caches { map (λ c. c.cache) clients.new ≡ map (λ c. c.cache) clients.old }
-    ensures ok { IfOk result (λ done. (length keys.now.keys ≤ BULK_KEYS_MAX)
-        × SucceedsInPieces (ClientLoadsPiece loads_all load_state writes_all deletes_all write_state)
-        keys.now.keys replace clients.old clients.new) }
-    ensures err { IfErr result (λ fault. ((length keys.now.keys ≤ BULK_KEYS_MAX)
-        × FailsInPieces (ClientLoadsPiece loads_all load_state writes_all deletes_all write_state)
-        keys.now.keys replace fault.cause fault.failed.entries clients.old clients.new
-        × (fault.found.entries ≡ []))
-        ⊎ IsRefusedWhole clients.old (length keys.now.keys)
-        fault.cause fault.failed.entries fault.found.entries clients.new) }
-{
-    let load = |piece_keys: &IndexSet<Key>, client: &mut Client<'_>| -> PieceResult
-        requires { (length piece_keys.now.keys ≤ PIECE_KEYS) × IsDistinct (pointwise ◌==◌) piece_keys.now.keys }
-        ensures { (end : PieceEnd) × ClientLoadsPiece loads_all load_state writes_all deletes_all write_state
-            (load_ops replace piece_keys.now.keys) end client.entry.now client.exit.now
-            × IsNoteOf piece_keys.now.keys result end }
-    { load_client_piece(alloc, rt, client, piece_keys, replace) };
-    load_or_refuse(alloc, rt, &load, clients, keys)
 }
 
 /// Loads the keys of a piece, as the client's next call.
@@ -122,10 +84,8 @@ fn load_client_piece<R: Wait>(
 ) -> PieceResult
     requires few { length keys.now.keys ≤ PIECE_KEYS }
     requires distinct { IsDistinct (pointwise ◌==◌) keys.now.keys }
-    ensures loads { (end : PieceEnd)
-        × ClientLoadsPiece loads_all load_state writes_all deletes_all write_state
-        (load_ops replace keys.now.keys) end client.old client.new
-        × IsNoteOf keys.now.keys result end }
+    ensures loads { LoadsAndNotes (ClientLoadsPiece loads_all load_state writes_all deletes_all write_state)
+        replace keys.now.keys client.old result client.new }
 {
     load_piece(alloc, rt, client.cache, &mut client.session, keys, replace)
 }

@@ -1,12 +1,9 @@
 //! What the notes of all workers say together.
-ghost use Rattle.std.specs.Prelude.{◌≡◌, ◌==◌, ◌*◌, ◌+◌, ◌<◌, ◌≤◌, ◌++◌, [], IfNone, IfSome, None, Some, false, length, map, min, option_map};
-ghost use Rattle.std.specs.List.{IsDistinct, cons_option, flat_map};
-ghost use Rattle.std.specs.Option.{option_or};
-ghost use Rattle.std.specs.Map.{keys_of};
+ghost use Rattle.std.specs.Prelude.{◌≡◌, ◌==◌, ◌*◌, ◌+◌, ◌<◌, ◌≤◌, ◌++◌, [], IfNone, IfSome, None, Some, length, map};
+ghost use Rattle.std.specs.List.{IsDistinct, flat_map};
 ghost use Rattle.std.specs.Cmp.Lexicographic.{pointwise};
 ghost use Rattle.indexmap.specs.IndexMap.{spare};
-ghost use Rattle.jc_model.specs.Batches.{is_among};
-ghost use Rattle.jc_loadall.specs.Notes.{AreWithin, all_noted, cause_noted, entries_noted, find_note, first_noted, result_in};
+ghost use Rattle.jc_loadall.specs.Notes.{MayAdd, all_noted, cause_noted, entries_noted, find_note, first_noted, result_in};
 ghost use Rattle.jc_loadall.specs.Pieces.{piece_at, piece_count};
 ghost use Rattle.jc_loadall.specs.declared.limits.TheConstants.{PIECE_KEYS};
 
@@ -14,7 +11,7 @@ use crate::notes::{PieceResult, find_note};
 use crate::pieces::places_of;
 use crate::worker::Worker;
 use indexmap::IndexMap;
-use jc_batch::insert_new;
+use jc_bulk::insert_some;
 use jc_types::{Key, Refusal};
 
 /// Joins what is noted of all pieces: the first cause; and each key that ended in a fault or a refusal, in the order of the
@@ -29,42 +26,37 @@ pub(crate) fn join_notes<F>(
 ) -> Option<Refusal>
     requires pieces { pieces ≡ piece_count (length keys.now) }
     requires distinct { IsDistinct (pointwise ◌==◌) keys.now }
-    requires room { length keys.now ≤ spare failed.old }
-    requires none { failed.old.entries ≡ [] }
+    requires empty { (failed.old.entries ≡ []) × (length keys.now ≤ spare failed.old) }
     ensures cause { result ≡ first_noted (result_in (flat_map (λ w. w.notes.items) workers.now)) pieces }
     ensures failed { failed.new.entries ≡ all_noted (result_in (flat_map (λ w. w.notes.items) workers.now)) keys.now pieces }
 {
     let mut cause = None;
     for piece in 0..pieces {
-        join_piece(workers, keys, piece, &mut cause, failed);
+        cause = cause.or(join_piece(workers, keys, piece, failed));
     }
     cause
 }
 
-/// Joins what is noted of a piece to what is noted of those before it.
+/// Adds each key of a piece that failed to those of the pieces before it. It returns the cause of the piece, if it has one.
 fn join_piece<F>(
     workers: &[Worker<'_, F>],
     keys: &[Key],
     piece: usize,
-    cause: &mut Option<Refusal>,
     failed: &mut IndexMap<Key, Refusal>,
-)
-    requires there { piece < piece_count (length keys.now) }
-    requires distinct { IsDistinct (pointwise ◌==◌) keys.now }
-    requires within { AreWithin keys.now (PIECE_KEYS * piece) failed.old.entries }
-    requires room { length keys.now ≤ spare failed.old + PIECE_KEYS * piece }
-    ensures cause { cause.new ≡ option_or cause.old (cause_noted (result_in (flat_map (λ w. w.notes.items) workers.now) piece)) }
+) -> Option<Refusal>
+    requires piece { (piece < piece_count (length keys.now)) × IsDistinct (pointwise ◌==◌) keys.now }
+    requires may { MayAdd keys.now (PIECE_KEYS * piece) failed.old }
+    ensures cause { result ≡ cause_noted (result_in (flat_map (λ w. w.notes.items) workers.now) piece) }
     ensures entries { failed.new.entries
         ≡ failed.old.entries ++ entries_noted (result_in (flat_map (λ w. w.notes.items) workers.now) piece) (piece_at keys.now piece) }
-    ensures within { AreWithin keys.now (PIECE_KEYS * piece + PIECE_KEYS) failed.new.entries }
-    ensures room { length keys.now ≤ spare failed.new + (PIECE_KEYS * piece + PIECE_KEYS) }
+    ensures may { MayAdd keys.now (PIECE_KEYS * piece + PIECE_KEYS) failed.new }
 {
     match result_of(workers, piece) {
         Some(noted) => {
             insert_piece(noted, keys, piece, failed);
-            *cause = cause.or(noted.cause());
+            noted.cause()
         }
-        None => {}
+        None => None,
     }
 }
 
@@ -90,32 +82,14 @@ fn insert_piece(
     piece: usize,
     failed: &mut IndexMap<Key, Refusal>,
 )
-    requires there { piece < piece_count (length keys.now) }
-    requires distinct { IsDistinct (pointwise ◌==◌) keys.now }
-    requires within { AreWithin keys.now (PIECE_KEYS * piece) failed.old.entries }
-    requires room { length keys.now ≤ spare failed.old + PIECE_KEYS * piece }
+    requires piece { (piece < piece_count (length keys.now)) × IsDistinct (pointwise ◌==◌) keys.now }
+    requires may { MayAdd keys.now (PIECE_KEYS * piece) failed.old }
     ensures entries { failed.new.entries ≡ failed.old.entries ++ entries_noted noted.now (piece_at keys.now piece) }
-    ensures within { AreWithin keys.now (PIECE_KEYS * piece + PIECE_KEYS) failed.new.entries }
-    ensures room { length keys.now ≤ spare failed.new + (PIECE_KEYS * piece + PIECE_KEYS) }
+    ensures may { MayAdd keys.now (PIECE_KEYS * piece + PIECE_KEYS) failed.new }
 {
     let places = places_of(keys.len(), piece);
     for place in places.start..places.end {
         let key = keys[place];
-        insert_if_failed(failed, &key, noted.refusal_at(&key));
-    }
-}
-
-/// Adds a key if it failed. It takes no memory.
-///
-/// Conditions: there is room, and the key isn't there.
-fn insert_if_failed(failed: &mut IndexMap<Key, Refusal>, key: &Key, refusal: Option<Refusal>)
-    requires new { is_among (keys_of failed.old.entries) key.now ≡ false }
-    requires room { 0 < spare failed.old }
-    ensures entries { failed.new.entries ≡ failed.old.entries ++ cons_option (option_map (λ r. (key.now, r)) refusal) [] }
-    ensures room { spare failed.old ≤ spare failed.new + 1 }
-{
-    match refusal {
-        Some(refusal) => insert_new(failed, key, refusal),
-        None => {}
+        insert_some(failed, &key, noted.refusal_at(&key));
     }
 }

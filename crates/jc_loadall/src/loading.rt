@@ -1,13 +1,11 @@
 //! `loadAll` by many sessions.
-ghost use Rattle.std.specs.Prelude.{◌≡◌, ◌==◌, ◌≤◌, ◌<◌, ◌⊎◌, [], All, Err, IfErr, IfOk, Ok, length};
+ghost use Rattle.std.specs.Prelude.{◌≡◌, ◌==◌, ◌≤◌, ◌<◌, All, length};
 ghost use Rattle.std.specs.List.{IsDistinct};
 ghost use Rattle.std.specs.Cmp.Lexicographic.{pointwise};
-ghost use Rattle.jc_types.specs.declared.limits.TheConstants.{BULK_KEYS_MAX};
 ghost use Rattle.jc_cache.specs.Sessions.{MayCall};
-ghost use Rattle.jc_bulk.specs.Bulk.{IsRefusedWhole};
-ghost use Rattle.jc_bulk.specs.Targets.{load_ops};
-ghost use Rattle.jc_loadall.specs.Loading.{FailsInPieces, LoadsPiece, PieceEnd, SucceedsInPieces};
-ghost use Rattle.jc_loadall.specs.Notes.{IsNoteOf};
+ghost use Rattle.jc_bulk.specs.Bulk.{OrRefused};
+ghost use Rattle.jc_loadall.specs.Loading.{EndsInPieces, LoadsPiece, completion_of};
+ghost use Rattle.jc_loadall.specs.Notes.{LoadsAndNotes};
 ghost use Rattle.jc_loadall.specs.declared.limits.TheConstants.{PIECE_KEYS};
 
 use crate::notes::PieceResult;
@@ -49,66 +47,31 @@ pub fn load_all<R: Wait + Threads + Sync>(
     requires some { 0 < length sessions.old }
     requires may { All (λ s. MayCall cache.now s) sessions.old }
     ensures may { All (λ s. MayCall cache.now s) sessions.new }
-    ensures ok { IfOk result (λ done. (length keys.now.keys ≤ BULK_KEYS_MAX)
-        × SucceedsInPieces (LoadsPiece loads_all load_state writes_all deletes_all write_state cache.now)
-        keys.now.keys replace sessions.old sessions.new) }
-    ensures err { IfErr result (λ fault. ((length keys.now.keys ≤ BULK_KEYS_MAX)
-        × FailsInPieces (LoadsPiece loads_all load_state writes_all deletes_all write_state cache.now)
-        keys.now.keys replace fault.cause fault.failed.entries sessions.old sessions.new
-        × (fault.found.entries ≡ []))
-        ⊎ IsRefusedWhole sessions.old (length keys.now.keys)
-        fault.cause fault.failed.entries fault.found.entries sessions.new) }
-    ensures told_ok { IfOk result (λ done. hears listener.old (Ok done) (listener_state listener.new)) }
-    ensures told_err { IfErr result (λ fault. hears listener.old (Err fault.cause) (listener_state listener.new)) }
+    ensures ended { OrRefused (EndsInPieces (LoadsPiece loads_all load_state writes_all deletes_all write_state cache.now)
+        keys.now.keys replace sessions.old) (length keys.now.keys) sessions.old result sessions.new }
+    ensures told { hears listener.old (completion_of result) (listener_state listener.new) }
     ensures listener_type { listener.new.vtable ≡ listener.old.vtable }
 {
-    let ended = load_by_sessions(alloc, rt, cache, sessions, keys, replace);
+    let load = |piece_keys: &IndexSet<Key>, session: &mut Session| -> PieceResult
+        requires { MayCall cache.now session.now × (length piece_keys.now.keys ≤ PIECE_KEYS) × IsDistinct (pointwise ◌==◌) piece_keys.now.keys }
+        ensures { MayCall cache.entry.now session.exit.now
+            × LoadsAndNotes (LoadsPiece loads_all load_state writes_all deletes_all write_state cache.entry.now)
+            replace piece_keys.now.keys session.entry.now result session.exit.now }
+    { load_piece(alloc, rt, cache, session, piece_keys, replace) };
+    let ended = load_or_refuse(alloc, rt, &load, sessions, keys);
     tell(listener, &ended);
     ended
 }
 
 /// Tells the listener, once, how a call ended.
 fn tell(listener: &mut Box<dyn CompletionListener + Send + Drop>, ended: &Result<(), BulkFault>)
-    ensures ok { IfOk ended.now (λ done. hears listener.old (Ok done) (listener_state listener.new)) }
-    ensures err { IfErr ended.now (λ fault. hears listener.old (Err fault.cause) (listener_state listener.new)) }
+    ensures told { hears listener.old (completion_of ended.now) (listener_state listener.new) }
     ensures listener_type { listener.new.vtable ≡ listener.old.vtable }
 {
     match ended {
         Ok(()) => listener.on_completion(),
         Err(fault) => listener.on_exception(fault.cause),
     }
-}
-
-/// Loads many keys, as [`load_all`] does, and tells nobody.
-fn load_by_sessions<R: Wait + Threads + Sync>(
-    alloc: Global,
-    rt: &R,
-    cache: &Cache,
-    sessions: &mut [Session],
-    keys: &IndexSet<Key>,
-    replace: bool,
-) -> Result<(), BulkFault>
-    requires some { 0 < length sessions.old }
-    requires may { All (λ s. MayCall cache.now s) sessions.old }
-    ensures may { All (λ s. MayCall cache.now s) sessions.new }
-    ensures ok { IfOk result (λ done. (length keys.now.keys ≤ BULK_KEYS_MAX)
-        × SucceedsInPieces (LoadsPiece loads_all load_state writes_all deletes_all write_state cache.now)
-        keys.now.keys replace sessions.old sessions.new) }
-    ensures err { IfErr result (λ fault. ((length keys.now.keys ≤ BULK_KEYS_MAX)
-        × FailsInPieces (LoadsPiece loads_all load_state writes_all deletes_all write_state cache.now)
-        keys.now.keys replace fault.cause fault.failed.entries sessions.old sessions.new
-        × (fault.found.entries ≡ []))
-        ⊎ IsRefusedWhole sessions.old (length keys.now.keys)
-        fault.cause fault.failed.entries fault.found.entries sessions.new) }
-{
-    let load = |piece_keys: &IndexSet<Key>, session: &mut Session| -> PieceResult
-        requires { MayCall cache.now session.now × (length piece_keys.now.keys ≤ PIECE_KEYS) × IsDistinct (pointwise ◌==◌) piece_keys.now.keys }
-        ensures { MayCall cache.entry.now session.exit.now
-            × ((end : PieceEnd) × LoadsPiece loads_all load_state writes_all deletes_all write_state
-            cache.entry.now (load_ops replace piece_keys.now.keys) end session.entry.now session.exit.now
-            × IsNoteOf piece_keys.now.keys result end) }
-    { load_piece(alloc, rt, cache, session, piece_keys, replace) };
-    load_or_refuse(alloc, rt, &load, sessions, keys)
 }
 
 /// Loads the keys of a piece, as the session's next call.
@@ -126,10 +89,8 @@ pub(crate) fn load_piece<R: Wait>(
     requires few { length keys.now.keys ≤ PIECE_KEYS }
     requires distinct { IsDistinct (pointwise ◌==◌) keys.now.keys }
     ensures may { MayCall cache.now session.new }
-    ensures loads { (end : PieceEnd)
-        × LoadsPiece loads_all load_state writes_all deletes_all write_state
-        cache.now (load_ops replace keys.now.keys) end session.old session.new
-        × IsNoteOf keys.now.keys result end }
+    ensures loads { LoadsAndNotes (LoadsPiece loads_all load_state writes_all deletes_all write_state cache.now)
+        replace keys.now.keys session.old result session.new }
 {
     PieceResult::of(load_keys(alloc, rt, cache, session, keys, replace))
 }

@@ -1,7 +1,6 @@
 //! What a worker notes of the pieces that it loads.
-ghost use Rattle.std.specs.Prelude.{◌≡◌, IfErr, IfNone, IfOk, IfSome, None, Some};
+ghost use Rattle.std.specs.Prelude.{◌≡◌, IfNone, IfSome, None, Some};
 ghost use Rattle.jc_loadall.specs.Notes.{IsResultOf, cause_noted, find_note, refusal_noted};
-ghost use Rattle.jc_loadall.specs.declared.notes.PieceResult.TheVariants.{Loaded};
 
 use jc_bulk::BulkFault;
 use jc_types::{Key, Refusal};
@@ -27,8 +26,7 @@ pub(crate) struct Note {
 impl PieceResult {
     /// What the call of a piece returned.
     pub(crate) fn of(ended: Result<(), BulkFault>) -> PieceResult
-        ensures ok { IfOk ended (λ done. result ≡ Loaded) }
-        ensures err { IfErr ended (λ fault. IsResultOf fault result) }
+        ensures { IsResultOf ended result }
     {
         match ended {
             Ok(()) => PieceResult::Loaded,

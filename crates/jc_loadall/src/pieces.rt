@@ -35,12 +35,10 @@ pub(crate) fn places_of(keys: usize, piece: usize) -> Range<usize>
 ///
 /// Conditions: there is such a piece, and the keys all differ; the set has room for those of a piece.
 pub(crate) fn fill(set: &mut IndexSet<Key>, keys: &[Key], piece: usize)
-    requires there { piece < piece_count (length keys.now) }
-    requires distinct { IsDistinct (pointwise ◌==◌) keys.now }
+    requires piece { (piece < piece_count (length keys.now)) × IsDistinct (pointwise ◌==◌) keys.now }
     requires room { PIECE_KEYS ≤ length set.old.keys + spare set.old }
     ensures keys { set.new.keys ≡ piece_at keys.now piece }
-    ensures few { length set.new.keys ≤ PIECE_KEYS }
-    ensures differ { IsDistinct (pointwise ◌==◌) set.new.keys }
+    ensures few { (length set.new.keys ≤ PIECE_KEYS) × IsDistinct (pointwise ◌==◌) set.new.keys }
     ensures room { PIECE_KEYS ≤ length set.new.keys + spare set.new }
 {
     set.clear();

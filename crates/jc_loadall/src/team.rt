@@ -1,10 +1,9 @@
 //! Workers side by side.
-ghost use Rattle.std.specs.Prelude.{◌≡◌, ◌<◌, ◌≤◌, ◌+◌, ◌⊎◌, [], All, IfErr, IfNone, IfOk, IfSome, OnErr, length, vec_len};
+ghost use Rattle.std.specs.Prelude.{◌≡◌, ◌<◌, All, IfOk, OnErr, length, vec_len};
 ghost use Rattle.std.specs.List.{IsDistinct};
-ghost use Rattle.jc_types.specs.declared.limits.TheConstants.{BULK_KEYS_MAX};
-ghost use Rattle.jc_bulk.specs.Bulk.{IsRefusedWhole};
+ghost use Rattle.jc_bulk.specs.Bulk.{OrRefused};
 ghost use Rattle.jc_loadall.specs.Pieces.{piece_count};
-ghost use Rattle.jc_loadall.specs.Working.{CanLoadBy, FailsBy, IsIdle, Keeps, SucceedsBy};
+ghost use Rattle.jc_loadall.specs.Working.{CanLoadBy, EndsByTeam, IsIdle, Keeps};
 
 use crate::joining::join_notes;
 use crate::notes::PieceResult;
@@ -31,25 +30,18 @@ pub(crate) fn load_or_refuse<
     requires some { 0 < length tools.old }
     requires able { All (CanLoadBy F.Fn load.now) tools.old }
     requires keeps { Keeps F.Fn load.now }
-    ensures ok { IfOk result (λ done. (length keys.now.keys ≤ BULK_KEYS_MAX)
-        × SucceedsBy F.Fn load.now keys.now.keys tools.old tools.new) }
-    ensures err { IfErr result (λ fault. ((length keys.now.keys ≤ BULK_KEYS_MAX)
-        × FailsBy F.Fn load.now keys.now.keys fault.cause fault.failed.entries tools.old tools.new
-        × (fault.found.entries ≡ []))
-        ⊎ IsRefusedWhole tools.old (length keys.now.keys)
-        fault.cause fault.failed.entries fault.found.entries tools.new) }
+    ensures { OrRefused (EndsByTeam F.Fn load.now keys.now.keys tools.old) (length keys.now.keys) tools.old result tools.new }
 {
     if keys.len() > BULK_KEYS_MAX {
         return Err(BulkFault::of_whole_call(alloc, Refusal::TooManyKeys));
     }
     match load_by_team(alloc, rt, load, tools, keys) {
-        Ok(None) => Ok(()),
-        Ok(Some(fault)) => Err(fault),
+        Ok(ended) => ended,
         Err(AllocError) => Err(BulkFault::of_whole_call(alloc, Refusal::OutOfMemory)),
     }
 }
 
-/// Loads the keys in pieces, by as many workers side by side as there are tools: what failed, if a key did.
+/// Loads the keys in pieces, by as many workers side by side as there are tools, and says how the call ended.
 ///
 /// An `Err` says that an allocation failed. Nothing was loaded, and the tools are as they were.
 ///
@@ -60,27 +52,19 @@ fn load_by_team<T: Send, F: Fn(&IndexSet<Key>, &mut T) -> PieceResult + Sync, R:
     load: &F,
     tools: &mut [T],
     keys: &IndexSet<Key>,
-) -> Result<Option<BulkFault>, AllocError>
+) -> Result<Result<(), BulkFault>, AllocError>
     requires some { 0 < length tools.old }
     requires able { All (CanLoadBy F.Fn load.now) tools.old }
     requires keeps { Keeps F.Fn load.now }
     ensures err { OnErr result (tools.new ≡ tools.old) }
-    ensures none { IfOk result (λ fault. IfNone fault (SucceedsBy F.Fn load.now keys.now.keys tools.old tools.new)) }
-    ensures some { IfOk result (λ fault. IfSome fault (λ f.
-        FailsBy F.Fn load.now keys.now.keys f.cause f.failed.entries tools.old tools.new × (f.found.entries ≡ []))) }
+    ensures ended { IfOk result (λ ended. EndsByTeam F.Fn load.now keys.now.keys tools.old ended tools.new) }
 {
     let pieces = piece_count(keys.len());
     let mut failed = IndexMap::with_capacity(alloc, keys.len())?;
     let mut workers = hire(alloc, load, keys.as_slice(), tools.len(), pieces)?;
     run_pieces_with(alloc, rt, workers.as_mut_slice(), tools, pieces)?;
-    match join_notes(workers.as_slice(), keys.as_slice(), pieces, &mut failed) {
-        Some(cause) => Ok(Some(BulkFault {
-            cause,
-            failed,
-            found: IndexMap::new(alloc),
-        })),
-        None => Ok(None),
-    }
+    let cause = join_notes(workers.as_slice(), keys.as_slice(), pieces, &mut failed);
+    Ok(BulkFault::unless_done(alloc, cause, failed))
 }
 
 /// Creates the workers, who have loaded nothing yet, each with room for its notes. An `Err` says that an allocation failed.

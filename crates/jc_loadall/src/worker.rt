@@ -3,7 +3,7 @@ ghost use Rattle.std.specs.Prelude.{◌≡◌, ◌==◌, ◌+◌, ◌≤◌, ◌
 ghost use Rattle.std.specs.List.{IsDistinct, flat_map};
 ghost use Rattle.std.specs.Cmp.Lexicographic.{pointwise};
 ghost use Rattle.indexmap.specs.IndexSet.{spare};
-ghost use Rattle.jc_loadall.specs.Working.{CanLoad, CanLoadBy, DoesPiece, LoadsBy};
+ghost use Rattle.jc_loadall.specs.Working.{CanLoad, CanLoadBy, DoesPiece, IsIdle, LoadsBy};
 ghost use Rattle.jc_loadall.specs.declared.limits.TheConstants.{PIECE_KEYS};
 
 use crate::limits::PIECE_KEYS;
@@ -35,11 +35,7 @@ impl<'a, F> Worker<'a, F> {
         keys: &'a [Key],
         pieces: usize,
     ) -> Result<Worker<'a, F>, AllocError>
-        ensures load { IfOk result (λ w. w.load.now ≡ load.now) }
-        ensures keys { IfOk result (λ w. w.keys.now ≡ keys.now) }
-        ensures room_for_keys { IfOk result (λ w. PIECE_KEYS ≤ length w.piece_keys.keys + spare w.piece_keys) }
-        ensures room_to_note { IfOk result (λ w. pieces ≤ vec_capacity w.notes) }
-        ensures none { IfOk result (λ w. w.notes.items ≡ []) }
+        ensures { IfOk result (λ w. IsIdle load.now keys.now pieces w) }
     {
         Ok(Worker {
             load,

@@ -1,12 +1,10 @@
-use Rattle.std.proofs.Common.{◌≡◌, ◌-◌, ◌*◌, ◌+◌, ◌≤◌, ◌++◌, length, take, drop}
-use Rattle.indexmap.specs.IndexMap.{spare}
-use Rattle.jc_loadall.specs.Notes.{AreWithin, entries_noted}
+use Rattle.std.proofs.Common.{◌≡◌, ◌-◌, ◌*◌, ◌++◌, take, drop}
+use Rattle.jc_loadall.specs.Notes.{MayAdd, entries_noted}
 use Rattle.jc_loadall.specs.declared.limits.TheConstants.{PIECE_KEYS}
 use Rattle.jc_loadall.proofs.joining.insert_piece.Given as goal
 
 abbrev pub invariant-loop-place : goal.invariant-loop-place
 invariant-loop-place l = record {
   entries : l.failed.entries ≡ l.initial.failed.entries ++ entries_noted l.noted (take (l.place - PIECE_KEYS * l.piece) (drop (PIECE_KEYS * l.piece) l.keys));
-  within : AreWithin l.keys l.place l.failed.entries;
-  room : length l.keys ≤ spare l.failed + l.place;
+  may : MayAdd l.keys l.place l.failed;
 }

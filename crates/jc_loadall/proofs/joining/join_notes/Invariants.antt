@@ -1,7 +1,6 @@
-use Rattle.std.proofs.Common.{◌≡◌, ◌*◌, ◌+◌, ◌≤◌, length}
+use Rattle.std.proofs.Common.{◌≡◌, ◌*◌}
 use Rattle.std.specs.List.{flat_map}
-use Rattle.indexmap.specs.IndexMap.{spare}
-use Rattle.jc_loadall.specs.Notes.{AreWithin, all_noted, first_noted, result_in}
+use Rattle.jc_loadall.specs.Notes.{MayAdd, all_noted, first_noted, result_in}
 use Rattle.jc_loadall.specs.declared.limits.TheConstants.{PIECE_KEYS}
 use Rattle.jc_loadall.proofs.joining.join_notes.Given as goal
 
@@ -9,6 +8,5 @@ abbrev pub invariant-loop-piece : goal.invariant-loop-piece
 invariant-loop-piece g l = record {
   cause : l.cause ≡ first_noted (result_in (flat_map (λ w. w.notes.items) l.workers)) l.piece;
   failed : l.failed.entries ≡ all_noted (result_in (flat_map (λ w. w.notes.items) l.workers)) l.keys l.piece;
-  within : AreWithin l.keys (PIECE_KEYS * l.piece) l.failed.entries;
-  room : length l.keys ≤ spare l.failed + PIECE_KEYS * l.piece;
+  may : MayAdd l.keys (PIECE_KEYS * l.piece) l.failed;
 }

@@ -11,7 +11,7 @@ use Rattle.jc_loadall.proofs.pieces.fill.Goals as goal
 pub insert_new-requires-clause-new : goal.insert_new-requires-clause-new
 insert_new-requires-clause-new c =
     ap (λ ks. is_among ks c.index-keys-place.result) c.loop-place.invariant.keys
-    ∙ fresh_key c.args.keys.now (PIECE_KEYS * c.args.piece) c.loop-place.place c.index-keys-place.result (omega arith) (omega arith) c.index-keys-place.is c.requires.distinct
+    ∙ fresh_key c.args.keys.now (PIECE_KEYS * c.args.piece) c.loop-place.place c.index-keys-place.result (omega arith) (omega arith) c.index-keys-place.is c.requires.piece.1
 
 pub loop-place-preserved : goal.loop-place-preserved
 loop-place-preserved c =
@@ -27,7 +27,7 @@ pub returns-clause-keys : goal.returns-clause-keys
 returns-clause-keys c = filled c
 
 pub returns-clause-few : goal.returns-clause-few
-returns-clause-few c = let few = few_keys c.args.keys.now c.args.piece in let same = ap length (filled c) in omega arith
-
-pub returns-clause-differ : goal.returns-clause-differ
-returns-clause-differ c = subst (IsDistinct (pointwise ◌==◌)) (sym (filled c)) (distinct_piece c.args.keys.now c.args.piece c.requires.distinct)
+returns-clause-few c =
+    let few = few_keys c.args.keys.now c.args.piece in
+    let same = ap length (filled c) in
+    (omega arith, subst (IsDistinct (pointwise ◌==◌)) (sym (filled c)) (distinct_piece c.args.keys.now c.args.piece c.requires.piece.1))

@@ -11,11 +11,5 @@ hiring-preserved g c =
     record {
       few = few;
       room = room;
-      idle = subst (All (IsIdle c.args.load.now c.args.keys.now c.args.pieces)) (sym pushed) (All-push (IsIdle c.args.load.now c.args.keys.now c.args.pieces) c.hiring.team.items c.in_ok-new.field-0 c.hiring.invariant.idle record {
-        load_is = c.in_ok-new.ensures.load;
-        keys_are = c.in_ok-new.ensures.keys;
-        room_for_keys = c.in_ok-new.ensures.room_for_keys;
-        room_to_note = c.in_ok-new.ensures.room_to_note;
-        none = c.in_ok-new.ensures.none;
-      });
+      idle = subst (All (IsIdle c.args.load.now c.args.keys.now c.args.pieces)) (sym pushed) (All-push (IsIdle c.args.load.now c.args.keys.now c.args.pieces) c.hiring.team.items c.in_ok-new.field-0 c.hiring.invariant.idle c.in_ok-new.ensures);
     }

@@ -1,11 +1,14 @@
-use Rattle.std.proofs.Common.{◌≡◌, ◌==◌, List, All, length, sym, ap, subst, ◌∙◌, arith, rules}
+use Rattle.std.proofs.Common.{◌≡◌, ◌==◌, List, Option, All, length, sym, ap, subst, ◌∙◌, arith, rules}
 use Rattle.std.specs.List.{IsDistinct, flat_map}
 use Rattle.std.specs.Cmp.Lexicographic.{pointwise}
+use Rattle.jc_types.specs.declared.refusal.Refusal.{Refusal}
 use Rattle.jc_model.specs.Cache.{Bytes}
+use Rattle.jc_bulk.specs.Bulk.{TellsDone}
 use Rattle.jc_loadall.specs.declared.worker.Worker.{Worker}
 use Rattle.jc_loadall.specs.Notes.{all_noted, first_noted, result_in}
 use Rattle.jc_loadall.specs.Pieces.{piece_count}
 use Rattle.jc_loadall.specs.Working.{AreLoadedBy, IsIdle}
+use Rattle.jc_loadall.proofs.JoinedNotes.{none_told}
 use Rattle.jc_loadall.proofs.TeamWork.{able_all, front, team_loaded}
 use Rattle.jc_loadall.proofs.team.load_by_team.Goals as goal
 
@@ -17,40 +20,26 @@ run_pieces_with-requires-clause-able g c κs within =
     (subst (IsDistinct (pointwise ◌==◌)) (sym c.as_slice.ensures.keys) c.as_slice.ensures.unique)
     (c.piece_count-pieces.ensures ∙ ap piece_count (c.len.ensures.len ∙ sym (ap length c.as_slice.ensures.keys)))
 
-pub returns-in-Some-clause-some : goal.returns-in-Some-clause-some
-returns-in-Some-clause-some g c =
-    let pieces = c.piece_count-pieces.ensures ∙ ap piece_count c.len.ensures.len in
-    let many = c.run_pieces_with.ensures.len.0 in
-    let room = c.as_mut_slice.ensures.len in
-    let count : c.in_ok-workers.workers.len ≡ length c.run_pieces_with.new.workers = omega arith in
-    let joined : c.run_pieces_with.new.workers ≡ c.as_slice-2.result.now = sym (c.as_slice-2.ensures.value ∙ front c.run_pieces_with.new.workers _ c.in_ok-workers.workers.len count) in
-    let loaded = team_loaded g.F.Fn c.args.load.now c.as_slice.result.now _ _ c.piece_count-pieces.result c.as_mut_slice.result.now c.run_pieces_with.new.workers c.args.tools.now c.run_pieces_with.new.tools
-    (search rules) c.run_pieces_with.ensures.len.0 c.run_pieces_with.ensures.len.1
-    (subst (All (IsIdle c.args.load.now c.as_slice.result.now c.piece_count-pieces.result)) (sym c.as_mut_slice.ensures.value) c.in_ok-workers.ensures.idle)
-    (c.piece_count-pieces.ensures ∙ ap piece_count (c.len.ensures.len ∙ sym (ap length c.as_slice.ensures.keys)))
-    c.in_ok-run_pieces_with.ensures.done in (
-      (
-        result_in (flat_map (λ w. w.notes.items) c.as_slice-2.result.now),
-        subst (λ (z : List Bytes × List (Worker g.row.F.Denot)). AreLoadedBy g.F.Fn c.args.load.now z.0 (result_in (flat_map (λ w. w.notes.items) z.1)) c.args.tools.now c.run_pieces_with.new.tools) (λ i. (c.as_slice.ensures.keys i, joined i)) loaded,
-        sym (c.in-Some.ensures.cause ∙ ap (first_noted (result_in (flat_map (λ w. w.notes.items) c.as_slice-2.result.now))) pieces),
-        c.join_notes.ensures.failed ∙ (λ i. all_noted (result_in (flat_map (λ w. w.notes.items) c.as_slice-2.result.now)) (c.as_slice-3.ensures.keys i) (pieces i)),
-      ),
-      search rules,
-    )
+pub unless_done-requires : goal.unless_done-requires
+unless_done-requires g c =
+    none_told c.as_slice-3.result.now (result_in (flat_map (λ w. w.notes.items) c.as_slice-2.result.now)) c.piece_count-pieces.result c.join_notes-cause.result c.join_notes-cause.new.failed.entries c.join_notes-cause.ensures.cause c.join_notes-cause.ensures.failed
 
-pub returns-in-None-clause-none : goal.returns-in-None-clause-none
-returns-in-None-clause-none g c =
+pub returns-clause-ended : goal.returns-clause-ended
+returns-clause-ended g c =
     let pieces = c.piece_count-pieces.ensures ∙ ap piece_count c.len.ensures.len in
     let many = c.run_pieces_with.ensures.len.0 in
     let room = c.as_mut_slice.ensures.len in
     let count : c.in_ok-workers.workers.len ≡ length c.run_pieces_with.new.workers = omega arith in
     let joined : c.run_pieces_with.new.workers ≡ c.as_slice-2.result.now = sym (c.as_slice-2.ensures.value ∙ front c.run_pieces_with.new.workers _ c.in_ok-workers.workers.len count) in
+    let results = result_in (flat_map (λ w. w.notes.items) c.as_slice-2.result.now) in
     let loaded = team_loaded g.F.Fn c.args.load.now c.as_slice.result.now _ _ c.piece_count-pieces.result c.as_mut_slice.result.now c.run_pieces_with.new.workers c.args.tools.now c.run_pieces_with.new.tools
     (search rules) c.run_pieces_with.ensures.len.0 c.run_pieces_with.ensures.len.1
     (subst (All (IsIdle c.args.load.now c.as_slice.result.now c.piece_count-pieces.result)) (sym c.as_mut_slice.ensures.value) c.in_ok-workers.ensures.idle)
     (c.piece_count-pieces.ensures ∙ ap piece_count (c.len.ensures.len ∙ sym (ap length c.as_slice.ensures.keys)))
-    c.in_ok-run_pieces_with.ensures.done in (
-      result_in (flat_map (λ w. w.notes.items) c.as_slice-2.result.now),
+    c.in_ok-run_pieces_with.ensures.done in
+    let cause = c.join_notes-cause.ensures.cause ∙ ap (first_noted results) pieces in
+    let failed = c.join_notes-cause.ensures.failed ∙ (λ i. all_noted results (c.as_slice-3.ensures.keys i) (pieces i)) in (
+      results,
       subst (λ (z : List Bytes × List (Worker g.row.F.Denot)). AreLoadedBy g.F.Fn c.args.load.now z.0 (result_in (flat_map (λ w. w.notes.items) z.1)) c.args.tools.now c.run_pieces_with.new.tools) (λ i. (c.as_slice.ensures.keys i, joined i)) loaded,
-      sym (c.in-None.ensures.cause ∙ ap (first_noted (result_in (flat_map (λ w. w.notes.items) c.as_slice-2.result.now))) pieces),
+      subst (λ (z : Option Refusal × List (Bytes × Refusal)). TellsDone c.unless_done.result z.0 z.1) (λ i. (cause i, failed i)) c.unless_done.ensures,
     )

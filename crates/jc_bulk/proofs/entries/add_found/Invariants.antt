@@ -2,7 +2,7 @@ use Rattle.std.proofs.Common.{◌≡◌, ◌≤◌, ◌+◌, length, take}
 use Rattle.indexmap.specs.IndexMap.{spare}
 use Rattle.jc_rounds.specs.Ends.{found_entries, key_ends}
 use Rattle.jc_rounds.specs.Targets.{ops_of}
-use Rattle.jc_bulk.proofs.getting.add_found.Given as goal
+use Rattle.jc_bulk.proofs.entries.add_found.Given as goal
 
 -- the keys before this place were added
 abbrev pub invariant-loop-place : goal.invariant-loop-place

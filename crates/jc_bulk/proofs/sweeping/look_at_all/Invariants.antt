@@ -5,7 +5,7 @@ use Rattle.jc_types.specs.Stripes.{stripe_of}
 use Rattle.jc_cache.specs.Sessions.{MayCall}
 use Rattle.jc_bulk.specs.Bulk.{HasLooked, OnlyLooks}
 use Rattle.jc_rounds.specs.Seats.{view_at}
-use Rattle.jc_bulk.proofs.sweeping.look_at_each.Given as goal
+use Rattle.jc_bulk.proofs.sweeping.look_at_all.Given as goal
 
 -- the stripes before this one were looked at, and no other ones; their keys differ, and belong to them
 abbrev pub invariant-loop-number : goal.invariant-loop-number
@@ -16,5 +16,5 @@ invariant-loop-number g l =
     × IsDistinct (pointwise ◌==◌) l.keys.items
     × (list_all (λ k. nat_lt (stripe_of k l.fn.cache.config.stripes) l.number) l.keys.items ≡ true)
     × (vec_len l.keys ≤ l.number * l.fn.cache.config.capacity)
-    × (vec_capacity l.keys ≡ vec_capacity l.fn.keys)
+    × (l.fn.cache.config.stripes * l.fn.cache.config.capacity ≤ vec_capacity l.keys)
     × ((i : ℕ) → l.number ≤ i → view_at l.session.seats.items i ≡ view_at l.fn.session.seats.items i)
