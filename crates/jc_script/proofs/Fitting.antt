@@ -2,7 +2,7 @@
 use Rattle.std.proofs.Common.{◌≡◌, ◌==◌, ◌∙◌, ◌&&◌, ◌||◌, ◌++◌, ◌+◌, ◌<◌, ℕ, Bool, true, false, not, List, [], ◌∷◌, Option, None, Some, find, is_none, is_some, length, filter, get_or, map, option_to_list, take, cond, refl, sym, ap, subst, append-nil, arith, zero, suc, inl, inr}
 use Rattle.std.specs.List.{AllByRecursion, IsDistinct, list_all, list_any}
 use Rattle.std.specs.Cmp.Lexicographic.{pointwise}
-use Rattle.std.proofs.lemmas.Bool.{and_from, and_parts, and_right}
+use Rattle.std.proofs.lemmas.Bool.{and_from, and_parts}
 use Rattle.std.proofs.lemmas.Cmp.{nat_eq_equiv, nat_list_eq_equiv}
 use Rattle.std.proofs.lemmas.List.{map-append, take_more}
 use Rattle.std.proofs.lemmas.List.Elements.{filter-append}
@@ -20,7 +20,7 @@ use Rattle.jc_world.specs.Fits.{fits, is_asked, is_free, may_change, may_report,
 use Rattle.jc_world.specs.Events.{AllFit, is_fit}
 use Rattle.jc_world.specs.declared.event.Shown.{Shown}
 use Rattle.jc_types.specs.declared.config.Config.{Config}
-use Rattle.jc_world.specs.Together.{at_call, key_at, looks, AreAt, is_start, is_change, FitTogether}
+use Rattle.jc_world.specs.Together.{at_call, key_at, looks, FitTogether}
 use Rattle.jc_script.specs.declared.line.Act.{Act}
 use Rattle.jc_script.specs.declared.line.Act.TheVariants.{Read, ReadFail, Say, Apply, ApplyFail, ApplyLie, End, Drop, More, Take, Process}
 use Rattle.jc_script.specs.Words.{said_after}
@@ -55,22 +55,9 @@ kept_differ p (key ∷ keys) d =
           | false ↦ kept ks all.1
         ]
 
--- the same test, before and after
-all_mapped : {X Y : Type 0} (f : X → Y) (q : Y → Bool) (xs : List X) → list_all q (map f xs) ≡ list_all (λ x. q (f x)) xs
-all_mapped f q [] = refl
-all_mapped f q (x ∷ xs) = ap (λ b. q (f x) && b) (all_mapped f q xs)
-
--- an event that an act stands for at a key is at that key of the call
+-- a call's own number
 own : (call : ℕ) (key : Bytes) → at_call call call key ≡ Some key
 own call key = ap (λ b. cond b (Some key) None) (nat_eq_equiv.refl call)
-
-act_key : (call : ℕ) (act : Act) (key : Bytes) → key_at call (event_at call act key) ≡ Some key
-act_key call Read key = own call key
-act_key call other key = own call key
-
-are_at : (call : ℕ) (act : Act) (keys : List Bytes) → AreAt call keys (map (event_at call act) keys)
-are_at call act [] = tt
-are_at call act (key ∷ keys) = (act_key call act key, are_at call act keys)
 
 -- what a loader says by pairs is an answer
 said_given : (pairs : List (Bytes × Bytes)) (key : Bytes) (answer : LoadAnswer) → is_load_given answer ≡ true → is_load_given (said_after answer pairs key) ≡ true
@@ -79,21 +66,14 @@ said_given (pair ∷ pairs) key answer given =
     said_given pairs key (cond (pointwise ◌==◌ pair.0 key) (Found pair.1) answer)
     (elim (pointwise ◌==◌ pair.0 key) as (λ b. is_load_given (cond b (Found pair.1) answer) ≡ true) [ true ↦ refl | false ↦ given ])
 
--- an act by which no writer changes the store
+-- an act whose events are at the call's keys, and no changes of the store
 abbrev IsQuiet : ℕ → Act → Type 0
-IsQuiet call act = (key : Bytes) → is_change (event_at call act key) ≡ false
-
-none_change : (call : ℕ) (act : Act) → IsQuiet call act → (keys : List Bytes) → list_any is_change (map (event_at call act) keys) ≡ false
-none_change call act quiet [] = refl
-none_change call act quiet (key ∷ keys) = ap (λ b. b || list_any is_change (map (event_at call act) keys)) (quiet key) ∙ none_change call act quiet keys
+IsQuiet call act = (key : Bytes) → key_at call (event_at call act key) ≡ Some key
 
 -- the events at the keys of such an act
 keys_fit : (w : WorldState) → FitTogether w → (call : ℕ) (act : Act) → IsQuiet call act → (keys : List Bytes) → IsDistinct (pointwise ◌==◌) keys → list_all (fits w) (key_events w call act keys) ≡ true
     → AllFit w (key_events w call act keys)
-keys_fit w together call act quiet keys differ fit =
-    together.events call (filter (is_meant w call act) keys) (key_events w call act keys) (are_at call act (filter (is_meant w call act) keys))
-    (kept_differ (is_meant w call act) keys differ)
-    (and_right (list_any is_start (key_events w call act keys)) (list_any is_change (key_events w call act keys)) (none_change call act quiet (filter (is_meant w call act) keys))) fit
+keys_fit w together call act quiet keys differ fit = together.events call (event_at call act) (filter (is_meant w call act) keys) quiet (kept_differ (is_meant w call act) keys differ) fit
 
 -- and nothing after them
 alone_fit : (w : WorldState) → FitTogether w → (call : ℕ) (act : Act) → IsQuiet call act → (keys : List Bytes) → IsDistinct (pointwise ◌==◌) keys → list_all (fits w) (key_events w call act keys) ≡ true
@@ -109,7 +89,7 @@ writer_fit : (w : WorldState) → FitTogether w → (call : ℕ) (p : Bytes → 
     → keys ≡ open_keys u → IsDistinct (pointwise ◌==◌) keys → list_any (is_asked w call) keys ≡ true → AllFit w (map (event.Change call) (filter p keys) ++ event.Report call left fault ∷ [])
 writer_fit w together call p u keys left fault waits here is differ asked =
     together.report call (filter p keys) left fault (kept_differ p keys differ)
-    (sym (all_mapped (event.Change call) (fits w) (filter p keys)) ∙ all_of_kept p (event.Change call) (fits w) waits keys)
+    (all_of_kept p (event.Change call) (fits w) waits keys)
     (report_fits w call u left fault here (ap (list_any (is_asked w call)) (sym is) ∙ asked))
 
 -- a weaker test
@@ -193,7 +173,7 @@ looks-more call from (suc count) =
 pub starts_fit : (w : WorldState) → FitTogether w → (call : ℕ) (u : CallState) → open_call w call ≡ Some u → ((key : Bytes) → is_free w call key ≡ true) → IsDistinct (pointwise ◌==◌) (open_keys u)
     → list_all (λ key. is_some (op_at u key)) (open_keys u) ≡ true → AllFit w (key_events w call More (open_keys u))
 starts_fit w together call u here free differ opens =
-    keys_fit w together call More (λ key. refl) (open_keys u) differ (all_kept (open_keys u) opens)
+    keys_fit w together call More (own call) (open_keys u) differ (all_kept (open_keys u) opens)
   where
     all_kept : (keys : List Bytes) → list_all (λ key. is_some (op_at u key)) keys ≡ true → list_all (fits w) (key_events w call More keys) ≡ true
     all_kept [] h = refl
@@ -202,7 +182,7 @@ starts_fit w together call u here free differ opens =
         and_from _ _ (ap (may_start w call key) here ∙ and_from _ _ parts.0 (free key)) (all_kept keys parts.1)
 
 -- one key, or none, differs from no other
-one_differs : (o : Option Bytes) → IsDistinct (pointwise ◌==◌) (option_to_list o)
+pub one_differs : (o : Option Bytes) → IsDistinct (pointwise ◌==◌) (option_to_list o)
 unfolding IsDistinct
 one_differs None = tt
 one_differs (Some key) = (tt, tt)
@@ -213,27 +193,27 @@ first_differs p keys = one_differs (find p keys)
 -- the events of an act fit if it is the time for it
 pub act_fits : (w : WorldState) → FitTogether w → (call : ℕ) (act : Act) (u : CallState) (keys : List Bytes) → open_call w call ≡ Some u → keys ≡ keys_of_act w call act u → IsDistinct (pointwise ◌==◌) keys
     → is_time w call act keys (key_events w call act keys) ≡ true → AllFit w (events_of_act w call act keys)
-act_fits w together call Read u keys here is differ time = alone_fit w together call Read (λ key. refl) keys differ (all_of_kept _ (event_at call Read) (fits w) (λ key h. h) keys)
-act_fits w together call (ReadFail code) u keys here is differ time = alone_fit w together call (ReadFail code) (λ key. refl) keys differ (all_of_kept _ (event_at call (ReadFail code)) (fits w) (λ key h. h) keys)
-act_fits w together call (Say pairs) u keys here is differ time = alone_fit w together call (Say pairs) (λ key. refl) keys differ (all_of_kept _ (event_at call (Say pairs)) (fits w) (λ key h. and_from _ _ (said_given pairs key Nothing refl) h) keys)
+act_fits w together call Read u keys here is differ time = alone_fit w together call Read (own call) keys differ (all_of_kept _ (event_at call Read) (fits w) (λ key h. h) keys)
+act_fits w together call (ReadFail code) u keys here is differ time = alone_fit w together call (ReadFail code) (own call) keys differ (all_of_kept _ (event_at call (ReadFail code)) (fits w) (λ key h. h) keys)
+act_fits w together call (Say pairs) u keys here is differ time = alone_fit w together call (Say pairs) (own call) keys differ (all_of_kept _ (event_at call (Say pairs)) (fits w) (λ key h. and_from _ _ (said_given pairs key Nothing refl) h) keys)
 act_fits w together call (Apply left) u keys here is differ time =
     writer_fit w together call (is_meant w call (Apply left)) u keys (left_keys w call (Apply left) keys) None (λ key h. (and_parts (is_asked w call key) (not (leaves (Apply left) key)) h).0) here is differ time
 act_fits w together call (ApplyFail code left) u keys here is differ time =
     writer_fit w together call (is_meant w call (ApplyFail code left)) u keys (left_keys w call (ApplyFail code left) keys) (Some code) (λ key h. (and_parts (is_asked w call key) (not (leaves (ApplyFail code left) key)) h).0) here is differ time
 act_fits w together call (ApplyLie code) u keys here is differ time = writer_fit w together call (is_meant w call (ApplyLie code)) u keys (left_keys w call (ApplyLie code) keys) (Some code) (λ key h. h) here is differ time
-act_fits w together call End u keys here is differ time = alone_fit w together call End (λ key. refl) keys differ (and_parts _ _ time).1
+act_fits w together call End u keys here is differ time = alone_fit w together call End (own call) keys differ (and_parts _ _ time).1
 act_fits w together call Drop u keys here is differ time =
     let parts = and_parts (list_all (fits w) (key_events w call Drop keys)) (not (list_any (is_joined w call) keys)) time in
     together.leave call u (filter (is_started w call) keys) here (kept_differ (is_started w call) keys differ)
-    (sym (all_mapped (event.Withdraw call) (fits w) (filter (is_started w call) keys)) ∙ parts.0)
+    parts.0
     (ap (list_all (λ key. is_among (filter (is_started w call) keys) key || is_free w call key)) (sym is) ∙ reserved_or_free w call keys (unset (list_any (is_joined w call) keys) parts.1))
   where
     unset : (b : Bool) → not b ≡ true → b ≡ false
     unset true e = cc
     unset false e = refl
-act_fits w together call More u keys here is differ time = alone_fit w together call More (λ key. refl) keys differ (and_parts _ _ time).1
-act_fits w together call Take u keys here is differ time = alone_fit w together call Take (λ key. refl) keys differ (all_of_kept _ (event_at call Take) (fits w) (λ key h. h) keys)
-act_fits w together call (Process source calls fail) u keys here is differ time = alone_fit w together call (Process source calls fail) (λ key. refl) keys differ (all_of_kept _ (event_at call (Process source calls fail)) (fits w) (λ key h. h) keys)
+act_fits w together call More u keys here is differ time = alone_fit w together call More (own call) keys differ (and_parts _ _ time).1
+act_fits w together call Take u keys here is differ time = alone_fit w together call Take (own call) keys differ (all_of_kept _ (event_at call Take) (fits w) (λ key h. h) keys)
+act_fits w together call (Process source calls fail) u keys here is differ time = alone_fit w together call (Process source calls fail) (own call) keys differ (all_of_kept _ (event_at call (Process source calls fail)) (fits w) (λ key h. h) keys)
 
 -- ---- a reopening
 

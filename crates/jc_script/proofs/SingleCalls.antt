@@ -1,8 +1,9 @@
 -- A call of one key that begins: its begin and its first phase are played one after the other.
 --     start_fits       once the call has begun, its first phase fits
 --     begins_single    the call has begun, and made its first phase
-use Rattle.std.proofs.Common.{◌≡◌, ◌++◌, ℕ, List, [], ◌∷◌, true, Some, refl, sym, ap, subst}
-use Rattle.std.proofs.lemmas.Bool.{and_parts}
+use Rattle.std.proofs.Common.{◌≡◌, ◌&&◌, ◌++◌, ℕ, List, [], ◌∷◌, true, cond, is_some, Some, None, refl, sym, ap, subst}
+use Rattle.std.proofs.lemmas.Cmp.{nat_list_eq_equiv}
+use Rattle.std.specs.Option.{option_flatten}
 use Rattle.jc_model.specs.declared.event.Op.{Op}
 use Rattle.jc_model.specs.Cache.{Bytes}
 use Rattle.jc_world.specs.declared.command.Command.TheVariants.{Single}
@@ -12,24 +13,18 @@ use Rattle.jc_world.specs.declared.event.WorldEvent.TheVariants as event
 use Rattle.jc_world.specs.World.{WorldState, open_call}
 use Rattle.jc_world.specs.Fits.{fits}
 use Rattle.jc_world.specs.Events.{AllFit, Run}
-use Rattle.jc_world.specs.Together.{BeginFits}
+use Rattle.jc_world.specs.Calls.{new_call}
+use Rattle.jc_world.specs.Together.{BeginFits, FitTogether}
 use Rattle.jc_script.specs.LineEvents.{start_events}
 use Rattle.jc_script.specs.Transcript.{PlaysEvents, PlaysBegin}
+use Rattle.jc_script.proofs.Fitting.{one_differs, starts_fit}
 
-pub start_fits : (w begun : WorldState) (call session : ℕ) (op : Op) (key : Bytes) (opening : List Shown) → BeginFits w → fits w (event.Call call session (Single op key)) ≡ true
+pub start_fits : (w begun : WorldState) (call session : ℕ) (op : Op) (key : Bytes) (opening : List Shown) → BeginFits w → FitTogether begun → fits w (event.Call call session (Single op key)) ≡ true
     → Run w (event.Call call session (Single op key) ∷ []) opening begun
     → AllFit begun (event.Start call key ∷ [])
-start_fits w begun call session op key opening lets fit = by opening
-  where
-    next : WorldEvent
-    next = event.Start call key
-
-    by : (opening : List Shown) → Run w (event.Call call session (Single op key) ∷ []) opening begun → AllFit begun (next ∷ [])
-    by [] opens seen after run = absurd opens
-    by (s ∷ []) opens seen after run =
-        let at : Run opens.0 (next ∷ []) seen after = subst (λ v. Run v (next ∷ []) seen after) opens.2 run in
-        (and_parts _ _ (lets.single call session op key fit (s ∷ seen) after (opens.0, opens.1, at))).1
-    by (s ∷ t ∷ ss) opens seen after run = absurd opens.2
+start_fits w begun call session op key opening lets together fit opens =
+    starts_fit begun together call (new_call call session (Single op key)) (lets.underway call session op key opening begun fit opens) (λ k. lets.free call session (Single op key) opening begun k fit opens)
+    (one_differs (Some key)) (ap (λ b. is_some (option_flatten (cond b (Some (Some op)) None)) && true) (nat_list_eq_equiv.refl key))
 
 pub begins_single : (w begun after : WorldState) (call session : ℕ) (op : Op) (key : Bytes) (opening started : List ℕ) → BeginFits w → fits w (event.Call call session (Single op key)) ≡ true
     → PlaysEvents w (event.Call call session (Single op key) ∷ []) opening begun

@@ -1,5 +1,5 @@
 -- Stripes that are alike make the same phases, and are alike behind them.
-use Rattle.std.proofs.Common.{◌≡◌, ◌≤◌, ℕ, zero, suc, ◌+◌, List, [], ◌∷◌, ◌++◌, length, filter, find, Bool, true, false, cond, not, ◌&&◌, Option, None, Some, is_some, option_map, slice_get, nat_le, nat_lt, if◌then◌else◌, sym, refl, ap, ◌∙◌, subst, true≢false, arith}
+use Rattle.std.proofs.Common.{◌≡◌, ◌≤◌, ℕ, zero, suc, ◌+◌, List, [], ◌∷◌, ◌++◌, length, filter, find, Bool, true, false, not, ◌&&◌, Option, None, Some, is_some, option_map, slice_get, nat_le, nat_lt, if◌then◌else◌, sym, refl, ap, ◌∙◌, subst, true≢false, arith}
 use Rattle.std.proofs.Common.{length-append}
 use Rattle.jc_types.specs.declared.caller.Caller.{Caller}
 use Rattle.jc_types.specs.declared.refusal.Refusal.{Refusal}
@@ -41,15 +41,6 @@ pub agree-refl : (js : List Joiner) (h : List Event) → Agree js h h
 agree-refl [] h = tt
 agree-refl (j ∷ js) h = (agree_at-refl j.state h, agree-refl js h)
 
-agree_at-sym : (s : JoinState) (h k : List Event) → AgreeAt s h k → AgreeAt s k h
-agree_at-sym Waiting h k a = tt
-agree_at-sym (Answered place shared) h k a = sym a
-agree_at-sym Again h k a = tt
-
-agree-sym : (js : List Joiner) (h k : List Event) → Agree js h k → Agree js k h
-agree-sym [] h k a = tt
-agree-sym (j ∷ js) h k a = (agree_at-sym j.state h k a.0, agree-sym js h k a.1)
-
 -- behind the same events
 get-more : (h k e : List Event) (place : ℕ) → length k ≡ length h → slice_get k place ≡ slice_get h place → slice_get (k ++ e) place ≡ slice_get (h ++ e) place
 get-more [] [] e place n is = refl
@@ -76,12 +67,6 @@ get-past : (h : List Event) (place : ℕ) → length h ≤ place → slice_get h
 get-past [] place low = refl
 get-past (x ∷ h) zero low = absurd (omega (arith, low))
 get-past (x ∷ h) (suc place) low = get-past h place (omega (arith, low))
-
--- answers at places that are still to come
-agree-resolve_if : (b : Bool) (j : Joiner) (step place : ℕ) (h k : List Event) → length h ≤ place → length k ≡ length h → AgreeAt j.state h k
-    → AgreeAt (cond b (record j { state = Answered place step }) j).state h k
-agree-resolve_if true j step place h k low n a = get-past k place (omega (arith, low, n)) ∙ sym (get-past h place low)
-agree-resolve_if false j step place h k low n a = a
 
 agree-resolve : (load step place : ℕ) (js : List Joiner) (h k : List Event) → length h ≤ place → length k ≡ length h → Agree js h k → Agree (answered_from load step place js) h k
 agree-resolve load step place [] h k low n a = tt
@@ -134,34 +119,10 @@ by_use-more entries (x ∷ h) e = by_use-more (order_after_event entries x) h e
 pub like-refl : (a : State) → IsLike a a
 like-refl a = record { is = refl; order = refl; count = refl; answers = agree-refl a.joiners a.history }
 
-pub like-sym : (a b : State) → IsLike a b → IsLike b a
-like-sym a b h =
-    let P : State → Type 0 = λ x. (a ≡ record x { opening = a.opening; history = a.history }) × Agree x.joiners b.history a.history in
-    let back : P b = subst P (sym h.is) (refl, agree-sym a.joiners a.history b.history h.answers) in
-    record { is = back.0; order = sym h.order; count = sym h.count; answers = back.1 }
-
-agree_at-trans : (s : JoinState) (h k l : List Event) → AgreeAt s h k → AgreeAt s k l → AgreeAt s h l
-agree_at-trans Waiting h k l a b = tt
-agree_at-trans (Answered place shared) h k l a b = b ∙ a
-agree_at-trans Again h k l a b = tt
-
-agree-trans : (js : List Joiner) (h k l : List Event) → Agree js h k → Agree js k l → Agree js h l
-agree-trans [] h k l a b = tt
-agree-trans (j ∷ js) h k l a b = (agree_at-trans j.state h k l a.0 b.0, agree-trans js h k l a.1 b.1)
-
-pub like-trans : (a b c : State) → IsLike a b → IsLike b c → IsLike a c
-like-trans a b c h k =
-    let P : State → Type 0 = λ x. c ≡ record x { opening = c.opening; history = c.history } in
-    let Q : State → Type 0 = λ x. Agree x.joiners b.history c.history in
-    record { is = subst P h.is k.is; order = k.order ∙ h.order; count = k.count ∙ h.count; answers = agree-trans a.joiners a.history b.history c.history h.answers (subst Q h.is k.answers) }
-
 abbrev pub with_past : State → List (Bytes × Bytes) → List Event → State
 with_past a opening history = record a { opening = opening; history = history }
 
 -- 4. Steps.
-
-abbrev StepsLike : State → Caller → Bytes → Op → Out → List Caller → StepDone → State → State → Type 0
-StepsLike b caller key op out callers done n b_ = (m : State) × Steps b caller key op out callers done m × IsLike n m
 
 same_victim : (a : State) (o : List (Bytes × Bytes)) (h : List Event) (key : Bytes) (op : Op) (out : Out) → by_use o h ≡ by_use a.opening a.history
     → victim (with_past a o h) key op out ≡ victim a key op out

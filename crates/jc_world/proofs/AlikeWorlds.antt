@@ -30,26 +30,13 @@ use Rattle.jc_world.specs.Premises.{read_answer, report_for, load_from, opens_co
 use Rattle.jc_world.specs.Fits.{fits}
 use Rattle.jc_world.specs.Events.{Happens, Step, Run, Starts, Ends, Picks, with_call, with_look, after_answer, after_change, after_process, run_result, after_report, after_reports, reported_at, with_met_by, keys_reported, reported_now, with_stripe, with_phase, with_settled, fault_in, new_progress, with_new_part, with_join, without_part, without_join, without_call, over_by, step_of, after_reopening, not_over}
 use Rattle.jc_world.specs.Alike.{IsLike, AreLike, WorldsAlike}
-use Rattle.jc_world.proofs.AlikeStripes.{begins-like, commits-like, withdraws-like, picks-like, like-refl, like-sym, like-trans}
+use Rattle.jc_world.proofs.AlikeStripes.{begins-like, commits-like, withdraws-like, picks-like, like-refl}
 
 -- 1. Stripes, one by one.
 
 pub are_like-refl : (ss : List State) → AreLike ss ss
 are_like-refl [] = tt
 are_like-refl (s ∷ ss) = (like-refl s, are_like-refl ss)
-
-pub are_like-sym : (ss ts : List State) → AreLike ss ts → AreLike ts ss
-are_like-sym [] [] h = tt
-are_like-sym [] (t ∷ ts) h = absurd h
-are_like-sym (s ∷ ss) [] h = absurd h
-are_like-sym (s ∷ ss) (t ∷ ts) h = (like-sym s t h.0, are_like-sym ss ts h.1)
-
-are_like-trans : (ss ts us : List State) → AreLike ss ts → AreLike ts us → AreLike ss us
-are_like-trans [] [] us h k = k
-are_like-trans [] (t ∷ ts) us h k = absurd h
-are_like-trans (s ∷ ss) [] us h k = absurd h
-are_like-trans (s ∷ ss) (t ∷ ts) [] h k = absurd k
-are_like-trans (s ∷ ss) (t ∷ ts) (u ∷ us) h k = (like-trans s t u h.0 k.0, are_like-trans ss ts us h.1 k.1)
 
 none_some : {A : Type 0} {x : A} {o : Option A} → o ≡ None → o ≡ Some x → ⊥
 none_some n s = true≢false (ap is_some (sym s) ∙ ap is_some n)
@@ -89,16 +76,6 @@ with_past w ss o = record w { stripes = ss; order = o }
 
 pub worlds-refl : (w : WorldState) → WorldsAlike w w
 worlds-refl w = record { is = refl; alike = are_like-refl w.stripes }
-
-pub worlds-sym : (w v : WorldState) → WorldsAlike w v → WorldsAlike v w
-worlds-sym w v h =
-    let P : WorldState → Type 0 = λ x. w ≡ record x { stripes = w.stripes; order = w.order } in
-    record { is = subst P (sym h.is) refl; alike = are_like-sym w.stripes v.stripes h.alike }
-
-pub worlds-trans : (w v u : WorldState) → WorldsAlike w v → WorldsAlike v u → WorldsAlike w u
-worlds-trans w v u h k =
-    let P : WorldState → Type 0 = λ x. u ≡ record x { stripes = u.stripes; order = u.order } in
-    record { is = subst P h.is k.is; alike = are_like-trans w.stripes v.stripes u.stripes h.alike k.alike }
 
 -- what is alike by its stripes
 alike-as : (n x m : WorldState) → n ≡ x → m ≡ with_past x m.stripes m.order → AreLike x.stripes m.stripes → WorldsAlike n m

@@ -110,7 +110,7 @@ pub use Rattle.jc_world.specs.Gathered.{or_else, found_after}
 pub use Rattle.jc_world.specs.Headline.{IsOpeningStripe, IsOpeningWorld, start_with, ReachesSince, is_reopening, reopens, with_all_premises, is_answer, is_load, is_loaded}
 pub use Rattle.jc_world.specs.Held.{IsAnswerable, parts_of, joins_of}
 pub use Rattle.jc_world.specs.Inside.{world_of}
-pub use Rattle.jc_world.specs.OpenCalls.{tasks_of, first_open, IsFirstKept, are_new, TakesKeys}
+pub use Rattle.jc_world.specs.OpenCalls.{tasks_of, IsCountKept, are_new, TakesKeys}
 pub use Rattle.jc_world.specs.Openings.{EndsInReopening, LastOpening, is_dropped, IsReopened}
 pub use Rattle.jc_world.specs.PickUps.{ends_join, is_last_pick_up, ends_load, IsEnd, Resolves}
 pub use Rattle.jc_world.specs.PlayedWorld.{PlayedWorld}
@@ -118,6 +118,6 @@ pub use Rattle.jc_world.specs.Premises.{is_stored, opens_coherent, read_answer, 
 pub use Rattle.jc_world.specs.Replies.{IsReplyOfStep, Stands, is_answer_at, joiners_in, joiners_at, times_shown}
 pub use Rattle.jc_world.specs.Reserved.{changes_cache}
 pub use Rattle.jc_world.specs.Sound.{IsWorldStripe, IsShaped, is_up_to, number_up_to, has_answer, has_parked_answer, is_served_in, is_served, is_apart, FitsKey, FitsCall, CallsFit, Each, FitsAsked, change_in, IsDueIn, IsDue, AllDue, IsHeld, IsCallOf, IsOwned, AllOwned, IsWaitedFor, AllWaitedFor, IsCalled, AllCalled, Agrees, LoadAgrees, WriteAgrees, ChangeAgrees, ProgressAgrees, KeyAgrees, Sweeps, IsSoundWorld}
-pub use Rattle.jc_world.specs.Together.{looks, opening_events, BeginFits, at_call, key_at, AreAt, is_start, is_change, FitTogether}
+pub use Rattle.jc_world.specs.Together.{looks, opening_events, BeginFits, at_call, key_at, FitTogether}
 pub use Rattle.jc_world.specs.Turns.{history_in, history_at, turns_of, after_turn, merge, OrderedStripes, IsPhase, IsQuietPhase, ordered_stripes, AreTurns, IsMergeable}
 pub use Rattle.jc_world.specs.World.{Parts, JoinKey, join_cmp, join_key, Joins, WorldState, home, stripe_for, entry_in, cached_entry, empty_stripe, empty_stripes, start, is_busy, is_idle, open_call, of_call, part_of, has_progress, is_unanswered, waits_for_load, waits_for_process, waits_for_report, is_write, waits_for_write, is_answered, is_untouched, has_changed, writer_change, out_of, join_of, has_joined, is_joined, is_free_of, with_stored}

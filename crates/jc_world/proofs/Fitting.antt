@@ -1,12 +1,11 @@
 -- Events that fit: none of them is shown as a fault, and some fit directly after others.
 --     fits_then      an event that fits, and what fits wherever it leads
 --     one_fits       an event that fits, alone
---     report_fits    the writer's return, after its change of the store
---     leave_fits     a call's leaving, after its withdrawal
---     start_fits     a call's first phase, after its beginning
---     looks_fit_all  the looks of a call
---     rest_fits      what follows in a line, if its first event fits
-use Rattle.jc_world.proofs.Common.{◌≡◌, ℕ, zero, suc, ◌+◌, ◌<◌, ◌≤◌, true, false, cond, not, ◌||◌, List, [], ◌∷◌, ◌++◌, is_some, is_none, IsSomeAnd, nat_lt, nat_le, Some, None, Option, find, sym, refl, ap, ◌∙◌, subst, inl, inr, arith, lt-ltb, eq-eqb, and_parts, and_from, false_from_ne_true, nat_tests, nat_eq_equiv, find-append, get, list_any, option_or, Caller, Bytes, Op, Get, State, JoinClaim, Command, Outcome, Part, Shown, WorldEvent, at_each, SweepState, sweep_of, CallState, new_call, has_number, op_at, is_open, is_going, has_too_many_keys, opened, going_on, has_looked, has_looked_at_each, with_found, with_look, Starts, Ends, Picks, with_change, Happens, is_fit, AllFit, is_new, is_free, is_to_look, may_look, fits, is_up_to, IsCallOf, IsSoundWorld, looks, WorldState, open_call, of_call, part_of, has_progress, waits_for_report, is_untouched, is_joined}
+--     new_under, new_free
+--                    a call with a new number isn't under way, and is free of every key
+--     looks_begun    the looks of a call, behind its begin
+--     unjoined_held  a call that has reserved its key has not joined a load of it
+use Rattle.jc_world.proofs.Common.{◌≡◌, ℕ, zero, suc, ◌+◌, ◌<◌, ◌≤◌, true, false, cond, not, ◌||◌, List, [], ◌∷◌, ◌++◌, is_some, is_none, IsSomeAnd, nat_lt, nat_le, Some, None, Option, find, sym, refl, ap, ◌∙◌, subst, inl, inr, arith, lt-ltb, and_parts, and_from, false_from_ne_true, nat_tests, nat_eq_equiv, find-append, get, list_any, option_or, Caller, Bytes, Op, Get, State, JoinClaim, Command, Outcome, Part, Shown, WorldEvent, at_each, SweepState, sweep_of, CallState, new_call, has_number, op_at, is_open, is_going, has_too_many_keys, opened, going_on, has_looked, has_looked_at_each, with_found, with_look, Starts, Ends, Picks, Happens, is_fit, AllFit, is_new, is_free, is_to_look, may_look, fits, is_up_to, IsCallOf, IsSoundWorld, looks, WorldState, open_call, part_of, has_progress, is_untouched, is_joined}
 use Rattle.jc_world.proofs.Holding.{call_on}
 use Rattle.jc_world.proofs.Lemmas.{missing, same_found, found_number, fits_found, of_call-at, begun_cases, found_replaced, join_there, joined_no_part}
 use Rattle.jc_world.proofs.Unseen.{missed, unseen, seen_below}
@@ -55,15 +54,7 @@ fits_then w e es fit more (s ∷ ss) new (mid, inr (unfit, shows, is), run) = le
 pub one_fits : (w : WorldState) (e : WorldEvent) → fits w e ≡ true → AllFit w (e ∷ [])
 one_fits w e fit = fits_then w e [] fit (λ seen mid happens. none_fit mid)
 
--- 2. A change of the store.
-
--- once the writer has changed the store, it is still waited for
-pub still_waits : (call : ℕ) (o : Option Part) (part : Part) → of_call call o ≡ Some part → has_progress waits_for_report (of_call call o) ≡ true → has_progress waits_for_report (of_call call (Some (record part { progress = with_change part.progress }))) ≡ true
-still_waits call o part is waits =
-    ap (λ b. has_progress waits_for_report (cond b (Some (record part { progress = with_change part.progress })) None)) (eq-eqb part.reservation.caller.call call (of_call-at call o part is).1)
-    ∙ sym (ap (has_progress waits_for_report) is) ∙ waits
-
--- 3. A call that has just begun.
+-- 2. A call that has just begun.
 
 -- a number isn't both above the last and up to it
 above : (last : Option ℕ) (call : ℕ) → is_new last call ≡ true → is_up_to last call ≡ true → ⊥
@@ -94,7 +85,7 @@ new_free w call key new old =
     let j = join_there w call key joined old.joins in
     nobody w call j.0.caller.call (IsCallOf j.0.caller.session j.0.key Get) none j.2 j.4.call)))
 
--- 4. A call that takes the keys that are cached.
+-- 3. A call that takes the keys that are cached.
 
 look_now : (w : WorldState) (call stripe : ℕ) (u : CallState) (s : SweepState) → open_call w call ≡ Some u → u.sweep ≡ Some s → stripe < w.config.stripes → has_looked s.looked stripe ≡ false → fits w (WorldEvent.Look call stripe) ≡ true
 look_now w call stripe u s here sweeps within fresh =
@@ -157,7 +148,7 @@ looks_begun w old call session c s fit sweeps =
     all_left : (n : ℕ) → 0 + n ≤ n
     all_left n = omega arith
 
--- 5. A call that has reserved a key.
+-- 4. A call that has reserved a key.
 
 -- a call that has reserved its key has not joined a load of it
 pub unjoined_held : (w : WorldState) (call : ℕ) (key : Bytes) → has_progress is_untouched (part_of w call key) ≡ true → IsSoundWorld w → is_joined w call key ≡ false

@@ -3,11 +3,10 @@
 --     op_of_found            at a key that was found the call's operation is done
 --     still_done             what is done is done still
 --     found_new              one key more, which is new
---     first_found            the first open key keeps its place
-use Rattle.jc_world.proofs.Common.{◌≡◌, ℕ, zero, suc, ◌<◌, Bool, true, false, cond, List, [], ◌∷◌, ◌++◌, length, get_or, take, is_none, ◌==◌, slice_get, Some, None, Option, sym, refl, ap, ◌∙◌, and_parts, is_some-lookup, slice_get_read, pointwise, list_any, list_all, IsDistinct, lookup, option_or, option_flatten, none_is, Bytes, Op, Task, at_each, op_in, is_open, first_open, are_new}
+use Rattle.jc_world.proofs.Common.{◌≡◌, ℕ, zero, suc, ◌<◌, Bool, true, false, cond, List, [], ◌∷◌, ◌++◌, length, get_or, take, is_none, ◌==◌, slice_get, Some, None, Option, sym, refl, ap, ◌∙◌, and_parts, is_some-lookup, slice_get_read, pointwise, list_any, list_all, IsDistinct, lookup, option_or, option_flatten, none_is, Bytes, Op, Task, at_each, op_in, are_new}
 use Rattle.jc_types.proofs.CallerLemmas.{none_from}
 use Rattle.jc_outside.proofs.CallerLemmas.{new_at}
-use Rattle.jc_world.proofs.TaskLists.{keys-at_each, first_each}
+use Rattle.jc_world.proofs.TaskLists.{keys-at_each}
 
 -- 1. Looking a key up.
 
@@ -47,10 +46,3 @@ found_new tasks one keys i key new distinct lt is =
     let found : lookup test (at_each one (take i keys)) ≡ None =
     none_from _ (is_some-lookup test (at_each one (take i keys)) ∙ ap (list_any test) (keys-at_each one (take i keys)) ∙ new_at keys i key distinct lt is) in
     lookup-found test tasks (at_each one (take i keys)) ∙ ap (λ o. option_or o (lookup test (at_each one (take i keys)))) before ∙ found
-
--- 3. The first open key.
-
-pub first_found : (tasks : List Task) (one : Op) (keys : List Bytes) → first_open (tasks ++ at_each one keys) ≡ first_open tasks
-first_found [] one keys = first_each one keys
-first_found (task ∷ tasks) one keys =
-    elim (is_open task) as (λ b. cond b 0 (suc (first_open (tasks ++ at_each one keys))) ≡ cond b 0 (suc (first_open tasks))) [ true ↦ refl | false ↦ ap suc (first_found tasks one keys) ]

@@ -6,7 +6,7 @@ pub use Rattle.jc_world.proofs.Underway.{found_number, find_over, fits_found, fi
 pub use Rattle.jc_world.proofs.Settling.{open_now, done_for, Left, going_is, still_called, each_settled}
 pub use Rattle.jc_world.proofs.NewCalls.{opened_cases, begun_cases, begun_shown}
 pub use Rattle.jc_world.proofs.Looked.{Taken, taken_of, taken_met, each_taken, found_replaced, ended_at, put_at, none_replaced}
-pub use Rattle.jc_world.proofs.TaskLists.{keys-at_each, at_each-more, put_each_of-more, put_in_place, there_at, absent_same, open_more, open_fails, open_keys-more, open_distinct, first_each, first_put, open_within, first_here, first_next, first_settled, first_fits}
+pub use Rattle.jc_world.proofs.TaskLists.{keys-at_each, at_each-more, put_each_of-more, put_in_place, there_at, absent_same, open_distinct}
 pub use Rattle.jc_world.proofs.Found.{lookup-found, found_new}
 pub use Rattle.jc_world.proofs.Joiners.{joiner_of, find_kept, joined_resolved, joined_dissolved, joined_front, joined_last, called_resolved, called_dissolved, join_at, join_there, joined_no_part, other_key, none_inserted, none_removed, part_other}
 pub use Rattle.jc_world.proofs.LoadKeys.{found_holds, same_number, load_there, joins_get}
@@ -15,7 +15,7 @@ pub use Rattle.jc_world.proofs.Callers.{Picking, picking, looked_called, met_cal
 pub use Rattle.jc_world.proofs.Places.{at_stripe_apart, at_stripe, stripe_put, few_stripes, home_stripe}
 pub use Rattle.jc_world.proofs.Entries.{split, tied, agrees_stepped, writes, loads_asked, writes_asked, loads, asks_nobody}
 pub use Rattle.jc_world.proofs.Reservations.{found_more, out_reserved, was_free, new_out, found_left}
-pub use Rattle.jc_world.proofs.Processors.{invoke_is, write_due, agrees_processed, agrees_effect}
+pub use Rattle.jc_world.proofs.Processors.{invoke_is, agrees_processed, agrees_effect}
 pub use Rattle.jc_world.proofs.KeyChanges.{AnswersNone, IsStart, KeyChange, by_nothing, by_refusal, by_step, by_reservation, by_join, by_commit, by_withdrawal, by_answer, by_retry, start_change, end_change, pick_change, key_change, StripeChange, by_key, beside_stripes, by_reopening, change_of, may_of, Move, no_move, quiet_move, step_move, reopening_move, move_step}
 pub use Rattle.jc_world.proofs.Numbered.{some_of, within, at_index, made_more}
 pub use Rattle.jc_world.proofs.Returns.{each_report, IsWhole}

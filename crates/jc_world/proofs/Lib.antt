@@ -11,7 +11,6 @@ pub mod Unseen
 pub mod Sweeps
 pub mod StripeKeys
 pub mod TaskLists
-pub mod Reporting
 pub mod Found
 pub mod Joiners
 pub mod LoadKeys
@@ -49,7 +48,6 @@ pub mod Homes
 pub mod Fitting
 pub mod Opening
 pub mod WriterBatches
-pub mod Changes
 pub mod Together
 pub mod Closing
 pub mod Restarting
@@ -64,4 +62,3 @@ pub mod DeterminedWorlds
 pub mod AlikeStripes
 pub mod AlikeWorlds
 pub mod Essences
-mod NextEntry

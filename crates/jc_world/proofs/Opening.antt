@@ -1,7 +1,6 @@
--- How a call begins: its looks fit behind its begin, and then it is free of every key; a call of one key is then under way, and may
--- make its first phase.
-use Rattle.jc_world.proofs.Common.{◌≡◌, ℕ, zero, suc, ◌+◌, Bool, true, false, cond, List, [], ◌∷◌, ◌++◌, is_some, Some, None, find, sym, refl, ap, ◌∙◌, subst, inl, inr, and_parts, and_from, nat_eq_equiv, nat_list_eq_equiv, find-append, option_or, option_flatten, Bytes, Op, Command, Shown, WorldEvent, sweep_of, CallState, op_at, new_call, has_number, Step, Run, AllFit, is_new, is_free, may_start, fits, IsSoundWorld, looks, opening_events, BeginFits, WorldState, open_call, is_free_of}
-use Rattle.jc_world.proofs.Fitting.{fits_then, looks_begun, new_free, new_under, one_fits}
+-- How a call begins: its looks fit behind its begin, and then it is free of every key; a call of one key is then under way.
+use Rattle.jc_world.proofs.Common.{◌≡◌, ℕ, zero, suc, ◌+◌, Bool, true, false, cond, List, [], ◌∷◌, ◌++◌, is_some, Some, None, find, sym, refl, ap, ◌∙◌, inl, inr, and_parts, nat_eq_equiv, find-append, option_or, Bytes, Op, Command, Shown, WorldEvent, sweep_of, CallState, new_call, has_number, Step, Run, AllFit, is_new, is_free, fits, IsSoundWorld, looks, opening_events, BeginFits, WorldState, open_call, is_free_of}
+use Rattle.jc_world.proofs.Fitting.{looks_begun, new_free, new_under, one_fits}
 
 opening : (w : WorldState) → IsSoundWorld w → (call session : ℕ) (command : Command) → fits w (WorldEvent.Call call session command) ≡ true → AllFit w (opening_events call session command w.config.stripes)
 opening w old call session command fit =
@@ -56,22 +55,6 @@ found_new w old call session op key fit =
     let new : is_new w.last call ≡ true = (and_parts _ _ (and_parts _ _ fit).0).1 in
     find-append (has_number call) w.calls (u ∷ []) ∙ ap (λ o. option_or o (find (has_number call) (u ∷ []))) (new_under w call new old) ∙ ap (λ b. cond b (Some u) None) (nat_eq_equiv.refl call)
 
--- and its key is open
-opens_at : (call session : ℕ) (op : Op) (key : Bytes) → is_some (op_at (new_call call session (Command.Single op key)) key) ≡ true
-opens_at call session op key = ap (λ b. is_some (option_flatten (cond b (Some (Some op)) None))) (nat_list_eq_equiv.refl key)
-
-single : (w : WorldState) → IsSoundWorld w → (call session : ℕ) (op : Op) (key : Bytes) → fits w (WorldEvent.Call call session (Command.Single op key)) ≡ true
-    → AllFit w (WorldEvent.Call call session (Command.Single op key) ∷ WorldEvent.Start call key ∷ [])
-single w old call session op key fit =
-    let u : CallState = new_call call session (Command.Single op key) in
-    let new : is_new w.last call ≡ true = (and_parts _ _ (and_parts _ _ fit).0).1 in
-    let next : WorldState = record w { last = Some call; calls = w.calls ++ u ∷ []; is_fresh = false } in
-    fits_then w (WorldEvent.Call call session (Command.Single op key)) (WorldEvent.Start call key ∷ []) fit (λ seen mid happens.
-    subst (λ m. AllFit m (WorldEvent.Start call key ∷ [])) (sym happens.1)
-    (one_fits next (WorldEvent.Start call key)
-    (ap (may_start next call key) (found_new w old call session op key fit)
-    ∙ and_from _ _ (opens_at call session op key) (new_free w call key new old))))
-
 underway : (w : WorldState) → IsSoundWorld w → (call session : ℕ) (op : Op) (key : Bytes) (seen : List Shown) (begun : WorldState) → fits w (WorldEvent.Call call session (Command.Single op key)) ≡ true
     → Run w (WorldEvent.Call call session (Command.Single op key) ∷ []) seen begun → open_call begun call ≡ Some (new_call call session (Command.Single op key))
 underway w old call session op key [] begun fit run = absurd run
@@ -84,4 +67,4 @@ underway w old call session op key (s ∷ []) begun fit (next, step, is) =
     by (inr (unfit, shows, same)) = let t : true ≡ false = sym fit ∙ unfit in cc
 
 pub begin_fits : (w : WorldState) → IsSoundWorld w → BeginFits w
-begin_fits w old = record { opening = opening w old; free = free w old; single = single w old; underway = underway w old }
+begin_fits w old = record { opening = opening w old; free = free w old; underway = underway w old }

@@ -1,19 +1,15 @@
 -- Keys whose entry processor is asked, runs, and is committed.
 --     invoke_is          what runs a processor is an `Invoke`
---     write_due          with write-through on, what is due of the writer is the processor's net effect
 --     agrees_processed   what a processor leaves after which no writer is asked agrees with the store
 --     agrees_effect      so does what it leaves once the writer that is asked after it has returned
 use Rattle.jc_model.specs.declared.event.Effect.{Effect}
 use Rattle.jc_model.specs.Processor.{process_answer}
-use Rattle.jc_world.proofs.Common.{Some, Result, Ok, Err, ℕ, changed_to, is_done, is_process_given, Change, ◌≡◌, Bool, true, false, cond, is_some, is_none, None, Option, sym, refl, ap, Config, Bytes, is_write_given, is_invoke, entry_after, LoadAnswer, Op, Invoke, ProcessAnswer, WriteAnswer, ProcessResult, Claim, effect_change, change_due, Agrees, LoadAgrees}
+use Rattle.jc_world.proofs.Common.{Some, Result, Ok, Err, ℕ, changed_to, is_done, is_process_given, Change, ◌≡◌, Bool, true, false, is_some, is_none, None, Option, sym, refl, Bytes, is_write_given, is_invoke, entry_after, LoadAnswer, Op, Invoke, ProcessAnswer, WriteAnswer, effect_change, Agrees, LoadAgrees}
 use Rattle.jc_model.specs.declared.event.Effect.TheVariants as effect
 
 pub invoke_is : (op : Op) → is_invoke op ≡ true → op ≡ Invoke
 invoke_is Invoke h = refl
 invoke_is op h = cc
-
-pub write_due : (config : Config) (done : ProcessResult Claim) → config.write_through ≡ true → change_due config done ≡ effect_change done.load done.process
-write_due config done on = ap (λ b. cond b (effect_change done.load done.process) None) on
 
 pub agrees_processed : (loaded : LoadAnswer) (process : ProcessAnswer) (entry stored : Option Bytes) → is_none (effect_change loaded process) ≡ true → LoadAgrees loaded stored entry
     → Agrees (entry_after Invoke entry (record { load = loaded; write = WriteAnswer.NotAsked; process = process })) stored

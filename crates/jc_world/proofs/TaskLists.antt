@@ -2,19 +2,20 @@
 --     at_each-more, put_each_of-more
 --                             one key more, and one entry more, which go last
 --     put_in_place            a key that is there keeps its place
---     open_keys-more          the open keys of one task more
 --     open_distinct, alone_differs, one_distinct
 --                             of keys that differ the open ones differ; one key differs from no other
 --     all_open                at each open key something is done
---     open_more, open_fails   a test of the open keys, at one task more, and at one that fails
+--     all_among, any_among    a test of the open keys, as a test of the tasks
 --     absent_same             a key that isn't there can't be settled
---     first_each, first_put   all keys are open at first
---     open_within             a key is open exactly if the first one is before the end
---     first_here, first_next
---                             the first open key from a place on
---     first_settled, first_fits
---                             once a key is settled, the first open one is found from where it was
-use Rattle.jc_world.proofs.Common.{◌≡◌, ℕ, zero, suc, ◌+◌, ◌<◌, ◌≤◌, Bool, true, false, cond, not, ◌&&◌, ◌||◌, List, [], ◌∷◌, ◌++◌, length, get_or, take, drop, is_some, ◌==◌, slice_get, Some, None, filter, Option, sym, refl, ap, ◌∙◌, subst, zero-add, arith, and_parts, and_from, and_right, nat_tests, map-append, take_more, IsDistinct-keys_filter, slice_get_within, slice_get_read, get_or_from_slice_get, pointwise, list_any, list_all, IsDistinct, keys_of, lookup, set_value, option_flatten, IndexMap, insert_entry, Bytes, Op, Task, at_each, put_each_of, op_in, is_open, open_in, first_open, IsDistinct-head, IsDistinct-tail, nat_list_eq_equiv, AllByRecursion, CallState, op_at, open_keys}
+--     count_each, count_put   all keys are open at first
+--     open_append, count_found
+--                             the open keys of a call that has taken more
+--     open_counted            a key is open exactly if some are
+--     count_settled           once an open key is settled, one less is open
+--     count_within            no more keys are open than there are
+--     reported_next           what a return of the writer shows, of a task and of those after it
+use Rattle.jc_world.proofs.Common.{◌≡◌, ℕ, zero, suc, ◌+◌, ◌<◌, ◌≤◌, Bool, true, false, cond, not, ◌&&◌, ◌||◌, List, [], ◌∷◌, ◌++◌, length, get_or, take, is_some, is_none, ◌==◌, slice_get, Some, None, filter, Option, sym, refl, ap, ◌∙◌, arith, and_parts, and_from, nat_tests, map-append, filter-append, filter_map-append, length-append, take_more, IsDistinct-keys_filter, slice_get_within, slice_get_read, get_or_from_slice_get, pointwise, list_any, list_all, IsDistinct, keys_of, lookup, set_value, option_flatten, IndexMap, insert_entry, Bytes, Op, Task, at_each, put_each_of, op_in, is_open, open_in, IsDistinct-head, IsDistinct-tail, nat_list_eq_equiv, AllByRecursion, CallState, op_at, open_keys, Parts, reported_key, reported_keys}
+use Rattle.jc_world.specs.declared.reports.WriterBatch.{WriterBatch}
 use Rattle.jc_outside.proofs.CallerLemmas.{not_before, entry_last}
 
 -- 1. New keys.
@@ -86,60 +87,16 @@ absent_same key (task ∷ tasks) none =
 
 -- 3. The open keys.
 
--- one task more
-more_open : (p : Bytes → Bool) (tasks : List Task) (i : ℕ) (key : Bytes) (one : Option Op) → slice_get tasks i ≡ Some (key, one) → (is_some one ≡ true → p key ≡ true) → list_all p (open_in (take i tasks)) ≡ true
-    → list_all p (open_in (take (suc i) tasks)) ≡ true
-more_open p (task ∷ tasks) zero key one at holds before =
-    let is : task ≡ (key, one) = cc in
-    subst (λ (t : Task). list_all p (open_in (t ∷ [])) ≡ true) (sym is) (alone (is_some one) holds)
-  where
-    alone : (b : Bool) → (b ≡ true → p key ≡ true) → list_all p (keys_of (cond b ((key, one) ∷ []) [])) ≡ true
-    alone true h = and_from (p key) true (h refl) refl
-    alone false h = refl
-more_open p (task ∷ tasks) (suc i) key one at holds before =
-    elim (is_open task) as (λ b. list_all p (keys_of (cond b (task ∷ filter is_open (take i tasks)) (filter is_open (take i tasks)))) ≡ true → list_all p (keys_of (cond b (task ∷ filter is_open (take (suc i) tasks)) (filter is_open (take (suc i) tasks)))) ≡ true) [
-      | true ↦ λ before. let parts = and_parts (p task.0) (list_all p (open_in (take i tasks))) before in and_from _ _ parts.0 (more_open p tasks i key one at holds parts.1)
-      | false ↦ λ before. more_open p tasks i key one at holds before
-    ] before
-more_open p tasks i key one at holds before = cc
+-- a test of the open keys, as a test of the tasks
+pub all_among : (p : Bytes → Bool) (tasks : List Task) → list_all (λ (task : Task). is_none task.1 || p task.0) tasks ≡ list_all p (open_in tasks)
+all_among p [] = refl
+all_among p ((key, None) ∷ tasks) = all_among p tasks
+all_among p ((key, Some op) ∷ tasks) = ap (λ b. p key && b) (all_among p tasks)
 
-pub open_more : (p : Bytes → Bool) (tasks : List Task) (i : ℕ) (key : Bytes) (one : Option Op) → slice_get tasks i ≡ Some (key, one) → (is_some one ≡ true → p key ≡ true) → list_all p (open_in (take i tasks)) ≡ true
-    → list_all p (open_in (take (i + 1) tasks)) ≡ true
-open_more p tasks i key one at holds before =
-    let next : i + 1 ≡ suc i = omega (arith) in
-    ap (λ n. list_all p (open_in (take n tasks))) next ∙ more_open p tasks i key one at holds before
-
--- a task whose key is open, and fails
-pub open_fails : (p : Bytes → Bool) (tasks : List Task) (i : ℕ) (key : Bytes) (one : Option Op) → slice_get tasks i ≡ Some (key, one) → is_some one ≡ true → p key ≡ false → list_all p (open_in tasks) ≡ false
-open_fails p [] i key one at there fails = cc
-open_fails p (task ∷ tasks) zero key one at there fails =
-    let is : task ≡ (key, one) = cc in
-    ap (λ (t : Task). list_all p (open_in (t ∷ tasks))) is ∙ ap (λ b. list_all p (keys_of (cond b ((key, one) ∷ filter is_open tasks) (filter is_open tasks)))) there ∙ ap (λ b. b && list_all p (open_in tasks)) fails
-open_fails p (task ∷ tasks) (suc i) key one at there fails =
-    let rest = open_fails p tasks i key one at there fails in
-    elim (is_open task) as (λ b. list_all p (keys_of (cond b (task ∷ filter is_open tasks) (filter is_open tasks))) ≡ false) [
-      | true ↦ and_right (p task.0) _ rest
-      | false ↦ rest
-    ]
-
--- the open keys of one task more
-pub open_keys-more : (tasks : List Task) (i : ℕ) (key : Bytes) (one : Option Op) → slice_get tasks i ≡ Some (key, one) → open_in (take (i + 1) tasks) ≡ open_in (take i tasks) ++ cond (is_some one) (key ∷ []) []
-open_keys-more tasks i key one at = let next : i + 1 ≡ suc i = omega (arith) in ap (λ n. open_in (take n tasks)) next ∙ go tasks i at
-  where
-    alone : (b : Bool) → keys_of (cond b ((key, one) ∷ []) []) ≡ cond b (key ∷ []) []
-    alone true = refl
-    alone false = refl
-
-    go : (tasks : List Task) (i : ℕ) → slice_get tasks i ≡ Some (key, one) → open_in (take (suc i) tasks) ≡ open_in (take i tasks) ++ cond (is_some one) (key ∷ []) []
-    go (task ∷ tasks) zero at =
-        let is : task ≡ (key, one) = cc in
-        ap (λ (t : Task). open_in (t ∷ [])) is ∙ alone (is_some one)
-    go (task ∷ tasks) (suc i) at =
-        elim (is_open task) as (λ b. keys_of (cond b (task ∷ filter is_open (take (suc i) tasks)) (filter is_open (take (suc i) tasks))) ≡ keys_of (cond b (task ∷ filter is_open (take i tasks)) (filter is_open (take i tasks))) ++ cond (is_some one) (key ∷ []) []) [
-          | true ↦ ap (λ ks. task.0 ∷ ks) (go tasks i at)
-          | false ↦ go tasks i at
-        ]
-    go tasks i at = cc
+pub any_among : (p : Bytes → Bool) (tasks : List Task) → list_any (λ (task : Task). is_some task.1 && p task.0) tasks ≡ list_any p (open_in tasks)
+any_among p [] = refl
+any_among p ((key, None) ∷ tasks) = any_among p tasks
+any_among p ((key, Some op) ∷ tasks) = ap (λ b. p key || b) (any_among p tasks)
 
 -- of keys that differ the open ones differ
 pub open_distinct : (tasks : List Task) → IsDistinct (pointwise ◌==◌) (keys_of tasks) → IsDistinct (pointwise ◌==◌) (open_in tasks)
@@ -180,93 +137,60 @@ pub one_distinct : (key : Bytes) (one : Option Op) → IsDistinct (pointwise ◌
 unfolding IsDistinct
 one_distinct key one = open_distinct ((key, one) ∷ []) (tt, tt)
 
--- 4. The first open key.
+-- 4. How many keys are open.
 
 -- all keys are open at first
-pub first_each : (one : Op) (keys : List Bytes) → first_open (at_each one keys) ≡ 0
-first_each one [] = refl
-first_each one (key ∷ keys) = refl
+pub count_each : (one : Op) (keys : List Bytes) → length (open_in (at_each one keys)) ≡ length (at_each one keys)
+count_each one [] = refl
+count_each one (key ∷ keys) = ap suc (count_each one keys)
 
-pub first_put : (entries : List (Bytes × Bytes)) → first_open (put_each_of entries) ≡ 0
-first_put [] = refl
-first_put (e ∷ entries) = refl
+pub count_put : (entries : List (Bytes × Bytes)) → length (open_in (put_each_of entries)) ≡ length (put_each_of entries)
+count_put [] = refl
+count_put (e ∷ entries) = ap suc (count_put entries)
 
-same_suc : (a b : ℕ) → (a == b) ≡ (suc a == suc b)
-same_suc a b = grind (arith, nat_tests)
+pub open_append : (xs ys : List Task) → open_in (xs ++ ys) ≡ open_in xs ++ open_in ys
+open_append xs ys = ap keys_of (filter-append is_open xs ys) ∙ map-append (λ (t : Task). t.0) (filter is_open xs) (filter is_open ys)
 
--- a key is open exactly if the first one is before the end
-pub open_within : (tasks : List Task) → list_any is_open tasks ≡ not (first_open tasks == length tasks)
-open_within [] = refl
-open_within (task ∷ tasks) =
-    elim (is_open task) as (λ b. (b || list_any is_open tasks) ≡ not (cond b 0 (suc (first_open tasks)) == suc (length tasks))) [
-      | true ↦ sym (ap not (no_zero (length tasks)))
-      | false ↦ open_within tasks ∙ ap not (same_suc (first_open tasks) (length tasks))
+pub count_found : (tasks : List Task) (one : Op) (keys : List Bytes) → length (open_in (tasks ++ at_each one keys)) ≡ length (open_in tasks) + length (at_each one keys)
+count_found tasks one keys = ap length (open_append tasks (at_each one keys)) ∙ length-append (open_in tasks) (open_in (at_each one keys)) ∙ ap (λ n. length (open_in tasks) + n) (count_each one keys)
+
+-- a key is open exactly if some are
+pub open_counted : (tasks : List Task) → list_any is_open tasks ≡ not (length (open_in tasks) == 0)
+open_counted [] = refl
+open_counted (task ∷ tasks) =
+    elim (is_open task) as (λ b. (b || list_any is_open tasks) ≡ not (length (keys_of (cond b (task ∷ filter is_open tasks) (filter is_open tasks))) == 0)) [
+      | true ↦ sym (ap not (no_zero (length (open_in tasks))))
+      | false ↦ open_counted tasks
     ]
   where
-    no_zero : (n : ℕ) → (0 == suc n) ≡ false
+    no_zero : (n : ℕ) → (suc n == 0) ≡ false
     no_zero n = grind (arith, nat_tests)
 
--- if a key at a place is open, it is the first from there
-pub first_here : (tasks : List Task) (i : ℕ) (key : Bytes) (one : Option Op) → slice_get tasks i ≡ Some (key, one) → is_some one ≡ true → first_open (drop i tasks) ≡ 0
-first_here [] i key one at there = cc
-first_here (task ∷ tasks) zero key one at there = let is : task ≡ (key, one) = cc in ap (λ b. cond b 0 (suc (first_open tasks))) (ap (λ (t : Task). is_open t) is ∙ there)
-first_here (task ∷ tasks) (suc i) key one at there = first_here tasks i key one at there
-
--- if it isn't, the first one is after it
-next_open : (tasks : List Task) (i : ℕ) (key : Bytes) (one : Option Op) → slice_get tasks i ≡ Some (key, one) → is_some one ≡ false → first_open (drop i tasks) ≡ suc (first_open (drop (suc i) tasks))
-next_open [] i key one at gone = cc
-next_open (task ∷ tasks) zero key one at gone = let is : task ≡ (key, one) = cc in ap (λ b. cond b 0 (suc (first_open tasks))) (ap (λ (t : Task). is_open t) is ∙ gone)
-next_open (task ∷ tasks) (suc i) key one at gone = next_open tasks i key one at gone
-
-pub first_next : (tasks : List Task) (i : ℕ) (key : Bytes) (one : Option Op) → slice_get tasks i ≡ Some (key, one) → is_some one ≡ false → i + first_open (drop i tasks) ≡ (i + 1) + first_open (drop (i + 1) tasks)
-first_next tasks i key one at gone =
-    let next : i + 1 ≡ suc i = omega (arith) in
-    let now : first_open (drop i tasks) ≡ suc (first_open (drop (suc i) tasks)) = next_open tasks i key one at gone in
-    let here : i + first_open (drop i tasks) ≡ suc i + first_open (drop (suc i) tasks) = omega (arith, now) in
-    here ∙ ap (λ n. n + first_open (drop n tasks)) (sym next)
-
--- from the first one on it is still the first
-first_self : (tasks : List Task) → first_open tasks + first_open (drop (first_open tasks) tasks) ≡ first_open tasks
-first_self [] = refl
-first_self (task ∷ tasks) =
-    elim (is_open task) as (λ b. is_open task ≡ b → cond b 0 (suc (first_open tasks)) + first_open (drop (cond b 0 (suc (first_open tasks))) (task ∷ tasks)) ≡ cond b 0 (suc (first_open tasks))) [
-      | true ↦ λ e. zero-add (first_open (task ∷ tasks)) ∙ ap (λ b. cond b 0 (suc (first_open tasks))) e
-      | false ↦ λ e. let rest = first_self tasks in omega (arith, rest)
-    ] refl
-
--- once a key is settled, the first open one is found from where it was
-pub first_settled : (key : Bytes) (tasks : List Task)
-    → first_open tasks + first_open (drop (first_open tasks) (set_value (pointwise ◌==◌ key) tasks None)) ≡ first_open (set_value (pointwise ◌==◌ key) tasks None)
-first_settled key [] = refl
-first_settled key (task ∷ tasks) =
-    let rest = first_settled key tasks in
-    let next : suc (first_open tasks) + first_open (drop (first_open tasks) (set_value (pointwise ◌==◌ key) tasks None)) ≡ suc (first_open (set_value (pointwise ◌==◌ key) tasks None)) = omega (arith, rest) in
-    elim (is_open task) as (λ b. is_open task ≡ b
-    → cond b 0 (suc (first_open tasks)) + first_open (drop (cond b 0 (suc (first_open tasks))) (set_value (pointwise ◌==◌ key) (task ∷ tasks) None)) ≡ first_open (set_value (pointwise ◌==◌ key) (task ∷ tasks) None)) [
-      | true ↦ λ e. zero-add (first_open (set_value (pointwise ◌==◌ key) (task ∷ tasks) None))
-      | false ↦ λ e. elim (pointwise ◌==◌ key task.0) as (λ c. suc (first_open tasks) + first_open (drop (suc (first_open tasks)) (cond c ((task.0, None) ∷ tasks) (task ∷ set_value (pointwise ◌==◌ key) tasks None)))
-          ≡ first_open (cond c ((task.0, None) ∷ tasks) (task ∷ set_value (pointwise ◌==◌ key) tasks None))) [
-            | true ↦ let own = first_self tasks in omega (arith, own)
-            | false ↦ next ∙ ap (λ b. cond b 0 (suc (first_open (set_value (pointwise ◌==◌ key) tasks None)))) (sym e)
-          ]
-    ] refl
-
--- and that place is within
-pub first_fits : (key : Bytes) (tasks : List Task) → first_open tasks ≤ length (set_value (pointwise ◌==◌ key) tasks None)
-first_fits key [] = omega (arith)
-first_fits key (task ∷ tasks) =
-    let rest = first_fits key tasks in
-    let own = within tasks in
-    elim (is_open task) as (λ b. cond b 0 (suc (first_open tasks)) ≤ length (set_value (pointwise ◌==◌ key) (task ∷ tasks) None)) [
-      | true ↦ omega (arith)
-      | false ↦ elim (pointwise ◌==◌ key task.0) as (λ c. suc (first_open tasks) ≤ length (cond c ((task.0, None) ∷ tasks) (task ∷ set_value (pointwise ◌==◌ key) tasks None))) [
-        | true ↦ omega (arith, own)
-        | false ↦ omega (arith, rest)
-      ]
-    ]
+-- once an open key is settled, one less is open
+pub count_settled : (key : Bytes) (tasks : List Task) → is_some (op_in tasks key) ≡ true → length (open_in tasks) ≡ suc (length (open_in (set_value (pointwise ◌==◌ key) tasks None)))
+count_settled key [] there = cc
+count_settled key (task ∷ tasks) there =
+    elim (pointwise ◌==◌ key task.0) as (λ c. is_some (option_flatten (cond c (Some task.1) (lookup (pointwise ◌==◌ key) tasks))) ≡ true
+    → length (open_in (task ∷ tasks)) ≡ suc (length (open_in (cond c ((task.0, None) ∷ tasks) (task ∷ set_value (pointwise ◌==◌ key) tasks None))))) [
+      | true ↦ λ there. ap (λ b. length (keys_of (cond b (task ∷ filter is_open tasks) (filter is_open tasks)))) there
+      | false ↦ λ there. beside (is_open task) (count_settled key tasks there)
+    ] there
   where
-    within : (ts : List Task) → first_open ts ≤ length ts
-    within [] = omega (arith)
-    within (t ∷ ts) =
-        let rest = within ts in
-        elim (is_open t) as (λ b. cond b 0 (suc (first_open ts)) ≤ suc (length ts)) [ true ↦ omega (arith) | false ↦ omega (arith, rest) ]
+    beside : (b : Bool) → length (open_in tasks) ≡ suc (length (open_in (set_value (pointwise ◌==◌ key) tasks None)))
+        → length (keys_of (cond b (task ∷ filter is_open tasks) (filter is_open tasks))) ≡ suc (length (keys_of (cond b (task ∷ filter is_open (set_value (pointwise ◌==◌ key) tasks None)) (filter is_open (set_value (pointwise ◌==◌ key) tasks None)))))
+    beside true rest = ap suc rest
+    beside false rest = rest
+
+-- no more keys are open than there are
+pub count_within : (tasks : List Task) → length (open_in tasks) ≤ length tasks
+count_within [] = omega (arith)
+count_within (task ∷ tasks) =
+    let rest = count_within tasks in
+    elim (is_open task) as (λ b. length (keys_of (cond b (task ∷ filter is_open tasks) (filter is_open tasks))) ≤ suc (length tasks)) [ true ↦ omega (arith, rest) | false ↦ omega (arith, rest) ]
+
+-- 5. What a return of the writer shows of the open keys: of a task, and of those after it.
+
+pub reported_next : (batch : WriterBatch) (parts : Parts) (call : ℕ) (task : Task) (tasks : List Task)
+    → reported_keys batch parts call (open_in (task ∷ tasks)) ≡ reported_keys batch parts call (open_in (task ∷ [])) ++ reported_keys batch parts call (open_in tasks)
+reported_next batch parts call task tasks =
+    ap (reported_keys batch parts call) (open_append (task ∷ []) tasks) ∙ filter_map-append (reported_key batch parts call) (open_in (task ∷ [])) (open_in tasks)

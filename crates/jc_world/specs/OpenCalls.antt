@@ -1,35 +1,30 @@
 -- How a call keeps what it does at its keys. No contract of a public call cites this.
 --     tasks_of       what a call does, as data
---     first_open     how many tasks come before the first one whose key is open: all, if none is
---     IsFirstKept       of a call of many keys, the place of the first open one is kept
+--     IsCountKept    of a call of many keys, it is kept how many are open
 --     IsMany         what a call does is kept as that of a call of many keys
 --     IsSwept        so it is of a call that is to look at a stripe
 --     are_new        keys of which no task is
 --     TakesKeys      a call is still to look at a stripe, and these keys differ, also from those that it has
-use Rattle.std.specs.Prelude.{◌≡◌, ◌==◌, ℕ, suc, List, [], ◌∷◌, Bool, true, Option, Some, is_none, is_some, if◌then◌else◌}
+use Rattle.std.specs.Prelude.{◌≡◌, ◌==◌, List, [], ◌∷◌, Bool, true, Option, Some, is_none, is_some, length}
 use Rattle.std.specs.List.{list_all, IsDistinct}
 use Rattle.std.specs.Map.{lookup}
 use Rattle.std.specs.Cmp.Lexicographic.{pointwise}
 use Rattle.jc_model.specs.Cache.{Bytes}
-use Rattle.jc_world.specs.Calls.{CallState, SweepState, Task, is_open}
+use Rattle.jc_world.specs.Calls.{CallState, SweepState, Task, open_in}
 use Rattle.jc_world.specs.declared.tasks.Tasks.{Tasks}
 use Rattle.jc_world.specs.declared.tasks.Tasks.TheVariants.{One, Many}
 
 abbrev pub tasks_of : Tasks → List Task
 tasks_of (One key op) = (key, op) ∷ []
-tasks_of (Many ops first) = ops.entries
+tasks_of (Many ops count) = ops.entries
 
-abbrev pub first_open : List Task → ℕ
-first_open [] = 0
-first_open (task ∷ tasks) = if is_open task then 0 else suc (first_open tasks)
-
-abbrev pub IsFirstKept : Tasks → Type 0
-IsFirstKept (One key op) = Unit {0}
-IsFirstKept (Many ops first) = first ≡ first_open ops.entries
+abbrev pub IsCountKept : Tasks → Type 0
+IsCountKept (One key op) = Unit {0}
+IsCountKept (Many ops count) = count ≡ length (open_in ops.entries)
 
 abbrev pub IsMany : Tasks → Type 0
 IsMany (One key op) = ⊥
-IsMany (Many ops first) = Unit {0}
+IsMany (Many ops count) = Unit {0}
 
 abbrev pub IsSwept : Option SweepState → Tasks → Type 0
 IsSwept sweep tasks = is_some sweep ≡ true → IsMany tasks

@@ -95,11 +95,8 @@ pub(crate) fn list_parts(alloc: Global, held: &HeldKeys) -> Result<Vec<(Key, Par
 {
     let _types: Option<&(Op, First, Change, LoadAnswer, ProcessAnswer)> = None;
     let mut parts = Vec::new(alloc);
-    for place in 0..held.len() {
-        match held.get_index(place) {
-            Some((key, one)) => parts.push((*key, one.part()))?,
-            None => unreachable!(),
-        }
+    for (key, one) in held.iter() {
+        parts.push((*key, one.part()))?;
     }
     Ok(parts)
 }
@@ -133,6 +130,13 @@ pub(crate) fn change(held: &mut HeldKeys, store: &mut Contents, key: &Key) -> Re
         Some(one) => one.change(store, key),
         None => unreachable!(),
     }
+}
+
+/// Whether the loader was asked for a key by a call, and hasn't answered.
+pub(crate) fn waits_for_load(held: &HeldKeys, call: u64, key: &Key) -> bool
+    ensures { result ≡ passes_in waits_for_load (parts_of held.now) call key.now }
+{
+    held_by(held, call, key).is_some_and(|one| one.waits_for_load())
 }
 
 /// Whether the writer was asked for a key by a call, and hasn't returned.

@@ -60,11 +60,8 @@ pub(crate) fn list_joins(
     ensures { IfOk result (λ list. map.from_entries list.items ≡ joins_of joins.now) }
 {
     let mut list = Vec::new(alloc);
-    for place in 0..joins.len() {
-        match joins.get_index(place) {
-            Some((at, join)) => list.push((*at, JoinedLoad::new(join)))?,
-            None => unreachable!(),
-        }
+    for (at, join) in joins.iter() {
+        list.push((*at, JoinedLoad::new(join)))?;
     }
     Ok(list)
 }

@@ -6,8 +6,8 @@
 //! - The order over all stripes is kept as turns, a byte an event; `order` merges the histories.
 //! - A call is what it still has to do: its open keys; calls of many keys are kept so, and std's `lookup` and `set_value` are its
 //!   definition.
-//! - `writer_batch` is one definition, all keys for every kind of call but `invokeAll`. A first phase can keep a change from fitting, so
-//!   `lets_keys_go_together` leaves out lists with both.
+//! - `writer_batch` is one definition, all keys for every kind of call but `invokeAll`. There the processor of one key can keep the
+//!   change of another from fitting, so `lets_keys_go_together` speaks of changes apart.
 //! - A call that takes the keys that are cached looks at each stripe by an event of its own; a key gone since is still started.
 //! - An entry processor's event brings all that the processor does. A report speaks for all keys of its call; changes are events of their
 //!   own.

@@ -1,14 +1,12 @@
 //! The machine below a world: what each kind of event does.
-ghost use Rattle.std.specs.Prelude.{find, option_map, option_copied, ◌≡◌, true, false, Ok, IfOk, OnErr, OnOk, Option, None, Some};
-ghost use Rattle.std.specs.FinMap as map;
+ghost use Rattle.std.specs.Prelude.{◌≡◌, true, false, Ok, IfOk, OnErr, OnOk, Option, None, Some};
 ghost use Rattle.jc_types.specs.Limits.{check};
 ghost use Rattle.jc_model.specs.Cache.{entry_at};
 ghost use Rattle.jc_world.specs.declared.event.WorldEvent.TheVariants as event;
-ghost use Rattle.jc_world.specs.World.{start, is_busy, is_idle, open_call, part_of, is_joined, with_stored};
-ghost use Rattle.jc_world.specs.Fits.{fits, is_new};
+ghost use Rattle.jc_world.specs.World.{start, with_stored};
+ghost use Rattle.jc_world.specs.Fits.{fits};
 ghost use Rattle.jc_world.specs.Events.{Happens, Step, not_over};
 ghost use Rattle.jc_world.specs.declared.event.Outcome.TheVariants as outcome;
-ghost use Rattle.jc_world.specs.Calls.{is_of_session};
 ghost use Rattle.jc_world.specs.Sound.{IsSoundWorld};
 
 mod answering;
@@ -18,20 +16,15 @@ mod looking;
 mod processing;
 mod reopening;
 
-use crate::calls::{
-    begin, call_by, drop_call, fault_in, find_call, has_call, is_above, refuse, settle,
-};
+use crate::calls::{begin, drop_call, fault_in, find_call, refuse, settle};
 use crate::command::Command;
 use crate::ending::{end_all, pick_all};
-use crate::event::{JoinAnswer, Outcome, Part, Premises, Shown, WorldEvent, show, show_end};
-use crate::held::HeldKey;
-use crate::held_keys::{HeldKeys, held_at, held_by, hold, list_parts, make_room, take};
-use crate::joined::{
-    JoinedLoad, Joins, has_joined, list_joins, make_join_room, put_join, take_join,
-};
+use crate::event::{JoinAnswer, Outcome, Premises, Shown, WorldEvent, show, show_end};
+use crate::held_keys::{HeldKeys, hold, make_room, take};
+use crate::joined::{Joins, make_join_room, put_join, take_join};
 use crate::open_call::OpenCall;
 use crate::stripes::{Stripes, shown_of};
-use jc_model::{Contents, Event, Reply};
+use jc_model::{Contents, Reply};
 use jc_stripe::{Picked, Started};
 use jc_types::{Caller, Config, Key, Value, stripe_of};
 use std::alloc::{AllocError, Global};
@@ -40,15 +33,15 @@ use std::marker::Model;
 /// Stripes, a store, and the calls under way.
 pub(crate) struct Machine {
     alloc: Global,
-    config: Config,
-    stripes: Stripes,
-    store: Contents,
-    last: Option<u64>,
-    calls: Vec<OpenCall>,
-    held: HeldKeys,
-    joins: Joins,
-    premises: Premises,
-    is_fresh: bool,
+    pub(crate) config: Config,
+    pub(crate) stripes: Stripes,
+    pub(crate) store: Contents,
+    pub(crate) last: Option<u64>,
+    pub(crate) calls: Vec<OpenCall>,
+    pub(crate) held: HeldKeys,
+    pub(crate) joins: Joins,
+    pub(crate) premises: Premises,
+    pub(crate) is_fresh: bool,
 }
 
 impl Model for Machine {
@@ -110,147 +103,11 @@ impl Machine {
         self.is_fresh = true;
     }
 
-    /// Whether no call has begun, nobody else has written the store, and nobody has opened the cache again.
-    pub(crate) fn is_fresh(&self) -> bool
-        ensures { result ≡ self.now.is_fresh }
-    {
-        self.is_fresh
-    }
-
-    /// Whether a call's number is above that of every call so far.
-    pub(crate) fn is_new(&self, call: u64) -> bool
-        ensures { result ≡ is_new self.now.last call }
-    {
-        is_above(self.last, call)
-    }
-
-    /// How many stripes there are.
-    pub(crate) fn stripes(&self) -> usize
-        ensures { result ≡ self.now.config.stripes }
-    {
-        self.config.stripes
-    }
-
-    /// The highest number of a call so far.
-    pub(crate) fn last(&self) -> Option<u64>
-        ensures { result ≡ self.now.last }
-    {
-        self.last
-    }
-
-    /// The number of the call that a session has under way.
-    pub(crate) fn call_of(&self, session: u32) -> Option<u64>
-        ensures { result ≡ option_map (λ u. u.caller.call) (find (is_of_session session) self.now.calls) }
-    {
-        match call_by(&self.calls, session) {
-            Some(u) => Some(u.caller().call),
-            None => None,
-        }
-    }
-
-    /// The shape of the cache.
-    pub(crate) fn config(&self) -> &Config
-        ensures { result.now ≡ self.now.config }
-    {
-        &self.config
-    }
-
-    /// The calls under way.
-    pub(crate) fn calls(&self) -> &[OpenCall]
-        ensures { result.now ≡ self.now.calls }
-    {
-        &self.calls
-    }
-
-    /// What has held since the last opening.
-    pub(crate) fn premises(&self) -> Premises
-        ensures { result ≡ self.now.premises }
-    {
-        self.premises
-    }
-
-    /// What the store holds, in the byte order of the keys.
-    pub(crate) fn stored_entries(&self, alloc: Global) -> Result<Vec<(Key, Value)>, AllocError>
-        ensures { IfOk result (λ entries. entries.items ≡ map.entries self.now.store) }
-    {
-        self.store.entries(alloc)
-    }
-
-    /// What was asked and answered for the reserved keys.
-    pub(crate) fn parts(&self, alloc: Global) -> Result<Vec<(Key, Part)>, AllocError>
-        ensures { IfOk result (λ parts. map.from_entries parts.items ≡ self.now.parts) }
-    {
-        list_parts(alloc, &self.held)
-    }
-
-    /// The joins.
-    pub(crate) fn joins(&self, alloc: Global) -> Result<Vec<((u64, Key), JoinedLoad)>, AllocError>
-        ensures { IfOk result (λ joins. map.from_entries joins.items ≡ self.now.joins) }
-    {
-        list_joins(alloc, &self.joins)
-    }
-
-    /// The stripes.
-    pub(crate) fn stripe_list(&self) -> &[jc_stripe::Stripe]
-        ensures { result.now ≡ self.now.stripes }
-    {
-        self.stripes.items()
-    }
-
-    /// Whether a session has a call under way.
-    pub(crate) fn is_busy(&self, session: u32) -> bool
-        ensures { result ≡ is_busy self.now session }
-    {
-        has_call(&self.calls, session)
-    }
-
-    /// Whether no call is under way.
-    pub(crate) fn is_idle(&self) -> bool
-        ensures { result ≡ is_idle self.now }
-    {
-        self.calls.is_empty()
-    }
-
-    /// The call, if it is under way.
-    pub(crate) fn open_call(&self, call: u64) -> Option<&OpenCall>
-        ensures { option_copied result ≡ open_call self.now call }
-    {
-        find_call(&self.calls, call)
-    }
-
-    /// What is held of a key.
-    fn reserved(&self, key: &Key) -> Option<&HeldKey>
-        ensures { option_copied result ≡ map.get self.now.parts key.now }
-    {
-        held_at(&self.held, key)
-    }
-
-    /// What a call holds of a key.
-    pub(crate) fn held_by(&self, call: u64, key: &Key) -> Option<&HeldKey>
-        ensures { option_copied result ≡ part_of self.now call key.now }
-    {
-        held_by(&self.held, call, key)
-    }
-
-    /// Whether a call has joined a load of a key, and hasn't its answer.
-    pub(crate) fn is_joined(&self, call: u64, key: &Key) -> bool
-        ensures { result ≡ is_joined self.now call key.now }
-    {
-        has_joined(&self.joins, call, key)
-    }
-
     /// What the store holds.
     fn stored(&self, key: &Key) -> Option<Value>
         ensures { result ≡ entry_at self.now.store key.now }
     {
         self.store.get(key).copied()
-    }
-
-    /// The order of all events.
-    pub(crate) fn order(&self, alloc: Global) -> Result<Vec<Event>, AllocError>
-        ensures { IfOk result (λ order. order.items ≡ self.now.order) }
-    {
-        self.stripes.order(alloc)
     }
 
     /// Gives the store a value.

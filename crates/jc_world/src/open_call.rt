@@ -20,7 +20,7 @@ use crate::joined::Joins;
 use crate::reports::{ReportedKey, WriterBatch};
 use crate::sweep::Sweep;
 use crate::tasks::{
-    Tasks, are_free, are_open, is_free_at, names_each_once, none_asked, none_waits, op_among,
+    Tasks, are_free, are_open, is_free_at, names_each_once, one_asked, one_waits, op_among,
     push_each, push_reported, push_task, push_tasks, put_if_open, put_one, put_open_among,
     settle_at, take_keys, tasks_for,
 };
@@ -41,13 +41,13 @@ pub struct OpenCall {
 
 impl Model for OpenCall {
     ghost use Rattle.jc_world.specs.Calls.{CallState};
-    ghost use Rattle.jc_world.specs.OpenCalls.{tasks_of, IsFirstKept, IsSwept};
+    ghost use Rattle.jc_world.specs.OpenCalls.{tasks_of, IsCountKept, IsSwept};
 
     ghost Value = { CallState };
 
     ghost view = { λ u. record { caller = u.caller; kind = u.kind; tasks = tasks_of u.tasks; sweep = u.sweep; cause = u.cause } };
 
-    ghost invariant = { λ u. IsFirstKept u.tasks × IsSwept u.sweep u.tasks };
+    ghost invariant = { λ u. IsCountKept u.tasks × IsSwept u.sweep u.tasks };
 }
 
 impl OpenCall {
@@ -119,7 +119,7 @@ impl OpenCall {
         names_each_once(&self.tasks);
         match &self.tasks {
             Tasks::One { key, op } => put_if_open(key, op, keys),
-            Tasks::Many { ops, first: _ } => put_open_among(ops, keys),
+            Tasks::Many { ops, count: _ } => put_open_among(ops, keys),
         }
     }
 
@@ -157,7 +157,7 @@ impl OpenCall {
     {
         match &self.tasks {
             Tasks::One { key, op } => push_task(key, op, out),
-            Tasks::Many { ops, first: _ } => push_tasks(ops, out),
+            Tasks::Many { ops, count: _ } => push_tasks(ops, out),
         }
     }
 
@@ -185,7 +185,7 @@ impl OpenCall {
     {
         match &self.tasks {
             Tasks::One { key: own, op } => { if *key == *own { op.as_ref() } else { None } }
-            Tasks::Many { ops, first: _ } => op_among(ops, key),
+            Tasks::Many { ops, count: _ } => op_among(ops, key),
         }
     }
 
@@ -201,7 +201,7 @@ impl OpenCall {
                 op: Some(op),
             } => op,
             Tasks::One { key: _, op: None } => unreachable!(),
-            Tasks::Many { ops, first: _ } => match op_among(ops, key) {
+            Tasks::Many { ops, count: _ } => match op_among(ops, key) {
                 Some(op) => op,
                 None => unreachable!(),
             },
@@ -215,7 +215,7 @@ impl OpenCall {
     {
         match &self.tasks {
             Tasks::One { key, op } => op.is_none() || is_free_at(call, key, held, joins),
-            Tasks::Many { ops, first: _ } => are_free(call, ops, held, joins),
+            Tasks::Many { ops, count: _ } => are_free(call, ops, held, joins),
         }
     }
 
@@ -225,7 +225,7 @@ impl OpenCall {
     {
         match &self.tasks {
             Tasks::One { key, op } => op.is_some() && waits_for_process(held, call, key),
-            Tasks::Many { ops, first: _ } => !none_waits(call, ops, held),
+            Tasks::Many { ops, count: _ } => one_waits(call, ops, held),
         }
     }
 
@@ -236,7 +236,7 @@ impl OpenCall {
     {
         match &self.tasks {
             Tasks::One { key, op } => op.is_some() && is_asked(held, call, key, batch),
-            Tasks::Many { ops, first: _ } => !none_asked(call, ops, held, batch),
+            Tasks::Many { ops, count: _ } => one_asked(call, ops, held, batch),
         }
     }
 
@@ -290,7 +290,7 @@ impl OpenCall {
             Tasks::One { key, op } => {
                 push_reported(&mut reported, call, key, op, held, batch)?;
             }
-            Tasks::Many { ops, first: _ } => push_each(&mut reported, call, ops, held, batch)?,
+            Tasks::Many { ops, count: _ } => push_each(&mut reported, call, ops, held, batch)?,
         }
         Ok(reported)
     }

@@ -1,6 +1,5 @@
 //! What loaders and writers say, and whether they are honest.
-ghost use Rattle.std.specs.Prelude.{◌≡◌, ◌&&◌};
-ghost use Rattle.std.specs.Bool.{beq};
+ghost use Rattle.std.specs.Prelude.{◌≡◌};
 ghost use Rattle.jc_world.specs.Premises.{read_answer, changed_to, report_of, is_true_load, is_done, is_true_report};
 
 use jc_model::{Change, LoadAnswer, WriteAnswer};
@@ -40,12 +39,6 @@ pub(crate) fn report_with(fault: Option<u32>) -> WriteAnswer
     }
 }
 
-fn are_alike(was: bool, said: bool) -> bool
-    ensures { result ≡ beq was said }
-{
-    if was { said } else { !said }
-}
-
 /// Whether a report says that the writer did as it was asked.
 fn is_done(report: &WriteAnswer) -> bool
     ensures { result ≡ is_done report.now }
@@ -60,7 +53,7 @@ fn is_done(report: &WriteAnswer) -> bool
 pub(crate) fn is_honest_report(report: &WriteAnswer, is_changed: bool) -> bool
     ensures { result ≡ is_true_report report.now is_changed }
 {
-    are_alike(is_changed, is_done(report))
+    is_changed == is_done(report)
 }
 
 /// What the store holds at a key once the writer did as it was asked.
@@ -71,11 +64,4 @@ pub(crate) fn entry_after(change: &Change) -> Option<Value>
         Change::Write(value) => Some(*value),
         Change::Delete => None,
     }
-}
-
-/// Whether a premise still holds: it held so far, and holds now.
-pub(crate) fn and_now(former: bool, now: bool) -> bool
-    ensures { result ≡ (former && now) }
-{
-    former && now
 }

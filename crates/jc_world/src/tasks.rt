@@ -1,12 +1,12 @@
 //! What a call does at its keys, and which of them are open.
-ghost use Rattle.std.specs.Prelude.{◌≡◌, ◌==◌, ◌+◌, ◌≤◌, ◌<◌, ◌++◌, ◌∷◌, [], not, true, Some, None, is_some, drop, length, option_copied};
+ghost use Rattle.std.specs.Prelude.{◌≡◌, ◌==◌, ◌&&◌, ◌||◌, ◌+◌, ◌≤◌, ◌<◌, ◌++◌, ◌∷◌, [], true, Some, None, is_some, is_none, length, option_copied};
 ghost use Rattle.std.specs.Prelude.{slice_get, OnErr, OnOk, IfOk};
 ghost use Rattle.std.specs.List.{list_all, list_any, IsDistinct};
 ghost use Rattle.std.specs.Map.{keys_of, lookup, set_value};
 ghost use Rattle.std.specs.Cmp.Lexicographic.{pointwise};
 ghost use Rattle.jc_world.specs.Calls.{at_each, put_each_of, tasks, op_in, is_open, open_in, sweep_of};
 ghost use Rattle.jc_world.specs.declared.tasks.Tasks.TheVariants.{One};
-ghost use Rattle.jc_world.specs.OpenCalls.{tasks_of, first_open, are_new, IsFirstKept, IsMany, IsSwept};
+ghost use Rattle.jc_world.specs.OpenCalls.{tasks_of, are_new, IsCountKept, IsMany, IsSwept};
 ghost use Rattle.indexmap.specs.IndexMap.{spare};
 ghost use Rattle.jc_world.specs.World.{is_free_of, waits_for_process};
 ghost use Rattle.jc_world.specs.Fits.{passes_in, is_in_batch};
@@ -30,10 +30,10 @@ pub(crate) enum Tasks {
         key: Key,
         op: Option<Op>,
     },
-    /// At each of many keys, with the place of the first one that is open: their number, if none is.
+    /// At each of many keys, with how many of them are open.
     Many {
         ops: IndexMap<Key, Option<Op>>,
-        first: usize,
+        count: usize,
     },
 }
 
@@ -70,7 +70,7 @@ pub(crate) fn put_one(tasks: &mut Tasks, key: &Key, op: &Op)
 /// What a command does, at keys that are all open.
 pub(crate) fn tasks_for(alloc: Global, command: &Command) -> Result<Tasks, AllocError>
     ensures tasks { IfOk result (λ t. tasks_of t ≡ tasks command.now) }
-    ensures placed { IfOk result (λ t. IsFirstKept t) }
+    ensures counted { IfOk result (λ t. IsCountKept t) }
     ensures swept { IfOk result (λ t. IsSwept (sweep_of command.now) t) }
 {
     match command {
@@ -83,7 +83,7 @@ pub(crate) fn tasks_for(alloc: Global, command: &Command) -> Result<Tasks, Alloc
         Command::RemoveAll { keys } => at_each(alloc, keys, &Op::Remove),
         Command::RemoveEvery | Command::Clear => Ok(Tasks::Many {
             ops: IndexMap::new(alloc),
-            first: 0,
+            count: 0,
         }),
         Command::LoadAll { replace, keys } => {
             at_each(alloc, keys, &Op::LoadAll { replace: *replace })
@@ -95,11 +95,12 @@ pub(crate) fn tasks_for(alloc: Global, command: &Command) -> Result<Tasks, Alloc
 /// One operation at each of some keys.
 fn at_each(alloc: Global, keys: &IndexSet<Key>, op: &Op) -> Result<Tasks, AllocError>
     ensures tasks { IfOk result (λ t. tasks_of t ≡ at_each op.now keys.now.keys) }
-    ensures placed { IfOk result (λ t. IsFirstKept t) }
+    ensures counted { IfOk result (λ t. IsCountKept t) }
 {
     let mut ops = IndexMap::with_capacity(alloc, keys.len())?;
     put_each(&mut ops, keys.as_slice(), op)?;
-    Ok(Tasks::Many { ops, first: 0 })
+    let count = ops.len();
+    Ok(Tasks::Many { ops, count })
 }
 
 fn put_each(ops: &mut IndexMap<Key, Option<Op>>, keys: &[Key], op: &Op) -> Result<(), AllocError>
@@ -116,11 +117,12 @@ fn put_each(ops: &mut IndexMap<Key, Option<Op>>, keys: &[Key], op: &Op) -> Resul
 /// A `Put` of each of some entries.
 fn puts(alloc: Global, entries: &IndexMap<Key, Value>) -> Result<Tasks, AllocError>
     ensures tasks { IfOk result (λ t. tasks_of t ≡ put_each_of entries.now.entries) }
-    ensures placed { IfOk result (λ t. IsFirstKept t) }
+    ensures counted { IfOk result (λ t. IsCountKept t) }
 {
     let mut ops = IndexMap::with_capacity(alloc, entries.len())?;
     put_values(&mut ops, entries)?;
-    Ok(Tasks::Many { ops, first: 0 })
+    let count = ops.len();
+    Ok(Tasks::Many { ops, count })
 }
 
 fn put_values(
@@ -147,7 +149,7 @@ pub(crate) fn names_each_once(tasks: &Tasks)
 {
     match tasks {
         Tasks::One { key: _, op: _ } => {}
-        Tasks::Many { ops, first: _ } => {
+        Tasks::Many { ops, count: _ } => {
             let _ = ops.len();
         }
     }
@@ -167,6 +169,7 @@ pub(crate) fn put_if_open(key: &Key, op: &Option<Op>, keys: &mut Vec<Key>) -> Re
 }
 
 /// The keys that are open.
+#[tactic(auto, using(crate::proofs::TaskLists::open_distinct))]
 pub(crate) fn put_open_among(
     ops: &IndexMap<Key, Option<Op>>,
     keys: &mut Vec<Key>,
@@ -174,14 +177,9 @@ pub(crate) fn put_open_among(
     ensures keys { OnOk result (keys.new.items ≡ keys.old.items ++ open_in ops.now.entries) }
     ensures distinct { IsDistinct (pointwise ◌==◌) (open_in ops.now.entries) }
 {
-    for place in 0..ops.len() {
-        match ops.get_index(place) {
-            Some((key, op)) => {
-                if op.is_some() {
-                    keys.push(*key)?;
-                }
-            }
-            None => unreachable!(),
+    for (key, op) in ops.iter() {
+        if op.is_some() {
+            keys.push(*key)?;
         }
     }
     Ok(())
@@ -206,11 +204,8 @@ pub(crate) fn push_tasks(
 ) -> Result<(), AllocError>
     ensures { OnOk result (out.new.items ≡ out.old.items ++ ops.now.entries) }
 {
-    for place in 0..ops.len() {
-        match ops.get_index(place) {
-            Some((key, op)) => push_task(key, op, out)?,
-            None => unreachable!(),
-        }
+    for (key, op) in ops.iter() {
+        push_task(key, op, out)?;
     }
     Ok(())
 }
@@ -246,61 +241,31 @@ pub(crate) fn are_free(
     held: &HeldKeys,
     joins: &Joins,
 ) -> bool
-    ensures { result ≡
-        list_all (is_free_of (parts_of held.now) (joins_of joins.now) call) (open_in ops.now.entries) }
+    ensures { result ≡ list_all
+        (λ task. is_none task.1 || is_free_of (parts_of held.now) (joins_of joins.now) call task.0) ops.now.entries }
 {
-    for place in 0..ops.len() {
-        match ops.get_index(place) {
-            Some((key, op)) => {
-                if op.is_some() && !is_free_at(call, key, held, joins) {
-                    return false;
-                }
-            }
-            None => unreachable!(),
-        }
-    }
-    true
+    ops.iter().all(|(key, op)| op.is_none() || is_free_at(call, key, held, joins))
 }
 
-/// Whether no open key waits for its processor.
-pub(crate) fn none_waits(call: u64, ops: &IndexMap<Key, Option<Op>>, held: &HeldKeys) -> bool
-    ensures { result ≡ list_all (λ key. not (passes_in waits_for_process (parts_of held.now) call key))
-        (open_in ops.now.entries) }
+/// Whether one of these keys is open and waits for its processor.
+pub(crate) fn one_waits(call: u64, ops: &IndexMap<Key, Option<Op>>, held: &HeldKeys) -> bool
+    ensures { result ≡ list_any
+        (λ task. is_some task.1 && passes_in waits_for_process (parts_of held.now) call task.0) ops.now.entries }
 {
-    for place in 0..ops.len() {
-        match ops.get_index(place) {
-            Some((key, op)) => {
-                if op.is_some() && waits_for_process(held, call, key) {
-                    return false;
-                }
-            }
-            None => unreachable!(),
-        }
-    }
-    true
+    ops.iter().any(|(key, op)| op.is_some() && waits_for_process(held, call, key))
 }
 
-/// Whether no open key is among those for which the writer is asked at once.
-pub(crate) fn none_asked(
+/// Whether one of these keys is open and among those for which the writer is asked at once.
+pub(crate) fn one_asked(
     call: u64,
     ops: &IndexMap<Key, Option<Op>>,
     held: &HeldKeys,
     batch: WriterBatch,
 ) -> bool
-    ensures { result ≡ list_all (λ key. not (passes_in (is_in_batch batch) (parts_of held.now) call key))
-        (open_in ops.now.entries) }
+    ensures { result ≡ list_any
+        (λ task. is_some task.1 && passes_in (is_in_batch batch) (parts_of held.now) call task.0) ops.now.entries }
 {
-    for place in 0..ops.len() {
-        match ops.get_index(place) {
-            Some((key, op)) => {
-                if op.is_some() && is_asked(held, call, key, batch) {
-                    return false;
-                }
-            }
-            None => unreachable!(),
-        }
-    }
-    true
+    ops.iter().any(|(key, op)| op.is_some() && is_asked(held, call, key, batch))
 }
 
 /// Appends what a return of the writer shows of a key, if the key is open and the writer returns for it.
@@ -335,32 +300,30 @@ pub(crate) fn push_each(
     ensures { OnOk result (reported.new.items ≡ reported.old.items
         ++ reported_keys batch (parts_of held.now) call (open_in ops.now.entries)) }
 {
-    for place in 0..ops.len() {
-        match ops.get_index(place) {
-            Some((key, op)) => push_reported(reported, call, key, op, held, batch)?,
-            None => unreachable!(),
-        }
+    for (key, op) in ops.iter() {
+        push_reported(reported, call, key, op, held, batch)?;
     }
     Ok(())
 }
 
 /// Adds an operation at each of some new keys.
-#[tactic(auto, using(crate::proofs::Found::first_found))]
 pub(crate) fn take_keys(tasks: &mut Tasks, keys: &[Key], op: &Op) -> Result<(), AllocError>
-    requires placed { IsFirstKept tasks.old }
+    requires counted { IsCountKept tasks.old }
     requires many { IsMany tasks.old }
     requires new { are_new (tasks_of tasks.old) keys.now ≡ true }
     requires distinct { IsDistinct (pointwise ◌==◌) keys.now }
     ensures ok { OnOk result (tasks_of tasks.new ≡ tasks_of tasks.old ++ at_each op.now keys.now) }
     ensures err { OnErr result (tasks_of tasks.new ≡ tasks_of tasks.old) }
-    ensures placed { IsFirstKept tasks.new }
+    ensures counted { IsCountKept tasks.new }
     ensures many { IsMany tasks.new }
 {
     match tasks {
         Tasks::One { key: _, op: _ } => unreachable!(),
-        Tasks::Many { ops, first: _ } => {
+        Tasks::Many { ops, count } => {
             ops.reserve(keys.len())?;
+            let before = ops.len();
             add_each(ops, keys, op);
+            *count += ops.len() - before;
             Ok(())
         }
     }
@@ -393,9 +356,9 @@ fn add_one(ops: &mut IndexMap<Key, Option<Op>>, key: &Key, op: &Op)
 
 /// A key is settled.
 pub(crate) fn settle_at(tasks: &mut Tasks, key: &Key)
-    requires placed { IsFirstKept tasks.old }
+    requires counted { IsCountKept tasks.old }
     ensures tasks { tasks_of tasks.new ≡ set_value (pointwise ◌==◌ key.now) (tasks_of tasks.old) None }
-    ensures placed { IsFirstKept tasks.new }
+    ensures counted { IsCountKept tasks.new }
     ensures many { IsMany tasks.old → IsMany tasks.new }
 {
     match tasks {
@@ -404,49 +367,31 @@ pub(crate) fn settle_at(tasks: &mut Tasks, key: &Key)
                 *op = None;
             }
         }
-        Tasks::Many { ops, first } => settle_among(ops, first, key),
+        Tasks::Many { ops, count } => settle_among(ops, count, key),
     }
 }
 
-fn settle_among(ops: &mut IndexMap<Key, Option<Op>>, first: &mut usize, key: &Key)
-    requires placed { first.old ≡ first_open ops.old.entries }
+fn settle_among(ops: &mut IndexMap<Key, Option<Op>>, count: &mut usize, key: &Key)
+    requires counted { count.old ≡ length (open_in ops.old.entries) }
     ensures ops { ops.new.entries ≡ set_value (pointwise ◌==◌ key.now) ops.old.entries None }
-    ensures placed { first.new ≡ first_open ops.new.entries }
+    ensures counted { count.new ≡ length (open_in ops.new.entries) }
 {
     if !is_open_among(ops, key) {
         return;
     }
     match ops.insert(*key, None) {
-        Ok(_op) => *first = first_from(ops, *first),
+        Ok(_op) => *count -= 1,
         Err(_failed) => unreachable!(),
     }
 }
 
-/// The place of the first key that is open, from a place on: the number of keys, if none is.
-fn first_from(ops: &IndexMap<Key, Option<Op>>, from: usize) -> usize
-    requires { from ≤ length ops.now.entries }
-    ensures { result ≡ from + first_open (drop from ops.now.entries) }
-{
-    for place in from..ops.len() {
-        match ops.get_index(place) {
-            Some((_key, op)) => {
-                if op.is_some() {
-                    return place;
-                }
-            }
-            None => unreachable!(),
-        }
-    }
-    ops.len()
-}
-
 /// Whether a key is open.
 pub(crate) fn are_open(tasks: &Tasks) -> bool
-    requires { IsFirstKept tasks.now }
+    requires { IsCountKept tasks.now }
     ensures { result ≡ list_any is_open (tasks_of tasks.now) }
 {
     match tasks {
         Tasks::One { key: _, op } => op.is_some(),
-        Tasks::Many { ops, first } => *first != ops.len(),
+        Tasks::Many { ops: _, count } => *count != 0,
     }
 }

@@ -14,8 +14,10 @@ ghost use Rattle.jc_world.specs.Audit.{IsOrder, HasShares, IsAudit};
 ghost use Rattle.jc_world.specs.Sound.{HaveNoneEnded};
 
 use crate::audit::Audit;
+use crate::calls::{call_by, find_call, has_call, is_above};
 use crate::event::{Part, Premises, Shown, WorldEvent, nothing_shown};
-use crate::joined::JoinedLoad;
+use crate::held_keys::{held_by, list_parts, waits_for_load, waits_for_process, waits_for_report};
+use crate::joined::{JoinedLoad, has_joined, list_joins};
 use crate::machine::Machine;
 use crate::open_call::OpenCall;
 use jc_model::Event;
@@ -122,77 +124,80 @@ impl World {
         ensures legal { IsOrder self.now.world }
         ensures parts { HasShares self.now.world }
     {
-        self.machine.order(alloc)
+        self.machine.stripes.order(alloc)
     }
 
     /// Whether no call has begun, nobody else has written the store, and nobody has opened the cache again.
     pub fn is_fresh(&self) -> bool
         ensures { result ≡ self.now.world.is_fresh }
     {
-        self.machine.is_fresh()
+        self.machine.is_fresh
     }
 
     /// Whether a call's number is above that of every call so far.
     pub fn is_new(&self, call: u64) -> bool
         ensures { result ≡ is_new self.now.world.last call }
     {
-        self.machine.is_new(call)
+        is_above(self.machine.last, call)
     }
 
     /// How many stripes the cache has.
     pub fn stripes(&self) -> usize
         ensures { result ≡ self.now.world.config.stripes }
     {
-        self.machine.stripes()
+        self.machine.config.stripes
     }
 
     /// Whether a session has a call under way.
     pub fn is_busy(&self, session: u32) -> bool
         ensures { result ≡ is_busy self.now.world session }
     {
-        self.machine.is_busy(session)
+        has_call(&self.machine.calls, session)
     }
 
     /// The highest number of a call so far.
     pub fn last(&self) -> Option<u64>
         ensures { result ≡ self.now.world.last }
     {
-        self.machine.last()
+        self.machine.last
     }
 
     /// The number of the call that a session has under way.
     pub fn call_of(&self, session: u32) -> Option<u64>
         ensures { result ≡ option_map (λ u. u.caller.call) (find (is_of_session session) self.now.world.calls) }
     {
-        self.machine.call_of(session)
+        match call_by(&self.machine.calls, session) {
+            Some(u) => Some(u.caller().call),
+            None => None,
+        }
     }
 
     /// The shape of the cache.
     pub fn config(&self) -> &Config
         ensures { result.now ≡ self.now.world.config }
     {
-        self.machine.config()
+        &self.machine.config
     }
 
     /// The calls under way, in the order in which they began.
     pub fn calls(&self) -> &[OpenCall]
         ensures { result.now ≡ self.now.world.calls }
     {
-        self.machine.calls()
+        &self.machine.calls
     }
 
     /// What has held, since the world was opened last, of loaders, writers and other programs, and of that opening.
     pub fn premises(&self) -> Premises
         ensures { result ≡ self.now.world.premises }
     {
-        self.machine.premises()
+        self.machine.premises
     }
 
     /// What the store holds, in the byte order of the keys. An `Err` says that an allocation failed.
     pub fn stored_entries(&self, alloc: Global) -> Result<Vec<(Key, Value)>, AllocError>
         ensures { IfOk result (λ entries. entries.items ≡ map.entries self.now.world.store) }
     {
-        self.machine.stored_entries(alloc)
+        self.machine.store.entries(alloc)
     }
 
     /// Each reserved key, with what its call has asked and heard for it, in no particular order. An `Err` says that an allocation
@@ -200,7 +205,7 @@ impl World {
     pub fn parts(&self, alloc: Global) -> Result<Vec<(Key, Part)>, AllocError>
         ensures { IfOk result (λ parts. map.from_entries parts.items ≡ self.now.world.parts) }
     {
-        self.machine.parts(alloc)
+        list_parts(alloc, &self.machine.held)
     }
 
     /// The joins of calls that haven't the answer yet, each by its call's number and its key, in no particular order. An `Err` says
@@ -208,7 +213,7 @@ impl World {
     pub fn joins(&self, alloc: Global) -> Result<Vec<((u64, Key), JoinedLoad)>, AllocError>
         ensures { IfOk result (λ joins. map.from_entries joins.items ≡ self.now.world.joins) }
     {
-        self.machine.joins(alloc)
+        list_joins(alloc, &self.machine.joins)
     }
 
     /// The stripes. None of them has ended a generation.
@@ -216,28 +221,28 @@ impl World {
         ensures stripes { result.now ≡ self.now.world.stripes }
         ensures ended { HaveNoneEnded self.now.world.stripes }
     {
-        self.machine.stripe_list()
+        self.machine.stripes.items()
     }
 
     /// Whether no call is under way: then the cache may be opened again.
     pub fn is_idle(&self) -> bool
         ensures { result ≡ is_idle self.now.world }
     {
-        self.machine.is_idle()
+        self.machine.calls.is_empty()
     }
 
     /// The call with this number, if it is under way.
     pub fn open_call(&self, call: u64) -> Option<&OpenCall>
         ensures { option_copied result ≡ open_call self.now.world call }
     {
-        self.machine.open_call(call)
+        find_call(&self.machine.calls, call)
     }
 
     /// What a call has asked and heard for a key that it has reserved.
     pub fn part(&self, call: u64, key: &Key) -> Option<Part>
         ensures { result ≡ part_of self.now.world call key.now }
     {
-        match self.machine.held_by(call, key) {
+        match held_by(&self.machine.held, call, key) {
             Some(held) => Some(held.part()),
             None => None,
         }
@@ -247,28 +252,28 @@ impl World {
     pub fn is_joined(&self, call: u64, key: &Key) -> bool
         ensures { result ≡ is_joined self.now.world call key.now }
     {
-        self.machine.is_joined(call, key)
+        has_joined(&self.machine.joins, call, key)
     }
 
     /// Whether a call has reserved a key.
     pub fn is_reserved(&self, call: u64, key: &Key) -> bool
         ensures { result ≡ is_some (part_of self.now.world call key.now) }
     {
-        self.machine.held_by(call, key).is_some()
+        held_by(&self.machine.held, call, key).is_some()
     }
 
     /// Whether the loader was asked for a key that a call has reserved, and hasn't answered.
     pub fn waits_for_load(&self, call: u64, key: &Key) -> bool
         ensures { result ≡ has_progress waits_for_load (part_of self.now.world call key.now) }
     {
-        self.machine.waits_for_load(call, key)
+        waits_for_load(&self.machine.held, call, key)
     }
 
     /// Whether the writer was asked for a key that a call has reserved, and hasn't returned.
     pub fn waits_for_report(&self, call: u64, key: &Key) -> bool
         ensures { result ≡ has_progress waits_for_report (part_of self.now.world call key.now) }
     {
-        self.machine.waits_for_report(call, key)
+        waits_for_report(&self.machine.held, call, key)
     }
 
     /// Whether the writer is asked for a key of a call now: it was asked for it, hasn't returned, and doesn't answer for other keys of
@@ -283,7 +288,7 @@ impl World {
     pub fn waits_for_process(&self, call: u64, key: &Key) -> bool
         ensures { result ≡ has_progress waits_for_process (part_of self.now.world call key.now) }
     {
-        self.machine.waits_for_process(call, key)
+        waits_for_process(&self.machine.held, call, key)
     }
 
     /// Whether an event fits now. One that doesn't would have the outcome `Unfit`, and change nothing.
@@ -293,11 +298,9 @@ impl World {
         self.machine.fits(event)
     }
 
-    /// Events of one call at keys that differ, each of which fits now, fit one after the other: what happens at one key of a call
-    /// takes nothing from its others. First phases and the writer's changes of the store are not among them together: in an
-    /// `invokeAll` a change doesn't fit once a further key waits for its processor. So does the writer's return after its changes of
-    /// the store, and a call's leaving after the withdrawals of all that it has reserved. This does nothing: what it says is its
-    /// contract.
+    /// Events of one kind and call at keys that differ, each of which fits now, fit one after the other: what happens at one key of a
+    /// call takes nothing from its others. Changes of the store are such a kind only before the writer's return, which then fits after
+    /// them. A call's leaving fits after the withdrawals of all that it has reserved. This does nothing: its contract is the statement.
     pub fn lets_keys_go_together(&self)
         ensures { FitTogether self.now.world }
     {
@@ -307,7 +310,7 @@ impl World {
     }
 
     /// If a call fits, so do its looks at the stripes directly after it, and then it has reserved no key and joined no load. A call
-    /// of one key is then under way, and its first phase fits. This does nothing: what it says is its contract.
+    /// of one key is then under way. This does nothing: its contract is the statement.
     pub fn lets_calls_begin(&self)
         ensures { BeginFits self.now.world }
     {

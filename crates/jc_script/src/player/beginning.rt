@@ -135,6 +135,7 @@ fn begin_single(
     };
     world.lets_calls_begin();
     play_events(world, slice::from_ref(&begin), &mut buffers.shown, out)?;
+    world.lets_keys_go_together();
     let key = operation.key;
     let start = WorldEvent::Start { call, key };
     play_events(world, slice::from_ref(&start), &mut buffers.shown, out)?;

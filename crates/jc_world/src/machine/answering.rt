@@ -9,12 +9,12 @@ ghost use Rattle.jc_world.specs.Premises.{report_for};
 ghost use Rattle.jc_world.specs.Fits.{fits, waits_at};
 ghost use Rattle.jc_world.specs.Events.{after_answer, after_report, reported_at, after_reports, keys_reported, Happens};
 
-use crate::calls::meet;
+use crate::calls::{find_call, meet};
 use crate::command::CallKind;
 use crate::event::{Outcome, Shown, show};
-use crate::held_keys::{change, loader_answers, report};
+use crate::held_keys::{change, loader_answers, report, waits_for_report};
 use crate::machine::Machine;
-use crate::outside::{and_now, answer_of, is_honest_load, is_honest_report};
+use crate::outside::{answer_of, is_honest_load, is_honest_report};
 use crate::read_only::ReadOnlyList;
 use crate::reports::{LeftKeys, Reported, ReportedKey, report_for};
 use jc_model::{LoadAnswer, WriteAnswer};
@@ -33,7 +33,7 @@ impl Machine {
         let kept = answer;
         let honest = is_honest_load(answer, self.stored(key));
         loader_answers(&mut self.held, key, kept);
-        self.premises.loaders = and_now(self.premises.loaders, honest);
+        self.premises.loaders &= honest;
     }
 
     /// The loader reads the store, and returns what it has.
@@ -89,7 +89,7 @@ impl Machine {
         let kept = answer;
         let is_changed = report(&mut self.held, key, answer);
         let honest = is_honest_report(&kept, is_changed);
-        self.premises.writers = and_now(self.premises.writers, honest);
+        self.premises.writers &= honest;
     }
 
     /// The same, if the writer was asked for the key and hasn't returned.
@@ -97,7 +97,7 @@ impl Machine {
         requires { is_write_given answer ≡ true }
         ensures { self.new ≡ reported_at self.old key.now answer (part_of self.old call key.now) }
     {
-        if self.waits_for_report(call, key) {
+        if waits_for_report(&self.held, call, key) {
             self.report(call, key, answer);
         }
     }
@@ -133,7 +133,7 @@ impl Machine {
             Happens self.old (event.Report call left.now fault) seen.new self.new) }
         ensures err { OnErr result (self.new ≡ self.old) }
     {
-        let Some(u) = self.open_call(call) else {
+        let Some(u) = find_call(&self.calls, call) else {
             unreachable!()
         };
         let kind = u.kind();

@@ -1,14 +1,16 @@
 //! What there is to see of a machine.
 ghost use Rattle.std.specs.Prelude.{IsTrue, ◌≡◌, ◌&&◌, [], true, false, Ok, IfOk, Option, None, Some};
 ghost use Rattle.std.specs.FinMap as map;
-ghost use Rattle.jc_model.specs.Table.{holds};
+ghost use Rattle.jc_world.specs.Premises.{is_stored};
 ghost use Rattle.jc_world.specs.World.{has_progress, has_changed};
 ghost use Rattle.jc_world.specs.Sound.{IsSoundWorld};
 ghost use Rattle.jc_world.specs.Coherent.{all_hold, Coherent};
 ghost use Rattle.jc_world.specs.Audit.{differs, differing, IsAudit};
 
 use crate::audit::{Audit, gather};
+use crate::held_keys::held_at;
 use crate::machine::Machine;
+use jc_model::Contents;
 use jc_types::{Key, Value};
 use std::alloc::{AllocError, Global};
 
@@ -52,24 +54,21 @@ impl Machine {
     fn is_differing(&self, entry: &(Key, Value)) -> bool
         ensures { result ≡ differs self.now entry.now }
     {
-        let (key, value) = entry;
-        !is_held(self.stored(key), value) && !self.is_changing(key)
+        !is_stored(&self.store, entry) && !self.is_changing(&entry.0)
     }
 
     /// Whether a writer's change of a key waits for its commit.
     fn is_changing(&self, key: &Key) -> bool
         ensures { result ≡ has_progress has_changed (map.get self.now.parts key.now) }
     {
-        self.reserved(key).is_some_and(|held| held.has_changed())
+        held_at(&self.held, key).is_some_and(|held| held.has_changed())
     }
 }
 
-/// Whether this value is held.
-pub(super) fn is_held(held: Option<Value>, value: &Value) -> bool
-    ensures { result ≡ holds held value.now }
+/// Whether the store has this entry.
+pub(super) fn is_stored(store: &Contents, entry: &(Key, Value)) -> bool
+    ensures { result ≡ is_stored store.now entry.now }
 {
-    match held {
-        Some(held) => held == *value,
-        None => false,
-    }
+    let (key, value) = entry;
+    store.get(key).is_some_and(|held| *held == *value)
 }

@@ -1,16 +1,18 @@
 //! Whether an event fits.
 ghost use Rattle.std.specs.Prelude.{◌≡◌, ◌&&◌, not, true, false, None, Some};
 ghost use Rattle.jc_world.specs.declared.event.WorldEvent.TheVariants as event;
-ghost use Rattle.jc_world.specs.World.{has_progress, is_busy, is_joined, open_call, part_of, waits_for_load, waits_for_process};
+ghost use Rattle.jc_world.specs.World.{is_busy, open_call};
 ghost use Rattle.jc_types.specs.Limits.{is_session};
-ghost use Rattle.jc_world.specs.Fits.{is_playable, is_new, may_start, may_leave, is_free, may_report, waits_at, fits};
+ghost use Rattle.jc_world.specs.Fits.{is_playable, is_new, may_start, may_leave, is_free, may_report, fits};
 ghost use Rattle.jc_world.specs.Fits.{is_asked, is_single, may_look};
 
-use crate::calls::is_playable;
+use crate::calls::{find_call, has_call, is_above, is_playable};
 use crate::command::Command;
 use crate::event::WorldEvent;
-use crate::held_keys::waits_for_report;
+use crate::held_keys::{held_by, waits_for_load, waits_for_process};
+use crate::joined::has_joined;
 use crate::machine::Machine;
+use crate::tasks::is_free_at;
 use jc_types::{Key, is_session};
 
 impl Machine {
@@ -26,9 +28,9 @@ impl Machine {
             } => self.may_call(*call, *session, command),
             WorldEvent::Look { call, stripe } => self.may_look(*call, *stripe),
             WorldEvent::Start { call, key } => self.may_start(*call, key),
-            WorldEvent::Read { call, key } => self.waits_for_load(*call, key),
+            WorldEvent::Read { call, key } => waits_for_load(&self.held, *call, key),
             WorldEvent::Say { call, key, answer } => {
-                answer.is_given() && self.waits_for_load(*call, key)
+                answer.is_given() && waits_for_load(&self.held, *call, key)
             }
             WorldEvent::Change { call, key } => self.is_asked(*call, key),
             WorldEvent::Report {
@@ -36,50 +38,25 @@ impl Machine {
                 left: _,
                 fault: _,
             } => self.may_report(*call),
-            WorldEvent::Process { call, key, .. } => self.waits_for_process(*call, key),
+            WorldEvent::Process { call, key, .. } => waits_for_process(&self.held, *call, key),
             WorldEvent::Commit { call, key } => {
-                self.held_by(*call, key)
-                    .is_some_and(|held| held.is_answered())
+                held_by(&self.held, *call, key).is_some_and(|held| held.is_answered())
             }
             WorldEvent::Withdraw { call, key } => {
-                self.held_by(*call, key)
-                    .is_some_and(|held| held.is_untouched())
+                held_by(&self.held, *call, key).is_some_and(|held| held.is_untouched())
             }
             WorldEvent::Leave { call } => self.may_leave(*call),
-            WorldEvent::PickUp { call, key } => self.is_joined(*call, key),
+            WorldEvent::PickUp { call, key } => has_joined(&self.joins, *call, key),
             WorldEvent::Foreign { key: _, value: _ } => true,
-            WorldEvent::Reopen { config } => self.is_idle() && config.check().is_ok(),
+            WorldEvent::Reopen { config } => self.calls.is_empty() && config.check().is_ok(),
         }
-    }
-
-    /// Whether the loader was asked for a key of the call, and hasn't answered.
-    pub(crate) fn waits_for_load(&self, call: u64, key: &Key) -> bool
-        ensures { result ≡ has_progress waits_for_load (part_of self.now call key.now) }
-    {
-        self.held_by(call, key)
-            .is_some_and(|held| held.waits_for_load())
-    }
-
-    /// Whether the entry processor was asked for a key of the call, and hasn't run.
-    pub(crate) fn waits_for_process(&self, call: u64, key: &Key) -> bool
-        ensures { result ≡ has_progress waits_for_process (part_of self.now call key.now) }
-    {
-        self.held_by(call, key)
-            .is_some_and(|held| held.waits_for_process())
-    }
-
-    /// Whether the writer was asked for a key of the call, and hasn't returned.
-    pub(crate) fn waits_for_report(&self, call: u64, key: &Key) -> bool
-        ensures { result ≡ waits_at self.now call key.now }
-    {
-        waits_for_report(&self.held, call, key)
     }
 
     /// Whether a call has the writer asked for a key now.
     pub(crate) fn is_asked(&self, call: u64, key: &Key) -> bool
         ensures { result ≡ is_asked self.now call key.now }
     {
-        match self.open_call(call) {
+        match find_call(&self.calls, call) {
             Some(u) => u.is_asked(call, key, &self.held),
             None => false,
         }
@@ -89,21 +66,21 @@ impl Machine {
     fn is_free(&self, call: u64, key: &Key) -> bool
         ensures { result ≡ is_free self.now call key.now }
     {
-        self.held_by(call, key).is_none() && !self.is_joined(call, key)
+        is_free_at(call, key, &self.held, &self.joins)
     }
 
     fn may_call(&self, call: u64, session: u32, command: &Command) -> bool
         ensures { result ≡ (is_playable command.now && is_session session
             && is_new self.now.last call && not (is_busy self.now session)) }
     {
-        let busy = self.is_busy(session);
-        is_playable(command) && is_session(session) && self.is_new(call) && !busy
+        let busy = has_call(&self.calls, session);
+        is_playable(command) && is_session(session) && is_above(self.last, call) && !busy
     }
 
     fn may_look(&self, call: u64, stripe: usize) -> bool
         ensures { result ≡ may_look self.now.config.stripes stripe (open_call self.now call) }
     {
-        match self.open_call(call) {
+        match find_call(&self.calls, call) {
             Some(u) => stripe < self.config.stripes && u.is_to_look(stripe),
             None => false,
         }
@@ -112,7 +89,7 @@ impl Machine {
     fn may_start(&self, call: u64, key: &Key) -> bool
         ensures { result ≡ may_start self.now call key.now (open_call self.now call) }
     {
-        match self.open_call(call) {
+        match find_call(&self.calls, call) {
             Some(u) => u.op_at(key).is_some() && self.is_free(call, key),
             None => false,
         }
@@ -121,7 +98,7 @@ impl Machine {
     fn may_leave(&self, call: u64) -> bool
         ensures { result ≡ may_leave self.now call (open_call self.now call) }
     {
-        match self.open_call(call) {
+        match find_call(&self.calls, call) {
             Some(u) => u.is_free(call, &self.held, &self.joins),
             None => false,
         }
@@ -130,7 +107,7 @@ impl Machine {
     fn may_report(&self, call: u64) -> bool
         ensures { result ≡ may_report self.now call (open_call self.now call) }
     {
-        match self.open_call(call) {
+        match find_call(&self.calls, call) {
             Some(u) => u.may_report(call, &self.held),
             None => false,
         }

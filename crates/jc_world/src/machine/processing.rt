@@ -11,7 +11,7 @@ ghost use Rattle.jc_world.specs.Events.{after_process, run_result, shown_process
 use crate::event::{Outcome, Shown, show};
 use crate::held_keys::process;
 use crate::machine::Machine;
-use crate::outside::{and_now, is_honest_load};
+use crate::outside::is_honest_load;
 use crate::process::{EntryCalls, LoadSource, Processed};
 use crate::read_only::ReadOnlyList;
 use jc_model::LoadAnswer;
@@ -69,7 +69,7 @@ impl Machine {
             &mut answers,
         );
         let honest = is_honest_load(ran.load, self.stored(key));
-        self.premises.loaders = and_now(self.premises.loaders, honest);
+        self.premises.loaders &= honest;
         Ok(Processed {
             answers: ReadOnlyList::new(answers),
             load: ran.load,

@@ -11,7 +11,7 @@ ghost use Rattle.jc_world.specs.Sound.{IsSoundWorld};
 
 use crate::event::{Outcome, Premises, Shown, show};
 use crate::machine::Machine;
-use crate::machine::auditing::is_held;
+use crate::machine::auditing::is_stored;
 use crate::read_only::ReadOnlyList;
 use crate::stripes::Stripes;
 use jc_model::Contents;
@@ -73,7 +73,5 @@ fn keys_of(alloc: Global, entries: &[(Key, Value)]) -> Result<Vec<Key>, AllocErr
 fn are_stored(store: &Contents, entries: &[(Key, Value)]) -> bool
     ensures { result ≡ list_all (is_stored store.now) entries.now }
 {
-    entries
-        .iter()
-        .all(|(key, value)| is_held(store.get(key).copied(), value))
+    entries.iter().all(|entry| is_stored(store, entry))
 }

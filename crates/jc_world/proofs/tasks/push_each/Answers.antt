@@ -1,13 +1,17 @@
-use Rattle.jc_world.proofs.Common.{[], ◌∷◌, ◌++◌, take, sym, ap, ◌∙◌, append_assoc, Task, open_in, reported_keys, parts_of}
-use Rattle.jc_world.proofs.Reporting.{reported_more}
+use Rattle.std.proofs.Common.{rules}
+use Rattle.jc_world.proofs.Common.{◌≡◌, ◌∷◌, ◌++◌, [], List, sym, ap, ◌∙◌, append_assoc, Task, open_in, reported_keys, parts_of}
+use Rattle.jc_world.proofs.TaskLists.{reported_next}
 use Rattle.jc_world.proofs.tasks.push_each.Goals as goal
 
-pub loop-place-preserved : goal.loop-place-preserved
-loop-place-preserved c =
+pub loop-key-preserved : goal.loop-key-preserved
+loop-key-preserved c =
     let parts = parts_of c.args.held.now in
-    let entries = c.args.ops.now.entries in
+    let before = c.loop-key.reported.items in
+    let left = c.next.new.self in
     let task : Task = (c.in-Some.key.now, c.in-Some.op.now) in
-    c.in_ok-push_reported-in-Some.ensures
-    ∙ ap (λ xs. xs ++ reported_keys c.args.batch parts c.args.call (open_in (task ∷ []))) c.loop-place.invariant
-    ∙ append_assoc c.args.reported.now.items (reported_keys c.args.batch parts c.args.call (open_in (take c.loop-place.place entries))) (reported_keys c.args.batch parts c.args.call (open_in (task ∷ [])))
-    ∙ ap (λ xs. c.args.reported.now.items ++ xs) (sym (reported_more c.args.batch parts c.args.call entries c.loop-place.place task (sym c.in-Some.ensures.entry)))
+    let steps : c.loop-key.key-iterator ≡ task ∷ left = search rules in
+    ap (λ xs. xs ++ reported_keys c.args.batch parts c.args.call (open_in left)) c.in_ok-push_reported.ensures
+    ∙ append_assoc before (reported_keys c.args.batch parts c.args.call (open_in (task ∷ []))) (reported_keys c.args.batch parts c.args.call (open_in left))
+    ∙ ap (λ xs. before ++ xs) (sym (reported_next c.args.batch parts c.args.call task left))
+    ∙ ap (λ (ts : List Task). before ++ reported_keys c.args.batch parts c.args.call (open_in ts)) (sym steps)
+    ∙ c.loop-key.invariant

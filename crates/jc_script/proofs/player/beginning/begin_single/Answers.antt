@@ -15,7 +15,7 @@ play_events-requires-2 c =
     let opens = c.in_ok-play_events.ensures.1 in
     let these = c.from_ref.ensures.value ∙ ap (λ (command : Command). event.Call c.args.number c.args.session command ∷ []) c.single-command.ensures in
     let runs = subst (λ (events : List WorldEvent). Run w events opens.seen begun) these opens.runs in
-    rw c.from_ref-2.ensures.value (start_fits w begun c.args.number c.args.session operation.op operation.key opens.seen c.lets_calls_begin.ensures c.requires runs)
+    rw c.from_ref-2.ensures.value (start_fits w begun c.args.number c.args.session operation.op operation.key opens.seen c.lets_calls_begin.ensures c.lets_keys_go_together.ensures c.requires runs)
 
 pub returns : goal.returns
 returns c =

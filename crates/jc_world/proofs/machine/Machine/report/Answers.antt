@@ -18,8 +18,8 @@ returns c =
     let part = said.0 in
     let there : part_of v c.args.call key ≡ Some part = of.1 ∙ sym of.2 ∙ said.1 in
     let answer = c.args.answer in
-    let next = world_of (record c.self.inside { held = c.report-is_changed.new.held; premises = record c.self.inside.premises { writers = c.and_now-self-inside.result } }) in
-    let writers : c.and_now-self-inside.result ≡ (c.self.inside.premises.writers && is_true_report answer (has_changed part)) =
-    c.and_now-self-inside.ensures ∙ ap (λ b. c.self.inside.premises.writers && b) (c.is_honest_report-honest.ensures ∙ ap (is_true_report answer) said.2) in
+    let next = world_of (record c.self.inside { held = c.report-is_changed.new.held; premises = record c.self.inside.premises { writers = c.self.inside.premises.writers && c.is_honest_report-honest.result } }) in
+    let writers : (c.self.inside.premises.writers && c.is_honest_report-honest.result) ≡ (c.self.inside.premises.writers && is_true_report answer (has_changed part)) =
+    ap (λ b. c.self.inside.premises.writers && b) (c.is_honest_report-honest.ensures ∙ ap (is_true_report answer) said.2) in
     let is : next ≡ after_report v key part answer = λ i. record v { parts = said.3 i; premises = record c.self.inside.premises { writers = writers i } } in
     (part, sym (ap (λ (x : WorldState). part_of x c.args.call key) c.self.view_is) ∙ there, is ∙ ap (λ (x : WorldState). after_report x key part answer) c.self.view_is)

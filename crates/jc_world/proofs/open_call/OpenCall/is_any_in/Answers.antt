@@ -1,9 +1,9 @@
-use Rattle.jc_world.proofs.Common.{not, sym, ap, ◌∙◌, list_any, Tasks, CallState, open_in, open_keys, parts_of, tasks_of, passes_in, is_in_batch}
-use Rattle.jc_world.proofs.Reporting.{none_any}
+use Rattle.jc_world.proofs.Common.{sym, ap, ◌∙◌, list_any, Tasks, CallState, open_in, open_keys, parts_of, tasks_of, passes_in, is_in_batch}
+use Rattle.jc_world.proofs.TaskLists.{any_among}
 use Rattle.jc_world.proofs.open_call.OpenCall.is_any_in.Goals as goal
 
 pub returns-in-Many : goal.returns-in-Many
 returns-in-Many c =
     let waits = passes_in (is_in_batch c.args.batch) (parts_of c.args.held.now) c.args.call in
-    ap not c.none_asked.ensures ∙ none_any waits (open_in c.in-Many.ops.entries)
+    c.one_asked.ensures ∙ any_among waits c.in-Many.ops.entries
     ∙ ap (λ (t : Tasks). list_any waits (open_in (tasks_of t))) (sym c.in-Many.is) ∙ ap (λ (u : CallState). list_any waits (open_keys u)) c.self.view_is
