@@ -1,4 +1,4 @@
-use Rattle.std.proofs.Common.{◌≡◌, ◌≤◌, ◌∙◌, ◌++◌, [], ◌∷◌, IfSome, ap, map, refl, subst, sym}
+use Rattle.std.proofs.Common.{◌≤◌, ◌∙◌, ◌++◌, [], ◌∷◌, ap, map, refl, subst, sym}
 use Rattle.jc_rounds.specs.Running.{with_rounds}
 use Rattle.jc_rounds.specs.Targets.{ops_of}
 use Rattle.jc_rounds.specs.Underway.{reserved_by, with_round}
@@ -13,9 +13,7 @@ pub loop-init : goal.loop-init
 loop-init g c = record {
   kind = sym c.kind-kind.ensures;
   ready = c.requires.ready;
-  runs = λ past run. ran_none _ c.args.cache.now past c.args.session.now c.args.call.now (have_none (λ v. (goal.CacheLoader-dyn g v).loads_all v.1) (λ v. (goal.CacheLoader-dyn g v).load_state v.1)
-      (λ v. (goal.CacheWriter-dyn g v).writes_all v.1) (λ v. (goal.CacheWriter-dyn g v).deletes_all v.1) (λ v. (goal.CacheWriter-dyn g v).write_state v.1)
-      c.args.session.now) run;
+  runs = λ past run. ran_none _ c.args.cache.now past c.args.session.now c.args.call.now (have_none _ _ _ _ _ c.args.session.now) run;
 }
 
 pub reserve-requires : goal.reserve-requires
@@ -31,9 +29,7 @@ pub returns-then-not-reserve-clause-runs : goal.returns-then-not-reserve-clause-
 returns-then-not-reserve-clause-runs g c past run =
     let so_far = c.loop.invariant.runs past run in
     ran_quiet _ c.args.cache.now past c.args.session.now c.args.call.now _ c.loop.session c.reserve.new.session c.loop.call c.reserve.new.self so_far
-    (have_same (λ v. (goal.CacheLoader-dyn g v).loads_all v.1) (λ v. (goal.CacheLoader-dyn g v).load_state v.1)
-    (λ v. (goal.CacheWriter-dyn g v).writes_all v.1) (λ v. (goal.CacheWriter-dyn g v).deletes_all v.1) (λ v. (goal.CacheWriter-dyn g v).write_state v.1)
-    c.args.session.now c.loop.session c.reserve.new.session so_far.rounds (ap (λ a. a.hands) c.reserve.ensures.advances.agent) so_far.asked)
+    (have_same _ _ _ _ _ c.args.session.now c.loop.session c.reserve.new.session so_far.rounds (ap (λ a. a.hands) c.reserve.ensures.advances.agent) so_far.asked)
     (c.if-not-reserve.ensures.run refl (with_rounds past so_far.rounds) so_far.run) c.reserve.ensures.advances
 
 pub ask_for-answers-requires-clause-nothing : goal.ask_for-answers-requires-clause-nothing
@@ -69,9 +65,7 @@ end_round-spent-requires g c =
     let reserved = c.if-not-reserve.ensures.reserved refl then so_far.run in
     let ready = ready_later c.loop.call c.reserve.new.self c.loop.next c.reserve.ensures.advances.targets c.reserve.ensures.advances.most c.loop.invariant.ready in
     let asked = c.ask_for-answers.ensures.asked in
-    let told = told_of (λ v. (goal.CacheLoader-dyn g v).loads_all v.1) (λ v. (goal.CacheLoader-dyn g v).load_state v.1)
-    (λ v. (goal.CacheWriter-dyn g v).writes_all v.1) (λ v. (goal.CacheWriter-dyn g v).deletes_all v.1) (λ v. (goal.CacheWriter-dyn g v).write_state v.1)
-    c.args.cache.now then c.reserve.new.session c.ask_for-answers.new.session c.reserve.new.self _ c.loop.next c.ask_for-answers.new.tickets c.ask_for-answers.result.0 c.ask_for-answers.result.1
+    let told = told_of _ _ _ _ _ c.args.cache.now then c.reserve.new.session c.ask_for-answers.new.session c.reserve.new.self _ c.loop.next c.ask_for-answers.new.tickets c.ask_for-answers.result.0 c.ask_for-answers.result.1
     reserved ready c.ask_for-answers.ensures.tickets refl asked in
     record { told = (then, asked.asked.round, told) }
 
@@ -83,9 +77,7 @@ again-left-requires g c =
     let reserved = c.if-not-reserve.ensures.reserved refl then so_far.run in
     let ready = ready_later c.loop.call c.reserve.new.self c.loop.next c.reserve.ensures.advances.targets c.reserve.ensures.advances.most c.loop.invariant.ready in
     let asked = c.ask_for-answers.ensures.asked in
-    let told = told_of (λ v. (goal.CacheLoader-dyn g v).loads_all v.1) (λ v. (goal.CacheLoader-dyn g v).load_state v.1)
-    (λ v. (goal.CacheWriter-dyn g v).writes_all v.1) (λ v. (goal.CacheWriter-dyn g v).deletes_all v.1) (λ v. (goal.CacheWriter-dyn g v).write_state v.1)
-    c.args.cache.now then c.reserve.new.session c.ask_for-answers.new.session c.reserve.new.self _ c.loop.next c.ask_for-answers.new.tickets c.ask_for-answers.result.0 c.ask_for-answers.result.1
+    let told = told_of _ _ _ _ _ c.args.cache.now then c.reserve.new.session c.ask_for-answers.new.session c.reserve.new.self _ c.loop.next c.ask_for-answers.new.tickets c.ask_for-answers.result.0 c.ask_for-answers.result.1
     reserved ready c.ask_for-answers.ensures.tickets refl asked in
     let spent = spent_of c.loop.next.kind c.loop.next.room c.args.cache.now.config (map reserved_by c.reserve.new.self.tickets.items) asked.asked.round c.ask_for-answers.result.0 c.end_round-spent.result c.ask_for-answers.result.2
     asked.asked.asked (c.end_round-spent.ensures.spent then asked.asked.round told) c.end_round-spent.ensures.room c.ask_for-answers.ensures.rest in
@@ -99,9 +91,7 @@ wait-requires g c =
     let reserved = c.if-not-reserve.ensures.reserved refl then so_far.run in
     let ready = ready_later c.loop.call c.reserve.new.self c.loop.next c.reserve.ensures.advances.targets c.reserve.ensures.advances.most c.loop.invariant.ready in
     let asked = c.ask_for-answers.ensures.asked in
-    let told = told_of (λ v. (goal.CacheLoader-dyn g v).loads_all v.1) (λ v. (goal.CacheLoader-dyn g v).load_state v.1)
-    (λ v. (goal.CacheWriter-dyn g v).writes_all v.1) (λ v. (goal.CacheWriter-dyn g v).deletes_all v.1) (λ v. (goal.CacheWriter-dyn g v).write_state v.1)
-    c.args.cache.now then c.reserve.new.session c.ask_for-answers.new.session c.reserve.new.self _ c.loop.next c.ask_for-answers.new.tickets c.ask_for-answers.result.0 c.ask_for-answers.result.1
+    let told = told_of _ _ _ _ _ c.args.cache.now then c.reserve.new.session c.ask_for-answers.new.session c.reserve.new.self _ c.loop.next c.ask_for-answers.new.tickets c.ask_for-answers.result.0 c.ask_for-answers.result.1
     reserved ready c.ask_for-answers.ensures.tickets refl asked in
     let on = c.end_round-spent.ensures.run then asked.asked.round told in
     (with_round then asked.asked.round, on.between)
@@ -114,9 +104,7 @@ end_left-requires g c =
     let reserved = c.if-not-reserve.ensures.reserved refl then so_far.run in
     let ready = ready_later c.loop.call c.reserve.new.self c.loop.next c.reserve.ensures.advances.targets c.reserve.ensures.advances.most c.loop.invariant.ready in
     let asked = c.ask_for-answers.ensures.asked in
-    let told = told_of (λ v. (goal.CacheLoader-dyn g v).loads_all v.1) (λ v. (goal.CacheLoader-dyn g v).load_state v.1)
-    (λ v. (goal.CacheWriter-dyn g v).writes_all v.1) (λ v. (goal.CacheWriter-dyn g v).deletes_all v.1) (λ v. (goal.CacheWriter-dyn g v).write_state v.1)
-    c.args.cache.now then c.reserve.new.session c.ask_for-answers.new.session c.reserve.new.self _ c.loop.next c.ask_for-answers.new.tickets c.ask_for-answers.result.0 c.ask_for-answers.result.1
+    let told = told_of _ _ _ _ _ c.args.cache.now then c.reserve.new.session c.ask_for-answers.new.session c.reserve.new.self _ c.loop.next c.ask_for-answers.new.tickets c.ask_for-answers.result.0 c.ask_for-answers.result.1
     reserved ready c.ask_for-answers.ensures.tickets refl asked in
     let spent = spent_of c.loop.next.kind c.loop.next.room c.args.cache.now.config (map reserved_by c.reserve.new.self.tickets.items) asked.asked.round c.ask_for-answers.result.0 c.end_round-spent.result c.ask_for-answers.result.2
     asked.asked.asked (c.end_round-spent.ensures.spent then asked.asked.round told) c.end_round-spent.ensures.room c.ask_for-answers.ensures.rest in
@@ -130,18 +118,12 @@ returns-then-not-wait-clause-runs g c past run =
     let reserved = c.if-not-reserve.ensures.reserved refl then so_far.run in
     let ready = ready_later c.loop.call c.reserve.new.self c.loop.next c.reserve.ensures.advances.targets c.reserve.ensures.advances.most c.loop.invariant.ready in
     let asked = c.ask_for-answers.ensures.asked in
-    let told = told_of (λ v. (goal.CacheLoader-dyn g v).loads_all v.1) (λ v. (goal.CacheLoader-dyn g v).load_state v.1)
-    (λ v. (goal.CacheWriter-dyn g v).writes_all v.1) (λ v. (goal.CacheWriter-dyn g v).deletes_all v.1) (λ v. (goal.CacheWriter-dyn g v).write_state v.1)
-    c.args.cache.now then c.reserve.new.session c.ask_for-answers.new.session c.reserve.new.self _ c.loop.next c.ask_for-answers.new.tickets c.ask_for-answers.result.0 c.ask_for-answers.result.1
+    let told = told_of _ _ _ _ _ c.args.cache.now then c.reserve.new.session c.ask_for-answers.new.session c.reserve.new.self _ c.loop.next c.ask_for-answers.new.tickets c.ask_for-answers.result.0 c.ask_for-answers.result.1
     reserved ready c.ask_for-answers.ensures.tickets refl asked in
     let on = c.end_round-spent.ensures.run then asked.asked.round told in
     (ran_more _ c.args.cache.now past c.args.session.now c.args.call.now _ c.loop.session c.reserve.new.session c.ask_for-answers.new.session c.end_round-spent.new.session c.loop.call c.reserve.new.self _ c.end_round-spent.new.self so_far asked.asked.round
-    (have_same (λ v. (goal.CacheLoader-dyn g v).loads_all v.1) (λ v. (goal.CacheLoader-dyn g v).load_state v.1)
-    (λ v. (goal.CacheWriter-dyn g v).writes_all v.1) (λ v. (goal.CacheWriter-dyn g v).deletes_all v.1) (λ v. (goal.CacheWriter-dyn g v).write_state v.1)
-    c.args.session.now c.ask_for-answers.new.session c.end_round-spent.new.session (so_far.rounds ++ asked.asked.round ∷ []) (ap (λ a. a.hands) c.end_round-spent.ensures.advances.agent)
-    (have_more (λ v. (goal.CacheLoader-dyn g v).loads_all v.1) (λ v. (goal.CacheLoader-dyn g v).load_state v.1)
-    (λ v. (goal.CacheWriter-dyn g v).writes_all v.1) (λ v. (goal.CacheWriter-dyn g v).deletes_all v.1) (λ v. (goal.CacheWriter-dyn g v).write_state v.1)
-    c.args.session.now c.loop.session c.reserve.new.session c.ask_for-answers.new.session so_far.rounds c.loop.next c.reserve.new.self.tickets.items c.ask_for-answers.result.0 c.ask_for-answers.result.1
+    (have_same _ _ _ _ _ c.args.session.now c.ask_for-answers.new.session c.end_round-spent.new.session (so_far.rounds ++ asked.asked.round ∷ []) (ap (λ a. a.hands) c.end_round-spent.ensures.advances.agent)
+    (have_more _ _ _ _ _ c.args.session.now c.loop.session c.reserve.new.session c.ask_for-answers.new.session so_far.rounds c.loop.next c.reserve.new.self.tickets.items c.ask_for-answers.result.0 c.ask_for-answers.result.1
     (ap (λ a. a.hands) c.reserve.ensures.advances.agent) so_far.asked asked))
     on c.reserve.ensures.advances asked.rest refl c.end_round-spent.ensures.advances).0
 
@@ -153,9 +135,7 @@ ready-requires g c =
     let reserved = c.if-not-reserve.ensures.reserved refl then so_far.run in
     let ready = ready_later c.loop.call c.reserve.new.self c.loop.next c.reserve.ensures.advances.targets c.reserve.ensures.advances.most c.loop.invariant.ready in
     let asked = c.ask_for-answers.ensures.asked in
-    let told = told_of (λ v. (goal.CacheLoader-dyn g v).loads_all v.1) (λ v. (goal.CacheLoader-dyn g v).load_state v.1)
-    (λ v. (goal.CacheWriter-dyn g v).writes_all v.1) (λ v. (goal.CacheWriter-dyn g v).deletes_all v.1) (λ v. (goal.CacheWriter-dyn g v).write_state v.1)
-    c.args.cache.now then c.reserve.new.session c.ask_for-answers.new.session c.reserve.new.self _ c.loop.next c.ask_for-answers.new.tickets c.ask_for-answers.result.0 c.ask_for-answers.result.1
+    let told = told_of _ _ _ _ _ c.args.cache.now then c.reserve.new.session c.ask_for-answers.new.session c.reserve.new.self _ c.loop.next c.ask_for-answers.new.tickets c.ask_for-answers.result.0 c.ask_for-answers.result.1
     reserved ready c.ask_for-answers.ensures.tickets refl asked in
     let spent = spent_of c.loop.next.kind c.loop.next.room c.args.cache.now.config (map reserved_by c.reserve.new.self.tickets.items) asked.asked.round c.ask_for-answers.result.0 c.end_round-spent.result c.ask_for-answers.result.2
     asked.asked.asked (c.end_round-spent.ensures.spent then asked.asked.round told) c.end_round-spent.ensures.room c.ask_for-answers.ensures.rest in
@@ -177,18 +157,12 @@ loop-preserved g c = record {
       let reserved = c.if-not-reserve.ensures.reserved refl then so_far.run in
       let ready = ready_later c.loop.call c.reserve.new.self c.loop.next c.reserve.ensures.advances.targets c.reserve.ensures.advances.most c.loop.invariant.ready in
       let asked = c.ask_for-answers.ensures.asked in
-      let told = told_of (λ v. (goal.CacheLoader-dyn g v).loads_all v.1) (λ v. (goal.CacheLoader-dyn g v).load_state v.1)
-      (λ v. (goal.CacheWriter-dyn g v).writes_all v.1) (λ v. (goal.CacheWriter-dyn g v).deletes_all v.1) (λ v. (goal.CacheWriter-dyn g v).write_state v.1)
-      c.args.cache.now then c.reserve.new.session c.ask_for-answers.new.session c.reserve.new.self _ c.loop.next c.ask_for-answers.new.tickets c.ask_for-answers.result.0 c.ask_for-answers.result.1
+      let told = told_of _ _ _ _ _ c.args.cache.now then c.reserve.new.session c.ask_for-answers.new.session c.reserve.new.self _ c.loop.next c.ask_for-answers.new.tickets c.ask_for-answers.result.0 c.ask_for-answers.result.1
       reserved ready c.ask_for-answers.ensures.tickets refl asked in
       let on = c.end_round-spent.ensures.run then asked.asked.round told in
       (ran_more _ c.args.cache.now past c.args.session.now c.args.call.now _ c.loop.session c.reserve.new.session c.ask_for-answers.new.session c.end_round-spent.new.session c.loop.call c.reserve.new.self _ c.end_round-spent.new.self so_far asked.asked.round
-      (have_same (λ v. (goal.CacheLoader-dyn g v).loads_all v.1) (λ v. (goal.CacheLoader-dyn g v).load_state v.1)
-      (λ v. (goal.CacheWriter-dyn g v).writes_all v.1) (λ v. (goal.CacheWriter-dyn g v).deletes_all v.1) (λ v. (goal.CacheWriter-dyn g v).write_state v.1)
-      c.args.session.now c.ask_for-answers.new.session c.end_round-spent.new.session (so_far.rounds ++ asked.asked.round ∷ []) (ap (λ a. a.hands) c.end_round-spent.ensures.advances.agent)
-      (have_more (λ v. (goal.CacheLoader-dyn g v).loads_all v.1) (λ v. (goal.CacheLoader-dyn g v).load_state v.1)
-      (λ v. (goal.CacheWriter-dyn g v).writes_all v.1) (λ v. (goal.CacheWriter-dyn g v).deletes_all v.1) (λ v. (goal.CacheWriter-dyn g v).write_state v.1)
-      c.args.session.now c.loop.session c.reserve.new.session c.ask_for-answers.new.session so_far.rounds c.loop.next c.reserve.new.self.tickets.items c.ask_for-answers.result.0 c.ask_for-answers.result.1
+      (have_same _ _ _ _ _ c.args.session.now c.ask_for-answers.new.session c.end_round-spent.new.session (so_far.rounds ++ asked.asked.round ∷ []) (ap (λ a. a.hands) c.end_round-spent.ensures.advances.agent)
+      (have_more _ _ _ _ _ c.args.session.now c.loop.session c.reserve.new.session c.ask_for-answers.new.session so_far.rounds c.loop.next c.reserve.new.self.tickets.items c.ask_for-answers.result.0 c.ask_for-answers.result.1
       (ap (λ a. a.hands) c.reserve.ensures.advances.agent) so_far.asked asked))
       on c.reserve.ensures.advances asked.rest refl c.end_round-spent.ensures.advances).0;
 }
@@ -203,9 +177,7 @@ returns-in-Err-clause-runs g c past run =
     let reserved = c.if-not-reserve.ensures.reserved refl then so_far.run in
     let ready = ready_later c.loop.call c.reserve.new.self c.loop.next c.reserve.ensures.advances.targets c.reserve.ensures.advances.most c.loop.invariant.ready in
     let asked = c.ask_for-answers.ensures.asked in
-    let told = told_of (λ v. (goal.CacheLoader-dyn g v).loads_all v.1) (λ v. (goal.CacheLoader-dyn g v).load_state v.1)
-    (λ v. (goal.CacheWriter-dyn g v).writes_all v.1) (λ v. (goal.CacheWriter-dyn g v).deletes_all v.1) (λ v. (goal.CacheWriter-dyn g v).write_state v.1)
-    c.args.cache.now then c.reserve.new.session c.ask_for-answers.new.session c.reserve.new.self _ c.loop.next c.ask_for-answers.new.tickets c.ask_for-answers.result.0 c.ask_for-answers.result.1
+    let told = told_of _ _ _ _ _ c.args.cache.now then c.reserve.new.session c.ask_for-answers.new.session c.reserve.new.self _ c.loop.next c.ask_for-answers.new.tickets c.ask_for-answers.result.0 c.ask_for-answers.result.1
     reserved ready c.ask_for-answers.ensures.tickets refl asked in
     let spent = spent_of c.loop.next.kind c.loop.next.room c.args.cache.now.config (map reserved_by c.reserve.new.self.tickets.items) asked.asked.round c.ask_for-answers.result.0 c.end_round-spent.result c.ask_for-answers.result.2
     asked.asked.asked (c.end_round-spent.ensures.spent then asked.asked.round told) c.end_round-spent.ensures.room c.ask_for-answers.ensures.rest in
@@ -214,12 +186,8 @@ returns-in-Err-clause-runs g c past run =
     let new = takes_new c.loop.next.kind c.args.cache.now.config may (none_said _ c.again-left.result c.in-Err.ensures.err (c.again-left.ensures.none c.loop.next.kind c.loop.next.room spent)) in
     let keys = subst (λ t. KeysAskAs c.loop.next.kind (ops_of t.now)) (sym c.end_round-spent.ensures.advances.targets) ready.kind in
     let all = ran_more _ c.args.cache.now past c.args.session.now c.args.call.now _ c.loop.session c.reserve.new.session c.ask_for-answers.new.session c.end_round-spent.new.session c.loop.call c.reserve.new.self _ c.end_round-spent.new.self so_far asked.asked.round
-    (have_same (λ v. (goal.CacheLoader-dyn g v).loads_all v.1) (λ v. (goal.CacheLoader-dyn g v).load_state v.1)
-    (λ v. (goal.CacheWriter-dyn g v).writes_all v.1) (λ v. (goal.CacheWriter-dyn g v).deletes_all v.1) (λ v. (goal.CacheWriter-dyn g v).write_state v.1)
-    c.args.session.now c.ask_for-answers.new.session c.end_round-spent.new.session (so_far.rounds ++ asked.asked.round ∷ []) (ap (λ a. a.hands) c.end_round-spent.ensures.advances.agent)
-    (have_more (λ v. (goal.CacheLoader-dyn g v).loads_all v.1) (λ v. (goal.CacheLoader-dyn g v).load_state v.1)
-    (λ v. (goal.CacheWriter-dyn g v).writes_all v.1) (λ v. (goal.CacheWriter-dyn g v).deletes_all v.1) (λ v. (goal.CacheWriter-dyn g v).write_state v.1)
-    c.args.session.now c.loop.session c.reserve.new.session c.ask_for-answers.new.session so_far.rounds c.loop.next c.reserve.new.self.tickets.items c.ask_for-answers.result.0 c.ask_for-answers.result.1
+    (have_same _ _ _ _ _ c.args.session.now c.ask_for-answers.new.session c.end_round-spent.new.session (so_far.rounds ++ asked.asked.round ∷ []) (ap (λ a. a.hands) c.end_round-spent.ensures.advances.agent)
+    (have_more _ _ _ _ _ c.args.session.now c.loop.session c.reserve.new.session c.ask_for-answers.new.session so_far.rounds c.loop.next c.reserve.new.self.tickets.items c.ask_for-answers.result.0 c.ask_for-answers.result.1
     (ap (λ a. a.hands) c.reserve.ensures.advances.agent) so_far.asked asked))
     on c.reserve.ensures.advances asked.rest refl c.end_round-spent.ensures.advances in
     ran_refused _ c.args.cache.now past c.args.session.now c.args.call.now c.end_round-spent.new.session c.end_round-spent.new.self c.refuse_rest.new.self

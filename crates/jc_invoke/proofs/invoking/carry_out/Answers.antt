@@ -21,10 +21,7 @@ end-progress-requires g c =
     let m = c.requires.memory in
     let made = c.run_rounds.ensures.runs (before_it c.args.cache.now c.args.session.now c.next_call.new.self c.args.memory.call c.args.keys.now.keys)
     (has_begun c.args.cache.now c.args.session.now c.next_call.new.self c.args.memory.call c.args.keys.now.keys c.requires.may c.next_call.ensures.call m.call_is m.targets_are c.as_slice-slice.ensures.unique) in
-    (over (λ v. (goal.CacheLoader-dyn g v).loads v.1) (λ v. (goal.CacheLoader-dyn g v).load_state v.1)
-    (λ v. (goal.CacheWriter-dyn g v).writes_all v.1) (λ v. (goal.CacheWriter-dyn g v).deletes_all v.1) (λ v. (goal.CacheWriter-dyn g v).write_state v.1)
-    (λ b. (goal.EntryProcessor-dyn g (b.vtable, b.value)).processes b.value) (λ b. (goal.EntryProcessor-dyn g (b.vtable, b.value)).process_state b.value)
-    c.args.processing.now.args.now c.args.cache.now c.args.session.now c.next_call.new.self c.run_rounds.new.session c.args.memory.call c.run_rounds.new.call
+    (over _ _ _ _ _ _ _ c.args.processing.now.args.now c.args.cache.now c.args.session.now c.next_call.new.self c.run_rounds.new.session c.args.memory.call c.run_rounds.new.call
     c.args.processing.now.processor.now c.run_rounds.new.processing.processor.now c.args.keys.now.keys m.targets_are made).1
 
 pub fill_results-requires-clause-many : goal.fill_results-requires-clause-many
@@ -33,10 +30,7 @@ fill_results-requires-clause-many g c =
     let made = c.run_rounds.ensures.runs (before_it c.args.cache.now c.args.session.now c.next_call.new.self c.args.memory.call c.args.keys.now.keys)
     (has_begun c.args.cache.now c.args.session.now c.next_call.new.self c.args.memory.call c.args.keys.now.keys c.requires.may c.next_call.ensures.call m.call_is m.targets_are c.as_slice-slice.ensures.unique) in
     ap length c.as_slice.ensures.value ∙ ap (λ v. length v.items) c.end-progress.ensures.0
-    ∙ (over (λ v. (goal.CacheLoader-dyn g v).loads v.1) (λ v. (goal.CacheLoader-dyn g v).load_state v.1)
-    (λ v. (goal.CacheWriter-dyn g v).writes_all v.1) (λ v. (goal.CacheWriter-dyn g v).deletes_all v.1) (λ v. (goal.CacheWriter-dyn g v).write_state v.1)
-    (λ b. (goal.EntryProcessor-dyn g (b.vtable, b.value)).processes b.value) (λ b. (goal.EntryProcessor-dyn g (b.vtable, b.value)).process_state b.value)
-    c.args.processing.now.args.now c.args.cache.now c.args.session.now c.next_call.new.self c.run_rounds.new.session c.args.memory.call c.run_rounds.new.call
+    ∙ (over _ _ _ _ _ _ _ c.args.processing.now.args.now c.args.cache.now c.args.session.now c.next_call.new.self c.run_rounds.new.session c.args.memory.call c.run_rounds.new.call
     c.args.processing.now.processor.now c.run_rounds.new.processing.processor.now c.args.keys.now.keys m.targets_are made).2
     ∙ sym (ap length c.as_slice-slice.ensures.keys)
 
@@ -45,10 +39,7 @@ returns-clause-may g c =
     let m = c.requires.memory in
     let made = c.run_rounds.ensures.runs (before_it c.args.cache.now c.args.session.now c.next_call.new.self c.args.memory.call c.args.keys.now.keys)
     (has_begun c.args.cache.now c.args.session.now c.next_call.new.self c.args.memory.call c.args.keys.now.keys c.requires.may c.next_call.ensures.call m.call_is m.targets_are c.as_slice-slice.ensures.unique) in
-    (over (λ v. (goal.CacheLoader-dyn g v).loads v.1) (λ v. (goal.CacheLoader-dyn g v).load_state v.1)
-    (λ v. (goal.CacheWriter-dyn g v).writes_all v.1) (λ v. (goal.CacheWriter-dyn g v).deletes_all v.1) (λ v. (goal.CacheWriter-dyn g v).write_state v.1)
-    (λ b. (goal.EntryProcessor-dyn g (b.vtable, b.value)).processes b.value) (λ b. (goal.EntryProcessor-dyn g (b.vtable, b.value)).process_state b.value)
-    c.args.processing.now.args.now c.args.cache.now c.args.session.now c.next_call.new.self c.run_rounds.new.session c.args.memory.call c.run_rounds.new.call
+    (over _ _ _ _ _ _ _ c.args.processing.now.args.now c.args.cache.now c.args.session.now c.next_call.new.self c.run_rounds.new.session c.args.memory.call c.run_rounds.new.call
     c.args.processing.now.processor.now c.run_rounds.new.processing.processor.now c.args.keys.now.keys m.targets_are made).0
 
 pub returns-clause-invoked : goal.returns-clause-invoked
@@ -56,10 +47,7 @@ returns-clause-invoked g c =
     let m = c.requires.memory in
     let made = c.run_rounds.ensures.runs (before_it c.args.cache.now c.args.session.now c.next_call.new.self c.args.memory.call c.args.keys.now.keys)
     (has_begun c.args.cache.now c.args.session.now c.next_call.new.self c.args.memory.call c.args.keys.now.keys c.requires.may c.next_call.ensures.call m.call_is m.targets_are c.as_slice-slice.ensures.unique) in
-    let is = invoked (λ v. (goal.CacheLoader-dyn g v).loads v.1) (λ v. (goal.CacheLoader-dyn g v).load_state v.1)
-    (λ v. (goal.CacheWriter-dyn g v).writes_all v.1) (λ v. (goal.CacheWriter-dyn g v).deletes_all v.1) (λ v. (goal.CacheWriter-dyn g v).write_state v.1)
-    (λ b. (goal.EntryProcessor-dyn g (b.vtable, b.value)).processes b.value) (λ b. (goal.EntryProcessor-dyn g (b.vtable, b.value)).process_state b.value)
-    c.args.processing.now.args.now c.args.cache.now c.args.session.now c.next_call.new.self c.run_rounds.new.session c.args.memory.call c.run_rounds.new.call
+    let is = invoked _ _ _ _ _ _ _ c.args.processing.now.args.now c.args.cache.now c.args.session.now c.next_call.new.self c.run_rounds.new.session c.args.memory.call c.run_rounds.new.call
     c.args.processing.now.processor.now c.run_rounds.new.processing.processor.now c.args.keys.now.keys c.next_call.ensures.call m.targets_are c.run_rounds.ensures.over made in
     let items = c.as_slice.ensures.value ∙ ap (λ v. v.items) c.end-progress.ensures.0 in (
       key_ends (ops_with Invoke c.args.keys.now.keys) c.run_rounds.new.call.progress.items,

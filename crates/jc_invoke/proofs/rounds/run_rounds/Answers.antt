@@ -12,10 +12,7 @@ use Rattle.jc_invoke.proofs.rounds.run_rounds.Goals as goal
 pub loop-init : goal.loop-init
 loop-init g c = record {
   ready = c.requires.ready;
-  runs = λ past run. ran_none _ c.args.cache.now past c.args.session.now c.args.call.now (have_none (λ v. (goal.CacheLoader-dyn g v).loads v.1) (λ v. (goal.CacheLoader-dyn g v).load_state v.1)
-      (λ v. (goal.CacheWriter-dyn g v).writes_all v.1) (λ v. (goal.CacheWriter-dyn g v).deletes_all v.1) (λ v. (goal.CacheWriter-dyn g v).write_state v.1)
-      (λ b. (goal.EntryProcessor-dyn g (b.vtable, b.value)).processes b.value) (λ b. (goal.EntryProcessor-dyn g (b.vtable, b.value)).process_state b.value)
-      c.args.processing.now.args.now c.args.cache.now c.args.session.now c.args.processing.now.processor.now) run;
+  runs = λ past run. ran_none _ c.args.cache.now past c.args.session.now c.args.call.now (have_none _ _ _ _ _ _ _ c.args.processing.now.args.now c.args.cache.now c.args.session.now c.args.processing.now.processor.now) run;
   same_processor = refl;
   same_args = refl;
 }
@@ -33,10 +30,7 @@ pub returns-then-not-reserve-clause-runs : goal.returns-then-not-reserve-clause-
 returns-then-not-reserve-clause-runs g c past run =
     let so_far = c.loop.invariant.runs past run in
     ran_quiet _ c.args.cache.now past c.args.session.now c.args.call.now _ c.loop.session c.reserve.new.session c.loop.call c.reserve.new.self so_far
-    (have_same (λ v. (goal.CacheLoader-dyn g v).loads v.1) (λ v. (goal.CacheLoader-dyn g v).load_state v.1)
-    (λ v. (goal.CacheWriter-dyn g v).writes_all v.1) (λ v. (goal.CacheWriter-dyn g v).deletes_all v.1) (λ v. (goal.CacheWriter-dyn g v).write_state v.1)
-    (λ b. (goal.EntryProcessor-dyn g (b.vtable, b.value)).processes b.value) (λ b. (goal.EntryProcessor-dyn g (b.vtable, b.value)).process_state b.value)
-    c.args.processing.now.args.now c.args.cache.now c.args.session.now c.loop.session c.reserve.new.session c.args.processing.now.processor.now c.loop.processing.processor.now so_far.rounds (ap (λ a. a.hands) c.reserve.ensures.advances.agent) so_far.asked)
+    (have_same _ _ _ _ _ _ _ c.args.processing.now.args.now c.args.cache.now c.args.session.now c.loop.session c.reserve.new.session c.args.processing.now.processor.now c.loop.processing.processor.now so_far.rounds (ap (λ a. a.hands) c.reserve.ensures.advances.agent) so_far.asked)
     (c.if-not-reserve.ensures.run refl (with_rounds past so_far.rounds) so_far.run) c.reserve.ensures.advances
 
 pub ask-answers-requires : goal.ask-answers-requires
@@ -55,15 +49,9 @@ end_round-spent-requires g c =
     let then = with_rounds r.0 so_far.rounds in
     let reserved = c.if-not-reserve.ensures.reserved refl then so_far.run in
     let ready = ready_later c.args.cache.now.config c.loop.call c.reserve.new.self c.loop.next c.reserve.ensures.advances.targets c.reserve.ensures.advances.most c.loop.invariant.ready in
-    let has = asked_by (λ v. (goal.CacheLoader-dyn g v).loads v.1) (λ v. (goal.CacheLoader-dyn g v).load_state v.1)
-    (λ v. (goal.CacheWriter-dyn g v).writes_all v.1) (λ v. (goal.CacheWriter-dyn g v).deletes_all v.1) (λ v. (goal.CacheWriter-dyn g v).write_state v.1)
-    (λ b. (goal.EntryProcessor-dyn g (b.vtable, b.value)).processes b.value) (λ b. (goal.EntryProcessor-dyn g (b.vtable, b.value)).process_state b.value)
-    c.args.processing.now.args.now c.args.cache.now c.reserve.new.session c.ask-answers.new.session c.loop.next.through c.reserve.new.self.tickets.items c.loop.processing.processor.now c.ask-answers.new.processing.processor.now c.ask-answers.result.0
+    let has = asked_by _ _ _ _ _ _ _ c.args.processing.now.args.now c.args.cache.now c.reserve.new.session c.ask-answers.new.session c.loop.next.through c.reserve.new.self.tickets.items c.loop.processing.processor.now c.ask-answers.new.processing.processor.now c.ask-answers.result.0
     c.loop.processing.args.now (ap (λ a. a.now) c.loop.invariant.same_args) c.loop.invariant.ready.room_is.through_is c.ask-answers.ensures.asked in
-    let told = told_of (λ v. (goal.CacheLoader-dyn g v).loads v.1) (λ v. (goal.CacheLoader-dyn g v).load_state v.1)
-    (λ v. (goal.CacheWriter-dyn g v).writes_all v.1) (λ v. (goal.CacheWriter-dyn g v).deletes_all v.1) (λ v. (goal.CacheWriter-dyn g v).write_state v.1)
-    (λ b. (goal.EntryProcessor-dyn g (b.vtable, b.value)).processes b.value) (λ b. (goal.EntryProcessor-dyn g (b.vtable, b.value)).process_state b.value)
-    c.args.processing.now.args.now c.args.cache.now then c.reserve.new.session c.ask-answers.new.session c.reserve.new.self _ c.ask-answers.new.tickets c.loop.processing.processor.now c.ask-answers.new.processing.processor.now c.ask-answers.result.0
+    let told = told_of _ _ _ _ _ _ _ c.args.processing.now.args.now c.args.cache.now then c.reserve.new.session c.ask-answers.new.session c.reserve.new.self _ c.ask-answers.new.tickets c.loop.processing.processor.now c.ask-answers.new.processing.processor.now c.ask-answers.result.0
     reserved ready.invoked c.ask-answers.ensures.tickets refl has in
     record { told = (then, ProcessAll has.asked.round, told) }
 
@@ -74,15 +62,9 @@ again-left-requires g c =
     let then = with_rounds r.0 so_far.rounds in
     let reserved = c.if-not-reserve.ensures.reserved refl then so_far.run in
     let ready = ready_later c.args.cache.now.config c.loop.call c.reserve.new.self c.loop.next c.reserve.ensures.advances.targets c.reserve.ensures.advances.most c.loop.invariant.ready in
-    let has = asked_by (λ v. (goal.CacheLoader-dyn g v).loads v.1) (λ v. (goal.CacheLoader-dyn g v).load_state v.1)
-    (λ v. (goal.CacheWriter-dyn g v).writes_all v.1) (λ v. (goal.CacheWriter-dyn g v).deletes_all v.1) (λ v. (goal.CacheWriter-dyn g v).write_state v.1)
-    (λ b. (goal.EntryProcessor-dyn g (b.vtable, b.value)).processes b.value) (λ b. (goal.EntryProcessor-dyn g (b.vtable, b.value)).process_state b.value)
-    c.args.processing.now.args.now c.args.cache.now c.reserve.new.session c.ask-answers.new.session c.loop.next.through c.reserve.new.self.tickets.items c.loop.processing.processor.now c.ask-answers.new.processing.processor.now c.ask-answers.result.0
+    let has = asked_by _ _ _ _ _ _ _ c.args.processing.now.args.now c.args.cache.now c.reserve.new.session c.ask-answers.new.session c.loop.next.through c.reserve.new.self.tickets.items c.loop.processing.processor.now c.ask-answers.new.processing.processor.now c.ask-answers.result.0
     c.loop.processing.args.now (ap (λ a. a.now) c.loop.invariant.same_args) c.loop.invariant.ready.room_is.through_is c.ask-answers.ensures.asked in
-    let told = told_of (λ v. (goal.CacheLoader-dyn g v).loads v.1) (λ v. (goal.CacheLoader-dyn g v).load_state v.1)
-    (λ v. (goal.CacheWriter-dyn g v).writes_all v.1) (λ v. (goal.CacheWriter-dyn g v).deletes_all v.1) (λ v. (goal.CacheWriter-dyn g v).write_state v.1)
-    (λ b. (goal.EntryProcessor-dyn g (b.vtable, b.value)).processes b.value) (λ b. (goal.EntryProcessor-dyn g (b.vtable, b.value)).process_state b.value)
-    c.args.processing.now.args.now c.args.cache.now then c.reserve.new.session c.ask-answers.new.session c.reserve.new.self _ c.ask-answers.new.tickets c.loop.processing.processor.now c.ask-answers.new.processing.processor.now c.ask-answers.result.0
+    let told = told_of _ _ _ _ _ _ _ c.args.processing.now.args.now c.args.cache.now then c.reserve.new.session c.ask-answers.new.session c.reserve.new.self _ c.ask-answers.new.tickets c.loop.processing.processor.now c.ask-answers.new.processing.processor.now c.ask-answers.result.0
     reserved ready.invoked c.ask-answers.ensures.tickets refl has in
     (c.args.cache.now.config, has.asked.round, c.end_round-spent.ensures.spent then (ProcessAll has.asked.round) told)
 
@@ -93,15 +75,9 @@ wait-requires g c =
     let then = with_rounds r.0 so_far.rounds in
     let reserved = c.if-not-reserve.ensures.reserved refl then so_far.run in
     let ready = ready_later c.args.cache.now.config c.loop.call c.reserve.new.self c.loop.next c.reserve.ensures.advances.targets c.reserve.ensures.advances.most c.loop.invariant.ready in
-    let has = asked_by (λ v. (goal.CacheLoader-dyn g v).loads v.1) (λ v. (goal.CacheLoader-dyn g v).load_state v.1)
-    (λ v. (goal.CacheWriter-dyn g v).writes_all v.1) (λ v. (goal.CacheWriter-dyn g v).deletes_all v.1) (λ v. (goal.CacheWriter-dyn g v).write_state v.1)
-    (λ b. (goal.EntryProcessor-dyn g (b.vtable, b.value)).processes b.value) (λ b. (goal.EntryProcessor-dyn g (b.vtable, b.value)).process_state b.value)
-    c.args.processing.now.args.now c.args.cache.now c.reserve.new.session c.ask-answers.new.session c.loop.next.through c.reserve.new.self.tickets.items c.loop.processing.processor.now c.ask-answers.new.processing.processor.now c.ask-answers.result.0
+    let has = asked_by _ _ _ _ _ _ _ c.args.processing.now.args.now c.args.cache.now c.reserve.new.session c.ask-answers.new.session c.loop.next.through c.reserve.new.self.tickets.items c.loop.processing.processor.now c.ask-answers.new.processing.processor.now c.ask-answers.result.0
     c.loop.processing.args.now (ap (λ a. a.now) c.loop.invariant.same_args) c.loop.invariant.ready.room_is.through_is c.ask-answers.ensures.asked in
-    let told = told_of (λ v. (goal.CacheLoader-dyn g v).loads v.1) (λ v. (goal.CacheLoader-dyn g v).load_state v.1)
-    (λ v. (goal.CacheWriter-dyn g v).writes_all v.1) (λ v. (goal.CacheWriter-dyn g v).deletes_all v.1) (λ v. (goal.CacheWriter-dyn g v).write_state v.1)
-    (λ b. (goal.EntryProcessor-dyn g (b.vtable, b.value)).processes b.value) (λ b. (goal.EntryProcessor-dyn g (b.vtable, b.value)).process_state b.value)
-    c.args.processing.now.args.now c.args.cache.now then c.reserve.new.session c.ask-answers.new.session c.reserve.new.self _ c.ask-answers.new.tickets c.loop.processing.processor.now c.ask-answers.new.processing.processor.now c.ask-answers.result.0
+    let told = told_of _ _ _ _ _ _ _ c.args.processing.now.args.now c.args.cache.now then c.reserve.new.session c.ask-answers.new.session c.reserve.new.self _ c.ask-answers.new.tickets c.loop.processing.processor.now c.ask-answers.new.processing.processor.now c.ask-answers.result.0
     reserved ready.invoked c.ask-answers.ensures.tickets refl has in
     let on = c.end_round-spent.ensures.run then (ProcessAll has.asked.round) told in
     (with_round then (ProcessAll has.asked.round), on.between)
@@ -120,26 +96,14 @@ returns-then-not-wait-clause-runs g c past run =
     let then = with_rounds past so_far.rounds in
     let reserved = c.if-not-reserve.ensures.reserved refl then so_far.run in
     let ready = ready_later c.args.cache.now.config c.loop.call c.reserve.new.self c.loop.next c.reserve.ensures.advances.targets c.reserve.ensures.advances.most c.loop.invariant.ready in
-    let has = asked_by (λ v. (goal.CacheLoader-dyn g v).loads v.1) (λ v. (goal.CacheLoader-dyn g v).load_state v.1)
-    (λ v. (goal.CacheWriter-dyn g v).writes_all v.1) (λ v. (goal.CacheWriter-dyn g v).deletes_all v.1) (λ v. (goal.CacheWriter-dyn g v).write_state v.1)
-    (λ b. (goal.EntryProcessor-dyn g (b.vtable, b.value)).processes b.value) (λ b. (goal.EntryProcessor-dyn g (b.vtable, b.value)).process_state b.value)
-    c.args.processing.now.args.now c.args.cache.now c.reserve.new.session c.ask-answers.new.session c.loop.next.through c.reserve.new.self.tickets.items c.loop.processing.processor.now c.ask-answers.new.processing.processor.now c.ask-answers.result.0
+    let has = asked_by _ _ _ _ _ _ _ c.args.processing.now.args.now c.args.cache.now c.reserve.new.session c.ask-answers.new.session c.loop.next.through c.reserve.new.self.tickets.items c.loop.processing.processor.now c.ask-answers.new.processing.processor.now c.ask-answers.result.0
     c.loop.processing.args.now (ap (λ a. a.now) c.loop.invariant.same_args) c.loop.invariant.ready.room_is.through_is c.ask-answers.ensures.asked in
-    let told = told_of (λ v. (goal.CacheLoader-dyn g v).loads v.1) (λ v. (goal.CacheLoader-dyn g v).load_state v.1)
-    (λ v. (goal.CacheWriter-dyn g v).writes_all v.1) (λ v. (goal.CacheWriter-dyn g v).deletes_all v.1) (λ v. (goal.CacheWriter-dyn g v).write_state v.1)
-    (λ b. (goal.EntryProcessor-dyn g (b.vtable, b.value)).processes b.value) (λ b. (goal.EntryProcessor-dyn g (b.vtable, b.value)).process_state b.value)
-    c.args.processing.now.args.now c.args.cache.now then c.reserve.new.session c.ask-answers.new.session c.reserve.new.self _ c.ask-answers.new.tickets c.loop.processing.processor.now c.ask-answers.new.processing.processor.now c.ask-answers.result.0
+    let told = told_of _ _ _ _ _ _ _ c.args.processing.now.args.now c.args.cache.now then c.reserve.new.session c.ask-answers.new.session c.reserve.new.self _ c.ask-answers.new.tickets c.loop.processing.processor.now c.ask-answers.new.processing.processor.now c.ask-answers.result.0
     reserved ready.invoked c.ask-answers.ensures.tickets refl has in
     let on = c.end_round-spent.ensures.run then (ProcessAll has.asked.round) told in
     (ran_more _ c.args.cache.now past c.args.session.now c.args.call.now _ c.loop.session c.reserve.new.session c.ask-answers.new.session c.end_round-spent.new.session c.loop.call c.reserve.new.self _ c.end_round-spent.new.self so_far (ProcessAll has.asked.round)
-    (have_same (λ v. (goal.CacheLoader-dyn g v).loads v.1) (λ v. (goal.CacheLoader-dyn g v).load_state v.1)
-    (λ v. (goal.CacheWriter-dyn g v).writes_all v.1) (λ v. (goal.CacheWriter-dyn g v).deletes_all v.1) (λ v. (goal.CacheWriter-dyn g v).write_state v.1)
-    (λ b. (goal.EntryProcessor-dyn g (b.vtable, b.value)).processes b.value) (λ b. (goal.EntryProcessor-dyn g (b.vtable, b.value)).process_state b.value)
-    c.args.processing.now.args.now c.args.cache.now c.args.session.now c.ask-answers.new.session c.end_round-spent.new.session c.args.processing.now.processor.now c.ask-answers.new.processing.processor.now (so_far.rounds ++ ProcessAll has.asked.round ∷ []) (ap (λ a. a.hands) c.end_round-spent.ensures.advances.agent)
-    (have_more (λ v. (goal.CacheLoader-dyn g v).loads v.1) (λ v. (goal.CacheLoader-dyn g v).load_state v.1)
-    (λ v. (goal.CacheWriter-dyn g v).writes_all v.1) (λ v. (goal.CacheWriter-dyn g v).deletes_all v.1) (λ v. (goal.CacheWriter-dyn g v).write_state v.1)
-    (λ b. (goal.EntryProcessor-dyn g (b.vtable, b.value)).processes b.value) (λ b. (goal.EntryProcessor-dyn g (b.vtable, b.value)).process_state b.value)
-    c.args.processing.now.args.now c.args.cache.now c.args.session.now c.loop.session c.reserve.new.session c.ask-answers.new.session c.args.processing.now.processor.now c.loop.processing.processor.now c.ask-answers.new.processing.processor.now so_far.rounds
+    (have_same _ _ _ _ _ _ _ c.args.processing.now.args.now c.args.cache.now c.args.session.now c.ask-answers.new.session c.end_round-spent.new.session c.args.processing.now.processor.now c.ask-answers.new.processing.processor.now (so_far.rounds ++ ProcessAll has.asked.round ∷ []) (ap (λ a. a.hands) c.end_round-spent.ensures.advances.agent)
+    (have_more _ _ _ _ _ _ _ c.args.processing.now.args.now c.args.cache.now c.args.session.now c.loop.session c.reserve.new.session c.ask-answers.new.session c.args.processing.now.processor.now c.loop.processing.processor.now c.ask-answers.new.processing.processor.now so_far.rounds
     c.reserve.new.self.tickets.items c.ask-answers.result.0 (ap (λ a. a.hands) c.reserve.ensures.advances.agent) so_far.asked has))
     on c.reserve.ensures.advances has.rest refl c.end_round-spent.ensures.advances).0
 
@@ -163,26 +127,14 @@ loop-preserved g c = record {
       let then = with_rounds past so_far.rounds in
       let reserved = c.if-not-reserve.ensures.reserved refl then so_far.run in
       let ready = ready_later c.args.cache.now.config c.loop.call c.reserve.new.self c.loop.next c.reserve.ensures.advances.targets c.reserve.ensures.advances.most c.loop.invariant.ready in
-      let has = asked_by (λ v. (goal.CacheLoader-dyn g v).loads v.1) (λ v. (goal.CacheLoader-dyn g v).load_state v.1)
-      (λ v. (goal.CacheWriter-dyn g v).writes_all v.1) (λ v. (goal.CacheWriter-dyn g v).deletes_all v.1) (λ v. (goal.CacheWriter-dyn g v).write_state v.1)
-      (λ b. (goal.EntryProcessor-dyn g (b.vtable, b.value)).processes b.value) (λ b. (goal.EntryProcessor-dyn g (b.vtable, b.value)).process_state b.value)
-      c.args.processing.now.args.now c.args.cache.now c.reserve.new.session c.ask-answers.new.session c.loop.next.through c.reserve.new.self.tickets.items c.loop.processing.processor.now c.ask-answers.new.processing.processor.now c.ask-answers.result.0
+      let has = asked_by _ _ _ _ _ _ _ c.args.processing.now.args.now c.args.cache.now c.reserve.new.session c.ask-answers.new.session c.loop.next.through c.reserve.new.self.tickets.items c.loop.processing.processor.now c.ask-answers.new.processing.processor.now c.ask-answers.result.0
       c.loop.processing.args.now (ap (λ a. a.now) c.loop.invariant.same_args) c.loop.invariant.ready.room_is.through_is c.ask-answers.ensures.asked in
-      let told = told_of (λ v. (goal.CacheLoader-dyn g v).loads v.1) (λ v. (goal.CacheLoader-dyn g v).load_state v.1)
-      (λ v. (goal.CacheWriter-dyn g v).writes_all v.1) (λ v. (goal.CacheWriter-dyn g v).deletes_all v.1) (λ v. (goal.CacheWriter-dyn g v).write_state v.1)
-      (λ b. (goal.EntryProcessor-dyn g (b.vtable, b.value)).processes b.value) (λ b. (goal.EntryProcessor-dyn g (b.vtable, b.value)).process_state b.value)
-      c.args.processing.now.args.now c.args.cache.now then c.reserve.new.session c.ask-answers.new.session c.reserve.new.self _ c.ask-answers.new.tickets c.loop.processing.processor.now c.ask-answers.new.processing.processor.now c.ask-answers.result.0
+      let told = told_of _ _ _ _ _ _ _ c.args.processing.now.args.now c.args.cache.now then c.reserve.new.session c.ask-answers.new.session c.reserve.new.self _ c.ask-answers.new.tickets c.loop.processing.processor.now c.ask-answers.new.processing.processor.now c.ask-answers.result.0
       reserved ready.invoked c.ask-answers.ensures.tickets refl has in
       let on = c.end_round-spent.ensures.run then (ProcessAll has.asked.round) told in
       (ran_more _ c.args.cache.now past c.args.session.now c.args.call.now _ c.loop.session c.reserve.new.session c.ask-answers.new.session c.end_round-spent.new.session c.loop.call c.reserve.new.self _ c.end_round-spent.new.self so_far (ProcessAll has.asked.round)
-      (have_same (λ v. (goal.CacheLoader-dyn g v).loads v.1) (λ v. (goal.CacheLoader-dyn g v).load_state v.1)
-      (λ v. (goal.CacheWriter-dyn g v).writes_all v.1) (λ v. (goal.CacheWriter-dyn g v).deletes_all v.1) (λ v. (goal.CacheWriter-dyn g v).write_state v.1)
-      (λ b. (goal.EntryProcessor-dyn g (b.vtable, b.value)).processes b.value) (λ b. (goal.EntryProcessor-dyn g (b.vtable, b.value)).process_state b.value)
-      c.args.processing.now.args.now c.args.cache.now c.args.session.now c.ask-answers.new.session c.end_round-spent.new.session c.args.processing.now.processor.now c.ask-answers.new.processing.processor.now (so_far.rounds ++ ProcessAll has.asked.round ∷ []) (ap (λ a. a.hands) c.end_round-spent.ensures.advances.agent)
-      (have_more (λ v. (goal.CacheLoader-dyn g v).loads v.1) (λ v. (goal.CacheLoader-dyn g v).load_state v.1)
-      (λ v. (goal.CacheWriter-dyn g v).writes_all v.1) (λ v. (goal.CacheWriter-dyn g v).deletes_all v.1) (λ v. (goal.CacheWriter-dyn g v).write_state v.1)
-      (λ b. (goal.EntryProcessor-dyn g (b.vtable, b.value)).processes b.value) (λ b. (goal.EntryProcessor-dyn g (b.vtable, b.value)).process_state b.value)
-      c.args.processing.now.args.now c.args.cache.now c.args.session.now c.loop.session c.reserve.new.session c.ask-answers.new.session c.args.processing.now.processor.now c.loop.processing.processor.now c.ask-answers.new.processing.processor.now so_far.rounds
+      (have_same _ _ _ _ _ _ _ c.args.processing.now.args.now c.args.cache.now c.args.session.now c.ask-answers.new.session c.end_round-spent.new.session c.args.processing.now.processor.now c.ask-answers.new.processing.processor.now (so_far.rounds ++ ProcessAll has.asked.round ∷ []) (ap (λ a. a.hands) c.end_round-spent.ensures.advances.agent)
+      (have_more _ _ _ _ _ _ _ c.args.processing.now.args.now c.args.cache.now c.args.session.now c.loop.session c.reserve.new.session c.ask-answers.new.session c.args.processing.now.processor.now c.loop.processing.processor.now c.ask-answers.new.processing.processor.now so_far.rounds
       c.reserve.new.self.tickets.items c.ask-answers.result.0 (ap (λ a. a.hands) c.reserve.ensures.advances.agent) so_far.asked has))
       on c.reserve.ensures.advances has.rest refl c.end_round-spent.ensures.advances).0;
   same_processor = c.ask-answers.ensures.same.0 ∙ c.loop.invariant.same_processor;
@@ -201,29 +153,17 @@ returns-in-Err-clause-runs g c past run =
     let then = with_rounds past so_far.rounds in
     let reserved = c.if-not-reserve.ensures.reserved refl then so_far.run in
     let ready = ready_later c.args.cache.now.config c.loop.call c.reserve.new.self c.loop.next c.reserve.ensures.advances.targets c.reserve.ensures.advances.most c.loop.invariant.ready in
-    let has = asked_by (λ v. (goal.CacheLoader-dyn g v).loads v.1) (λ v. (goal.CacheLoader-dyn g v).load_state v.1)
-    (λ v. (goal.CacheWriter-dyn g v).writes_all v.1) (λ v. (goal.CacheWriter-dyn g v).deletes_all v.1) (λ v. (goal.CacheWriter-dyn g v).write_state v.1)
-    (λ b. (goal.EntryProcessor-dyn g (b.vtable, b.value)).processes b.value) (λ b. (goal.EntryProcessor-dyn g (b.vtable, b.value)).process_state b.value)
-    c.args.processing.now.args.now c.args.cache.now c.reserve.new.session c.ask-answers.new.session c.loop.next.through c.reserve.new.self.tickets.items c.loop.processing.processor.now c.ask-answers.new.processing.processor.now c.ask-answers.result.0
+    let has = asked_by _ _ _ _ _ _ _ c.args.processing.now.args.now c.args.cache.now c.reserve.new.session c.ask-answers.new.session c.loop.next.through c.reserve.new.self.tickets.items c.loop.processing.processor.now c.ask-answers.new.processing.processor.now c.ask-answers.result.0
     c.loop.processing.args.now (ap (λ a. a.now) c.loop.invariant.same_args) c.loop.invariant.ready.room_is.through_is c.ask-answers.ensures.asked in
-    let told = told_of (λ v. (goal.CacheLoader-dyn g v).loads v.1) (λ v. (goal.CacheLoader-dyn g v).load_state v.1)
-    (λ v. (goal.CacheWriter-dyn g v).writes_all v.1) (λ v. (goal.CacheWriter-dyn g v).deletes_all v.1) (λ v. (goal.CacheWriter-dyn g v).write_state v.1)
-    (λ b. (goal.EntryProcessor-dyn g (b.vtable, b.value)).processes b.value) (λ b. (goal.EntryProcessor-dyn g (b.vtable, b.value)).process_state b.value)
-    c.args.processing.now.args.now c.args.cache.now then c.reserve.new.session c.ask-answers.new.session c.reserve.new.self _ c.ask-answers.new.tickets c.loop.processing.processor.now c.ask-answers.new.processing.processor.now c.ask-answers.result.0
+    let told = told_of _ _ _ _ _ _ _ c.args.processing.now.args.now c.args.cache.now then c.reserve.new.session c.ask-answers.new.session c.reserve.new.self _ c.ask-answers.new.tickets c.loop.processing.processor.now c.ask-answers.new.processing.processor.now c.ask-answers.result.0
     reserved ready.invoked c.ask-answers.ensures.tickets refl has in
     let on = c.end_round-spent.ensures.run then (ProcessAll has.asked.round) told in
     let through = left_there _ c.again-left.result c.in-Err.ensures.err
     (left_none c.loop.call.most c.args.cache.now.config.write_through c.loop.next c.end_round-spent.result c.ask-answers.result.1 c.again-left.result c.loop.invariant.ready.room_is c.ask-answers.ensures.left c.again-left.ensures) in
     let invoked : IsInvoked c.end_round-spent.new.self = (ready.invoked.0, ap (λ t. ops_of t.now) c.end_round-spent.ensures.advances.targets ∙ ready.invoked.1) in
     let all = ran_more _ c.args.cache.now past c.args.session.now c.args.call.now _ c.loop.session c.reserve.new.session c.ask-answers.new.session c.end_round-spent.new.session c.loop.call c.reserve.new.self _ c.end_round-spent.new.self so_far (ProcessAll has.asked.round)
-    (have_same (λ v. (goal.CacheLoader-dyn g v).loads v.1) (λ v. (goal.CacheLoader-dyn g v).load_state v.1)
-    (λ v. (goal.CacheWriter-dyn g v).writes_all v.1) (λ v. (goal.CacheWriter-dyn g v).deletes_all v.1) (λ v. (goal.CacheWriter-dyn g v).write_state v.1)
-    (λ b. (goal.EntryProcessor-dyn g (b.vtable, b.value)).processes b.value) (λ b. (goal.EntryProcessor-dyn g (b.vtable, b.value)).process_state b.value)
-    c.args.processing.now.args.now c.args.cache.now c.args.session.now c.ask-answers.new.session c.end_round-spent.new.session c.args.processing.now.processor.now c.ask-answers.new.processing.processor.now (so_far.rounds ++ ProcessAll has.asked.round ∷ []) (ap (λ a. a.hands) c.end_round-spent.ensures.advances.agent)
-    (have_more (λ v. (goal.CacheLoader-dyn g v).loads v.1) (λ v. (goal.CacheLoader-dyn g v).load_state v.1)
-    (λ v. (goal.CacheWriter-dyn g v).writes_all v.1) (λ v. (goal.CacheWriter-dyn g v).deletes_all v.1) (λ v. (goal.CacheWriter-dyn g v).write_state v.1)
-    (λ b. (goal.EntryProcessor-dyn g (b.vtable, b.value)).processes b.value) (λ b. (goal.EntryProcessor-dyn g (b.vtable, b.value)).process_state b.value)
-    c.args.processing.now.args.now c.args.cache.now c.args.session.now c.loop.session c.reserve.new.session c.ask-answers.new.session c.args.processing.now.processor.now c.loop.processing.processor.now c.ask-answers.new.processing.processor.now so_far.rounds
+    (have_same _ _ _ _ _ _ _ c.args.processing.now.args.now c.args.cache.now c.args.session.now c.ask-answers.new.session c.end_round-spent.new.session c.args.processing.now.processor.now c.ask-answers.new.processing.processor.now (so_far.rounds ++ ProcessAll has.asked.round ∷ []) (ap (λ a. a.hands) c.end_round-spent.ensures.advances.agent)
+    (have_more _ _ _ _ _ _ _ c.args.processing.now.args.now c.args.cache.now c.args.session.now c.loop.session c.reserve.new.session c.ask-answers.new.session c.args.processing.now.processor.now c.loop.processing.processor.now c.ask-answers.new.processing.processor.now so_far.rounds
     c.reserve.new.self.tickets.items c.ask-answers.result.0 (ap (λ a. a.hands) c.reserve.ensures.advances.agent) so_far.asked has))
     on c.reserve.ensures.advances has.rest refl c.end_round-spent.ensures.advances in
     ran_refused _ c.args.cache.now past c.args.session.now c.args.call.now c.end_round-spent.new.session c.end_round-spent.new.self c.refuse_rest.new.self
