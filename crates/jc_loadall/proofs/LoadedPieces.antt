@@ -1,8 +1,9 @@
 -- What a call says in the end.
 --     Says        what the function that loads a piece says of each call
 --     ended       what is known of the results tells how the call ended
+--     on_return   of a call of clients, by what it returns
 --     ended_kept, ended_same    what each call keeps of its tool, all calls keep of all tools
-use Rattle.std.proofs.Common.{◌≡◌, ◌<◌, ◌≤◌, ◌⊎◌, inl, inr, ⊎_elim, ℕ, suc, List, [], ◌∷◌, Bool, Option, length, map, get_or, All, Result, refl, sym, ap, subst, ◌∙◌, arith}
+use Rattle.std.proofs.Common.{◌≡◌, ◌<◌, ◌≤◌, ◌⊎◌, inl, inr, ⊎_elim, ℕ, suc, List, [], ◌∷◌, Bool, Option, length, map, get_or, All, Result, Ok, Err, refl, sym, ap, subst, ◌∙◌, arith}
 use denote.Ref.{Bor, MutBor}
 use denote.Param.Members.{Shared}
 use Rattle.indexmap.specs.IndexSet.{IndexSet}
@@ -13,7 +14,8 @@ use Rattle.jc_bulk.specs.declared.fault.BulkFault.{BulkFault}
 use Rattle.jc_bulk.specs.Bulk.{OrRefused, TellsDone}
 use Rattle.jc_pool.specs.Shares.{LeadsTo}
 use Rattle.jc_loadall.specs.declared.notes.PieceResult.{PieceResult}
-use Rattle.jc_loadall.specs.Loading.{EndsInPieces, PieceEnd}
+use Rattle.jc_loadall.specs.Loading.{EndsInPieces, OnReturn, PieceEnd, of_clients}
+use Rattle.jc_loadall.specs.declared.fault.LoadAllFault.{LoadAllFault}
 use Rattle.jc_loadall.specs.Notes.{LoadsAndNotes}
 use Rattle.jc_loadall.specs.Pieces.{piece_at, piece_count}
 use Rattle.jc_loadall.specs.Working.{AreLoadedBy, EndsByTeam, LoadsBy}
@@ -82,3 +84,7 @@ module _ {F S T : Type 0} (g : Shared F (Bor (IndexSet Bytes S) × (MutBor T × 
 
       pub ended_same : {X : Type 0} (f : T → X) → Keeps (λ old new. f new ≡ f old) → map f news ≡ map f olds
       ended_same f same = ⊎_elim (λ h. same_all f same h.0 h.1) (λ none. ap (map f) none) lent
+
+pub on_return : (ended : Result (Unit {0}) BulkFault) (returned : Result (Unit {0}) LoadAllFault) (Nobody : Type 0) (Ends : Result (Unit {0}) BulkFault → Type 0) → returned ≡ of_clients ended → Ends ended → OnReturn returned Nobody Ends
+on_return (Ok done) returned Nobody Ends is ends = subst (λ r. OnReturn r Nobody Ends) (sym is) ends
+on_return (Err fault) returned Nobody Ends is ends = subst (λ r. OnReturn r Nobody Ends) (sym is) ends

@@ -12,6 +12,7 @@
 --     EndsInPieces    the same, and this was returned: that it is done, or the cause of the first piece that has one, with each key that
 --                     ended in a fault or a refusal
 --     completion_of   what a listener hears of a call that has returned this
+--     of_clients      what a call of clients returns that has ended so
 --     OnReturn        what is so if a call of clients returns that there is none, and what is so of what it returns otherwise
 use Rattle.std.specs.Prelude.{◌≡◌, ◌<◌, ◌⊎◌, ◌++◌, ℕ, zero, suc, List, [], length, map, Bool, Option, None, Some, Result, Ok, Err, slice_index_or}
 use Rattle.std.specs.Option.{option_or}
@@ -88,6 +89,10 @@ module _ {T : Type 0} (Loads : List (Bytes × Op) → PieceEnd → T → T → T
 abbrev pub completion_of : Result (Unit {0}) BulkFault → Result (Unit {0}) Refusal
 completion_of (Ok done) = Ok done
 completion_of (Err fault) = Err fault.cause
+
+abbrev pub of_clients : Result (Unit {0}) BulkFault → Result (Unit {0}) LoadAllFault
+of_clients (Ok done) = Ok done
+of_clients (Err fault) = Err (Failed fault)
 
 abbrev pub OnReturn : Result (Unit {0}) LoadAllFault → Type 0 → (Result (Unit {0}) BulkFault → Type 0) → Type 0
 OnReturn (Ok done) Nobody Ended = Ended (Ok done)

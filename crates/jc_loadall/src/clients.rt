@@ -3,7 +3,7 @@ ghost use Rattle.std.specs.Prelude.{◌≡◌, ◌==◌, ◌≤◌, ◌<◌, [],
 ghost use Rattle.std.specs.List.{IsDistinct};
 ghost use Rattle.std.specs.Cmp.Lexicographic.{pointwise};
 ghost use Rattle.jc_bulk.specs.Bulk.{OrRefused};
-ghost use Rattle.jc_loadall.specs.Loading.{ClientLoadsPiece, EndsInPieces, OnReturn, completion_of};
+ghost use Rattle.jc_loadall.specs.Loading.{ClientLoadsPiece, EndsInPieces, OnReturn, completion_of, of_clients};
 ghost use Rattle.jc_loadall.specs.Notes.{LoadsAndNotes};
 ghost use Rattle.jc_loadall.specs.declared.limits.TheConstants.{PIECE_KEYS};
 
@@ -56,6 +56,13 @@ pub fn load_all_by_clients<'a, R: Wait + Threads + Sync, L: CompletionListener>(
     { load_client_piece(alloc, rt, client, piece_keys, replace) };
     let ended = load_or_refuse(alloc, rt, &load, clients, keys);
     tell(listener, &ended);
+    of_clients(ended)
+}
+
+/// What a call of clients returns that has ended so.
+fn of_clients(ended: Result<(), BulkFault>) -> Result<(), LoadAllFault>
+    ensures { result ≡ of_clients ended }
+{
     match ended {
         Ok(()) => Ok(()),
         Err(fault) => Err(LoadAllFault::Failed(fault)),
