@@ -35,7 +35,7 @@ after_touch key entries = option_map_or (λ value. (key, value) ∷ others key e
 abbrev pub is_pinned : List Bytes → Bytes → Bool
 is_pinned pinned key = list_any (λ other. pointwise ◌==◌ other key) pinned
 
--- the least recently used key that isn't pinned, so the last of those: the one that is evicted if there is no room
+-- the least recently used key that isn't pinned, so the last one of those in the list: it is evicted if there is no room
 abbrev pub lru_victim : List (Bytes × Bytes) → List Bytes → Option Bytes
 lru_victim entries pinned = find (λ key. not (is_pinned pinned key)) (keys_of (reverse entries))
 

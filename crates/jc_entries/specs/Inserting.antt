@@ -1,9 +1,10 @@
--- What an insertion does, by what it answers.
+-- An insertion, by its answer.
 --     has_room_for            the key has an entry already, or fewer entries are kept than may be
 --     InsertsInRoom           the entry is the first, and nobody was evicted
 --     InsertsAfterEviction    the entry is the first, and the victim was evicted for it
 --     FindsAllPinned          there was no room, and no entry could be evicted: nothing has changed
---     FindsNoMemory           an allocation for a new entry failed: the victim was evicted, if there was no room, and nothing else has changed
+--     FindsNoMemory           an allocation for a new entry failed: without room the victim was evicted, and nothing else has
+--                             changed
 --     Inserts                 the case that an answer stands for
 use Rattle.std.specs.Prelude.{◌≡◌, ◌||◌, nat_lt, Bool, true, false, Option, None, Some, IsSome, is_some, List, ◌∷◌, length, if◌then◌else◌}
 use Rattle.std.specs.FinMap as finite
@@ -36,7 +37,7 @@ pub record FindsAllPinned (old new : ByUse) (key : Bytes) (pinned : List Bytes) 
   pub nobody : evicted ≡ None
   pub after : new ≡ old
 
--- an allocation for a new entry failed: the victim was evicted, if there was no room, and nothing else has changed
+-- an allocation for a new entry failed: without room the victim was evicted, and nothing else has changed
 pub record FindsNoMemory (old new : ByUse) (key : Bytes) (pinned : List Bytes) (evicted : Option Bytes) : Type 0 where
   pub is_new : finite.find key_cmp key old.list ≡ None
   pub victim_is : evicted ≡ (if has_room_for key old then None else lru_victim old.list pinned)
