@@ -113,6 +113,8 @@ impl<R: Reserved> Reservations<R> {
 
     /// Ends a key's reservation, and returns whether there was one. The other keys stay in their order, and the next number
     /// stays.
+    ///
+    /// The reservations made after it move up one place each: up to [`RESERVATIONS_MAX`] - 1 records and keys are copied.
     pub fn release(&mut self, key: &Key) -> bool
         ensures found { result ≡ is_held R.key self.old key.now }
         ensures released { self.new ≡ without_reservation R.key self.old key.now }
