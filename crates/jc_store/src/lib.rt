@@ -1,13 +1,14 @@
 //! A store of record that many sessions read through and write through, for tests and programs.
 //!
-//! [`Store`] is the store itself. [`SharedStore`] is one behind a lock, and makes a loader and a writer for each session
-//! (JSR 107, "Integration"). [`Counting`] is a loader or a writer that counts its calls, [`ScheduledLoader`] and
-//! [`ScheduledWriter`] are a loader and a writer with a fault at one of their calls, [`Increment`] is an entry processor that counts
-//! in the store.
+//! [`Store`] is the store itself. [`SharedStore`] is a store behind a lock, and makes a loader and a writer for each session (JSR
+//! 107, "Integration"). [`Increment`] is an entry processor that counts in the store. For tests, [`Counting`] is a loader or a
+//! writer that counts its calls, and [`ScheduledLoader`] and [`ScheduledWriter`] are a loader and a writer with a fault at one of
+//! their calls.
 //!
 //! Why it is so:
-//! - What counts calls is a wrapper with the relations of what it wraps; so is what has a fault at one of its calls. They can't wrap a
-//!   box. A scheduled writer takes all memory before it hands a copy on.
+//! - Counting and scheduled faults are wrappers with the relations of what they wrap, so that a test may add them to any loader
+//!   or writer. They can't wrap a box.
+//! - A scheduled writer makes all its allocations before it calls the wrapped writer, so that none fails in the middle.
 #![tactic(auto)]
 
 mod counting;
