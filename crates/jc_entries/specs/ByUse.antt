@@ -1,5 +1,5 @@
--- What one stripe caches, in order of use (LRU), as its readers see it. Nothing here says how the entries are stored.
---     ByUse             how many entries may be kept, and the entries, the most recently used first
+-- The entries of one stripe, in order of use (LRU), as callers see them. Nothing here says how the entries are stored.
+--     ByUse             the most entries that may be kept, and the entries, the most recently used first
 --     IsValidByUse      the keys are distinct, no more entries are kept than may be, and the bound is one that a stripe may have
 --     after_touch       the entries with this key's moved to the front, or as they are if the key has none
 --     is_pinned         whether a key is among the pinned ones, whose entries can't be evicted
@@ -15,7 +15,7 @@ use Rattle.jc_types.specs.declared.limits.TheConstants.{CAPACITY_MAX}
 use Rattle.jc_model.specs.Cache.{Bytes, key_cmp}
 use Rattle.jc_model.specs.Listed.{has_distinct_keys, others}
 
--- how many entries may be kept, and the entries, the most recently used first
+-- the most entries that may be kept, and the entries, the most recently used first
 pub record ByUse : Type 0 where
   pub capacity : ℕ
   pub list : List (Bytes × Bytes)

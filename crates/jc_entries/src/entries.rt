@@ -36,7 +36,7 @@ pub enum Inserted {
     NotKept(Cause, Option<Key>),
 }
 
-/// What one stripe caches: each key once, in order of use.
+/// The entries that one stripe caches: each key once, in order of use.
 ///
 /// The number of entries that may be kept is chosen when this is made, from 1 to [`CAPACITY_MAX`]. A look-up, a use, an insertion
 /// and a removal take as many steps in a full stripe as in one with a single entry. An insertion that evicts also passes over the
@@ -225,7 +225,7 @@ impl Entries {
         Ok(())
     }
 
-    /// How many entries there are, at most [`capacity`](Entries::capacity).
+    /// The number of entries, at most [`capacity`](Entries::capacity).
     pub fn len(&self) -> usize
         ensures len { result ≡ length self.now.list }
         ensures valid { IsValidByUse self.now }
@@ -233,7 +233,7 @@ impl Entries {
         self.cache.len()
     }
 
-    /// How many entries may be kept, from 1 to [`CAPACITY_MAX`].
+    /// The most entries that may be kept, from 1 to [`CAPACITY_MAX`].
     pub fn capacity(&self) -> usize
         ensures capacity { result ≡ self.now.capacity }
         ensures valid { IsValidByUse self.now }

@@ -1,4 +1,4 @@
-//! What one stripe caches, in order of use (LRU).
+//! The entries of one stripe, in order of use (LRU).
 //!
 //! Why it is so:
 //! - The entries are on the kit's `lru`, because a look-up, a use, an insertion and a removal then cost the same however many
