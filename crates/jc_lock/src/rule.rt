@@ -3,7 +3,7 @@ use crate::view::View;
 use atomic_table::{Join, Play, Split, TableRule};
 use jc_stripe::Stripe;
 
-/// What the slot has: the stripe, or nothing while a holder has it.
+/// The content of the slot: the stripe, or nothing while a holder has it.
 pub(crate) type Slot = Option<Box<Stripe>>;
 
 /// The rule.
