@@ -11,7 +11,7 @@
 --     to_change                           a change whose value is lent
 --     ask_if                              a change, if it is asked for
 --     effect_ask, process_ask             what the writer is asked for after a processor, by its net effect and by its answer
---     write_ask                           the writer table: what the writer is asked for, or nothing
+--     write_ask                           the writer table: the change that the writer is asked for, or nothing
 --     is_write_given, is_process_given    whether the writer answered, and whether the processor did
 --     is_invoke                           an operation runs a processor
 --     load_fault, process_fault, write_fault    the fault of the loader, of the processor, of the writer, if it failed

@@ -127,8 +127,8 @@ pub enum Change {
     Delete,
 }
 
-/// What a processor does to its entry in the end, all its calls on the entry taken together. The writer is asked for this alone
-/// (JSR 107, "Entry Processors").
+/// The net effect of a processor on its entry, by all its calls on the entry together. The writer is asked for this alone (JSR
+/// 107, "Entry Processors").
 #[derive(Clone, Copy, Debug, PartialEq, Eq)]
 pub enum Effect {
     /// Nothing: the entry is kept as it is, or as it was loaded.
@@ -146,9 +146,9 @@ pub enum ProcessAnswer {
     NotAsked,
     /// It ended.
     Ended {
-        /// What it does to its entry.
+        /// Its effect on the entry.
         effect: Effect,
-        /// What it answers the caller.
+        /// Its answer to the caller.
         outcome: Option<Value>,
     },
     /// It failed with this code. The step leaves the entry as it was, also if a value was loaded.
@@ -173,11 +173,11 @@ impl ProcessAnswer {
 /// The outside answers of one step: those of the loader, the writer and the entry processor.
 #[derive(Clone, Copy, Debug, PartialEq, Eq)]
 pub struct Out {
-    /// What the loader answered.
+    /// The loader's answer.
     pub load: LoadAnswer,
-    /// What the writer answered.
+    /// The writer's answer.
     pub write: WriteAnswer,
-    /// What the entry processor answered.
+    /// The entry processor's answer.
     pub process: ProcessAnswer,
 }
 

@@ -1,5 +1,5 @@
-//! What a cache is (JSR 107, JCache 1.1): the operations, the answers of a loader, a writer and an entry processor, the entry and
-//! the reply of a step, and the events of a history.
+//! The definition of a cache (JSR 107, JCache 1.1): the operations, the answers of a loader, a writer and an entry processor, the
+//! entry and the reply of a step, and the events of a history.
 //!
 //! - [`event`] has the types that every crate uses.
 //! - [`table`] states what each operation asks for, leaves and replies, as methods of [`event::Op`].

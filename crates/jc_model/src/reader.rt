@@ -14,7 +14,7 @@ use crate::reader::follows::go_over;
 use jc_types::{Config, Key, Value};
 use std::alloc::{AllocError, Global};
 
-/// What is kept of a group whose step was read.
+/// The data that the reader keeps of a group whose step was read.
 #[derive(Clone, Copy)]
 pub(crate) struct Opened {
     // The place of the step.

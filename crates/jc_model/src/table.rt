@@ -177,8 +177,8 @@ impl Op {
         }
     }
 
-    /// What a step replies if it found this entry, with these outside answers. If the load, the processor or the write failed,
-    /// the reply is the first of these faults.
+    /// The reply of a step that found this entry, with these outside answers. If the load, the processor or the write failed, the
+    /// reply is the first of these faults.
     #[inline(always)]
     pub fn reply_after(&self, entry: Option<&Value>, out: &Out) -> Reply
         ensures { result ≡ reply_after self.now (option_copied entry.entry) out.now }
@@ -188,7 +188,7 @@ impl Op {
         reply
     }
 
-    /// Writes to `reply` what a step replies if it found this entry, with these outside answers: a value is copied once.
+    /// Writes the reply of a step that found this entry, with these outside answers, to `reply`: a value is copied once.
     #[inline(always)]
     pub fn reply_into(&self, entry: Option<&Value>, out: &Out, reply: &mut Reply)
         ensures { reply.new ≡ reply_after self.now (option_copied entry.entry) out.now }
@@ -370,7 +370,7 @@ impl Op {
         }
     }
 
-    /// The writer table: what the writer is asked for by a step that finds this entry, or nothing (JSR 107,
+    /// The writer table: the change that the writer is asked for by a step that finds this entry, or nothing (JSR 107,
     /// "Integration"). It holds with write-through on; with write-through off, nobody is asked.
     ///
     /// For `Invoke` the processor's answer decides; the other operations do not look at it.

@@ -10,7 +10,7 @@ use crate::reader::{Opened, Stage};
 use jc_types::{Config, Key};
 use std::alloc::AllocError;
 
-/// What is kept of a group at its step.
+/// The data that the reader keeps of a group at its step.
 fn opened_group(
     config: &Config,
     contents: &Contents,
