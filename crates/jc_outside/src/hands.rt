@@ -5,7 +5,7 @@ use crate::loader::CacheLoader;
 use crate::writer::CacheWriter;
 use std::marker::Model;
 
-/// What a session brings for calls outside.
+/// The loader and the writer that a session brings for calls outside.
 #[derive(Drop)]
 pub struct Outside {
     /// The loader, if it brings one. Without one nothing is found.
@@ -61,7 +61,7 @@ impl<T> Hands<T> {
         self.held -= 1;
     }
 
-    /// What they have for calls outside.
+    /// Ends the hands, and returns what they have for calls outside.
     ///
     /// Condition: they hold no stripe.
     pub fn into_outside(self) -> T
