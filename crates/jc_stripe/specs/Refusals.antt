@@ -1,4 +1,4 @@
--- Whom a first phase asks, and when it is refused.
+-- The partner that a first phase asks, and its refusals.
 --     writer_for           the writer, for a change that is asked for
 --     first_by             whom a call without a processor asks first: the loader, if the loader table asks it, otherwise the
 --                          writer
