@@ -86,7 +86,7 @@ impl StripeReservations {
     }
 
     /// Ends a key's reservation, and returns whether there was one. The reservations made after it move up: up to 63 of them, 840
-    /// bytes each. That is dear only if many are out.
+    /// bytes each. That takes time only if many are out.
     pub(crate) fn release(&mut self, key: &Key) -> bool
         ensures found { result ≡ is_held (λ (x : Reservation). x.key) self.old key.now }
         ensures released { self.new ≡ without_reservation (λ (x : Reservation). x.key) self.old key.now }
