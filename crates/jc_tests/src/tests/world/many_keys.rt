@@ -109,8 +109,8 @@ fn leaves(rt: &impl Abort, alloc: Global, world: &mut World, name: &str) {
     shows(rt, alloc, world, report, "undone", "the report");
 }
 
-/// An `invokeAll` has the writer asked twice: for its writes, once each processor has run, and then for its deletes. A key that
-/// the first return leaves has failed, and the failure is that key's alone.
+/// An `invokeAll` asks the writer twice: for its writes, once each processor has run, and then for its deletes. A key that the
+/// first return leaves has failed, and the failure is that key's alone.
 #[test]
 fn asks_for_writes_and_then_for_deletes(rt: HostRuntime) {
     let alloc = rt.alloc();
