@@ -23,13 +23,13 @@ use std::num::NonZeroUsize;
 /// The outcome of an insertion.
 #[derive(Clone, Copy, Debug, PartialEq, Eq)]
 pub enum Inserted {
-    /// The entry is kept, as the most recently used, and nobody was evicted.
+    /// The entry is kept, as the most recently used, and no other was evicted.
     Kept,
     /// The entry is kept, as the most recently used, and the entry of this key was evicted for it.
     KeptAfter(Key),
     /// The entry isn't kept.
     ///
-    /// - [`Cause::Full`]: there was no room, and each entry is pinned. Nobody was evicted, and the entries are as they were.
+    /// - [`Cause::Full`]: there was no room, and each entry is pinned. No entry was evicted, and the entries are as they were.
     /// - [`Cause::Memory`]: the new entry has a new key, and an allocation for it failed. If there was no room, an entry was
     ///   evicted before that was known, and its key is beside the cause; otherwise no key is there. The other entries are as they
     ///   were, in their order. Nothing is promised about when an allocation fails.
