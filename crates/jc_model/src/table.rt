@@ -371,7 +371,7 @@ impl Op {
     }
 
     /// The writer table: the change that the writer is asked for by a step that finds this entry, or nothing (JSR 107,
-    /// "Integration"). It holds with write-through on; with write-through off, nobody is asked.
+    /// "Integration"). It holds with write-through on; with write-through off, the writer isn't asked.
     ///
     /// For `Invoke` the processor's answer decides; the other operations do not look at it.
     #[inline(always)]
