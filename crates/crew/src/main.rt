@@ -1,5 +1,4 @@
-//! A longer program over the library: pages are entered, four workers count the visits of the pages side by side, and a report
-//! follows.
+//! Pages are entered, four workers count their visits side by side, and a report follows.
 #![tactic(auto)]
 
 use indexmap::IndexMap;
@@ -13,7 +12,7 @@ use std::alloc::Global;
 use std::sync::Wait;
 use std::thread::Threads;
 
-/// The data that all clients share: the pages with their first counts, and the entries that each worker puts at its end.
+/// What all clients share: the pages with their first counts, and what each worker puts at its end.
 #[derive(Drop)]
 struct Shift {
     alloc: Global,
@@ -71,7 +70,7 @@ fn main(rt: HostRuntime) -> anyhow::Result<()> {
     serve(&rt, alloc, outside)
 }
 
-/// Opens a cache, lets all clients call it, and closes it.
+/// A cache is opened, all clients call it, and it is ended.
 fn serve<R: Print + Threads + Wait + Sync>(
     rt: &R,
     alloc: Global,
@@ -89,7 +88,7 @@ fn serve<R: Print + Threads + Wait + Sync>(
     Ok(())
 }
 
-/// The last client enters the pages, all others work, and then the last one reports.
+/// The last client enters the pages, all others work, and then it reports.
 fn call_all<R: Print + Threads + Wait + Sync>(
     rt: &R,
     alloc: Global,
@@ -109,14 +108,14 @@ fn call_all<R: Print + Threads + Wait + Sync>(
     report(rt, desk, &shift)
 }
 
-/// Enters the pages. It returns the client.
+/// Enters the pages. The client comes back.
 fn enter<'a>(rt: &impl Wait, desk: Client<'a>, shift: &Shift) -> anyhow::Result<Client<'a>> {
     let mut desk = desk;
     put_twice(rt, shift.alloc, &mut desk, &shift.pages)?;
     Ok(desk)
 }
 
-/// Runs all workers. An `Err` says why one ended too soon.
+/// All workers work. An `Err` says why one ended too soon.
 fn work<R: Threads + Wait + Sync>(
     rt: &R,
     workers: Vec<Client<'_>>,
@@ -139,7 +138,7 @@ fn report(rt: &(impl Print + Wait), desk: Client<'_>, shift: &Shift) -> anyhow::
     Ok(())
 }
 
-/// Entries for these keys, each with this value.
+/// An entry of this value for each of these keys.
 fn entries(alloc: Global, keys: &[&str], value: &str) -> anyhow::Result<IndexMap<Key, Value>> {
     let mut entries = IndexMap::new(alloc);
     for key in keys {

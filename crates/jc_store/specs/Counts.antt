@@ -2,9 +2,9 @@
 --     one_more_call    a count and one more call, up to the greatest `u64`
 --     after_call       the counts after one more call: its method's count is one more, and no other changes
 use Rattle.std.specs.Prelude.{◌+◌, ℕ, min}
-use Rattle.jc_store.specs.declared.counts.Call.{Call}
-use Rattle.jc_store.specs.declared.counts.Call.TheVariants.{Load, LoadAll, Write, WriteAll, Delete, DeleteAll}
-use Rattle.jc_store.specs.declared.counts.Counts.{Counts}
+use Rattle.jc_store.specs.declared.doubles.counts.Call.{Call}
+use Rattle.jc_store.specs.declared.doubles.counts.Call.TheVariants.{Load, LoadAll, Write, WriteAll, Delete, DeleteAll}
+use Rattle.jc_store.specs.declared.doubles.counts.Counts.{Counts}
 
 abbrev pub one_more_call : ℕ → ℕ
 one_more_call n = min (n + 1) 18446744073709551615

@@ -26,9 +26,9 @@ use Rattle.jc_model.specs.Cache.{Bytes}
 use Rattle.jc_model.specs.Batches.{is_among}
 use Rattle.jc_outside.specs.Answers.{AnswersByKey, answers_with}
 use Rattle.jc_store.specs.Shared.{NO_MEMORY}
-use Rattle.jc_store.specs.declared.scheduled_loader.LoadFault.{LoadFault}
-use Rattle.jc_store.specs.declared.scheduled_loader.LoadFault.TheVariants.{Fails, AlsoAnswers}
-use Rattle.jc_store.specs.declared.scheduled_writer.WriteFault.{WriteFault}
+use Rattle.jc_store.specs.declared.doubles.scheduled_loader.LoadFault.{LoadFault}
+use Rattle.jc_store.specs.declared.doubles.scheduled_loader.LoadFault.TheVariants.{Fails, AlsoAnswers}
+use Rattle.jc_store.specs.declared.doubles.scheduled_writer.WriteFault.{WriteFault}
 
 -- 1. Schedules.
 

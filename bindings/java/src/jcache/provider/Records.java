@@ -18,7 +18,7 @@ import java.util.stream.Stream;
  * core doesn't have its bytes.
  *
  * <p>Usage: {@code java -cp jcache-provider.jar:cache-api.jar jcache.provider.Records FOLDER [KEY]}. With a key, as its
- * {@code toString} has it, its events alone.
+ * {@code toString} has it, its events alone, of the files that have any.
  */
 public final class Records {
     private static final int WRONG_USAGE = 2;
@@ -29,12 +29,15 @@ public final class Records {
     private Event.Texts texts = named;
     private final PrintStream out;
     private final String only;
+    /** The lines that are printed only once an event follows; null if none has to be waited for. */
+    private StringBuilder held;
     private int stripe;
     private int generation;
 
     private Records(PrintStream out, String only) {
         this.out = out;
         this.only = only;
+        this.held = only == null ? null : new StringBuilder();
     }
 
     /**
@@ -66,18 +69,18 @@ public final class Records {
                     .collect(Collectors.toList());
         }
         for (Path file : files) {
-            out.println("# " + file.getFileName());
             new Records(out, key).print(file);
         }
     }
 
     private void print(Path file) throws IOException {
+        note("# " + file.getFileName());
         try (DataInputStream in = new DataInputStream(new BufferedInputStream(Files.newInputStream(file)))) {
             for (int part = in.read(); part >= 0; part = in.read()) {
                 print(part, in);
             }
         } catch (EOFException e) {
-            out.println("# cut");
+            note("# cut");
         }
     }
 
@@ -93,7 +96,7 @@ public final class Records {
                 printEvents(in);
                 break;
             case Recorder.CLOSED:
-                out.println("# closed");
+                note("# closed");
                 break;
             default:
                 throw new IOException("there is no part " + part + " of a record");
@@ -108,7 +111,7 @@ public final class Records {
         named = new EventTexts.OfNumbers();
         boolean hasNumbers = keys == Recorder.NUMBERS;
         texts = hasNumbers ? named : new EventTexts.OfBytes(ByteForm.values()[keys], ByteForm.values()[values]);
-        out.println("# opened");
+        note("# opened");
     }
 
     private void printEvents(DataInputStream in) throws IOException {
@@ -119,9 +122,26 @@ public final class Records {
             in.readFully(bytes);
             Event event = new Event(bytes, texts);
             if (only == null || only.equals(event.key)) {
+                printHeld();
                 out.print(header + event.lines(stripe, place));
                 header = "";
             }
+        }
+    }
+
+    /** Prints a line that says where in the record it is. */
+    private void note(String line) {
+        if (held == null) {
+            out.println(line);
+        } else {
+            held.append(line).append(System.lineSeparator());
+        }
+    }
+
+    private void printHeld() {
+        if (held != null) {
+            out.print(held);
+            held = null;
         }
     }
 }

@@ -102,6 +102,8 @@ final class Recording {
             holds("a put says that the writer has written", scene.prints("b", "\\d+ b written"));
             holds("a remove that it has deleted", scene.prints("a", "\\d+ a deleted"));
             holds("of one key its steps alone are printed", !scene.prints("a", ".* b .*"));
+            holds("with the file's name", scene.all("a").contains("# kept-0.events"));
+            equal("of a file without the key nothing is printed", List.of(), scene.all("c"));
         }
     }
 

@@ -1,6 +1,6 @@
 use Rattle.std.proofs.Common.{◌≡◌, take}
 use Rattle.jc_store.specs.Schedules.{answers_with_all}
-use Rattle.jc_store.proofs.scheduled_loader.put_all.Given as goal
+use Rattle.jc_store.proofs.doubles.scheduled_loader.put_all.Given as goal
 
 abbrev pub invariant-loop-key : goal.invariant-loop-key
 invariant-loop-key l = record {

@@ -1,5 +1,5 @@
 //! Loaders and writers that count their calls.
-use crate::counts::{Call, Counts};
+use crate::doubles::counts::{Call, Counts};
 use indexmap::{IndexMap, IndexSet};
 use jc_outside::{Answers, CacheLoader, CacheWriter};
 use jc_types::{Key, Value};

@@ -4,7 +4,7 @@ use Rattle.jc_model.specs.Cache.{Bytes}
 use Rattle.jc_outside.specs.Answers.{answers_with}
 use Rattle.jc_store.specs.Schedules.{answers_with_all}
 use Rattle.jc_store.proofs.Scheduled.{answers_with_all-last}
-use Rattle.jc_store.proofs.scheduled_loader.put_all.Goals as goal
+use Rattle.jc_store.proofs.doubles.scheduled_loader.put_all.Goals as goal
 
 pub loop-key-preserved : goal.loop-key-preserved
 loop-key-preserved c =

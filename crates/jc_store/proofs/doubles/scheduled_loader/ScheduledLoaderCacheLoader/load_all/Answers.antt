@@ -1,7 +1,7 @@
 use Rattle.std.proofs.Common.{◌∷◌, ap, ◌∙◌}
 use Rattle.jc_store.specs.Schedules.{load_failure, more_answers, answers_with_all}
 use Rattle.jc_store.proofs.Scheduled.{not-failing}
-use Rattle.jc_store.proofs.scheduled_loader.ScheduledLoaderCacheLoader.load_all.Goals as goal
+use Rattle.jc_store.proofs.doubles.scheduled_loader.ScheduledLoaderCacheLoader.load_all.Goals as goal
 
 pub returns-clause-loads : goal.returns-clause-loads
 returns-clause-loads g c =

@@ -3,7 +3,7 @@ use Rattle.std.proofs.lemmas.List.{map-id}
 use Rattle.jc_model.specs.Cache.{Bytes}
 use Rattle.jc_model.specs.Batches.{is_among}
 use Rattle.jc_store.specs.Schedules.{with_all, with_added_key}
-use Rattle.jc_store.proofs.scheduled_writer.delete_part.Goals as goal
+use Rattle.jc_store.proofs.doubles.scheduled_writer.delete_part.Goals as goal
 
 pub returns : goal.returns
 returns g c =

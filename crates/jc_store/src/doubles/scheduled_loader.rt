@@ -2,7 +2,7 @@
 ghost use Rattle.std.specs.Prelude.{◌≡◌};
 ghost use Rattle.jc_store.specs.Schedules.{load_failure, more_answers, answers_with_all};
 
-use crate::schedule::count_down;
+use crate::doubles::schedule::count_down;
 use jc_outside::{Answers, CacheLoader};
 use jc_types::{Key, Value};
 

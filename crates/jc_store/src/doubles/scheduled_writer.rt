@@ -8,7 +8,7 @@ ghost use Rattle.jc_model.specs.Batches.{is_among};
 ghost use Rattle.jc_store.specs.Schedules.{write_failure, part_answer, with_added_entry, with_added_key, with_all};
 ghost use Rattle.jc_store.specs.Schedules.{WritesAsScheduled};
 
-use crate::schedule::count_down;
+use crate::doubles::schedule::count_down;
 use crate::store::NO_MEMORY;
 use indexmap::{IndexMap, IndexSet};
 use jc_batch::Leftover;

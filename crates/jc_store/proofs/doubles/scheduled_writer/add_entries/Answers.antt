@@ -3,7 +3,7 @@ use Rattle.std.proofs.lemmas.List.{take_more}
 use Rattle.jc_model.specs.Cache.{Bytes}
 use Rattle.jc_store.specs.Schedules.{with_all, with_added_entry}
 use Rattle.jc_store.proofs.Scheduled.{with_all-last}
-use Rattle.jc_store.proofs.scheduled_writer.add_entries.Goals as goal
+use Rattle.jc_store.proofs.doubles.scheduled_writer.add_entries.Goals as goal
 
 pub loop-key-preserved : goal.loop-key-preserved
 loop-key-preserved c =
