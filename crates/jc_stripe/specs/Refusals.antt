@@ -15,7 +15,7 @@
 --     needs_free_key       a call can be started only if its key is free: it neither answers from the entry nor joins a load
 --     places_needed        the free places of the history that a call needs: `HIT_PLACES` if it answers from the entry or joins,
 --                          otherwise `STEP_PLACES`
---     last_number          the last of a session's call numbers and of a stripe's reservation numbers, which none gets
+--     last_number          the last of a session's call numbers and of a stripe's reservation numbers: at it a call is refused
 --     has_room             the history has these places free, beside the reserved ones, and neither number is the last one
 --     needs_reservation    the call reserves its key: it asks somebody, and does not join
 --     full_refusal         the refusal of a call that lacks room: the history is full; or, if a full history may end and no

@@ -102,7 +102,8 @@ fn write_writer_for(change: Option<LentChange<'_>>, first: &mut First)
     }
 }
 
-/// The change that the writer is asked for before any other answer, if write-through is on.
+/// The change that the writer is asked for if write-through is on: before any outside answer if `answer` is `NotAsked`, otherwise
+/// after this answer of a processor.
 #[inline(always)]
 fn change_for<'a>(
     config: &Config,

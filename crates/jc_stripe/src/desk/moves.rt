@@ -66,7 +66,7 @@ fn eviction_cause(step: &Appended) -> Option<Cause>
     }
 }
 
-/// Writes the key that would be evicted if a key with this entry got a new one, and the victim's value.
+/// Writes the key that would be evicted if a key with this entry got a new value, and the victim's value.
 fn note_victim(
     stripe: &Stripe,
     entry: &Option<Value>,
