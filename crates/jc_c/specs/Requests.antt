@@ -12,14 +12,15 @@
 --     write_number_fits     a number of a writer's answer, if it was asked
 --     effect_of_number      the effect of a processor on the entry, by its number and its value
 --     read_outcome          the return of a processor, if it returned a value
---     process_answer_of     the answer of a processor, by its number, its code, the value that it set and the one that it returned
+--     process_answer_of     the answer of a processor, by its number, its code, the value that it set and the one that it
+--                           returned
 --     effect_number_fits    a number of a processor's effect
---     read_process          what a processor did
+--     read_process          the answer of a processor, from the fields of a struct
 --     process_fits          the fields of a processor's answer fit: its number, and its values, the outcome if there is one
 --     answers_beside        the answers of the loader and the writer, beside this answer of a processor
 --     others_fit            the fields of these answers fit: their numbers, and the loaded value
 --     processor_out         the answers of the loader, the processor and the writer
---     processed_fits        all this fits
+--     processed_fits        the fields of all three answers fit
 --     entry_fits            these bytes may be an entry
 use Rattle.std.specs.Prelude.{◌==◌, ◌&&◌, ◌||◌, ℕ, length, Bool, true, false, not, nat_le, nat_lt, Option, None, Some, if◌then◌else◌}
 use Rattle.jc_types.specs.declared.limits.TheConstants.{KEY_MAX, VALUE_MAX}
