@@ -37,8 +37,8 @@ pub trait CacheWriter {
     fn write_all(&mut self, entries: &mut IndexMap<Key, Value>) -> Result<(), u32>
         ensures { writes_all self.old entries.old.entries result entries.new.entries (write_state self.new) };
 
-    /// Deletes the entries of these keys (`deleteAll`), and takes each that it has deleted out of the collection: what is left
-    /// wasn't deleted. An `Err` has a code of the writer's own.
+    /// Deletes the entries of these keys (`deleteAll`), and removes each that it has deleted from the collection: a key that is
+    /// left wasn't deleted. An `Err` has a code of the writer's own.
     fn delete_all(&mut self, keys: &mut IndexSet<Key>) -> Result<(), u32>
         ensures { deletes_all self.old keys.old.keys result keys.new.keys (write_state self.new) };
 }
