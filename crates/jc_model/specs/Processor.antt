@@ -17,7 +17,7 @@
 --     loaded_in                     the value that the loader found, if read-through is on
 --     answer_after                  the answer to a call, after the calls before it
 --     answers_after, all_answers    the answer to each of these calls, after others before them, and from the first
---     net_effect                    what the processor does to its entry in the end
+--     net_effect                    the net effect of a processor on its entry
 --     process_answer                the answer of a processor, by its net effect and by what it returned
 --     up_to_get                     the calls up to and with the first that asks for the value
 --     played_calls                  those of the given calls that a played processor makes: none after a failed load

@@ -1,4 +1,4 @@
-//! The operation table: what an [`Op`] asks of the loader and the writer, which entry it leaves, and what it replies (JSR 107,
+//! The operation table: for each [`Op`] the asks of the loader and the writer, the entry that it leaves, and its reply (JSR 107,
 //! "Integration", whose two tables are the first two of these; "Entry Processors").
 //!
 //! Functions on a call's path are inlined, to save a copy of the value that they return.
@@ -67,7 +67,7 @@ fn entry_after_replace<'a>(entry: Option<&Value>, value: &'a Value) -> Option<&'
     }
 }
 
-/// The entry with what a processor did to it.
+/// The entry with a processor's net effect.
 #[inline(always)]
 fn after_effect<'a>(answer: &'a ProcessAnswer, entry: Option<&'a Value>) -> Option<&'a Value>
     ensures { option_copied result ≡ after_effect answer.now (option_copied entry.entry) }
