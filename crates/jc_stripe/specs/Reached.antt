@@ -12,7 +12,7 @@
 --     are_apart      no two joiners of a session have different call numbers, or the same key
 --     all_apart      no reservation and joiner of a session have different call numbers, or the same key
 --     is_own         an event is of one of the stripe's keys
---     IsUsed         the entries by use are what is cached, each key once, and they are of the stripe's keys
+--     IsUsed         the entries by use are the cached ones, each key once, and they are of the stripe's keys
 --     IsReached      its opening is one of its stripe, its history is legal from it and leaves its entries, its tables are within
 --                    their limits, each reservation still asks what it asked, each joiner that waits still finds its load, and
 --                    the steps of both may still come
@@ -104,7 +104,7 @@ all_apart rs js = list_all (λ r. list_all (is_other_join r.caller r.key) js) rs
 abbrev pub is_own : State → Event → Bool
 is_own state event = is_of_stripe state.config.stripes state.stripe event
 
--- the entries by use are what is cached, each key once, and they are of the stripe's keys
+-- the entries by use are the cached ones, each key once, and they are of the stripe's keys
 pub record IsUsed (state : State) : Type 0 where
   pub once : IsTrue (has_distinct_keys (by_use state.opening state.history))
   pub own : IsTrue (list_all (λ entry. is_of state entry.0) (by_use state.opening state.history))

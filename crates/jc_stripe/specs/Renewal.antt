@@ -8,7 +8,7 @@
 --     EndsGeneration  the answer to an end of the generation: how many had ended before, and its events; none, if it may not end
 --     StaysOrRenews   the stripe stays as it was, or its generation, which may end, has ended
 --     all_own_steps   a session's own steps in all generations
---     IsRenewed       a renewal leaves the same stripe; the whole history, all own steps, what is cached, and the next
+--     IsRenewed       a renewal leaves the same stripe; the whole history, all own steps, the cached entries, and the next
 --                     number stay
 --     Renewal         the law: each renewal does so
 --     live_on         the stripe lives on

@@ -224,7 +224,7 @@ impl Desk {
         self.stripe.statistics()
     }
 
-    /// Appends what is cached, each key once, the most recently used first.
+    /// Appends the cached entries, each key once, the most recently used first.
     ///
     /// An `Err` says that an allocation failed, and leaves `out` as it was.
     pub fn entries(&self, out: &mut Vec<(Key, Value)>) -> Result<(), AllocError>

@@ -61,8 +61,8 @@ pub fn own_numbers()
     ensures { OwnNumbers }
 {}
 
-/// A renewal leaves the whole history, all own steps of each session, and what is cached as they were; and it keeps the invariant
-/// of every stripe.
+/// A renewal leaves the whole history, all own steps of each session, and the cached entries as they were; and it keeps the
+/// invariant of every stripe.
 pub fn renewal()
     ensures { Renewal }
 {}
