@@ -1,10 +1,10 @@
 -- The answers of a `loadAll`, by key (`CacheLoader.loadAll`).
 --     AnswersByKey     the answers: each key that was asked, with its value or none
---     AnswersState     the same, and for how many keys there is memory
+--     AnswersState     the same, and the number of keys that there is memory for
 --     answers_code     a code for answers, which their type needs
 --     no_answers       no answers yet, of these keys
 --     is_asked         whether a key was asked
---     answers_with     the answers with this value at a key; of a key that wasn't asked nothing is kept
+--     answers_with     the answers with this value at a key, if the key was asked
 --     answer_of        the answer at a key, or none
 use Rattle.std.specs.Prelude.{ℕ, Bool, List, map, Option, None, Some, is_some, if◌then◌else◌}
 use Rattle.std.specs.Coded.{Coded, coded_list, coded_option, coded_ℕ}

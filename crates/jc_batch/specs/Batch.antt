@@ -1,7 +1,7 @@
--- A batch that is being put together, as data.
---     BatchState     what was added so far, in order, and for how many more there is room
+-- A batch that is being filled, as data.
+--     BatchState     the items added so far, in order, and the number of further ones that there is room for
 --     with_item      the batch with one more added
---     empty_batch    a batch to which nothing was added, with room for so many
+--     empty_batch    a batch to which nothing was added, with room for `room` items
 use Rattle.std.specs.Prelude.{ℕ, ◌-◌, List, [], ◌∷◌, ◌++◌}
 
 pub record BatchState (X : Type 0) : Type 0 where

@@ -1,5 +1,5 @@
--- The inside of a batch's keys.
---     AreBatchKeys    in each of three lists is room for so many; the two lists of a split are empty
+-- The fields of a batch's keys.
+--     AreBatchKeys    each of the three lists has room for `n` keys; the two lists of a split are empty
 use Rattle.std.specs.Prelude.{◌≡◌, ◌≤◌, ℕ, [], vec_capacity}
 use Rattle.std.specs.Global.{Vec}
 use Rattle.jc_model.specs.Cache.{Bytes}

@@ -1,4 +1,4 @@
--- How a batch splits by what its writer left and its fault.
+-- The split of a batch, by the keys that its writer left and its fault.
 --     success_of      a key that was written, by its answer
 --     failure_of      a key that failed, with its code, by its answer
 --     successes_in    the keys of a batch that were written, in the batch's order
@@ -21,15 +21,15 @@ failure_of key (write.Failed code) = Some (key, code)
 failure_of key write.NotAsked = None
 failure_of key write.Done = None
 
--- by what is left, the fault, and the batch's keys
+-- parameters: the keys that are left, the fault, the batch's keys
 abbrev pub successes_in : List Bytes → Option ℕ → List Bytes → List Bytes
 successes_in left fault keys = filter_map (λ key. success_of key (answer_in_batch left fault key)) keys
 
--- by what is left, the fault, and the batch's keys
+-- parameters: the keys that are left, the fault, the batch's keys
 abbrev pub failures_in : List Bytes → Option ℕ → List Bytes → List (Bytes × ℕ)
 failures_in left fault keys = filter_map (λ key. failure_of key (answer_in_batch left fault key)) keys
 
--- by what is left, the fault, and the keys of the batch that are still to be read
+-- `keys` are those of the batch that are still to be read
 pub record AreOutcomes (left : List Bytes) (fault : Option ℕ) (keys written : List Bytes) (failed : List (Bytes × ℕ)) : Type 0 where
   pub written_are : written ≡ successes_in left fault keys
   pub failed_are : failed ≡ failures_in left fault keys

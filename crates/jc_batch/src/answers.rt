@@ -10,10 +10,10 @@ use jc_types::{Key, Value};
 use std::alloc::{AllocError, Global};
 use std::marker::Model;
 
-/// What a loader answers to `loadAll`, for the keys that it was asked: of each the last value that it put, or none.
+/// The answers of a loader to `loadAll`: for each key that was asked, the last value that the loader put, or none.
 ///
-/// Contracts see a map from each key that was asked to its answer, and for how many keys there is memory. Only [`put`](Answers::put)
-/// changes them, and it keeps the memory.
+/// Contracts see a map from each key that was asked to its answer, and the number of keys that there is memory for. Only
+/// [`put`](Answers::put) changes them, and it keeps the memory.
 #[derive(Drop)]
 pub struct Answers {
     answers: IndexMap<Key, Option<Value>>,
@@ -38,7 +38,7 @@ impl Model for Answers {
 }
 
 impl Answers {
-    /// No answers yet, of these keys. It makes all the room that answers take; an `Err` says that an allocation failed.
+    /// No answers yet, of these keys. It allocates all memory that the answers take. An `Err` says that an allocation failed.
     pub fn new(alloc: Global, keys: &[Key]) -> Result<Self, AllocError>
         ensures { IfOk result (λ a. a.by_key ≡ no_answers keys.now) }
     {
@@ -48,7 +48,7 @@ impl Answers {
         Ok(Answers { answers, room })
     }
 
-    /// The answers of a map from each key that is asked to its answer, which has memory for so many keys.
+    /// The answers of a map from each key that is asked to its answer, which has memory for `room` keys.
     pub(crate) fn of(answers: IndexMap<Key, Option<Value>>, room: usize) -> Self
         requires { room ≤ index_map_len answers + spare answers }
         ensures { result ≡ record { by_key = from_entries {R = key_cmp} answers.entries; room = room } }
@@ -56,7 +56,7 @@ impl Answers {
         Answers { answers, room }
     }
 
-    /// The map without a key, and for how many keys it has memory.
+    /// The map without its keys, and the number of keys that it has memory for.
     pub(crate) fn into_empty(self) -> (IndexMap<Key, Option<Value>>, usize)
         ensures empty { result.0.entries ≡ [] }
         ensures room { (result.1 ≡ self.room) × (self.room ≤ spare result.0) }
@@ -67,8 +67,8 @@ impl Answers {
         (answers, room)
     }
 
-    /// Answers this value at a key, in place of what was answered there before, and says whether the key was asked. If it
-    /// wasn't, nothing changes. It takes no memory.
+    /// Puts this value at a key as its answer, in place of an earlier one, and returns whether the key was asked. If it wasn't,
+    /// nothing changes. It takes no memory.
     pub fn put(&mut self, key: &Key, value: &Value) -> bool
         ensures asked { result ≡ is_asked self.old.by_key key.now }
         ensures answers { self.new.by_key ≡ answers_with self.old.by_key key.now value.now }

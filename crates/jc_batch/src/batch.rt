@@ -1,4 +1,4 @@
-//! What one call of a writer is asked for.
+//! The batch of one call of a writer.
 use crate::delete_batch::DeleteBatch;
 use crate::write_batch::WriteBatch;
 

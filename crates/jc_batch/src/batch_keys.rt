@@ -1,4 +1,4 @@
-//! The keys of a batch, and how they split.
+//! The keys of a batch, and their split.
 ghost use Rattle.std.specs.Prelude.{◌≡◌, ◌<◌, ◌≤◌, ◌+◌, ◌++◌, [], IfOk, length, vec_len, vec_capacity};
 ghost use Rattle.std.specs.List.{cons_option};
 ghost use Rattle.jc_batch.specs.Batch.{with_item, empty_batch};
@@ -11,7 +11,7 @@ use jc_types::Key;
 use std::alloc::{AllocError, Global};
 use std::marker::Model;
 
-/// The keys of a batch, in the order in which they were added, with all the room that their split takes.
+/// The keys of a batch, in the order in which they were added, with the memory that their split takes.
 #[derive(Drop)]
 pub struct BatchKeys {
     keys: Vec<Key>,
@@ -65,8 +65,8 @@ impl BatchKeys {
         self.room -= 1;
     }
 
-    /// Splits the keys by what the writer left of their collection and its fault, if any: a key that is left failed, with the
-    /// fault's code or, after a normal return, with 0; every other key was written. It takes no memory.
+    /// Splits the keys by what the writer left in its collection, and by its fault, if any. A key that is left failed, with the
+    /// fault's code, or with 0 after a normal return. Every other key was written. It takes no memory.
     pub fn split<C: Leftover>(self, left: &C, fault: Option<u32>) -> Split
         ensures written { result.written.items ≡ successes_in (C.leftover_keys left.now) fault self.items }
         ensures failed { result.failed.items ≡ failures_in (C.leftover_keys left.now) fault self.items }
@@ -95,7 +95,7 @@ fn split_keys<C: Leftover>(keys: &[Key], left: &C, fault: Option<u32>, split: &m
     }
 }
 
-/// Puts a key in the list that its answer says.
+/// Puts a key in the list of its answer.
 fn note(split: &mut Split, key: &Key, answer: WriteAnswer)
     requires written_room { vec_len split.old.written < vec_capacity split.old.written }
     requires failed_room { vec_len split.old.failed < vec_capacity split.old.failed }

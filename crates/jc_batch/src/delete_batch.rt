@@ -1,4 +1,4 @@
-//! What a bulk delete asks for.
+//! The batch of a bulk delete.
 ghost use Rattle.std.specs.Prelude.{◌≡◌, ◌<◌, IfOk, false, length};
 ghost use Rattle.jc_model.specs.Batches.{is_among};
 ghost use Rattle.jc_batch.specs.Batch.{with_item, empty_batch};
@@ -61,7 +61,7 @@ impl DeleteBatch {
         self.keys.push(key);
     }
 
-    /// The collection for the writer, and the keys, which split by what the writer leaves there.
+    /// The collection for the writer, and the keys, which are split later by what the writer leaves in it.
     pub fn into_parts(self) -> (IndexSet<Key>, BatchKeys)
         ensures deletes { result.0.keys ≡ self.items }
         ensures keys { result.1.items ≡ self.items }

@@ -1,10 +1,10 @@
-//! What a writer leaves.
+//! The collection that a writer leaves.
 ghost use Rattle.std.specs.Prelude.{◌≡◌};
 
 use indexmap::{IndexMap, IndexSet};
 use jc_types::{Key, Value};
 
-/// A collection that a writer was given, of which it has taken out what it wrote or deleted.
+/// A collection that a writer was given, after it has taken out what it wrote or deleted.
 pub trait Leftover {
     ghost use Rattle.std.specs.Prelude.{◌≡◌, List};
     ghost use Rattle.jc_model.specs.Cache.{Bytes};
@@ -18,7 +18,7 @@ pub trait Leftover {
         ensures { result ≡ is_among (leftover_keys self.now) key.now };
 }
 
-/// What `writeAll` leaves.
+/// The entries that `writeAll` leaves.
 impl Leftover for IndexMap<Key, Value> {
     ghost use Rattle.std.specs.Map.{keys_of};
 
@@ -29,7 +29,7 @@ impl Leftover for IndexMap<Key, Value> {
     }
 }
 
-/// What `deleteAll` leaves.
+/// The keys that `deleteAll` leaves.
 impl Leftover for IndexSet<Key> {
     ghost leftover_keys = { λ keys. keys.keys };
 

@@ -1,14 +1,14 @@
-//! Batches: what a bulk call asks the loader or the writer for in one call, and which of it was written (JSR 107, "Integration";
-//! `CacheLoader.loadAll`, `CacheWriter.writeAll`, `deleteAll`).
+//! Batches: the keys of a bulk call that one call of the loader or the writer is asked for, and which of them were written (JSR
+//! 107, "Integration"; `CacheLoader.loadAll`, `CacheWriter.writeAll`, `deleteAll`).
 //!
-//! A batch is made with all its room before the first phase of the bulk call. It is filled while keys are reserved. A loader is
-//! given its keys, and answers by [`Answers`]; a writer is given its collection, and what it leaves there splits the batch's keys.
-//! Neither filling nor answering nor splitting takes memory. What a bulk call returns of its keys is filled in the same way
+//! A batch is made with all its memory before the first phase of the bulk call. It is filled while keys are reserved. A loader is
+//! given its keys, and answers by [`Answers`]; a writer is given its collection, and what it leaves there splits the batch's
+//! keys. Neither filling nor answering nor splitting takes memory. The results of a bulk call are filled in the same way
 //! ([`insert_new`]).
 //!
 //! Why it is so:
-//! - A batch is made with the room of its split, before the first phase of its round: nothing is lost for lack of memory after the writer
-//!   has changed the store.
+//! - A batch is made with the memory of its split, before the first phase of its round, so that no outcome is lost for lack of
+//!   memory after the writer has changed the store.
 #![tactic(auto)]
 
 mod answers;

@@ -1,4 +1,4 @@
-//! What a bulk call asks the loader for.
+//! The batch of a bulk load.
 ghost use Rattle.std.specs.Prelude.{◌≡◌, ◌<◌, ◌≤◌, ◌+◌, ◌++◌, ◌∷◌, [], List, IfOk, length, vec_capacity};
 ghost use Rattle.std.specs.FinMap.{from_entries};
 ghost use Rattle.indexmap.specs.IndexMap.{index_map_len, spare};
@@ -12,7 +12,7 @@ use jc_types::{Key, Value};
 use std::alloc::{AllocError, Global};
 use std::marker::Model;
 
-/// The keys that one call of `loadAll` is to load, in the order in which they were added, with all the room that their answers
+/// The keys that one call of `loadAll` is to load, in the order in which they were added, with the memory that their answers
 /// take.
 #[derive(Drop)]
 pub struct LoadBatch {
@@ -69,8 +69,8 @@ impl LoadBatch {
         self.room -= 1;
     }
 
-    /// The keys, and the answers of these keys, of which none was given yet. Both have memory for the keys and for as many more as there
-    /// was room for.
+    /// The keys, and their answers, of which none was given yet. Both have memory for the keys and for as many more as the batch
+    /// had room for.
     pub fn into_parts(self) -> (Vec<Key>, Answers)
         ensures keys { result.0.items ≡ self.items }
         ensures keys_room { length self.items + self.room ≤ vec_capacity result.0 }
@@ -85,10 +85,10 @@ impl LoadBatch {
         (keys, Answers::of(answers, places))
     }
 
-    /// A batch without keys, of what one was taken apart into. It takes no memory: there is room for as many keys as the answers have
-    /// memory for.
+    /// A batch without keys, made from the parts of an earlier one. It takes no memory: there is room for as many keys as the
+    /// answers have memory for.
     ///
-    /// Condition: the list of keys has memory for as many.
+    /// Condition: the list of keys has memory for as many keys.
     pub fn of_parts(keys: Vec<Key>, answers: Answers) -> LoadBatch
         requires { answers.room ≤ vec_capacity keys }
         ensures { result ≡ empty_batch answers.room }

@@ -8,7 +8,7 @@ ghost use Rattle.indexmap.specs.IndexMap.{spare};
 use indexmap::IndexMap;
 use jc_types::Key;
 
-/// Adds the entry of a key that has none, after those that are there. It takes no memory.
+/// Adds an entry for a new key, after those that are there. It takes no memory.
 ///
 /// Conditions: there is room, and the key isn't in the map.
 pub fn insert_new<V: Copy>(map: &mut IndexMap<Key, V>, key: &Key, value: V)

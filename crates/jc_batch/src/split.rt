@@ -1,4 +1,4 @@
-//! What became of the keys of a batch.
+//! The outcomes of a batch's keys.
 ghost use Rattle.std.specs.Prelude.{◌≡◌, ◌∷◌, List, Option, ℕ, true};
 ghost use Rattle.jc_model.specs.Cache.{Bytes};
 ghost use Rattle.jc_model.specs.Batches.{answer_in_batch};
@@ -8,7 +8,7 @@ ghost use Rattle.jc_batch.specs.Splitting.{AreOutcomes};
 use jc_model::WriteAnswer;
 use jc_types::Key;
 
-/// The keys of a batch by what became of them, both lists in the batch's order.
+/// The keys of a batch by their outcomes, both lists in the batch's order.
 #[derive(Drop)]
 pub struct Split {
     /// The keys that were written or deleted.
@@ -17,7 +17,7 @@ pub struct Split {
     pub failed: Vec<(Key, u32)>,
 }
 
-/// What is still to be read of a split, key by key in the batch's order.
+/// The rest of a split, which is read key by key in the batch's order.
 #[derive(Drop)]
 pub struct Outcomes<'a> {
     /// The keys that were written or deleted.
@@ -27,7 +27,7 @@ pub struct Outcomes<'a> {
 }
 
 impl Split {
-    /// What became of each key, from the batch's first on.
+    /// The outcomes of all keys, from the batch's first on.
     pub fn outcomes(&self) -> Outcomes<'_>
         ensures written { result.written.now ≡ self.now.written.items }
         ensures failed { result.failed.now ≡ self.now.failed.items }
@@ -40,7 +40,7 @@ impl Split {
 }
 
 impl Outcomes<'_> {
-    /// What became of the next key, by the list that it is in. It makes no look-up.
+    /// The outcome of the next key, by the list that it is in. It makes no look-up.
     ///
     /// Condition: it is the key that comes next in the batch.
     pub fn next(&mut self, key: &Key) -> WriteAnswer

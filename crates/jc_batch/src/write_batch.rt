@@ -1,4 +1,4 @@
-//! What a bulk write asks for.
+//! The batch of a bulk write.
 ghost use Rattle.std.specs.Prelude.{◌≡◌, ◌<◌, IfOk, false, length};
 ghost use Rattle.std.specs.Map.{keys_of};
 ghost use Rattle.jc_model.specs.Batches.{is_among};
@@ -61,7 +61,7 @@ impl WriteBatch {
         self.keys.push(key);
     }
 
-    /// The collection for the writer, and the keys, which split by what the writer leaves there.
+    /// The collection for the writer, and the keys, which are split later by what the writer leaves in it.
     pub fn into_parts(self) -> (IndexMap<Key, Value>, BatchKeys)
         ensures entries { result.0.entries ≡ self.items }
         ensures keys { result.1.items ≡ keys_of self.items }

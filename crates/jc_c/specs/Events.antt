@@ -1,18 +1,18 @@
 -- Events of a history, as flat structs.
---     read_cause         why an entry was evicted, by its number
---     process_if_run     what a processor did, if one ran
---     read_outside       what was answered outside for a step
+--     read_cause         the cause of an eviction, by its number
+--     process_if_run     the answer of a processor, if one ran
+--     read_outside       the outside answers of a step
 --     shared_in          the place of the step whose load is shared, if it is
---     ShowsEvent         an event, by the fields of a struct that count of it
---     HasKnownNumbers    the numbers of a step's operation and of its outside answers are ones that there are
---     HasOutsideLengths  the lengths of the values of what was answered outside fit
+--     ShowsEvent         an event, by the fields of a struct that count for it
+--     HasKnownNumbers    the numbers of a step's operation and of its outside answers are known
+--     HasOutsideLengths  the lengths of the values of the outside answers fit
 --     HasLengths         the lengths of all values of an event fit
 --     read_reply         a reply, by its number, its code and its value
---     read_step          the step at this key that a struct says
---     read_event         the event that a struct says
---     outside_fits       what is said of the outside answers of a step fits
---     step_fits          what is said of a step fits
---     event_fits         what is said of an event fits
+--     read_step          the step at this key that a struct states
+--     read_event         the event that a struct states
+--     outside_fits       the fields of the outside answers of a step fit
+--     step_fits          the fields of a step fit
+--     event_fits         the fields of an event fit
 use Rattle.std.specs.Prelude.{◌≡◌, ◌==◌, ◌&&◌, ◌||◌, ℕ, Bool, true, false, nat_le, Option, None, Some, if◌then◌else◌}
 use Rattle.jc_types.specs.declared.refusal.Refusal.TheVariants as refusal
 use Rattle.jc_model.specs.declared.event.Cause.{Cause}

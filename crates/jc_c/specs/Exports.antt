@@ -1,14 +1,14 @@
--- What each export answers, does to its desk, and writes.
---     export_code       the code of a call: the handle isn't open; an argument doesn't fit; the desk doesn't take the call, and says so by
+-- The answer of each export, its effect on the desk, and what it writes.
+--     export_code       the code of a call: the handle isn't open; an argument doesn't fit; the desk refuses the call by
 --                       this code; or the call is made
 --     BeginsForC        the first phase of the operation that its number and its values name
 --     CommitsForC       the last phase of the reservation with this number, with these outside answers
 --     HitsForC          a get that found its entry
 --     join_named        the join of this call, at this key, of this load
---     PicksUpForC       a joiner was told
---     counts_written    what was counted
---     opens_fit         what a desk is to open with fits
---     ListsEntries      these entries are written in their order, as far as there is room, and what is behind them stays
+--     PicksUpForC       the answer of a joiner was picked up, or is not there yet
+--     counts_written    the counts
+--     opens_fit         the arguments of an opening fit
+--     ListsEntries      these entries are written in their order, as far as there is room, and the rest of the buffer stays
 use Rattle.std.specs.Prelude.{◌≡◌, ◌&&◌, true, ℕ, List, map, take, drop, length, Bool, if◌then◌else◌}
 use Rattle.std.specs.List.{list_all}
 use Rattle.jc_model.specs.declared.event.Out.{Out}
@@ -65,7 +65,7 @@ pub record PicksUpForC (old : DeskState) (join : JoinClaim) (out : PhaseOut) (ne
   pub picks_up : PicksUpAtDesk old join reply answer new
   pub shown : ShowsPickUp answer reply out
 
--- 2. What a desk has.
+-- 2. The contents of a desk.
 
 abbrev pub counts_written : Statistics → CountsOut
 counts_written counts = record { hits = counts.hits; misses = counts.misses; puts = counts.puts; removals = counts.removals; evictions = counts.evictions }

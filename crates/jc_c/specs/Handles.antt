@@ -1,6 +1,6 @@
--- What a handle owns.
+-- The desk that a handle owns.
 --     heap           the allocator of C
---     handle_owns    an open one the box of its desk, at its pointer; one that isn't open nothing
+--     handle_owns    an open handle owns the box of its desk, at its pointer; one that isn't open owns nothing
 use Rattle.std.specs.Prelude.{Bool, true, false}
 use base.Fml.{Fml, ftrue}
 use denote.RawPtr.{Ptr}

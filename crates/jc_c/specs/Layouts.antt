@@ -1,10 +1,10 @@
--- What the structs that cross to C mean.
+-- The meaning of the structs that cross to C.
 --     inline_value       the bytes that count of an inline value
---     is_inline_value    as many bytes count as a value may have
+--     is_inline_value    at most as many bytes count as a value may have
 --     inline_key         the bytes that count of an inline key
---     is_inline_key      as many bytes count as a key may have
---     HoldsValue         an inline value holds these bytes, and no more count than it has
---     HoldsKey           the same of an inline key
+--     is_inline_key      at least one byte counts, and at most as many as a key may have
+--     HoldsValue         an inline value holds these bytes, and no more bytes count than it has
+--     HoldsKey           the same for an inline key
 --     inline_entry       an inline entry
 --     inline_entries     inline entries, in their order
 --     config_of          the shape of a cache

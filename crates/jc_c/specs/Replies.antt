@@ -1,16 +1,16 @@
--- What is written for C.
+-- The replies as they are written for C.
 --     ShowsFault          a fault, by its number and its code
 --     ShowsReply          a reply, by its number, its code and its value
 --     ShowsValue          a value, if there is one
 --     ShowsVictim         a victim with the value that it had, if there is one
---     own_number          why the step's own entry was evicted, by its flag
---     ShowsMoves          which values came and went: the sum of their flags, and the values
---     ShowsDone           a step that was done, by its place, its reply, its moves, and how many share it
---     ShowsFirst          whom to ask, and what for
+--     own_number          the cause for which the step's own entry was evicted, by its flag
+--     ShowsMoves          the values that came and went: the sum of their flags, and the values
+--     ShowsDone           a step that was done, by its place, its reply, its moves, and the number of calls that share it
+--     ShowsFirst          the partner to ask, and the value to ask with
 --     refusal_number      a refusal, by its number
---     ShowsReservation    whom a reservation asks first, if there is one
---     ShowsFirstAnswer    what a first phase gave, and of a key that was reserved whom its reservation asks
---     ShowsPickUp         what a joiner was told: no value came or went
+--     ShowsReservation    the partner that a reservation asks first, if there is a reservation
+--     ShowsFirstAnswer    the outcome of a first phase; if it reserved its key, the partner that the reservation asks
+--     ShowsPickUp         the answer to a joiner: no value came or went
 use Rattle.std.specs.Prelude.{◌≡◌, ◌+◌, ℕ, true, false, Option, None, Some, is_some, if◌then◌else◌}
 use Rattle.jc_types.specs.declared.refusal.Refusal.{Refusal}
 use Rattle.jc_types.specs.declared.refusal.Refusal.TheVariants as refusal

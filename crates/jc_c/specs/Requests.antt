@@ -1,25 +1,26 @@
--- What C says, as words of a stripe, and whether it fits.
+-- The arguments of C as values of a stripe, and whether they fit.
 --     key_fits              these bytes may be a key
 --     value_fits            these bytes may be a value
---     takes_no_value        an operation, by its number, that has no value of its own
---     takes_value           an operation, by its number, that has one
---     op_fits               the number is that of an operation, and the values that it has fit
+--     takes_no_value        an operation without a value of its own, by its number
+--     takes_value           an operation with one value, by its number
+--     op_fits               the number is that of an operation, and its values fit
 --     op_number_fits        the number is that of an operation
---     op_of_number          the operation with this number and these values, of those that it has
---     load_of_number        what a loader answered, by its number, its code and its value
+--     op_of_number          the operation with this number, and with those of these values that it has
+--     load_of_number        the answer of a loader, by its number, its code and its value
 --     load_number_fits      a number of a loader's answer, if it was asked
---     write_of_number       what a writer answered, by its number and its code
+--     write_of_number       the answer of a writer, by its number and its code
 --     write_number_fits     a number of a writer's answer, if it was asked
---     effect_of_number      what a processor did to the entry, by its number and its value
---     read_outcome          what a processor returned, if it did
---     process_answer_of     what a processor did, by its number, its code, and the value that it set and the one that it returned
---     effect_number_fits    a number of what a processor did
---     read_process          what a processor did
---     process_fits          what is said of it fits: its number, and its values, the outcome if there is one
---     answers_beside        what the loader and the writer answered, beside a processor that did this
---     others_fit            what is said of these fits: their numbers, and the loaded value
---     processor_out         what the loader, the processor and the writer answered
---     processed_fits        all this fits
+--     effect_of_number      the effect of a processor on the entry, by its number and its value
+--     read_outcome          the return of a processor, if it returned a value
+--     process_answer_of     the answer of a processor, by its number, its code, the value that it set and the one that it
+--                           returned
+--     effect_number_fits    a number of a processor's effect
+--     read_process          the answer of a processor, from the fields of a struct
+--     process_fits          the fields of a processor's answer fit: its number, and its values, the outcome if there is one
+--     answers_beside        the answers of the loader and the writer, beside this answer of a processor
+--     others_fit            the fields of these answers fit: their numbers, and the loaded value
+--     processor_out         the answers of the loader, the processor and the writer
+--     processed_fits        the fields of all three answers fit
 --     entry_fits            these bytes may be an entry
 use Rattle.std.specs.Prelude.{◌==◌, ◌&&◌, ◌||◌, ℕ, length, Bool, true, false, not, nat_le, nat_lt, Option, None, Some, if◌then◌else◌}
 use Rattle.jc_types.specs.declared.limits.TheConstants.{KEY_MAX, VALUE_MAX}
@@ -72,7 +73,7 @@ op_of_number n value other =
     else (if n == JC_GET_AND_REPLACE then op.GetAndReplace value else (if n == JC_CLEAR_KEY then op.Clear
     else (if n == JC_LOAD then op.LoadAll false else (if n == JC_RELOAD then op.LoadAll true else op.Invoke)))))))))))))
 
--- 3. What the loader, the writer and the processor answered.
+-- 3. The answers of the loader, the writer and the processor.
 
 abbrev pub load_of_number : ℕ → ℕ → Bytes → LoadAnswer
 load_of_number n code value =

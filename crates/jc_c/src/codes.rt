@@ -2,7 +2,7 @@
 
 /// The call was made.
 pub const JC_OK: u32 = 0;
-/// The handle isn't open; of `jc_open`: it is open already.
+/// The handle isn't open. From `jc_open`: it is open already.
 pub const JC_WRONG_HANDLE: u32 = 1;
 /// An allocation failed.
 pub const JC_NO_MEMORY: u32 = 2;
@@ -41,7 +41,7 @@ pub const JC_GET_AND_REPLACE: u32 = 10;
 pub const JC_CLEAR_KEY: u32 = 11;
 /// One key of `loadAll`, if it has no entry.
 pub const JC_LOAD: u32 = 12;
-/// One key of `loadAll`, in any case.
+/// One key of `loadAll`, whether it has an entry or not.
 pub const JC_RELOAD: u32 = 13;
 /// `invoke`.
 pub const JC_INVOKE: u32 = 14;
@@ -86,7 +86,7 @@ pub const JC_PROCESSOR_FAILED: u32 = 7;
 /// Any other fault. A desk never replies it.
 pub const JC_OTHER_FAULT: u32 = 8;
 
-/// A number is at its end.
+/// The call's number, or that of the next reservation, would overflow.
 pub const JC_HISTORY_FULL: u32 = 0;
 /// The key is reserved, or the history lacks the places for now.
 pub const JC_BUSY: u32 = 1;
@@ -94,7 +94,7 @@ pub const JC_BUSY: u32 = 1;
 pub const JC_TOO_MANY_IN_FLIGHT: u32 = 2;
 /// Too many joins are out.
 pub const JC_TOO_MANY_JOINERS: u32 = 3;
-/// Any other refusal. A desk never gives it.
+/// Any other refusal. A desk never returns it.
 pub const JC_OTHER: u32 = 4;
 
 /// The key's entry has a new value.
@@ -103,7 +103,7 @@ pub const JC_KEPT: u32 = 1;
 pub const JC_LEFT: u32 = 2;
 /// An entry was evicted for the step.
 pub const JC_EVICTED: u32 = 4;
-/// The step's own new entry was evicted: all others are reserved.
+/// The step's own new entry was evicted: all other entries are reserved.
 pub const JC_OWN_EVICTED_FULL: u32 = 8;
 /// The step's own new entry was evicted: an allocation for it failed.
 pub const JC_OWN_EVICTED_MEMORY: u32 = 16;
@@ -127,7 +127,7 @@ pub const JC_SET: u32 = 1;
 pub const JC_TAKE_OUT: u32 = 2;
 /// The processor failed, with a code.
 pub const JC_PROCESS_FAILED: u32 = 3;
-/// No processor ran: of an event alone.
+/// No processor ran. Only an event has this number.
 pub const JC_NOT_RUN: u32 = 4;
 
 /// An event that is a step.

@@ -31,7 +31,7 @@ use jc_parcel::Loose;
 use jc_types::{Caller, Field, Key, Refusal, Value};
 use std::alloc::{AllocError, Global};
 
-/// An operation: its number, and the values that it has.
+/// Writes an operation: its number, and its values.
 fn show_op(op: &Op, number: &mut u32, value: &mut InlineValue, other: &mut InlineValue)
     ensures op { op_of_number number.new (inline_value value.new) (inline_value other.new) ≡ op.now }
     ensures number { op_number_fits number.new ≡ true }
@@ -60,7 +60,7 @@ fn show_op(op: &Op, number: &mut u32, value: &mut InlineValue, other: &mut Inlin
     }
 }
 
-/// A number, and a value beside it.
+/// Writes a number, and a value beside it.
 fn show_with(value: &Value, is: u32, number: &mut u32, room: &mut InlineValue)
     ensures number { number.new ≡ is }
     ensures value { inline_value room.new ≡ value.now }
@@ -70,7 +70,7 @@ fn show_with(value: &Value, is: u32, number: &mut u32, room: &mut InlineValue)
     show_value(value, room);
 }
 
-/// What a loader answered.
+/// Writes the answer of a loader.
 fn show_load(load: &LoadAnswer, number: &mut u32, code: &mut u32, room: &mut InlineValue)
     ensures load { load_of_number number.new code.new (inline_value room.new) ≡ load.now }
     ensures number { ((number.new == JC_NOT_ASKED) || load_number_fits number.new) ≡ true }
@@ -87,7 +87,7 @@ fn show_load(load: &LoadAnswer, number: &mut u32, code: &mut u32, room: &mut Inl
     }
 }
 
-/// What a writer answered.
+/// Writes the answer of a writer.
 fn show_write(write: &WriteAnswer, number: &mut u32, code: &mut u32)
     ensures write { write_of_number number.new code.new ≡ write.now }
     ensures number { ((number.new == JC_NOT_ASKED) || write_number_fits number.new) ≡ true }
@@ -102,7 +102,7 @@ fn show_write(write: &WriteAnswer, number: &mut u32, code: &mut u32)
     }
 }
 
-/// What a processor did to its entry.
+/// Writes the effect of a processor on its entry.
 fn show_effect(effect: &Effect, number: &mut u32, room: &mut InlineValue)
     ensures number { (number.new == JC_NOT_RUN) ≡ false }
     ensures known { effect_number_fits number.new ≡ true }
@@ -116,7 +116,7 @@ fn show_effect(effect: &Effect, number: &mut u32, room: &mut InlineValue)
     }
 }
 
-/// What a processor returned, if it did.
+/// Writes the return of a processor, if it returned a value.
 fn show_outcome(outcome: &Option<Value>, has: &mut bool, room: &mut InlineValue)
     ensures outcome { read_outcome has.new (inline_value room.new) ≡ outcome.now }
     ensures fits { is_inline_value room.old ≡ true → is_inline_value room.new ≡ true }
@@ -130,7 +130,7 @@ fn show_outcome(outcome: &Option<Value>, has: &mut bool, room: &mut InlineValue)
     }
 }
 
-/// What a processor did, if one ran.
+/// Writes the answer of a processor, if one ran.
 fn show_process(process: &ProcessAnswer, out: &mut ProcessorAnswers)
     ensures process { process_if_run out.new ≡ process.now }
     ensures number { ((out.new.effect == JC_NOT_RUN) || effect_number_fits out.new.effect) ≡ true }
@@ -152,7 +152,7 @@ fn show_process(process: &ProcessAnswer, out: &mut ProcessorAnswers)
     }
 }
 
-/// What was answered outside.
+/// Writes the outside answers.
 fn show_outside(answers: &Out, out: &mut ProcessorAnswers)
     ensures answers { read_outside out.new ≡ answers.now }
     ensures load { ((out.new.load == JC_NOT_ASKED) || load_number_fits out.new.load) ≡ true }
@@ -170,7 +170,7 @@ fn show_outside(answers: &Out, out: &mut ProcessorAnswers)
     show_process(&answers.process, out);
 }
 
-/// An event.
+/// Writes an event.
 fn show_event(event: &Event, out: &mut FlatEvent)
     ensures shown { ShowsEvent event.now out.new }
     ensures fits { HasLengths out.old → HasLengths out.new }
@@ -204,7 +204,7 @@ fn show_event(event: &Event, out: &mut FlatEvent)
     }
 }
 
-/// The place of the step whose load is shared, if it is.
+/// Writes the place of the step whose load is shared, if it is.
 fn show_shared(shared: Option<u32>, is_shared: &mut bool, place: &mut u32)
     ensures { (if is_shared.new then Some place.new else None) ≡ shared }
 {
@@ -240,7 +240,7 @@ pub extern "C" fn jc_event(h: &mut Handle, alloc: Global, place: usize, out: &mu
     JC_OK
 }
 
-/// Why an entry was evicted.
+/// Reads the cause of an eviction.
 fn read_cause(number: u32) -> Cause
     ensures { result ≡ read_cause number }
 {
@@ -251,7 +251,7 @@ fn read_cause(number: u32) -> Cause
     }
 }
 
-/// A reply, by its number.
+/// Reads a reply, by its number.
 fn read_reply(number: u32, code: u32, value: Value) -> Option<Reply>
     ensures fits { is_some result ≡ nat_le number JC_PROCESSOR_FAILED }
     ensures reply { IfSome result (λ reply. reply ≡ read_reply number code value) }
@@ -269,7 +269,7 @@ fn read_reply(number: u32, code: u32, value: Value) -> Option<Reply>
     }
 }
 
-/// What was answered outside for a step.
+/// Reads the outside answers of a step. `None` says that a number is unknown or a value is too long.
 fn read_outside(outside: &ProcessorAnswers) -> Option<Out>
     ensures fits { is_some result ≡ outside_fits outside.now }
     ensures answers { IfSome result (λ out. out ≡ read_outside outside.now) }
@@ -282,7 +282,7 @@ fn read_outside(outside: &ProcessorAnswers) -> Option<Out>
     answers_beside(outside, process)
 }
 
-/// A step at this key.
+/// Reads a step at this key.
 fn read_step(flat: &FlatEvent, key: Key) -> Option<Event>
     ensures fits { is_some result ≡ step_fits flat.now }
     ensures step { IfSome result (λ event. event ≡ read_step flat.now key) }
@@ -306,7 +306,7 @@ fn read_step(flat: &FlatEvent, key: Key) -> Option<Event>
     })
 }
 
-/// The place of the step whose load is shared, if it is.
+/// Reads the place of the step whose load is shared, if it is.
 fn shared_in(flat: &FlatEvent) -> Option<u32>
     ensures { result ≡ shared_in flat.now }
 {
@@ -317,7 +317,7 @@ fn shared_in(flat: &FlatEvent) -> Option<u32>
     }
 }
 
-/// An event.
+/// Reads an event. `None` says that a field doesn't fit.
 fn read_event(flat: &FlatEvent) -> Option<Event>
     ensures fits { is_some result ≡ event_fits flat.now }
     ensures event { IfSome result (λ event. event ≡ read_event flat.now) }
@@ -338,14 +338,14 @@ fn read_event(flat: &FlatEvent) -> Option<Event>
     read_step(flat, key)
 }
 
-/// Whether each may be an event.
+/// Whether each of these can be read as an event.
 fn flat_events_fit(events: &[FlatEvent]) -> bool
     ensures { result ≡ list_all event_fits events.now }
 {
     events.iter().all(|flat| read_event(flat).is_some())
 }
 
-/// The events that C gives. An `Err` says that an allocation failed.
+/// Reads the events that C passes. An `Err` says that an allocation failed.
 fn read_events(alloc: Global, events: &[FlatEvent]) -> Result<Vec<Event>, AllocError>
     requires { list_all event_fits events.now ≡ true }
     ensures { IfOk result (λ list. list.items ≡ map read_event events.now) }
@@ -362,8 +362,8 @@ fn read_events(alloc: Global, events: &[FlatEvent]) -> Result<Vec<Event>, AllocE
     Ok(list)
 }
 
-/// Writes whether these events are a legal history of one stripe of a cache of this shape, which began with these entries. It needs no
-/// desk. `JC_BAD_ARGUMENT` says that an entry or an event says nothing that there is.
+/// Writes whether these events are a legal history of one stripe of a cache of this shape, that began with these entries. It
+/// needs no desk. `JC_BAD_ARGUMENT` says that an entry or an event has a number that is unknown, or a length that doesn't fit.
 #[unsafe(no_mangle)]
 pub extern "C" fn jc_legal(
     alloc: Global,

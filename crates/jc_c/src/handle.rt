@@ -9,7 +9,8 @@ use jc_parcel::Loose;
 use std::alloc::Global;
 use std::marker::Model;
 
-/// `jc_desk`: a handle of a desk, which C keeps. It begins as all zeros. While it is open it owns the desk's box, and isn't copied.
+/// `jc_desk`: a handle of a desk, which C keeps. It must be all zeros at first. While it is open it owns the desk's box, and must
+/// not be copied.
 #[repr(C)]
 #[derive(Drop)]
 pub struct Handle {
@@ -39,7 +40,7 @@ impl Handle {
         self.is_open = true;
     }
 
-    /// Shuts it, and hands its desk out.
+    /// Closes it, and returns its desk.
     pub(crate) fn take(&mut self, alloc: Global) -> Loose<DeskRooms, Global>
         requires { self.old.is_open ≡ true }
         ensures { (self.new.is_open ≡ false) × (result.value ≡ self.old.desk) }

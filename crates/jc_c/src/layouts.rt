@@ -1,4 +1,4 @@
-//! What crosses to C.
+//! The structs that cross to C.
 ghost use Rattle.std.specs.Prelude.{◌≡◌, true, is_some, IfSome};
 ghost use Rattle.jc_c.specs.Layouts.{inline_value, is_inline_value, inline_key, is_inline_key, inline_entry};
 ghost use Rattle.jc_c.specs.Requests.{entry_fits};
@@ -7,7 +7,7 @@ use crate::replies::show_value;
 use crate::requests::{read_key, read_value};
 use jc_types::{KEY_MAX, Key, VALUE_MAX, Value};
 
-/// `jc_shape`: the shape of the cache that a desk's stripe is of.
+/// `jc_shape`: the shape of the cache of a desk's stripe.
 #[repr(C)]
 #[derive(Drop)]
 pub struct CacheShape {
@@ -19,27 +19,27 @@ pub struct CacheShape {
     pub history: usize,
     /// Whether a `get` of a missing key asks the loader.
     pub read_through: bool,
-    /// Whether a mutation is written first.
+    /// Whether a mutation is first written to the store.
     pub write_through: bool,
     /// Whether a full generation waits until its events are taken.
     pub keeps_events: bool,
 }
 
-/// `jc_value`: a value. Only as many bytes as `len` says count, and only they are written.
+/// `jc_value`: a value. Only the first `len` bytes count, and only they are written.
 #[repr(C)]
 #[derive(Drop)]
 pub struct InlineValue {
-    /// How many of the bytes count.
+    /// The number of bytes that count.
     pub len: u32,
     /// The bytes.
     pub bytes: [u8; VALUE_MAX],
 }
 
-/// `jc_key`: a key. Only as many bytes as `len` says count, and only they are written.
+/// `jc_key`: a key. Only the first `len` bytes count, and only they are written.
 #[repr(C)]
 #[derive(Drop)]
 pub struct InlineKey {
-    /// How many of the bytes count.
+    /// The number of bytes that count.
     pub len: u32,
     /// The bytes.
     pub bytes: [u8; KEY_MAX],
@@ -55,21 +55,21 @@ pub struct InlineEntry {
     pub value: InlineValue,
 }
 
-/// `jc_out`: what a phase says. Only the fields that `next` and `reply` speak of are written; the others stay as they were.
+/// `jc_out`: the outcome of a phase. Only the fields that belong to `next` and `reply` are written; the others stay as they were.
 #[repr(C)]
 #[derive(Drop)]
 pub struct PhaseOut {
-    /// What the host does next (`jc_next`).
+    /// What the host is to do next (`jc_next`).
     pub next: u32,
     /// The reply (`jc_reply`), or the refusal (`jc_refusal`).
     pub reply: u32,
-    /// The code of a failed loader, writer or processor; of a processor to run, whether its key may be loaded.
+    /// The code of a failed loader, writer or processor. For a processor that is to run: 1 if its key may be loaded, otherwise 0.
     pub code: u32,
     /// The place of the step in the present generation.
     pub place: u32,
-    /// How many joiners have the answer parked.
+    /// The number of joiners for whom the answer is parked.
     pub shared: u32,
-    /// Which values came and went: a sum of `jc_moves`.
+    /// The values that came and went: a sum of `jc_moves`.
     pub moves: u32,
     /// The ticket, or the load that was joined.
     pub number: u64,
@@ -81,25 +81,25 @@ pub struct PhaseOut {
     pub left: InlineValue,
     /// The key whose entry was evicted for the step.
     pub victim: InlineKey,
-    /// The value that it had.
+    /// The value of that entry.
     pub evicted: InlineValue,
 }
 
-/// `jc_processed`: what a processor did, and what its loader and its writer answered.
+/// `jc_processed`: the answer of a processor, and those of its loader and its writer.
 #[repr(C)]
 #[derive(Drop)]
 pub struct ProcessorAnswers {
-    /// What the loader answered (`jc_answer`).
+    /// The loader's answer (`jc_answer`).
     pub load: u32,
-    /// Its code, if it failed.
+    /// The loader's code, if it failed.
     pub load_code: u32,
-    /// What the processor did to the entry (`jc_effect`).
+    /// The processor's effect on the entry (`jc_effect`).
     pub effect: u32,
-    /// The code of a processor that failed.
+    /// The processor's code, if it failed.
     pub code: u32,
-    /// What the writer answered (`jc_answer`).
+    /// The writer's answer (`jc_answer`).
     pub write: u32,
-    /// Its code, if it failed.
+    /// The writer's code, if it failed.
     pub write_code: u32,
     /// Whether the processor returned a value.
     pub has_outcome: bool,
@@ -111,7 +111,7 @@ pub struct ProcessorAnswers {
     pub outcome: InlineValue,
 }
 
-/// `jc_statistics`: what was counted (JSR 107, `CacheStatisticsMXBean`).
+/// `jc_statistics`: the counts (JSR 107, `CacheStatisticsMXBean`).
 #[repr(C)]
 #[derive(Drop)]
 pub struct CountsOut {
@@ -127,8 +127,8 @@ pub struct CountsOut {
     pub evictions: u64,
 }
 
-/// `jc_flat_event`: an event of a history. Of an eviction only `kind`, `key` and `cause` count; of a step those values that its operation,
-/// its answers and its reply have.
+/// `jc_flat_event`: an event of a history. For an eviction only `kind`, `key` and `cause` count; for a step, only the values that
+/// its operation, its answers and its reply have.
 #[repr(C)]
 #[derive(Drop)]
 pub struct FlatEvent {
@@ -138,17 +138,17 @@ pub struct FlatEvent {
     pub session: u32,
     /// The call's number.
     pub call: u64,
-    /// What was called (`jc_op`).
+    /// The operation (`jc_op`).
     pub op: u32,
     /// Whether the step shares the load of another one.
     pub is_shared: bool,
-    /// The place of that one.
+    /// The place of that other step.
     pub shared_with: u32,
     /// The step's reply (`jc_reply`).
     pub reply: u32,
     /// The code of a reply that is a fault.
     pub reply_code: u32,
-    /// Why the entry was evicted (`jc_cause`).
+    /// The cause of the eviction (`jc_cause`).
     pub cause: u32,
     /// The key of the step, or of the entry that was evicted.
     pub key: InlineKey,
@@ -158,12 +158,12 @@ pub struct FlatEvent {
     pub other: InlineValue,
     /// The value of the reply.
     pub replied: InlineValue,
-    /// What was answered outside; `effect` is `JC_NOT_RUN` if no processor ran.
+    /// The outside answers; `effect` is `JC_NOT_RUN` if no processor ran.
     pub outside: ProcessorAnswers,
 }
 
 impl InlineValue {
-    /// The value, unless more bytes are to count than it may have.
+    /// The value, or none if `len` is more than a value may have.
     pub(crate) fn value(&self) -> Option<Value>
         ensures fits { is_some result ≡ is_inline_value self.now }
         ensures value { IfSome result (λ value. value ≡ inline_value self.now) }
@@ -177,7 +177,7 @@ impl InlineValue {
 }
 
 impl InlineKey {
-    /// The key, unless it is empty, or more bytes are to count than it may have.
+    /// The key, or none if `len` is 0 or more than a key may have.
     pub(crate) fn key(&self) -> Option<Key>
         ensures fits { is_some result ≡ is_inline_key self.now }
         ensures key { IfSome result (λ key. key ≡ inline_key self.now) }

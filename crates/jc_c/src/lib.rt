@@ -1,12 +1,15 @@
-//! A stripe for C, and for whoever speaks to C. It does no I/O, takes no lock and starts no thread: the host asks its store between the
-//! phases, and gives each desk to one call at a time.
+//! A stripe for C, and for languages that can call C. It does no I/O, takes no lock and starts no thread: the host asks its store
+//! between the phases, and uses each desk for one call at a time.
 //!
-//! Each export answers a code (`codes.rt`), tested in this order: the handle is open; the arguments fit; the desk takes the call. On any
-//! code but `JC_OK` nothing was done, but that a full generation may have ended. What a host owes is in `include/jcache_core.h`.
+//! Each export returns a code (`codes.rt`). It tests in this order: the handle is open; the arguments fit; the desk accepts the
+//! call. On any code but `JC_OK` nothing was done, except that a full generation may have ended. The host's duties are in
+//! `include/jcache_core.h`.
 //!
 //! Why it is so:
-//! - A handle owns the box of its desk while it is open, as a ghost: so a call can take the box out and put it back, and nothing is copied.
-//! - The fields of a struct are lent one by one, and what is said of them is said of fields: then what is not written stays.
+//! - A handle owns the box of its desk as a ghost while it is open, so that a call can take the box out and put it back without a
+//!   copy.
+//! - The fields of a struct are lent one by one, and contracts state each field alone, because then a field that isn't written
+//!   stays.
 #![tactic(auto)]
 
 pub mod codes;

@@ -1,4 +1,4 @@
-//! What a desk has, for C.
+//! The contents of a desk, for C.
 ghost use Rattle.std.specs.Prelude.{◌≡◌, ◌↔◌, ◌⊎◌, true, false, length, Some, is_some, if◌then◌else◌};
 ghost use Rattle.jc_model.specs.Cache.{entry_at};
 ghost use Rattle.jc_model.specs.Legal.{Legal};
@@ -21,7 +21,7 @@ use jc_parcel::Loose;
 use jc_types::{Key, Value};
 use std::alloc::Global;
 
-/// The key's value. No call is made, and the order of use stays. `JC_NONE` says that it has no entry.
+/// Writes the key's value. No call is made, and the order of use stays. `JC_NONE` says that it has no entry.
 #[unsafe(no_mangle)]
 pub extern "C" fn jc_peek(h: &mut Handle, alloc: Global, key: &[u8], out: &mut InlineValue) -> u32
     ensures code { result ≡ export_code h.old.is_open (key_fits key.now) (is_some (entry_at h.old.desk.stripe.cache key.now)) JC_NONE }
@@ -47,7 +47,7 @@ pub extern "C" fn jc_peek(h: &mut Handle, alloc: Global, key: &[u8], out: &mut I
     code
 }
 
-/// What the events of all generations count (JSR 107, `CacheStatisticsMXBean`). It reads no event.
+/// Writes the counts of the events of all generations (JSR 107, `CacheStatisticsMXBean`). It reads no event.
 #[unsafe(no_mangle)]
 pub extern "C" fn jc_statistics_of(h: &mut Handle, alloc: Global, out: &mut CountsOut) -> u32
     ensures code { result ≡ export_code h.old.is_open true true JC_OK }
@@ -80,7 +80,7 @@ fn list_entries(entries: &[(Key, Value)], out: &mut [InlineEntry])
     }
 }
 
-/// Writes what is cached, the most recently used first, as far as there is room, and how many entries there are.
+/// Writes the cached entries, the most recently used first, as far as there is room, and the number of all of them.
 #[unsafe(no_mangle)]
 pub extern "C" fn jc_entries(
     h: &mut Handle,

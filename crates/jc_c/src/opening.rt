@@ -25,14 +25,14 @@ use std::marker::Send;
 /// A value of this type may go from thread to thread.
 fn may_go<T: Send>() {}
 
-/// Whether these bytes may be an entry.
+/// Whether an entry can be made of these bytes.
 fn entry_fits(entry: &InlineEntry) -> bool
     ensures { result ≡ entry_fits entry.now }
 {
     entry.key.key().is_some() && entry.value.value().is_some()
 }
 
-/// Whether each may be an entry.
+/// Whether an entry can be made of each.
 pub(crate) fn entries_fit(entries: &[InlineEntry]) -> bool
     ensures { result ≡ list_all entry_fits entries.now }
 {
@@ -51,7 +51,7 @@ fn has_key(entries: &[InlineEntry], key: &[u8]) -> bool
     false
 }
 
-/// Whether no key is there twice. Each entry is compared with all that follow it, and no memory is taken.
+/// Whether no key is there twice. It compares each entry with all that follow it, and takes no memory.
 fn is_apart(entries: &[InlineEntry]) -> bool
     ensures { result ≡ has_distinct_keys (inline_entries entries.now) }
 {
@@ -90,7 +90,7 @@ fn opens_fit(shape: &CacheShape, number: usize, entries: &[InlineEntry]) -> bool
         && is_opening_of(config.stripes, number, entries)
 }
 
-/// The entries that C gives. An `Err` says that an allocation failed.
+/// The entries that C passes. An `Err` says that an allocation failed.
 pub(crate) fn contents_of(
     alloc: Global,
     entries: &[InlineEntry],
@@ -118,9 +118,9 @@ pub(crate) fn config_of(shape: &CacheShape) -> Config
     }
 }
 
-/// Opens a desk over the stripe with this number, with these contents, the first one the most recently used. `JC_BAD_ARGUMENT` says that
-/// an entry is out of its limits, the shape is, there is no such stripe, or a key is there twice, of another stripe, or beyond the room.
-/// All that is tested before memory is taken.
+/// Opens a desk over the stripe with this number, with these entries, the first one the most recently used. `JC_BAD_ARGUMENT`
+/// says that the shape or an entry is out of its limits, that there is no such stripe, that a key is there twice or is of another
+/// stripe, or that there are more entries than the stripe keeps. All this is tested before an allocation.
 #[unsafe(no_mangle)]
 pub extern "C" fn jc_open(
     h: &mut Handle,

@@ -15,8 +15,8 @@ use jc_parcel::Loose;
 use jc_types::Caller;
 use std::alloc::Global;
 
-/// The first phase of the session's next call. `JC_MISUSE` says that the call may not begin: its key is of another stripe, the session has
-/// another call out here, or the numbers are at their end. Then nothing was done.
+/// The first phase of the session's next call. `JC_MISUSE` says that the call may not begin: its key is of another stripe, the
+/// session has another call out here, or the call's number would overflow. Then nothing was done.
 #[unsafe(no_mangle)]
 pub extern "C" fn jc_begin(
     h: &mut Handle,
@@ -47,8 +47,9 @@ pub extern "C" fn jc_begin(
     code
 }
 
-/// A `get` that finds its entry, and nothing else: its value is written. `JC_NONE` says that no call was made: there is no entry, the
-/// generation is full, or the call may not begin. A full generation may have ended then, but none whose events are to be taken.
+/// A `get` that finds its entry: it writes the value, and makes no other call. `JC_NONE` says that no call was made: there is no
+/// entry, the generation is full, or the call may not begin. A full generation may have ended, but none whose events are to be
+/// taken.
 #[unsafe(no_mangle)]
 pub extern "C" fn jc_hit(
     h: &mut Handle,
@@ -137,9 +138,9 @@ pub extern "C" fn jc_commit_write(
     code
 }
 
-/// The last phase of a call whose processor ran. `JC_MISUSE` says that no ticket with this number is out that asks a processor, that its
-/// loader answered and may not be asked, or that its writer answered and was not to be asked, or the other way round; then nothing was
-/// done.
+/// The last phase of a call whose processor ran. `JC_MISUSE` says that no ticket with this number is out that asks a processor;
+/// that the loader answered though it may not be asked; that the writer answered though it was not to be asked; or that it didn't
+/// though it was to be asked. Then nothing was done.
 #[unsafe(no_mangle)]
 pub extern "C" fn jc_commit_process(
     h: &mut Handle,
@@ -166,7 +167,7 @@ pub extern "C" fn jc_commit_process(
     code
 }
 
-/// Gives a ticket back whose loader, writer or processor was not asked. `JC_MISUSE` says that no ticket with this number is out.
+/// Gives back a ticket whose loader, writer or processor was not asked. `JC_MISUSE` says that no ticket with this number is out.
 #[unsafe(no_mangle)]
 pub extern "C" fn jc_withdraw(h: &mut Handle, alloc: Global, number: u64) -> u32
     ensures code { result ≡ export_code h.old.is_open true (is_some (ticket_of h.old.desk.stripe number)) JC_MISUSE }

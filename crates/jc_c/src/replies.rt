@@ -1,4 +1,4 @@
-//! What is told to C.
+//! Replies, written for C.
 ghost use Rattle.std.specs.Prelude.{◌≡◌, ◌≤◌, true, if◌then◌else◌};
 ghost use Rattle.std.specs.Option.{option_copied};
 ghost use Rattle.jc_stripe.specs.DeskPhases.{is_first_misuse, is_pick_up_misuse};
@@ -18,7 +18,7 @@ use jc_model::{Cause, Change, Reply};
 use jc_stripe::{First, FirstAnswer, PickUpAnswer, Reservation, ValueMoves};
 use jc_types::{Refusal, Value};
 
-/// A value.
+/// Writes a value.
 pub(crate) fn show_value(value: &Value, out: &mut InlineValue)
     ensures value { inline_value out.new ≡ value.now }
     ensures fits { is_inline_value out.new ≡ true }
@@ -28,7 +28,7 @@ pub(crate) fn show_value(value: &Value, out: &mut InlineValue)
     out.len = bytes.len() as u32;
 }
 
-/// A fault.
+/// Writes a fault.
 fn show_fault(fault: &Refusal, number: &mut u32, code: &mut u32)
     ensures { ShowsFault fault.now number.new code.new }
 {
@@ -60,7 +60,7 @@ fn show_fault(fault: &Refusal, number: &mut u32, code: &mut u32)
     }
 }
 
-/// A reply.
+/// Writes a reply.
 pub(crate) fn show_reply(reply: &Reply, number: &mut u32, code: &mut u32, out: &mut InlineValue)
     ensures reply { ShowsReply reply.now number.new code.new out.new }
     ensures fits { is_inline_value out.old ≡ true → is_inline_value out.new ≡ true }
@@ -78,7 +78,7 @@ pub(crate) fn show_reply(reply: &Reply, number: &mut u32, code: &mut u32, out: &
     }
 }
 
-/// Why the step's own key was evicted, by its number.
+/// The number of the cause for which the step's own key was evicted, or 0.
 fn number_of_own(own: Option<Cause>) -> u32
     ensures number { result ≡ own_number own }
     ensures few { result ≤ JC_OWN_EVICTED_MEMORY }
@@ -90,7 +90,7 @@ fn number_of_own(own: Option<Cause>) -> u32
     }
 }
 
-/// What came and went.
+/// Writes the values that came and went.
 fn show_moves(
     moves: &ValueMoves,
     flags: &mut u32,
@@ -116,7 +116,7 @@ fn show_moves(
     *flags = sum + number_of_own(moves.own());
 }
 
-/// A step that was done.
+/// Writes a step that was done.
 pub(crate) fn show_done(
     place: u32,
     shared: u32,
@@ -140,7 +140,7 @@ pub(crate) fn show_done(
     );
 }
 
-/// What to ask: the loader, the writer or the processor.
+/// Writes whom to ask: the loader, the writer or the processor.
 fn show_first(
     first: &First,
     next: &mut u32,
@@ -172,7 +172,7 @@ fn show_first(
     }
 }
 
-/// Why nothing was done.
+/// The number of a refusal.
 fn number_of(refusal: &Refusal) -> u32
     ensures { result ≡ refusal_number refusal.now }
 {
@@ -195,7 +195,7 @@ fn number_of(refusal: &Refusal) -> u32
     }
 }
 
-/// What a first phase gave; whom to ask is what the newest reservation says.
+/// Writes the outcome of a first phase. The newest reservation names whom to ask.
 pub(crate) fn show_asked(
     asked: &FirstAnswer,
     newest: Option<&Reservation>,
@@ -236,7 +236,7 @@ pub(crate) fn show_asked(
     JC_OK
 }
 
-/// What a joiner was told.
+/// Writes the answer to a joiner.
 pub(crate) fn show_picked(picked: &PickUpAnswer, reply: &Reply, out: &mut PhaseOut) -> u32
     ensures shown { result ≡ JC_OK → ShowsPickUp picked.now reply.now out.new }
     ensures code { result ≡ (if is_pick_up_misuse picked.now then JC_MISUSE else JC_OK) }

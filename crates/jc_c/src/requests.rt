@@ -1,4 +1,4 @@
-//! What C says, as words of a stripe.
+//! The arguments of C, read as values of a stripe.
 ghost use Rattle.std.specs.Prelude.{◌≡◌, ◌==◌, ◌||◌, not, is_some, IfSome};
 ghost use Rattle.jc_c.specs.declared.codes.TheConstants.{JC_NOT_ASKED};
 ghost use Rattle.std.specs.Bool.{OnTrue};
@@ -17,7 +17,7 @@ use crate::layouts::ProcessorAnswers;
 use jc_model::{Effect, LoadAnswer, Op, Out, ProcessAnswer, WriteAnswer};
 use jc_types::{Key, Value};
 
-/// The key of these bytes, unless there is none, or there are too many.
+/// The key of these bytes, or none if there is no byte, or there are too many.
 pub(crate) fn read_key(bytes: &[u8]) -> Option<Key>
     ensures fits { is_some result ≡ key_fits bytes.now }
     ensures key { IfSome result (λ key. key ≡ bytes.now) }
@@ -28,7 +28,7 @@ pub(crate) fn read_key(bytes: &[u8]) -> Option<Key>
     }
 }
 
-/// The value of these bytes, unless there are too many.
+/// The value of these bytes, or none if there are too many.
 pub(crate) fn read_value(bytes: &[u8]) -> Option<Value>
     ensures fits { is_some result ≡ value_fits bytes.now }
     ensures value { IfSome result (λ value. value ≡ bytes.now) }
@@ -39,7 +39,7 @@ pub(crate) fn read_value(bytes: &[u8]) -> Option<Value>
     }
 }
 
-/// What is called that has no value of its own, by its number.
+/// The operation with this number, if it has no value of its own.
 fn op_without_value(op: u32) -> Option<Op>
     ensures fits { is_some result ≡ takes_no_value op }
     ensures op { IfSome result (λ called. (value : Bytes) (other : Bytes) → called ≡ op_of_number op value other) }
@@ -57,7 +57,7 @@ fn op_without_value(op: u32) -> Option<Op>
     }
 }
 
-/// What is called that has one value, by its number.
+/// The operation with this number and value, if it has one value.
 fn op_with_value(op: u32, value: &Value) -> Option<Op>
     ensures fits { is_some result ≡ takes_value op }
     ensures op { IfSome result (λ called. (other : Bytes) → called ≡ op_of_number op value.now other) }
@@ -73,7 +73,7 @@ fn op_with_value(op: u32, value: &Value) -> Option<Op>
     }
 }
 
-/// What is called, by its number. Values that the operation hasn't aren't looked at.
+/// The operation with this number. It doesn't look at values that the operation doesn't have.
 pub(crate) fn read_op(op: u32, value: &[u8], other: &[u8]) -> Option<Op>
     ensures fits { is_some result ≡ op_fits op value.now other.now }
     ensures op { IfSome result (λ called. called ≡ op_of_number op value.now other.now) }
@@ -92,8 +92,8 @@ pub(crate) fn read_op(op: u32, value: &[u8], other: &[u8]) -> Option<Op>
     Some(Op::ReplaceIf { old, new })
 }
 
-/// Writes what is called to `room`, by its number. Of a `get`, a `remove`, an `invoke` or a `put` over another one only those bytes are
-/// copied that count. `false` says that the number is none, or that its values don't fit.
+/// Writes the operation with this number to `room`. If a `get`, a `remove`, an `invoke` or a `put` replaces one of the same kind,
+/// only the bytes that count are copied. A `false` says that there is no such number, or that its values don't fit.
 pub(crate) fn write_op(op: u32, value: &[u8], other: &[u8], room: &mut Op) -> bool
     ensures fits { result ≡ op_fits op value.now other.now }
     ensures op { OnTrue result (room.new ≡ op_of_number op value.now other.now) }
@@ -108,7 +108,7 @@ pub(crate) fn write_op(op: u32, value: &[u8], other: &[u8], room: &mut Op) -> bo
     }
 }
 
-/// The same of a `put`.
+/// Writes a `put` to `room`, and returns whether its value fits.
 #[inline(never)]
 fn write_put(value: &[u8], room: &mut Op) -> bool
     ensures fits { result ≡ value_fits value.now }
@@ -126,7 +126,7 @@ fn write_put(value: &[u8], room: &mut Op) -> bool
     }
 }
 
-/// The same of any other one.
+/// Writes any other operation to `room`, and returns whether there is such a number and its values fit.
 #[inline(never)]
 fn write_other_op(op: u32, value: &[u8], other: &[u8], room: &mut Op) -> bool
     ensures fits { result ≡ op_fits op value.now other.now }
@@ -141,7 +141,7 @@ fn write_other_op(op: u32, value: &[u8], other: &[u8], room: &mut Op) -> bool
     }
 }
 
-/// What the loader answered, by its number, if it was asked.
+/// The loader's answer with this number, if it was asked.
 pub(crate) fn read_load(answer: u32, code: u32, value: &Value) -> Option<LoadAnswer>
     ensures fits { is_some result ≡ load_number_fits answer }
     ensures answer { IfSome result (λ given. given ≡ load_of_number answer code value.now) }
@@ -154,7 +154,7 @@ pub(crate) fn read_load(answer: u32, code: u32, value: &Value) -> Option<LoadAns
     }
 }
 
-/// What the writer answered, by its number, if it was asked.
+/// The writer's answer with this number, if it was asked.
 pub(crate) fn read_write(answer: u32, code: u32) -> Option<WriteAnswer>
     ensures fits { is_some result ≡ write_number_fits answer }
     ensures answer { IfSome result (λ given. given ≡ write_of_number answer code) }
@@ -166,7 +166,7 @@ pub(crate) fn read_write(answer: u32, code: u32) -> Option<WriteAnswer>
     }
 }
 
-/// What the loader answered, or that it wasn't asked.
+/// The loader's answer, or that it wasn't asked.
 fn load_if_asked(answer: u32, code: u32, value: &Value) -> Option<LoadAnswer>
     ensures fits { is_some result ≡ ((answer == JC_NOT_ASKED) || load_number_fits answer) }
     ensures answer { IfSome result (λ given. given ≡ load_of_number answer code value.now) }
@@ -177,7 +177,7 @@ fn load_if_asked(answer: u32, code: u32, value: &Value) -> Option<LoadAnswer>
     read_load(answer, code, value)
 }
 
-/// What the writer answered, or that it wasn't asked.
+/// The writer's answer, or that it wasn't asked.
 fn write_if_asked(answer: u32, code: u32) -> Option<WriteAnswer>
     ensures fits { is_some result ≡ ((answer == JC_NOT_ASKED) || write_number_fits answer) }
     ensures answer { IfSome result (λ given. given ≡ write_of_number answer code) }
@@ -188,7 +188,7 @@ fn write_if_asked(answer: u32, code: u32) -> Option<WriteAnswer>
     read_write(answer, code)
 }
 
-/// What the processor did to the entry, by its number and the value that it set, and what it returned.
+/// The processor's answer: its effect, by its number and the value that it set, and its return.
 fn read_effect(number: u32, code: u32, set: Value, outcome: Option<Value>) -> Option<ProcessAnswer>
     ensures fits { is_some result ≡ effect_number_fits number }
     ensures answer { IfSome result (λ given. given ≡ process_answer_of number code set outcome) }
@@ -211,7 +211,7 @@ fn read_effect(number: u32, code: u32, set: Value, outcome: Option<Value>) -> Op
     }
 }
 
-/// What the processor returned, if it did.
+/// The return of the processor, if it returned a value.
 fn read_outcome(processed: &ProcessorAnswers) -> Option<Option<Value>>
     ensures fits { is_some result ≡ (not processed.now.has_outcome || is_inline_value processed.now.outcome) }
     ensures outcome { IfSome result (λ outcome. outcome ≡ read_outcome processed.now.has_outcome (inline_value processed.now.outcome)) }
@@ -222,7 +222,7 @@ fn read_outcome(processed: &ProcessorAnswers) -> Option<Option<Value>>
     Some(Some(processed.outcome.value()?))
 }
 
-/// What the processor did.
+/// The processor's answer.
 pub(crate) fn read_process(processed: &ProcessorAnswers) -> Option<ProcessAnswer>
     ensures fits { is_some result ≡ process_fits processed.now }
     ensures answer { IfSome result (λ given. given ≡ read_process processed.now) }
@@ -232,7 +232,7 @@ pub(crate) fn read_process(processed: &ProcessorAnswers) -> Option<ProcessAnswer
     read_effect(processed.effect, processed.code, set, outcome)
 }
 
-/// What the loader and the writer answered, beside a processor that did this.
+/// The answers of the loader and the writer, beside this answer of the processor.
 pub(crate) fn answers_beside(processed: &ProcessorAnswers, process: ProcessAnswer) -> Option<Out>
     ensures fits { is_some result ≡ others_fit processed.now }
     ensures answers { IfSome result (λ out. out ≡ answers_beside processed.now process) }
@@ -247,7 +247,7 @@ pub(crate) fn answers_beside(processed: &ProcessorAnswers, process: ProcessAnswe
     })
 }
 
-/// What the loader, the processor and the writer answered.
+/// The answers of the loader, the processor and the writer.
 pub(crate) fn read_answers(processed: &ProcessorAnswers) -> Option<Out>
     ensures fits { is_some result ≡ processed_fits processed.now }
     ensures answers { IfSome result (λ out. out ≡ processor_out processed.now) }

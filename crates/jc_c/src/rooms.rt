@@ -1,4 +1,4 @@
-//! A desk with the rooms that its exports write into.
+//! A desk with the buffers that its exports write into.
 ghost use Rattle.std.specs.Prelude.{◌≡◌, ◌⊎◌, true, if◌then◌else◌};
 ghost use Rattle.jc_model.specs.Group.{load_only, write_only};
 ghost use Rattle.jc_stripe.specs.DeskState.{may_call_next};
@@ -16,8 +16,8 @@ use jc_stripe::{Desk, ValueMoves};
 use jc_types::{Caller, Key, Value};
 use std::marker::Model;
 
-/// A desk, and the rooms of what its calls are and write, which are kept with it: so no call makes and clears one. A host sees the desk
-/// alone.
+/// A desk with buffers for the operation, the reply and the values of its calls. They are kept with it, so that no call makes and
+/// clears one. A host sees the desk alone.
 #[derive(Drop)]
 pub(crate) struct DeskRooms {
     pub(crate) desk: Desk,
@@ -40,7 +40,7 @@ impl Model for DeskRooms {
 }
 
 impl DeskRooms {
-    /// A desk with its rooms.
+    /// A desk with its buffers.
     pub(crate) fn of(desk: Desk) -> DeskRooms
         ensures { result ≡ desk }
     {
@@ -53,7 +53,7 @@ impl DeskRooms {
         }
     }
 
-    /// The first phase of the session's next call, told to C.
+    /// The first phase of the session's next call, with its outcome written for C.
     #[inline(always)]
     pub(crate) fn begin(
         &mut self,
@@ -79,7 +79,7 @@ impl DeskRooms {
         show_asked(&asked, self.desk.newest(), &self.reply, &self.moves, out)
     }
 
-    /// A `get` that finds its entry, told to C.
+    /// A `get` that finds its entry, with its value written for C.
     #[inline(always)]
     pub(crate) fn hit(&mut self, session: u32, key: &Key, out: &mut InlineValue) -> u32
         ensures code { result ≡ (if hits_next self.old session key.now then JC_OK else JC_NONE) }
@@ -93,7 +93,7 @@ impl DeskRooms {
         JC_OK
     }
 
-    /// The last phase of a call whose loader was asked, told to C.
+    /// The last phase of a call whose loader was asked, with its outcome written for C.
     #[inline(always)]
     pub(crate) fn commit_load(&mut self, number: u64, answer: LoadAnswer, out: &mut PhaseOut) -> u32
         ensures code { result ≡ (if takes_load self.old.stripe number answer then JC_OK else JC_MISUSE) }
@@ -110,7 +110,7 @@ impl DeskRooms {
         JC_OK
     }
 
-    /// The same of the writer.
+    /// The last phase of a call whose writer was asked, with its outcome written for C.
     #[inline(always)]
     pub(crate) fn commit_write(
         &mut self,
@@ -132,7 +132,7 @@ impl DeskRooms {
         JC_OK
     }
 
-    /// The same of a processor.
+    /// The last phase of a call whose processor ran, with its outcome written for C.
     #[inline(always)]
     pub(crate) fn commit_process(&mut self, number: u64, said: Out, out: &mut PhaseOut) -> u32
         ensures code { result ≡ (if takes_process self.old.stripe number said then JC_OK else JC_MISUSE) }
@@ -154,7 +154,7 @@ impl DeskRooms {
         JC_OK
     }
 
-    /// A joiner asks for its answer, which is told to C.
+    /// A joiner asks for its answer, which is written for C.
     #[inline(always)]
     pub(crate) fn pick_up(
         &mut self,

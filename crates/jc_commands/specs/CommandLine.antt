@@ -1,30 +1,35 @@
--- The command line: which words are right, what they ask for, and what is wrong with the others.
---     option_rule               an option with a number, which must be given or needn't
+-- The command line: the words that are right, with their tasks, and the errors of the others.
+--     option_rule               an option with a number, which is required or not
 --     explore                   the command of the subcommand `explore`: one such option, with its range
 --     threads                   the command of the subcommand `threads`: three such options, with their ranges
---     player                    the command with its first subcommands, `run` and `shell`: it has a version, and a subcommand must be named
+--     player                    the command with its first subcommands, `run` and `shell`: it has a version, and a subcommand
+--                               must be named
 --     program                   the command, as `clap` sees it, with its other subcommands, `explore` and `threads`
---     faults_at                 the kinds of error that these words may have, the program's name first; none if they are right
+--     faults_at                 the kinds of error that these words, the first of which is the program's name, may have; none if
+--                               they are right
 --     subcommand_at             the subcommand that these words name, with its options
---     SpellsOr, SpellsIf        the number that an option's text spells in decimal digits, and if it isn't given a number that stands for
---                               it, or none
+--     SpellsOr, SpellsIf        the number that an option's text spells in decimal digits, or if it isn't given a default, or
+--                               none
 --     Names                     the subcommand has this name
 --     IsAsked                   the task of a subcommand with its options
---     RunIsRight                `run` alone is right, whatever the program is called, and asks for a script
---     ShellIsRight              so is `shell`, which asks for a shell
---     ExploresUpTo              these words are right, and ask for an exploration of at most so many states
---     ExploreIsRight            `explore` alone is right, and asks for 200,000 states; with its option it asks for as many as that says
+--     RunIsRight                `run` alone is right, whatever the name of the program, and asks for a script
+--     ShellIsRight              `shell` alone is right in the same way, and asks for a shell
+--     ExploresUpTo              these words are right, and ask for an exploration of at most a number of states
+--     ExploreIsRight            `explore` alone is right, and asks for 200,000 states; with its option it asks for that number of
+--                               states
 --     is_too_much               a plan has more increments than one history has room for, and its cache doesn't live on
 --     AsksFor                   these words are right, and ask for threads by this plan
---     ThreadsIsRight            `threads` with both options that must be given is right, in any order of them, and asks for so many
---                               threads and rounds; so it is with the third one
---     OptionMissingIsWrong      `threads` without one of the two is wrong
---     NumberIsWrong             `threads` with no thread, with 32, with no round, with 10,001, with a word that is no number, or with histories
---                               of 15 or 65,537 events is wrong, and so is `explore` with no state, with 1,000,001, or with a word that is no number
+--     ThreadsIsRight            `threads` with both required options is right, in any order of them, and asks for these numbers
+--                               of threads and rounds; so it is with the third option
+--     OptionMissingIsWrong      `threads` without one of the two required options is wrong
+--     NumberIsWrong             `threads` with no thread, with 32, with no round, with 10,001, with a word that is no number, or
+--                               with histories of 15 or 65,537 events is wrong, and so is `explore` with no state, with
+--                               1,000,001, or with a word that is no number
 --     NoWordIsWrong             no word at all is wrong: a subcommand is missing
---     UnknownWordIsWrong        a word that isn't the program's, as `play`, is wrong
+--     UnknownWordIsWrong        a word that isn't the program's is wrong, for example `play`
 --     WordTooManyIsWrong        a word after `run` is wrong, and one after `shell` or `explore`
---     FlagIsWrong               a flag that isn't the program's, as `--fast`, is wrong, before `run`, after it, and after `shell` and `explore`
+--     FlagIsWrong               a flag that isn't the program's is wrong, for example `--fast`, before `run`, after it, and after
+--                               `shell` and `explore`
 --     HelpIsShown               `--help` and `-h` ask for help, before a subcommand and after it
 --     HelpWordIsShownOrWrong    `help` asks for help, or is wrong: `clap`'s contract leaves it open
 --     VersionIsShown            `--version` and `-V` ask for the version
@@ -72,7 +77,7 @@ faults_at words = fault_of program words
 abbrev pub subcommand_at : List (List ℕ) → Option (Text × List Row)
 subcommand_at words = subcommand_of program words
 
--- 2. What is asked for.
+-- 2. The tasks.
 
 abbrev pub SpellsOr : (default : ℕ) → Option Text → ℕ → Type 0
 SpellsOr default None number = number ≡ default

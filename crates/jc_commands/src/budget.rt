@@ -1,7 +1,7 @@
-//! How many states of a program of threads are followed.
+//! The number of states of a program of threads that an exploration follows.
 
-/// The most that a command line may ask for.
+/// The most states that a command line may ask for.
 pub const STATES_MAX: u32 = 1_000_000;
 
-/// How many they are if it doesn't say.
+/// The number of states if the command line has none.
 pub const STATES_DEFAULT: u32 = 200_000;

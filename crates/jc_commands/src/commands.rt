@@ -16,7 +16,7 @@ use clap::error::ErrorKind;
 use clap::{Arg, ArgMatches, Command, Error};
 use std::alloc::Global;
 
-/// What a command line asks for.
+/// The task of a command line.
 #[derive(Clone, Copy)]
 pub enum Task {
     /// Play the script on standard input.
@@ -25,7 +25,7 @@ pub enum Task {
     Shell,
     /// Look for each outcome of the program of threads on standard input.
     Explore {
-        /// How many states may be followed.
+        /// The most states that are followed.
         states: u32,
     },
     /// Count on threads.
@@ -39,7 +39,7 @@ fn between<'a>(least: u32, most: u32) -> ValueParser<'a>
     ValueParser::Signed(i64::from(least), i64::from(most))
 }
 
-/// An option with a number, which must be given or needn't.
+/// An option with a number, which is required or not.
 fn number_option<'a>(
     alloc: Global,
     name: &'a str,
@@ -116,7 +116,7 @@ fn threads_command<'a>(alloc: Global) -> Result<Command<'a>, Error>
     )
 }
 
-/// The program's command with the subcommands that take scripts.
+/// The program's command with the subcommands `run` and `shell`.
 fn player_command<'a>(alloc: Global) -> Result<Command<'a>, Error>
     ensures made { IfOk result (λ c. app_of c ≡ player) }
     ensures local { IfOk result (λ c. (out-Command c).has_globals ≡ false) }
@@ -148,10 +148,10 @@ fn command<'a>(alloc: Global) -> Result<Command<'a>, Error>
     )
 }
 
-/// The task of these words; the first is the program's name. The error holds the text to show, for `--help` and `--version`
-/// too.
+/// The task of these words, of which the first is the program's name. The error has the text to show, also for `--help` and
+/// `--version`.
 pub fn read_task(alloc: Global, words: &[String]) -> Result<Task, Error>
-    // Right words give a task, unless an allocation fails. Others give an error of one of their kinds.
+    // Right words give a task, unless an allocation fails. Other words give an error of one of their kinds.
     ensures kinds { FailsBy (faults_at (map string_bytes words.now)) result }
     ensures asked { IfOk result (λ task. IsAsked (subcommand_at (map string_bytes words.now)) task) }
 {
@@ -160,7 +160,7 @@ pub fn read_task(alloc: Global, words: &[String]) -> Result<Task, Error>
     Ok(task_in(&matches))
 }
 
-/// The task that these matches ask for.
+/// The task of these matches.
 fn task_in(matches: &ArgMatches) -> Task
     ensures { IsAsked (subcommand_rows_of matches.now) result }
 {
@@ -182,7 +182,7 @@ fn task_in(matches: &ArgMatches) -> Task
     }
 }
 
-/// The number of an option, and this one if it isn't given.
+/// The number of an option, or `default` if the option isn't given.
 fn number_or(options: &ArgMatches, name: &str, default: u32) -> u32
     ensures { SpellsOr default (one_of name.now (rows_of (found_of options.now))) result }
 {
@@ -196,7 +196,7 @@ fn number_if(options: &ArgMatches, name: &str) -> Option<u32>
     options.get_one::<u32>(name)
 }
 
-/// Which words are right, and what is wrong with some others.
+/// A law: some words that are right, with their tasks, and some that are wrong, with their errors. It does nothing.
 #[tactic(auto, unfolding(clap::proofs::OnLiterals::clap_on_literals))]
 pub fn right_words()
     ensures run { RunIsRight }

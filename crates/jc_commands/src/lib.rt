@@ -1,4 +1,4 @@
-//! The command line of the program `jcache`: which words are right, and what they ask for.
+//! The command line of the program `jcache`: the words that are right, and their tasks.
 #![tactic(auto)]
 
 pub mod budget;

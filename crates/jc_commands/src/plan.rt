@@ -1,8 +1,8 @@
-//! How much is counted on threads.
+//! The plan of a count on threads.
 ghost use Rattle.std.specs.Prelude.{◌≡◌, ◌*◌, ◌≤◌, ◌^◌, ◌<◌};
 ghost use Rattle.jc_commands.specs.CommandLine.{is_too_much};
 
-/// The most threads that count. The cache has one session more, which reads the counter in the end.
+/// The most threads that count. The cache has one more session, which reads the counter in the end.
 pub const WORKERS_MAX: u32 = 31;
 
 /// The most increments of one thread.
@@ -14,23 +14,23 @@ pub const INCREMENTS_MAX: u64 = 60_000;
 /// The least number of events that a history may have room for.
 pub const EVENTS_MIN: u32 = 16;
 
-/// The most.
+/// The most events that a history may have room for.
 pub const EVENTS_MAX: u32 = 65_536;
 
-/// How many threads count, how often each, and over how long histories.
+/// A plan: the number of threads, the increments of each, and the length of the histories.
 #[derive(Clone, Copy, Debug, PartialEq, Eq)]
 pub struct Plan {
-    /// How many threads count.
+    /// The number of threads that count.
     pub workers: u32,
-    /// How many increments each of them makes.
+    /// The number of increments of each.
     pub rounds: u32,
-    /// How many events a history has room for, of a cache that lives on. Without it the cache doesn't, and its history has room for
-    /// all increments.
+    /// The number of events that a history has room for, in a cache that lives on. Without it the cache doesn't live on, and its
+    /// history has room for all increments.
     pub history: Option<u32>,
 }
 
 impl Plan {
-    /// How many increments all threads make together.
+    /// The number of increments of all threads together.
     pub fn increments(&self) -> u64
         ensures { result ≡ self.now.workers * self.now.rounds }
     {

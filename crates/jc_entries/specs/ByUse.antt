@@ -1,5 +1,5 @@
--- What one stripe caches, in order of use (LRU), as its readers see it. Nothing here says how the entries are stored.
---     ByUse             how many entries may be kept, and the entries, the most recently used first
+-- The entries of one stripe, in order of use (LRU), as callers see them. Nothing here says how the entries are stored.
+--     ByUse             the most entries that may be kept, and the entries, the most recently used first
 --     IsValidByUse      the keys are distinct, no more entries are kept than may be, and the bound is one that a stripe may have
 --     after_touch       the entries with this key's moved to the front, or as they are if the key has none
 --     is_pinned         whether a key is among the pinned ones, whose entries can't be evicted
@@ -15,7 +15,7 @@ use Rattle.jc_types.specs.declared.limits.TheConstants.{CAPACITY_MAX}
 use Rattle.jc_model.specs.Cache.{Bytes, key_cmp}
 use Rattle.jc_model.specs.Listed.{has_distinct_keys, others}
 
--- how many entries may be kept, and the entries, the most recently used first
+-- the most entries that may be kept, and the entries, the most recently used first
 pub record ByUse : Type 0 where
   pub capacity : ℕ
   pub list : List (Bytes × Bytes)
@@ -35,7 +35,7 @@ after_touch key entries = option_map_or (λ value. (key, value) ∷ others key e
 abbrev pub is_pinned : List Bytes → Bytes → Bool
 is_pinned pinned key = list_any (λ other. pointwise ◌==◌ other key) pinned
 
--- the least recently used key that isn't pinned, so the last of those: the one that is evicted if there is no room
+-- the least recently used key that isn't pinned, so the last one of those in the list: it is evicted if there is no room
 abbrev pub lru_victim : List (Bytes × Bytes) → List Bytes → Option Bytes
 lru_victim entries pinned = find (λ key. not (is_pinned pinned key)) (keys_of (reverse entries))
 

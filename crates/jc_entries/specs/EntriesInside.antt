@@ -1,4 +1,4 @@
--- What the fields of the entries mean. No contract of a public call cites this.
+-- The meaning of the fields of `Entries`. No contract of a public function cites this.
 --     by_use_of    the entries that the fields mean
 use Rattle.jc_entries.specs.ByUse.{ByUse}
 use Rattle.jc_entries.specs.declared.entries.Entries.TheInside.{Inside}

@@ -20,29 +20,27 @@ use std::alloc::{AllocError, Global};
 use std::marker::Model;
 use std::num::NonZeroUsize;
 
-/// What became of an insertion.
+/// The outcome of an insertion.
 #[derive(Clone, Copy, Debug, PartialEq, Eq)]
 pub enum Inserted {
-    /// The entry is kept, as the most recently used, and nobody was evicted.
+    /// The entry is kept, as the most recently used, and no other was evicted.
     Kept,
     /// The entry is kept, as the most recently used, and the entry of this key was evicted for it.
     KeptAfter(Key),
     /// The entry isn't kept.
     ///
-    /// - [`Cause::Full`]: there was no room, and each entry is pinned. Nobody was evicted, and the
-    ///   entries are as they were.
-    /// - [`Cause::Memory`]: the new entry has a new key, and an allocation for it failed. If there was
-    ///   no room, the entry of the key beside the cause was evicted before that was known; otherwise
-    ///   there is no key beside it. The other entries are as they were, in their order. It isn't
-    ///   promised when memory is short, and not that it never is.
+    /// - [`Cause::Full`]: there was no room, and each entry is pinned. No entry was evicted, and the entries are as they were.
+    /// - [`Cause::Memory`]: the new entry has a new key, and an allocation for it failed. If there was no room, an entry was
+    ///   evicted before that was known, and its key is beside the cause; otherwise no key is there. The other entries are as they
+    ///   were, in their order. Nothing is promised about when an allocation fails.
     NotKept(Cause, Option<Key>),
 }
 
-/// What one stripe caches: each key once, in order of use.
+/// The entries that one stripe caches: each key once, in order of use.
 ///
-/// How many entries may be kept is chosen when this is made, from 1 to [`CAPACITY_MAX`]. A look-up, a
-/// use, an insertion and a removal take as many steps with all of these entries as with one. If an
-/// insertion evicts, it also passes the pinned entries at the least recently used end.
+/// The number of entries that may be kept is chosen when this is made, from 1 to [`CAPACITY_MAX`]. A look-up, a use, an insertion
+/// and a removal take as many steps in a full stripe as in one with a single entry. An insertion that evicts also passes over the
+/// pinned entries at the least recently used end.
 #[derive(Drop)]
 pub struct Entries {
     cache: LruCache<Key, Value>,
@@ -80,7 +78,7 @@ impl Entries {
 
     /// These entries, the first one the most recently used. An `Err` says that an allocation failed.
     ///
-    /// Conditions: each key is there once, and there are not more than `capacity`, from 1 to [`CAPACITY_MAX`].
+    /// Conditions: each key is there once; there are at most `capacity` entries; `capacity` is from 1 to [`CAPACITY_MAX`].
     pub fn of(alloc: Global, capacity: usize, contents: &[(Key, Value)]) -> Result<Self, AllocError>
         requires least { 0 < capacity }
         requires most { capacity ≤ CAPACITY_MAX }
@@ -105,7 +103,7 @@ impl Entries {
         self.cache.peek(key).copied()
     }
 
-    /// The same, lent.
+    /// The key's value, or none, as a reference into the entries. The order of use stays as it is.
     #[inline(always)]
     pub fn peek_lent(&self, key: &Key) -> Option<&Value>
         ensures { option_copied result ≡ finite.find key_cmp key.now self.now.list }
@@ -113,7 +111,7 @@ impl Entries {
         self.cache.peek(key)
     }
 
-    /// The same, written to `value`: it is copied once.
+    /// Writes the key's value, or none, to `value`: the value is copied once. The order of use stays as it is.
     #[inline(always)]
     pub fn peek_into(&self, key: &Key, value: &mut Option<Value>)
         ensures { value.new ≡ finite.find key_cmp key.now self.now.list }
@@ -124,7 +122,7 @@ impl Entries {
         }
     }
 
-    /// Whether a key has an entry both here and there. Each key of these entries is looked up in the others; no order changes.
+    /// Whether some key has an entry in both. Each key of these entries is looked up in the others; no order changes.
     pub fn shares_key(&self, other: &Entries) -> bool
         ensures { result ≡ not (keys_apart self.now.list other.now.list) }
     {
@@ -136,7 +134,8 @@ impl Entries {
         false
     }
 
-    /// Makes the key's entry the most recently used, by one look-up, and says whether it has one. If it has none, nothing changes.
+    /// Makes the key's entry the most recently used, and returns whether the key has an entry. If it has none, nothing changes.
+    /// It takes one look-up.
     pub fn touch(&mut self, key: &Key) -> bool
         ensures found { result ≡ is_some (finite.find key_cmp key.now self.old.list) }
         ensures after { self.new ≡ record self.old { list = after_touch key.now self.old.list } }
@@ -157,11 +156,10 @@ impl Entries {
 
     /// Gives the key this value, and makes its entry the most recently used.
     ///
-    /// If the key has an entry already, its value is replaced and nobody is evicted, however full the
-    /// stripe is. A new key into a full stripe first evicts the least recently used entry whose key
-    /// isn't in `pinned`, whose order doesn't matter; if all are in it, the new entry isn't kept.
-    /// The answer says whether the entry is kept, who was evicted and what a failed allocation leaves:
-    /// see [`Inserted`].
+    /// If the key has an entry already, its value is replaced and nothing is evicted, however full the stripe is. If the key is
+    /// new and the stripe is full, the least recently used entry whose key isn't in `pinned` is evicted first; if all keys are in
+    /// it, the new entry isn't kept. The order of `pinned` doesn't matter. The answer tells whether the entry is kept, which key
+    /// was evicted, and what a failed allocation leaves: see [`Inserted`].
     pub fn insert(&mut self, key: &Key, value: &Value, pinned: &[Key]) -> Inserted
         ensures inserts { Inserts self.old self.new key.now value.now pinned.now result }
         ensures valid { IsValidByUse self.new }
@@ -182,8 +180,7 @@ impl Entries {
         }
     }
 
-    /// Takes the key's entry out, and answers its value, or none if there was no entry. The others
-    /// stay in their order.
+    /// Removes the key's entry, and returns its value, or none if there was no entry. The others stay in their order.
     pub fn remove(&mut self, key: &Key) -> Option<Value>
         ensures value { result ≡ finite.find key_cmp key.now self.old.list }
         ensures after { self.new ≡ record self.old { list = others key.now self.old.list } }
@@ -192,7 +189,8 @@ impl Entries {
         self.cache.pop(key)
     }
 
-    /// Takes all entries out: it is then as [`new`](Entries::new) makes it. The table for look-ups keeps its room.
+    /// Removes all entries: the stripe's entries are then as [`new`](Entries::new) makes them. The table for look-ups keeps its
+    /// memory.
     pub fn clear(&mut self)
         ensures { self.new ≡ record { capacity = self.old.capacity; list = [] } }
     {
@@ -212,8 +210,7 @@ impl Entries {
 
     /// Appends the entries, the most recently used first.
     ///
-    /// An `Err` says that an allocation failed, and `out` is as it was. It doesn't come if `out`
-    /// has room for them all.
+    /// An `Err` says that an allocation failed, and leaves `out` as it was. There is none if `out` has room for all of them.
     pub fn append_to(&self, out: &mut Vec<(Key, Value)>) -> Result<(), AllocError>
         ensures ok { OnOk result (out.new.items ≡ out.old.items ++ self.now.list) }
         ensures err { OnErr result (out.new.items ≡ out.old.items) }
@@ -228,7 +225,7 @@ impl Entries {
         Ok(())
     }
 
-    /// How many entries there are, at most [`capacity`](Entries::capacity).
+    /// The number of entries, at most [`capacity`](Entries::capacity).
     pub fn len(&self) -> usize
         ensures len { result ≡ length self.now.list }
         ensures valid { IsValidByUse self.now }
@@ -236,7 +233,7 @@ impl Entries {
         self.cache.len()
     }
 
-    /// How many entries may be kept, from 1 to [`CAPACITY_MAX`].
+    /// The most entries that may be kept, from 1 to [`CAPACITY_MAX`].
     pub fn capacity(&self) -> usize
         ensures capacity { result ≡ self.now.capacity }
         ensures valid { IsValidByUse self.now }
@@ -244,7 +241,7 @@ impl Entries {
         self.cache.cap().get()
     }
 
-    /// Whether the key has an entry already, or there is room for one more.
+    /// Whether the key has an entry already, or there is room for another one.
     fn has_room_for(&self, key: &Key) -> bool
         ensures room { result ≡ has_room_for key.now self.now }
         ensures valid { IsValidByUse self.now }

@@ -1,9 +1,10 @@
-//! What one stripe caches, in order of use (LRU).
+//! The entries of one stripe, in order of use (LRU).
 //!
 //! Why it is so:
-//! - On `lru`: a look-up, a use, an insertion and a removal cost the same however many entries there are. Each entry has a block of its
-//!   own, allocated when its key is inserted.
-//! - When memory is short is left open: the definition says what an insertion leaves with cause `Memory`, not when that happens.
+//! - The entries are on the kit's `lru`, because a look-up, a use, an insertion and a removal then cost the same however many
+//!   entries there are. Each entry has a block of its own, which is allocated when its key is inserted.
+//! - Contracts leave open when an allocation fails, because that is the allocator's to decide. They define what an insertion with
+//!   cause `Memory` leaves.
 #![tactic(auto)]
 
 pub mod entries;

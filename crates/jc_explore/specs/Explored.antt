@@ -1,24 +1,27 @@
--- Whole runs of a program, and what an exploration has found of them.
---     IsEnd            no move is one: nothing can happen any more
---     IsWhole          a schedule of a program leads to such a scene, and this is its final state
---     IsFound          a final state is among those that were found
---     AreWitnessed     each that was found has a schedule that is whole and ends there
---     AreDistinct      no two are the same
---     IsShortest       no whole schedule that ends with the final state that was found is shorter than its own
---     AreShortest      that is so of each
---     HasEachOutcome   the final state of each whole schedule is among them
---     IsReached        a schedule leads to a scene
---     AreUnlike        no two scenes are alike
---     IsAmongScenes    a scene is like one of these
---     HasEachScene     each scene that a schedule leads to is like one of these
---     IsFollowed       wherever a move leads from a scene, it is like one of these, and its final state is found if it is an end
---     AreFollowed      so many of some scenes, the first ones, were followed
---     IsCounted        so many scenes were come to, no two of them alike. If the exploration is whole, each scene is like one of them; if
---                      it isn't, as many as the budget says were followed, or more final states were found than the limit
---     IsTried          an exploration that isn't whole came to more states than its budget, or found more final states than the limit
---     IsAccepted       a program that can be explored: each thread has a session, and the cache's shape is within its limits
---     IsFaultOf        a program is refused so
---     IsRefusedAs      a program is explored if it can be, and refused as it is to be else
+-- Whole runs of a program, and the final states that an exploration has found.
+--     IsEnd             no move is possible: nothing can happen any more
+--     IsWhole           a schedule of a program leads to an end, and this is its final state
+--     IsFound           a final state is among those that were found
+--     AreWitnessed      each final state that was found has a whole schedule that ends there
+--     AreDistinct       no two final states that were found are the same
+--     IsShortest        no whole schedule that ends with the final state that was found is shorter than its own
+--     AreShortest       each final state that was found has a shortest schedule
+--     HasEachOutcome    the final state of each whole schedule was found
+--     IsReached         a schedule leads to a scene
+--     AreUnlike         no two scenes are alike
+--     IsAmongScenes     a scene is like one of these
+--     HasEachScene      each scene that a schedule leads to is like one of these
+--     IsFollowed        each move from a scene leads to one that is like one of these, and the final state is found if the scene
+--                       is an end
+--     AreFollowed       the first `count` scenes of a list were followed
+--     IsCounted         the number of states is that of scenes that were reached, no two of them alike. If the exploration is
+--                       whole, each scene is like one of them; if it isn't, as many of them as the budget allows were followed,
+--                       or more final states were found than the limit
+--     IsTried           an exploration that isn't whole came to more states than its budget, or found more final states than the
+--                       limit
+--     IsAccepted        a program that can be explored: each thread has a session, and the cache's shape is within its limits
+--     IsFaultOf         a program is refused with this fault
+--     IsRefusedAs       a program is explored if it is accepted, otherwise refused with its fault
 use Rattle.std.specs.Prelude.{◌≡◌, ℕ, ◌<◌, ◌≤◌, ◌⊎◌, List, length, true, false, Some, slice_get, Result, Ok, Err}
 use Rattle.std.specs.List.{All, Any, AllPairs}
 use Rattle.jc_types.specs.Limits.{check}
@@ -45,7 +48,7 @@ pub record IsWhole (p : Program) (schedule : List Move) (f : FinalValue) : Type 
   pub ends : IsEnd p last
   pub final : IsFinal last f
 
--- 2. What was found.
+-- 2. The final states that were found.
 
 abbrev pub IsFound : FinalValue → List Finding → Type 0
 IsFound f found = Any (λ x. final_of x.state ≡ f) found

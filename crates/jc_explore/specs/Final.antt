@@ -1,8 +1,8 @@
 -- Final states.
---     FinalValue   what the threads were answered, thread by thread, what is cached and what the store holds, in the byte order of the
---                  keys, and the keys whose cached value isn't the store's
---     final_of     the value of a final state
---     IsFinal      this is what a scene has
+--     FinalValue    the replies to the threads, thread by thread; the entries of the cache and of the store, in the byte order of
+--                   the keys; and the keys whose cached value isn't the store's
+--     final_of      the value of a final state
+--     IsFinal       this is the final state of a scene
 use Rattle.std.specs.Prelude.{◌≡◌, List}
 use Rattle.std.specs.FinMap.{entries}
 use Rattle.jc_model.specs.Cache.{Bytes, Cache}

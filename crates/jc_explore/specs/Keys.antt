@@ -1,17 +1,17 @@
--- What of a scene decides what may come.
---     ScenesAlike   the worlds of two scenes have one essence, and all else of the scenes is equal
---     IsKeyOf       a key is that of a scene, by these tables of what snapshots have met
---     KeyValue      a snapshot, how far the threads are, and what they were answered
---     key_value     the value of a key
---     HaveOneKey    two keys are one
---     print_with             a fingerprint with one number more, as in FNV-1a
---     print_with_position    a fingerprint with how far a thread is
---     print_with_fault       a fingerprint with a refusal
---     print_with_answer      a fingerprint with a reply
---     print_with_reply       a fingerprint with a reply to a thread
---     fingerprint_of_value   the fingerprint of a key's value: of its snapshot, how far the threads are, and the replies
---     fingerprint_of_key     the fingerprint of a key
---     HasPlace               a fingerprint was noted
+-- The part of a scene that decides what may come.
+--     ScenesAlike             the worlds of two scenes have one essence, and all else of the scenes is equal
+--     IsKeyOf                 a key is that of a scene, by these tables of what snapshots have met
+--     KeyValue                a snapshot, the positions of the threads, and their replies
+--     key_value               the value of a key
+--     HaveOneKey              two keys are the same
+--     print_with              a fingerprint with one more number, as in FNV-1a
+--     print_with_position     a fingerprint with the position of a thread
+--     print_with_fault        a fingerprint with a refusal
+--     print_with_answer       a fingerprint with a reply
+--     print_with_reply        a fingerprint with a reply to a thread
+--     fingerprint_of_value    the fingerprint of a key's value: of its snapshot, the positions of the threads, and the replies
+--     fingerprint_of_key      the fingerprint of a key
+--     HasPlace                a fingerprint was noted
 use Rattle.std.specs.Prelude.{◌≡◌, ℕ, List, ◌*◌, ◌%◌, ◌^◌, bit_xor, nat_eq, None, Some, IsSome, true, false}
 use Rattle.std.specs.HashMap.{get}
 use Rattle.std.specs.List.{fold}

@@ -1,7 +1,7 @@
 -- The moves that a program can have.
 --     is_begin          an act by which a thread's next item begins
 --     moves_of_thread   each move of one thread
---     moves_up_to       each move of so many threads
+--     moves_up_to       each move of a number of threads
 use Rattle.std.specs.Prelude.{ℕ, zero, suc, List, [], ◌∷◌, ◌++◌, Bool, true, false}
 use Rattle.jc_explore.specs.declared.moves.Act.{Act}
 use Rattle.jc_explore.specs.declared.moves.Act.TheVariants.{Begin, Read, LoadFails, Process, ProcessLoadFails, ProcessFails, Write, WriteFails, WriteLies, Commit, PickUp}

@@ -1,37 +1,37 @@
 -- Schedules of a program, and its runs.
---     SceneState       a world, how many items each thread has begun, and what each was answered, thread by thread
+--     SceneState       a world, the number of items that each thread has begun, and the replies, thread by thread
 --     state_of         the state of a scene
 --     next_number      the number of the next call: they rise from 1
 --     has_number_left  both the next call's number and a count of items are below the largest number that a script names
 --     has_number_for   an act begins no item, or there is a number for one
 --     call_of          the call that a session has under way
 --     if_idle          events, if no call is under way
---     item_at          what a thread does at a place of its list
---     item_in          the same, of a list if there is one
+--     item_at          the item of a thread at a place of its list
+--     item_in          the item at a place of a list, if there is a list
 --     begin_events     the events of an item that begins, with its call's number and session
 --     if_failing       events with a code, if there is one
---     entry_calls      what the entry processor of an item does with its entry
+--     entry_calls      the calls of an item's entry processor on its entry
 --     run_processor    the event of a processor's run
 --     act_events       the events of an act of a call at its key, with the calls of its processor
 --     call_events      the events of an act of an item
 --     under_way        the events of an act of the call that a thread has under way
---     events_at        the events of a move of a thread that has begun so many items
+--     events_at        the events of a move of a thread that has begun a number of items
 --     events_of        the events of a move
---     is_going_on      an outcome by which a call goes on: the event fits, and the call isn't made to wait
---     are_going_on     each of these is one
---     is_proper        events happened, and by each the call goes on
---     position_after   how far a thread is after a move
---     positions_at     how far the threads are after a move, if there is such a thread
---     positions_after  how far the threads are after a move
---     reply_in         what a call is answered with an outcome, if it is: a refusal is a fault
---     with_reply       one reply more, behind those of the threads up to its own
---     replies_after    the replies after what was shown
---     Moves            a move of a schedule: its events were played, by each the call went on, and none lacked memory
+--     is_going_on      an outcome after which a call continues: the event fits, and the call isn't made to wait
+--     are_going_on     a call continues after each of these
+--     is_proper        events happened, and the call continues after each
+--     position_after   the position of a thread after a move
+--     positions_at     the positions of the threads after a move, if there is such a thread
+--     positions_after  the positions of the threads after a move
+--     reply_in         the reply of a call in an outcome, if there is one: a refusal is a fault
+--     with_reply       one more reply, after those of the threads up to its own
+--     replies_after    the replies, with those in the outcomes that were shown
+--     Moves            a move of a schedule: its events were played, the call continued after each, and no allocation failed
 --     Plays            a schedule, move by move
 --     has_session      a move's thread has a session
 --     have_sessions    the thread of each of these moves has one
 --     with_all_stored  a world with these entries in its store
---     unbegun          how far a thread is that has begun nothing
+--     unbegun          the position of a thread that has begun nothing
 --     opening          the scene before anything has happened
 use Rattle.std.specs.Prelude.{◌≡◌, ℕ, ◌+◌, ◌-◌, List, [], ◌∷◌, length, replicate, Bool, true, false, not, ◌&&◌, ◌||◌, nat_lt, Option, None, Some, find, option_map, count_by, nat_le, slice_get, slice_set, if◌then◌else◌}
 use Rattle.std.specs.List.{list_all, insert}
@@ -167,7 +167,7 @@ events_of p s m = events_at p s.world m (slice_get s.positions m.thread)
 
 -- 2. Moves that count.
 
--- a call that meets `Busy` or a full table waits, and so does one whose load isn't over
+-- a call that meets `Busy` or a full table waits, as does one whose load isn't over
 abbrev pub is_going_on : Outcome → Bool
 is_going_on outcome.Unfit = false
 is_going_on outcome.Waits = false

@@ -1,34 +1,35 @@
--- What the functions of a search do. No contract of a public call cites this.
---     Grows          a list goes on behind another
---     Adds           what is in a list behind an older one has a property
---     AreAsLong      the schedules of the known states that were added have this length
---     AreNew         the final states that were added weren't found before, and have this schedule
---     LeadsLike      a schedule leads to a scene that is alike
---     IsKnown        one of the known states is such a schedule's
---     HasEachKnown   each scene that a schedule leads to is known
---     IsKnownBy      a known state's schedule leads to a scene of which its key is the key
---     HavePrints     the fingerprints are those of the known states' keys
---     HavePlaces     each fingerprint has a place to look at
---     AreKnown       so do all of them, no two have one key, and their fingerprints are noted, each with a place
---     IsClosedAt     wherever a move leads from a scene like that of this schedule, one of the known schedules leads, and the final
---                    state of such a scene is found if it is an end
---     IsClosedUpTo   so many of the known states, the first ones, are closed
---     IsKeyAt        the state at a place has this key
---     Notes          a scene is known, and what was known stays
---     Follows        one move after a schedule was followed: it is one or not, and to where it leads is known
---     IsAmong        a move is one of these
---     kept_if        moves and one more, if it may be one
---     KeepsMoves     of these moves each that is one at a scene is among those
---     WasFollowed    the move at a place of a list was followed after a schedule: to where it leads is known
---     StaysAt        the move at a place of a list isn't one after a schedule
---     GoesOn         some move of a list is one after a schedule
---     Expands        each move of a list was followed after a schedule, and whether any is one
---     NotesEnd       the final states of a scene are found, and what was found stays
---     IsSearchOf     what is known and what was found are as they are to be
---     Visits         a schedule's state was followed: it is closed
---     Searches       a search knows the opening alone, has found nothing, and is as it is to be
---     Ends           a search has ended: what it has found, and that it has found each outcome if it is whole
---     HasExplored    the same of what an exploration has found
+-- The functions of a search. No contract of a public function cites this.
+--     Grows           a list continues another
+--     Adds            the things that a list has after an older one have a property
+--     AreAsLong       the schedules of the known states that were added have this length
+--     AreNew          the final states that were added weren't found before, and have this schedule
+--     LeadsLike       a schedule leads to a scene that is like this one
+--     IsKnown         one of the known states is that of such a schedule
+--     HasEachKnown    each scene that a schedule leads to is known
+--     IsKnownBy       a known state's schedule leads to a scene of which its key is the key
+--     HavePrints      the fingerprints are those of the known states' keys
+--     HavePlaces      each fingerprint has a place where its state may be
+--     AreKnown        all known states have keys by their schedules, no two have the same key, and their fingerprints are noted,
+--                     each with a place
+--     IsClosedAt      each move from a scene like that of this schedule leads to a scene that is known, and the final state of
+--                     such a scene is found if it is an end
+--     IsClosedUpTo    the first ones of the known states, up to a number, are closed
+--     IsKeyAt         the state at a place has this key
+--     Notes           a scene is known, and the known states stay
+--     Follows         one move after a schedule was followed: it is possible or not, and the scene to which it leads is known
+--     IsAmong         a move is one of these
+--     kept_if         moves and one more, if it may be possible
+--     KeepsMoves      of these moves each that is possible at a scene is among those
+--     WasFollowed     the move at a place of a list was followed after a schedule: the scene to which it leads is known
+--     StaysAt         the move at a place of a list isn't possible after a schedule
+--     GoesOn          some move of a list is possible after a schedule
+--     Expands         each move of a list was followed after a schedule, and whether any is possible is known
+--     NotesEnd        the final states of a scene are found, and those found before stay
+--     IsSearchOf      the invariant of a search: of its known states and the final states that it has found
+--     Visits          a schedule's state was followed: it is closed
+--     Searches        a search knows the opening alone, has found nothing, and has the invariant
+--     Ends            a search has ended: the final states that it has found, which are all if it is whole
+--     HasExplored     the same for the final states that an exploration has found
 use Rattle.std.specs.Prelude.{◌≡◌, ℕ, ◌+◌, ◌<◌, ◌≤◌, ◌⊎◌, List, [], ◌∷◌, ◌++◌, Bool, true, false, length, map, Some, slice_get}
 use Rattle.std.specs.List.{All, Any, AllPairs}
 use Rattle.jc_snapshot.specs.declared.seen.Seen.{Seen}

@@ -22,7 +22,7 @@ struct Target {
     key: Key,
 }
 
-/// What a thread does at a place of its list.
+/// The item of a thread at a place of its list.
 fn item_at(program: &Program, thread: usize, at: usize) -> Option<&Item>
     ensures { option_copied result ≡ item_at program.now thread at }
 {
@@ -81,7 +81,7 @@ fn put_begin(
     }
 }
 
-/// What the entry processor of an item does with its entry.
+/// The calls of an item's entry processor on its entry.
 fn entry_calls(alloc: Global, item: &Item) -> Result<EntryCalls, AllocError>
     ensures { IfOk result (λ calls. calls ≡ entry_calls item.now) }
 {
@@ -330,8 +330,8 @@ pub(crate) fn has_number_for(last: Option<u64>, position: &Position, act: Act) -
     !act.is_begin() || (is_small(last) && (position.begun as u64) < NUMBER_MAX)
 }
 
-/// Appends the events of a move of a thread that has begun so many items. An `Err` says that an allocation failed; some of them may be
-/// there then.
+/// Appends the events of a move of a thread that is at this position. An `Err` says that an allocation failed; some of the events
+/// may have been appended.
 pub(crate) fn put_events(
     alloc: Global,
     events: &mut Vec<WorldEvent>,

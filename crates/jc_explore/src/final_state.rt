@@ -9,18 +9,19 @@ use jc_types::{Key, Value};
 use jc_world::Audit;
 use std::alloc::{AllocError, Global};
 
-/// How a run of a program ends: what the threads were answered, and what the cache and the store hold when nothing can happen any
-/// more. Entries and keys are in the byte order of the keys.
+/// The end of a run of a program: the replies to the threads, and the entries of the cache and the store when nothing can happen
+/// any more. Entries and keys are in the byte order of the keys.
 #[derive(Drop)]
 pub struct FinalState {
-    /// What the threads were answered, thread by thread, each in the order of its calls. A thread that waits for ever has fewer replies
-    /// than calls.
+    /// The replies to the threads, thread by thread, each in the order of its calls. A thread that waits for ever has fewer
+    /// replies than calls.
     pub replies: Vec<ThreadReply>,
-    /// What is cached.
+    /// The entries of the cache.
     pub cache: Vec<(Key, Value)>,
-    /// What the store holds.
+    /// The entries of the store.
     pub store: Vec<(Key, Value)>,
-    /// The keys whose cached value isn't the store's, but for those whose writer has changed the store and whose call isn't committed.
+    /// The keys whose cached value isn't the store's, except those whose writer has changed the store and whose call isn't
+    /// committed.
     pub differing: Vec<Key>,
 }
 
@@ -45,7 +46,7 @@ fn is_entry(one: &(Key, Value), other: &(Key, Value)) -> bool
     is_key(&one.0, &other.0) && is_value(&one.1, &other.1)
 }
 
-/// Whether two lists of entries are one.
+/// Whether two lists of entries are the same.
 fn same_entries(one: &[(Key, Value)], other: &[(Key, Value)]) -> bool
     ensures same { result ≡ true → one.now ≡ other.now }
     ensures apart { result ≡ false → one.now ≡ other.now → ⊥ }
@@ -61,7 +62,7 @@ fn same_entries(one: &[(Key, Value)], other: &[(Key, Value)]) -> bool
     true
 }
 
-/// Whether two lists of keys are one.
+/// Whether two lists of keys are the same.
 fn same_keys(one: &[Key], other: &[Key]) -> bool
     ensures same { result ≡ true → one.now ≡ other.now }
     ensures apart { result ≡ false → one.now ≡ other.now → ⊥ }
@@ -78,7 +79,7 @@ fn same_keys(one: &[Key], other: &[Key]) -> bool
 }
 
 impl FinalState {
-    /// What a scene has. An `Err` says that an allocation failed.
+    /// The final state of a scene. An `Err` says that an allocation failed.
     pub(crate) fn of(alloc: Global, scene: &Scene) -> Result<FinalState, AllocError>
         ensures { IfOk result (λ f. IsFinal (state_of scene.now) (final_of f)) }
     {
@@ -99,7 +100,7 @@ impl FinalState {
         })
     }
 
-    /// Whether two final states are one.
+    /// Whether two final states are the same.
     pub(crate) fn is_same(&self, other: &FinalState) -> bool
         ensures same { result ≡ true → final_of self.now ≡ final_of other.now }
         ensures apart { result ≡ false → final_of self.now ≡ final_of other.now → ⊥ }

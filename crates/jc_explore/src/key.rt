@@ -13,7 +13,7 @@ use jc_snapshot::{Seen, Snapshot};
 use jc_types::Refusal;
 use std::alloc::{AllocError, Global};
 
-/// By what a fingerprint is multiplied with each further number: that of FNV-1a for 64 bits.
+/// The factor of a fingerprint for each further number: that of FNV-1a for 64 bits.
 const PRINT_FACTOR: u64 = 1099511628211;
 
 /// The part of a scene that decides what may come.
@@ -23,12 +23,12 @@ pub struct StateKey {
     pub snapshot: Snapshot,
     /// The state of each thread.
     pub positions: Vec<Position>,
-    /// What the threads were answered.
+    /// The replies to the threads.
     pub replies: Vec<ThreadReply>,
 }
 
 impl StateKey {
-    /// The key of a scene. What the tables haven't met gets the next numbers in them. An `Err` says that an allocation failed.
+    /// The key of a scene. A thing that a table hasn't met gets its next number. An `Err` says that an allocation failed.
     pub fn of(alloc: Global, scene: &Scene, seen: &mut Seen) -> Result<StateKey, AllocError>
         ensures key { IfOk result (λ key. IsKeyOf seen.new key (state_of scene.now)) }
         ensures grows { IfOk result (λ key. GrowsTo seen.old seen.new) }
@@ -43,7 +43,7 @@ impl StateKey {
         })
     }
 
-    /// Whether two keys are the same. Scenes of which they are the keys, over the same tables, are alike exactly then.
+    /// Whether two keys are the same. Over the same tables, two scenes are alike exactly if their keys are the same.
     pub fn is_same(&self, other: &StateKey) -> bool
         ensures same { result ≡ true → HaveOneKey self.now other.now }
         ensures apart { result ≡ false → HaveOneKey self.now other.now → ⊥ }
@@ -53,7 +53,7 @@ impl StateKey {
             && same_replies(&self.replies, &other.replies)
     }
 
-    /// A number by which keys are looked up: keys that are the same have one.
+    /// A number by which keys are looked up: equal keys have the same number.
     pub fn fingerprint(&self) -> u64
         ensures { result ≡ fingerprint_of_key self.now }
     {
@@ -63,7 +63,7 @@ impl StateKey {
     }
 }
 
-/// A fingerprint with one number more.
+/// A fingerprint with one more number.
 fn with_word(print: u64, word: u64) -> u64
     ensures { result ≡ print_with print word }
 {

@@ -23,16 +23,16 @@ pub struct KnownState {
     pub key: StateKey,
 }
 
-/// The states, in the order in which they were come to.
+/// The states, in the order in which they were met.
 #[derive(Drop)]
 pub struct States {
-    /// What their snapshots have met.
+    /// The tables of their snapshots.
     pub seen: Seen,
     /// The states.
     pub list: Vec<KnownState>,
     /// The fingerprint of each.
     pub fingerprints: Vec<u64>,
-    /// Where to look for a fingerprint.
+    /// The places of the fingerprints.
     pub places: Places,
 }
 
@@ -91,8 +91,8 @@ impl States {
         self.is_at(place, key, fingerprint)
     }
 
-    /// Whether the state at a place, if there is one, or else some other has this key. Each state is looked at only if two keys have one
-    /// fingerprint.
+    /// Whether the state at a place, if there is one, or otherwise some other state has this key. It looks at each state only if
+    /// two keys have the same fingerprint.
     fn is_near(&self, place: usize, key: &StateKey, fingerprint: u64) -> bool
         requires prints { HavePrints self.now }
         requires print { fingerprint ≡ fingerprint_of_key key.now }
@@ -120,8 +120,8 @@ impl States {
     }
 }
 
-/// A schedule has led to a scene. Its state is noted, unless it is known. An `Err` says that an allocation failed; the states are then
-/// of no more use.
+/// Notes the state of a scene to which a schedule has led, unless it is known. An `Err` says that an allocation failed; the
+/// states can't be used any more then.
 pub(crate) fn note_state(
     alloc: Global,
     program: &Program,
@@ -150,7 +150,7 @@ pub(crate) fn note_state(
     Ok(())
 }
 
-/// The same of a schedule and one more move, an `Err` too.
+/// As [`note_state`](States::note_state), for a schedule and one more move.
 pub(crate) fn note_next(
     alloc: Global,
     program: &Program,

@@ -1,11 +1,12 @@
-//! Every outcome of a small program of threads: which replies they can get, and what the cache and the store then hold.
+//! Every outcome of a small program of threads: the replies that they can get, and the contents of the cache and the store at the
+//! end.
 //!
-//! A program is a cache's shape, what its store holds, and a list of calls for each thread. [`explore`] follows every interleaving of
-//! their phases and of what loaders, writers and processors may do, and answers each final state once, with a schedule that leads
-//! there. What a world does next depends on its essence alone (`jc_world::essence`), so of all schedules that lead to one essence one
-//! is followed.
+//! A program is a cache's shape, the entries of its store, and a list of calls for each thread. [`explore`] follows every
+//! interleaving of their phases and of the answers of loaders, writers and processors. It returns each final state once, with a
+//! schedule that leads there. The essence of a world alone decides what it may do next (`jc_world::essence`), so of all schedules
+//! that lead to one essence it follows one.
 //!
-//! Left out: calls of many keys, calls that give up, opening the cache anew, and failed allocations.
+//! Bulk calls, calls that give up, reopening the cache, and failed allocations are left out.
 #![tactic(auto)]
 
 mod events;

@@ -4,10 +4,10 @@ ghost use Rattle.jc_explore.specs.Moves.{moves_of_thread, moves_up_to, is_begin}
 
 use std::alloc::{AllocError, Global};
 
-/// What may happen next to a thread: one phase of its call, or what is outside of it.
+/// What may happen next to a thread: one phase of its call, or an answer from outside.
 #[derive(Clone, Copy, Debug, PartialEq, Eq)]
 pub enum Act {
-    /// Its next item begins: a call makes its first phase, another program writes the store.
+    /// Its next item begins: a call makes its first phase, or another program writes the store.
     Begin,
     /// Its loader reads the store.
     Read,
@@ -45,7 +45,7 @@ impl Act {
 pub struct Move {
     /// The thread, from 0.
     pub thread: usize,
-    /// What happens to it.
+    /// The act of the thread.
     pub act: Act,
 }
 

@@ -1,12 +1,12 @@
-//! Where to look for a state with a fingerprint.
+//! The places of states, by their fingerprints.
 ghost use Rattle.std.specs.Prelude.{ℕ, ◌<◌, IfNone, OnOk};
 ghost use Rattle.jc_explore.specs.Keys.{HasPlace};
 
 use std::alloc::{AllocError, Global};
 use std::collections::HashMap;
 
-/// For each fingerprint that was noted the place of the last state with it. That it is this state's is no promise of its contracts:
-/// the search needs only that a fingerprint without a place is of no state.
+/// For each fingerprint that was noted, the place of the last state with it. Contracts don't promise that the place is this
+/// state's: the search needs only that no known state has a fingerprint without a place.
 #[derive(Drop)]
 pub struct Places {
     /// The places.

@@ -1,9 +1,9 @@
-//! Programs: a cache's shape, what its store holds, and what each of some threads does.
+//! Programs: a cache's shape, the entries of its store, and the items of each thread.
 use jc_model::Op;
 use jc_types::{Config, Key, Value};
 use jc_world::EntryCalls;
 
-/// What a thread does next.
+/// One item of a thread: a call, or another program's write.
 #[derive(Drop)]
 pub enum Item {
     /// A call of one key. An operation that is no call by itself never begins, and an `Op::Invoke` makes no call on its entry.
@@ -17,7 +17,7 @@ pub enum Item {
     Invoke {
         /// The key.
         key: Key,
-        /// What the processor does with its entry.
+        /// The processor's calls on its entry.
         calls: EntryCalls,
     },
     /// Another program writes or deletes in the store.
@@ -29,7 +29,8 @@ pub enum Item {
     },
 }
 
-/// Which of loader, writer and processor may fail, at each of its calls, with which code. One without a code never fails.
+/// The faults that may happen: the code with which the loader, the writer or the processor may fail, at each of its calls.
+/// Without a code it never fails.
 #[derive(Clone, Copy, Debug, PartialEq, Eq)]
 pub struct Faults {
     /// The loader.
@@ -47,10 +48,10 @@ pub struct Faults {
 pub struct Program {
     /// The cache's shape.
     pub config: Config,
-    /// What the store holds. Of two entries with one key the last counts.
+    /// The entries of the store. If two have the same key, the last counts.
     pub stored: Vec<(Key, Value)>,
-    /// What each thread does, in its order. There are at most [`SESSIONS_MAX`](jc_types::SESSIONS_MAX).
+    /// The items of each thread, in their order. There are at most [`SESSIONS_MAX`](jc_types::SESSIONS_MAX).
     pub threads: Vec<Vec<Item>>,
-    /// Which of them may fail.
+    /// The faults that may happen.
     pub faults: Faults,
 }

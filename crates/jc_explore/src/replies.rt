@@ -1,4 +1,4 @@
-//! What threads were answered.
+//! The replies to threads.
 ghost use Rattle.std.specs.Prelude.{◌≡◌, true, false, count_by, nat_le, OnOk, Some};
 ghost use Rattle.jc_explore.specs.Schedule.{reply_in, with_reply, replies_after};
 
@@ -15,7 +15,7 @@ pub struct ThreadReply {
     pub reply: Reply,
 }
 
-/// What a call is answered with an outcome, if it is.
+/// The reply of a call in an outcome, if there is one.
 fn reply_in(outcome: &Outcome) -> Option<Reply>
     ensures { result ≡ reply_in outcome.now }
 {
@@ -34,7 +34,7 @@ fn up_to(replies: &[ThreadReply], thread: usize) -> usize
     replies.iter().filter(|r| r.thread <= thread).count()
 }
 
-/// Adds a reply behind those of the threads up to its own.
+/// Adds a reply after those of the threads up to its own.
 fn put_reply(replies: &mut Vec<ThreadReply>, thread: usize, reply: Reply) -> Result<(), AllocError>
     ensures { OnOk result (replies.new.items ≡ with_reply thread replies.old.items (Some reply)) }
 {
@@ -58,7 +58,7 @@ fn put_reply_in(
     }
 }
 
-/// Adds the replies in what was shown.
+/// Adds the replies in the outcomes that were shown.
 pub(crate) fn put_replies(
     replies: &mut Vec<ThreadReply>,
     thread: usize,
@@ -73,7 +73,7 @@ pub(crate) fn put_replies(
     Ok(())
 }
 
-/// Whether two replies to threads are one.
+/// Whether two replies to threads are the same.
 fn is_reply(one: &ThreadReply, other: &ThreadReply) -> bool
     ensures same { result ≡ true → one.now ≡ other.now }
     ensures apart { result ≡ false → one.now ≡ other.now → ⊥ }
@@ -81,7 +81,7 @@ fn is_reply(one: &ThreadReply, other: &ThreadReply) -> bool
     *one == *other
 }
 
-/// Whether two lists of replies are one.
+/// Whether two lists of replies are the same.
 pub(crate) fn same_replies(one: &[ThreadReply], other: &[ThreadReply]) -> bool
     ensures same { result ≡ true → one.now ≡ other.now }
     ensures apart { result ≡ false → one.now ≡ other.now → ⊥ }

@@ -1,4 +1,4 @@
-//! A world with the threads of a program on it.
+//! A world with the threads of a program.
 ghost use Rattle.std.specs.Prelude.{◌≡◌, ◌<◌, [], true, false, length, replicate, IfOk, OnOk, Ok};
 ghost use Rattle.std.specs.Prelude.{slice_get};
 ghost use Rattle.jc_types.specs.Limits.{check};
@@ -21,21 +21,21 @@ use std::mem;
 /// The state of a thread.
 #[derive(Clone, Copy, Debug, PartialEq, Eq)]
 pub struct Position {
-    /// How many items it has begun.
+    /// The number of items that it has begun.
     pub begun: usize,
 }
 
-/// A world, and how far each thread is.
+/// A world, and the position of each thread.
 pub struct Scene {
     /// The world.
     pub world: World,
     /// The state of each thread.
     pub positions: Vec<Position>,
-    /// What the threads were answered, thread by thread.
+    /// The replies to the threads, thread by thread.
     pub replies: Vec<ThreadReply>,
-    /// The events of the last move that was tried. The next one takes their room.
+    /// The events of the last move that was tried. The next move uses the same memory.
     pub events: Vec<WorldEvent>,
-    /// What they showed.
+    /// The outcomes that they showed.
     pub shown: Vec<Shown>,
 }
 
@@ -62,14 +62,14 @@ fn put_stored(world: &mut World, stored: &[(Key, Value)]) -> Result<(), AllocErr
     Ok(())
 }
 
-/// Whether two shapes of a cache are one.
+/// Whether two shapes of a cache are the same.
 fn is_shape(one: &Config, other: &Config) -> bool
     ensures { result ≡ true → one.now ≡ other.now }
 {
     *one == *other
 }
 
-/// Whether by an outcome a call goes on.
+/// Whether a call continues after an outcome.
 fn is_going_on(outcome: &Outcome) -> bool
     ensures { result ≡ is_going_on outcome.now }
 {
@@ -99,7 +99,7 @@ fn are_going_on(shown: &[Shown]) -> bool
     shown.iter().all(|s| is_going_on(&s.outcome))
 }
 
-/// Whether events happened, and by each the call goes on.
+/// Whether events happened, and the call continues after each.
 fn is_proper(shown: &[Shown]) -> bool
     ensures { result ≡ is_proper shown.now }
 {
@@ -134,7 +134,7 @@ fn position_after(last: Option<u64>, act: Act, position: Position) -> Position
 }
 
 impl Scene {
-    /// Before anything has happened. An `Err` says that an allocation failed.
+    /// The scene before anything has happened. An `Err` says that an allocation failed.
     pub fn open(alloc: Global, program: &Program) -> Result<Scene, AllocError>
         requires { check program.now.config ≡ Ok tt }
         ensures { IfOk result (λ s. state_of s ≡ opening program.now) }
@@ -160,7 +160,7 @@ impl Scene {
         }
     }
 
-    /// Goes back to before anything has happened. An `Err` says that an allocation failed; the scene is then of no more use.
+    /// Goes back to before anything has happened. An `Err` says that an allocation failed; the scene can't be used any more then.
     pub fn restart(&mut self, alloc: Global, program: &Program) -> Result<(), AllocError>
         requires { check program.now.config ≡ Ok tt }
         ensures { OnOk result (state_of self.new ≡ opening program.now) }
@@ -209,7 +209,7 @@ impl Scene {
         world.close();
     }
 
-    /// Whether the first event of a move fits: if it doesn't, the move isn't one.
+    /// Whether the first event of a move fits. If it doesn't, the move isn't possible.
     pub fn may(&self, alloc: Global, program: &Program, step: Move) -> Result<bool, AllocError>
         requires { has_session step ≡ true }
         ensures { IfOk result (λ may. may ≡ false
@@ -227,8 +227,8 @@ impl Scene {
         Ok(may)
     }
 
-    /// Makes a move, if it is one now. If it isn't, the scene is of no more use, nor is it after an `Err`, which says that an
-    /// allocation failed.
+    /// Makes a move, if it is possible now, and returns whether it was. If it wasn't, the scene can't be used any more, and
+    /// neither after an `Err`, which says that an allocation failed.
     pub fn step(&mut self, alloc: Global, program: &Program, step: Move) -> Result<bool, AllocError>
         requires { has_session step ≡ true }
         ensures moved { IfOk result (λ moved. moved ≡ true

@@ -1,4 +1,5 @@
-//! The search: each state that can be reached is followed once, whatever leads to it, the states of short schedules first.
+//! The search: each state that can be reached is followed once, by one of the schedules that lead to it, the states of short
+//! schedules first.
 ghost use Rattle.jc_explore.specs.declared.search.TheConstants.{OUTCOMES_MAX};
 ghost use Rattle.std.specs.Prelude.{◌≡◌, ◌||◌, ◌≤◌, ◌<◌, ◌++◌, ◌∷◌, [], List, Ok, length, true, false, IfOk, OnOk};
 ghost use Rattle.std.specs.List.{All};
@@ -21,11 +22,11 @@ use jc_world::determinism::runs_are_determined;
 use jc_world::essence::{essences_tell, worlds_go_on_alike};
 use std::alloc::{AllocError, Global};
 
-/// How many final states an exploration looks for. Once it has found more it follows no further state. If none is left to follow, it is
-/// whole all the same.
+/// The most final states that an exploration looks for. Once it has found more, it follows no further state. If no state is left
+/// to follow then, it is whole nevertheless.
 pub const OUTCOMES_MAX: usize = 4096;
 
-/// A final state, and a schedule that leads to it: none with fewer moves ends with this final state.
+/// A final state, and a schedule that leads to it: no schedule with fewer moves ends in this final state.
 #[derive(Drop)]
 pub struct Finding {
     /// The final state.
@@ -34,13 +35,13 @@ pub struct Finding {
     pub witness: Vec<Move>,
 }
 
-/// What an exploration has found.
+/// The result of an exploration.
 #[derive(Drop)]
 pub struct Explored {
     /// The final states, each once.
     pub found: Vec<Finding>,
-    /// How many states it came to: scenes of which no two have one essence, equal positions and equal replies. If each was followed,
-    /// there is no other one.
+    /// The number of states that it has met: scenes, of which no two have the same essence, positions and replies. If each was
+    /// followed, there is no other one.
     pub states: u64,
     /// Whether it followed each of them. Then there is no other final state.
     pub is_whole: bool,
@@ -57,7 +58,7 @@ pub enum ExploreFault {
     BadConfig(Refusal),
 }
 
-/// What a search has come to so far.
+/// The states and final states that a search has met so far.
 #[derive(Drop)]
 pub struct Search {
     /// The states, in the order in which they are to be followed.
@@ -66,7 +67,7 @@ pub struct Search {
     pub found: Vec<Finding>,
 }
 
-/// Makes the moves of a schedule. One that isn't a move then is refused as if an allocation had failed: it never comes.
+/// Makes the moves of a schedule. If one of them isn't possible, this fails as if an allocation had failed; that never happens.
 fn replay(
     alloc: Global,
     program: &Program,
@@ -123,7 +124,8 @@ fn return_to(
     Ok(())
 }
 
-/// Brings the scene to where a schedule and one more move lead, if that is one then. The scene may be where the schedule leads.
+/// Brings the scene to where a schedule and one more move lead, if the move is possible there. The scene may already be where the
+/// schedule leads.
 fn attempt(
     alloc: Global,
     program: &Program,
@@ -148,8 +150,8 @@ fn attempt(
     Ok(moved)
 }
 
-/// Follows one move after a schedule, if it is one then: the state to which it leads is known. The scene may be where the schedule
-/// leads.
+/// Follows one move after a schedule, if it is possible there: afterwards the state to which it leads is known. The scene may
+/// already be where the schedule leads.
 fn follow(
     alloc: Global,
     program: &Program,
@@ -177,7 +179,7 @@ fn follow(
     Ok(true)
 }
 
-/// Appends a move, if it may be one.
+/// Appends a move, if it may be possible.
 fn keep_if(kept: &mut Vec<Move>, step: Move, may: bool) -> Result<(), AllocError>
     ensures { OnOk result (kept.new.items ≡ kept_if may step kept.old.items) }
 {
@@ -187,7 +189,7 @@ fn keep_if(kept: &mut Vec<Move>, step: Move, may: bool) -> Result<(), AllocError
     Ok(())
 }
 
-/// Those of some moves of which the first event fits now: the others aren't moves.
+/// Those of some moves whose first event fits now: the others aren't possible.
 fn keep_moves(
     alloc: Global,
     program: &Program,
@@ -205,15 +207,15 @@ fn keep_moves(
     Ok(kept)
 }
 
-/// Whether one of two is.
+/// Whether at least one of two holds.
 fn either(one: bool, other: bool) -> bool
     ensures { result ≡ (one || other) }
 {
     one || other
 }
 
-/// Follows each of some moves after a schedule, and says whether any is one. The scene is where the schedule leads: the first move goes
-/// on from there, each other one after a replay.
+/// Follows each of some moves after a schedule, and returns whether any is possible. The scene is where the schedule leads: the
+/// first move continues from there, each other one after a replay.
 fn expand(
     alloc: Global,
     program: &Program,
@@ -254,7 +256,7 @@ fn is_found(found: &[Finding], state: &FinalState) -> bool
     false
 }
 
-/// A schedule is whole, and has led to a scene. Its final state is noted, unless it was found.
+/// Notes the final state of a scene to which a whole schedule has led, unless it was found already.
 fn note_end(
     alloc: Global,
     program: &Program,
@@ -279,7 +281,7 @@ fn note_end(
     Ok(())
 }
 
-/// Follows each move of a known state. If there is none, its final state is found.
+/// Follows each move of a known state. If no move is possible, its final state is found.
 fn visit(
     alloc: Global,
     program: &Program,
@@ -315,13 +317,13 @@ fn has_too_many(found: &[Finding]) -> bool
     found.len() > OUTCOMES_MAX
 }
 
-/// Tells how far a search is that has followed so many states.
+/// Reports the progress of a search that has followed `followed` states.
 fn tell<W: Watch>(watch: &mut W, followed: usize, search: &Search) {
     let (known, found) = (search.known.list.len(), search.found.len());
     watch.on_states(followed as u64, known as u64, found as u64);
 }
 
-/// Follows at most `states` of the states that are known, and says whether it followed each. Before each one it tells how far it is.
+/// Follows at most `states` of the known states, and returns whether it followed all. Before each one it reports its progress.
 fn visit_all<W: Watch>(
     alloc: Global,
     program: &Program,
@@ -353,7 +355,7 @@ fn visit_all<W: Watch>(
     Ok(count == states)
 }
 
-/// A search that has come to the opening. The scene is to be at the opening.
+/// A search that knows the opening alone. The scene must be at the opening.
 fn begin(alloc: Global, program: &Program, scene: &Scene) -> Result<Search, AllocError>
     requires { state_of scene.now ≡ opening program.now }
     ensures { IfOk result (λ search. Searches program.now search) }
@@ -407,16 +409,16 @@ fn search_anew<W: Watch>(
 
 /// Explores a program: each final state that it can have, with a schedule that leads there.
 ///
-/// It follows at most so many states, those of short schedules first, and no further one once it has found more than [`OUTCOMES_MAX`]
-/// final states. If states are left then, it isn't whole: each final state that it has found is real even so, and if it stopped for its
-/// budget alone, those of the states that it followed, and after which nothing can happen, are all among them. It keeps some 2,500
-/// bytes a state.
+/// It follows at most `states` states, those of short schedules first, and no further one once it has found more than
+/// [`OUTCOMES_MAX`] final states. If states are left then, the exploration isn't whole. Even so each final state that it has
+/// found is real. And if it stopped for its budget alone, it has found the final states of all ends among the states that it
+/// followed. It keeps some 2,500 bytes a state.
 ///
-/// `OutOfMemory` says that an allocation failed. What it had found is gone then, and a later call begins anew. A program with too many
-/// threads, or a shape that `Config::check` refuses, is refused before anything is searched. The call doesn't wait.
+/// `OutOfMemory` says that an allocation failed. The results so far are then lost, and a later call starts again. A program with
+/// too many threads, or a shape that `Config::check` refuses, is refused before anything is searched. The call doesn't wait.
 ///
-/// `watch` is told how far the search is before each state that is followed, and that it is over once, also if an allocation has
-/// failed. A program that is refused isn't searched, and nothing is told. What a watch does changes nothing of what is answered.
+/// `watch` is told the progress of the search before each state that is followed, and once that it is over, also if an allocation
+/// has failed. A program that is refused isn't searched, and `watch` is told nothing. A watch can't change the answer.
 pub fn explore<W: Watch>(
     alloc: Global,
     program: &Program,

@@ -1,12 +1,12 @@
-//! Who is told how far a search is.
+//! Watches, which are told the progress of a search.
 
-/// Is told how far a search is, and decides nothing of it.
+/// A watch is told the progress of a search, and decides nothing.
 pub trait Watch {
-    /// The search has followed so many states of those that it knows, and has found so many final states. None of the three numbers
-    /// gets smaller in a search. There is one such call before each state that is followed, so it should do little.
+    /// The search has followed `followed` of the `known` states, and has found `found` final states. None of the three numbers
+    /// gets smaller during a search. This is called before each state that is followed, so it should do little.
     fn on_states(&mut self, followed: u64, known: u64, found: u64);
 
-    /// The search is over. Nothing more is told of it.
+    /// The search is over. There is no further call for it.
     fn on_end(&mut self);
 }
 

@@ -7,8 +7,8 @@ use jc_world::EntryCalls;
 use std::alloc::Global;
 use std::process::Abort;
 
-/// A program and its numbers. An item is a letter, a key, and what else it takes: `ga` gets, `pa2` puts, `ra` removes, `ca12` replaces 1
-/// by 2, `ia5` invokes a processor that gets and then sets 5, `fa8` is another program's write. `/` begins a thread.
+/// A program and its numbers. An item is a letter, a key, and its further words: `ga` gets, `pa2` puts, `ra` removes, `ca12`
+/// replaces 1 by 2, `ia5` invokes a processor that gets and then sets 5, `fa8` is another program's write. `/` begins a thread.
 struct Case {
     items: &'static str,
     stored: &'static str,
@@ -55,7 +55,7 @@ fn processor(rt: &impl Abort, alloc: Global, name: &[u8]) -> EntryCalls {
     calls
 }
 
-/// The letter at a place of a word, as bytes; none behind its end.
+/// The letter at a place of a word, as bytes; no bytes after its end.
 fn letter(word: &[u8], at: usize) -> &[u8] {
     if at < word.len() {
         &word[at..at + 1]
@@ -64,7 +64,7 @@ fn letter(word: &[u8], at: usize) -> &[u8] {
     }
 }
 
-/// What a word stands for: its first letter.
+/// The kind of a word: its first letter.
 fn kind(word: &[u8]) -> u8 {
     match word.first() {
         Some(first) => *first,
@@ -300,7 +300,7 @@ fn stops_at_its_budget(rt: HostRuntime) {
     assert!(rt; !none.is_whole && none.found.len() == 0, "none is");
 }
 
-/// A watch that checks that it is told of the states in their order, and keeps how many those are, and how often a search was over.
+/// A watch that checks that it is told of the states in their order, and that counts them and the ends of searches.
 #[derive(Drop)]
 struct Told {
     states: u64,

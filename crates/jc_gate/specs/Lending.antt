@@ -1,9 +1,9 @@
--- What one lending of a stripe leaves, and what a row of lendings leaves.
---     ComesAfter   what a take finds comes after what was given back: the same stripe, perhaps in a later generation, a whole history that
---                  continues the whole history, generations that have ended first among those that had, and the same own steps of a
---                  session, in all generations
---     Lends        one take that finds a state, and one give that leaves a state
---     Lent         a row of lendings, one after another: the states that were found and left
+-- One lending of a stripe, and lendings one after another.
+--     ComesAfter    the stripe that a take finds comes after the one that was given back: the same stripe, perhaps in a later
+--                   generation, a whole history that continues the whole history, ended generations that continue the ended ones,
+--                   and the same own steps of a session, in all generations
+--     Lends         one take that finds a state, and one give that leaves a state
+--     Lent          lendings one after another: the states that were found and left
 use Rattle.std.specs.Prelude.{◌≡◌, ◌≤◌, ℕ, List, [], ◌∷◌}
 use mathlib.Core.List.{IsPrefix}
 use Rattle.jc_stripe.specs.State.{State}

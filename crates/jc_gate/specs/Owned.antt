@@ -1,6 +1,6 @@
--- Where the stripe of a plain owner is.
+-- The stripe of a plain owner, at home or out.
 --     state_in      the state of the stripe in a box, if there is one
---     OwnerState    the state of its stripe, or none while it is out, and in which state it was when it was taken last
+--     OwnerState    the state of its stripe, or none while it is out, and the state in which it was taken last
 use Rattle.std.specs.Prelude.{Option, None, Some}
 use Rattle.jc_stripe.specs.State.{State}
 

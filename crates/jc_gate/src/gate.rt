@@ -11,10 +11,10 @@ use std::sync::Wait;
 
 /// Lends a stripe to the holders of tokens, one at a time.
 pub trait Gate {
-    /// What shows who takes and gives back: a seat, or nothing.
+    /// The token of one who takes and gives back: a seat, or nothing.
     type Token;
 
-    /// The token speaks for the session with this number: nobody else makes phases of that session meanwhile.
+    /// The token speaks for the session with this number: no one else makes phases of that session meanwhile.
     ghost speaks_for: { Self.Token → ℕ → Type 0 };
 
     /// The token may give back after a phase of any session, though it speaks for none: the gate knows nothing of sessions.
@@ -26,21 +26,21 @@ pub trait Gate {
     /// The token has taken the gate's stripe in this state.
     ghost has: { Self → Self.Token → State → Type 0 };
 
-    /// What is known of the state in which a take finds the stripe.
+    /// The states in which a take may find the stripe.
     ghost finds: { Self → Self.Token → State → Type 0 };
 
-    /// What a take that finds the stripe in this state leaves of gate and token.
+    /// A take that finds the stripe in this state: gate and token before and after.
     ghost takes: { Self → Self.Token → State → Self → Self.Token → Type 0 };
 
-    /// What a give of the stripe in this state leaves of gate and token.
+    /// A give of the stripe in this state: gate and token before and after.
     ghost gives: { Self → Self.Token → State → Self → Self.Token → Type 0 };
 
-    /// What a take that fails, since somebody else has the stripe, leaves of gate and token.
+    /// A take that fails, since somebody else has the stripe: gate and token before and after.
     ghost misses: { Self → Self.Token → Self → Self.Token → Type 0 };
 
     /// Takes the stripe, if it is there. Its history is legal from its opening, and leaves its entries.
     ///
-    /// None says that somebody else has it; a later take finds what this one might have found. It takes no memory.
+    /// `None` says that somebody else has it; a later take may find what this one might have found. It takes no memory.
     ///
     /// Condition: the token has not taken the stripe.
     fn try_take(&mut self, token: &mut Self::Token) -> Option<Box<Stripe>>
@@ -52,7 +52,8 @@ pub trait Gate {
         ensures missed { IfNone result (misses self.old token.old self.new token.new × is_free self.new token.new) }
         ensures still { IfNone result ((a : State) → finds self.new token.new a → finds self.old token.old a) };
 
-    /// Takes the stripe as [`Gate::try_take`] does, and waits as long as somebody else has it. Nothing says that it returns.
+    /// Takes the stripe as [`Gate::try_take`] does, and waits as long as somebody else has it. Neither progress nor fairness is
+    /// guaranteed.
     ///
     /// Condition: the token has not taken the stripe.
     fn take<R: Wait>(&mut self, rt: &R, token: &mut Self::Token) -> Box<Stripe>
@@ -64,10 +65,10 @@ pub trait Gate {
 
     /// Gives the stripe back. It takes no memory.
     ///
-    /// What a later take finds comes after it, for each session that the token speaks for.
+    /// A later take finds a state that comes after this one, for each session that the token speaks for.
     ///
-    /// Condition: it is the stripe that the token has taken, after at most one phase of a session that the token speaks for, or of
-    /// any session if the token is anonymous; or after a renewal, and no phase.
+    /// Condition: it is the stripe that the token has taken, after at most one phase of a session that the token speaks for, or
+    /// of any session if the token is anonymous; or after a renewal, and no phase.
     fn give(&mut self, token: &mut Self::Token, stripe: Box<Stripe>)
         requires { (n : ℕ) × (a : State)
             × (speaks_for token.old n ⊎ is_anonymous token.old)

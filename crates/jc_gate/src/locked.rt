@@ -4,7 +4,7 @@ use jc_lock::{HistLock, Seat};
 use jc_stripe::Stripe;
 use std::sync::Wait;
 
-/// A lock that threads share lends its stripe to the holders of its seats. A take finds what the seat's view says.
+/// A lock that threads share lends its stripe to the holders of its seats. A take finds a state that fits the seat's view.
 impl Gate for &HistLock {
     ghost use Rattle.std.specs.Prelude.{◌≡◌, Some, true, false};
     ghost use Rattle.jc_lock.specs.Views.{Finds, after_take, after_give, after_miss};

@@ -9,17 +9,17 @@ use std::marker::Model;
 use std::snapshot::Snapshot;
 use std::sync::{Mutex, MutexGuard, Wait};
 
-/// A `Mutex` round a stripe, which threads share by `&MutexGate`. It is for tests and comparisons with `HistLock`: it
-/// knows nothing of what its users have seen, so a take finds a stripe as every stripe is, and nothing more.
+/// A `Mutex` round a stripe, which threads share by `&MutexGate`. It is for tests and comparisons with `HistLock`: it knows
+/// nothing of what its users have seen, so a take finds any stripe with the invariant of every stripe.
 #[derive(Drop)]
 pub struct MutexGate {
     stripe: Mutex<Option<Box<Stripe>>>,
 }
 
-/// What one user of a [`MutexGate`] needs for every call: the guard of the `Mutex`, as long as the user holds the stripe. If it is
-/// dropped meanwhile, later takes find no stripe: `try_take` returns None, and `take` waits forever.
+/// The seat of one user of a [`MutexGate`], which each call needs. It has the guard of the `Mutex` while the user holds the
+/// stripe. If it is dropped meanwhile, later takes find no stripe: `try_take` returns `None`, and `take` waits forever.
 ///
-/// Contracts see in which state the stripe was when the user took it, or none if he holds no stripe.
+/// Contracts see the state in which the user took the stripe, or none if the user holds no stripe.
 #[derive(Drop)]
 pub struct MutexSeat<'a> {
     held: Option<Held<'a>>,
@@ -46,21 +46,21 @@ impl<'a> Model for MutexSeat<'a> {
 }
 
 impl MutexGate {
-    /// A `Mutex` round a stripe.
+    /// Puts a stripe behind a `Mutex`.
     pub fn new(stripe: Box<Stripe>) -> MutexGate {
         MutexGate {
             stripe: Mutex::new(Some(stripe)),
         }
     }
 
-    /// A seat for one more user. It holds no stripe.
+    /// Makes a seat for one more user. It holds no stripe.
     pub fn seat(&self) -> MutexSeat<'_>
         ensures { result ≡ None }
     {
         MutexSeat { held: None }
     }
 
-    /// Ends the gate, and returns its stripe; None if a seat was dropped while it held the stripe.
+    /// Ends the gate, and returns its stripe, or `None` if a seat was dropped while it held the stripe.
     pub fn into_stripe(self) -> Option<Box<Stripe>>
         ensures { IfSome result (λ s. IsReached s.value) }
     {

@@ -7,9 +7,9 @@ use std::marker::Model;
 use std::snapshot::Snapshot;
 use std::sync::Wait;
 
-/// Owns a stripe, and lends it to whoever the owner itself is lent to. So a take never fails, and a token is nothing.
+/// Owns a stripe, and lends it to whoever the owner itself is lent to. So a take never fails, and the token is empty.
 ///
-/// Contracts see the stripe's state, or none while it is out, and in which state it was when it was taken last.
+/// Contracts see the stripe's state, or none while it is out, and the state in which it was taken last.
 #[derive(Drop)]
 pub struct Owner {
     stripe: Option<Box<Stripe>>,
@@ -39,7 +39,7 @@ impl Owner {
         }
     }
 
-    /// The stripe, to look at.
+    /// The stripe, for reading.
     ///
     /// Condition: it is there.
     pub fn stripe(&self) -> &Stripe

@@ -1,9 +1,9 @@
--- What a function that encodes does to the bytes.
---     Appends    these bytes are appended, at most so many, and no room is given up
+-- The effect of an encoding function on the bytes.
+--     Appends    these bytes are appended, at most `most` of them, and the capacity doesn't shrink
 use Rattle.std.specs.Prelude.{◌≡◌, ℕ, ◌+◌, ◌≤◌, List, ◌++◌, vec_len, vec_capacity}
 use Rattle.std.specs.Global.{Vec}
 
--- these bytes are appended, at most so many, and no room is given up
+-- these bytes are appended, at most `most` of them, and the capacity doesn't shrink
 pub record Appends (old new : Vec ℕ) (bytes : List ℕ) (most : ℕ) : Type 0 where
   pub items : new.items ≡ old.items ++ bytes
   pub few : vec_len new ≤ vec_len old + most

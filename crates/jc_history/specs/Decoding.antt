@@ -1,27 +1,27 @@
--- What bytes say, read from their beginning. Each decoder gives what it reads and the bytes after it. It also gives something if
--- the bytes are no encoding.
---     Decoder            what decodes an X gives it and the bytes after it
---     ◌>>=◌              one decoder, and then the one that goes with what it gave
+-- Decoders of bytes. Each reads from the beginning, and gives the thing and the bytes after it. It also gives something if the
+-- bytes are no encoding.
+--     Decoder            a decoder of an X: it gives the X and the bytes after it
+--     ◌>>=◌              one decoder, and then the one that follows from what the first gave
 --     give               the decoder that reads nothing and gives this
 --     byte               one byte
 --     number_2           a number of two bytes, the lowest first
 --     number_4           a number of four bytes, the lowest first
 --     number_8           a number of eight bytes, the lowest first
---     decode_text        a text that is at most so long
+--     decode_text        a text of at most this length
 --     decode_value       a value
 --     decode_key         a key
---     with_value         what is made of a value
---     with_code          what is made of a number of four bytes
---     decode_optional    nothing after 0, else what there is
+--     with_value         a value, and a thing made from it
+--     with_code          a number of four bytes, and a thing made from it
+--     decode_optional    nothing after 0, otherwise the thing
 --     decode_caller      a caller
 --     decode_op          an operation
 --     decode_load        an answer of the loader
 --     decode_write       an answer of the writer
 --     decode_effect      an effect of a processor
 --     decode_process     an answer of a processor
---     decode_out         all answers from outside
+--     decode_out         all outside answers
 --     decode_refusal     a refusal
---     decode_reply       a reply, after these answers from outside
+--     decode_reply       a reply, after these outside answers
 --     decode_step        a step, after its tag
 --     decode_event       an event
 use Rattle.std.specs.Prelude.{ℕ, ◌==◌, ◌&&◌, nat_le, true, false, List, [], ◌∷◌, length, take, drop, Option, None, Some, if◌then◌else◌}
@@ -49,7 +49,7 @@ use Rattle.jc_model.specs.declared.event.Event.{Event}
 use Rattle.jc_model.specs.declared.event.Event.TheVariants.{Step, Evict}
 use Rattle.jc_history.specs.Values.{value_from_outside}
 
--- what decodes an X gives it and the bytes after it
+-- a decoder of an X: it gives the X and the bytes after it
 abbrev pub Decoder : Type 0 → Type 0
 Decoder X = List ℕ → X × List ℕ
 
@@ -76,7 +76,7 @@ unfoldable pub number_8 : Decoder ℕ
 number_8 (a ∷ b ∷ c ∷ d ∷ e ∷ f ∷ g ∷ h ∷ rest) = (from_le_bytes w64 (a ∷ b ∷ c ∷ d ∷ e ∷ f ∷ g ∷ h ∷ []), rest)
 number_8 bytes = (0, [])
 
--- a text of at most so many bytes
+-- a text of at most this length
 unfoldable pub decode_text : ℕ → Decoder (List ℕ)
 decode_text most = do
   n ← number_2

@@ -1,16 +1,16 @@
--- Which things have bytes that decode to them again: those whose numbers and texts are within the limits of their types, as in
--- every thing that a program holds.
+-- The things whose bytes decode to them again: their numbers and texts are within the limits of their types, which holds for all
+-- that a program has.
 --     IsCode                a number fits four bytes
 --     IsKeyText             a text is as long as a key may be
 --     IsValueText           a text is as long as a value may be
---     IsEncodableOptional   there is nothing, or what there is can be encoded
+--     IsEncodableOptional   there is nothing, or it can be encoded
 --     IsEncodableCaller     the two numbers of a caller fit their bytes
 --     IsEncodableOp         the values of an operation can be encoded
 --     IsEncodableLoad       the value or the code of the loader can be encoded
 --     IsEncodableWrite      the code of the writer can be encoded
 --     IsEncodableEffect     the value that a processor sets can be encoded
 --     IsEncodableProcess    the values or the code of a processor can be encoded
---     IsEncodableOut        all answers from outside can be encoded
+--     IsEncodableOut        all outside answers can be encoded
 --     IsEncodableRefusal    the code of a refusal can be encoded
 --     IsEncodableReply      the value or the refusal of a reply can be encoded
 --     IsEncodableStep       all parts of a step can be encoded

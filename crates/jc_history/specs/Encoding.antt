@@ -1,16 +1,16 @@
--- The bytes that an event is stored as: for each variant a byte, its tag, and then what the variant holds.
+-- The bytes that an event is stored as: for each variant a byte, its tag, and then the variant's fields.
 --     text_bytes        the length of a text in two bytes, and then the text
---     optional_bytes    0 if there is nothing, else 1 and the bytes of what there is
+--     optional_bytes    0 if there is nothing, otherwise 1 and the bytes of the thing
 --     caller_bytes      the bytes of a caller
 --     op_bytes          the bytes of an operation
---     load_bytes        the bytes of what the loader answered
---     write_bytes       the bytes of what the writer answered
---     effect_bytes      the bytes of what a processor does to its entry
---     process_bytes     the bytes of what a processor answered
---     out_bytes         the bytes of all answers from outside
+--     load_bytes        the bytes of the loader's answer
+--     write_bytes       the bytes of the writer's answer
+--     effect_bytes      the bytes of a processor's effect on its entry
+--     process_bytes     the bytes of a processor's answer
+--     out_bytes         the bytes of all outside answers
 --     refusal_bytes     the bytes of a refusal
---     reply_bytes       the bytes of a reply to a step with these answers from outside: a value that it repeats isn't stored again
---     event_bytes       the bytes of an event: of a step first what came from outside and the reply
+--     reply_bytes       the bytes of a reply to a step with these outside answers: a value that it repeats isn't stored again
+--     event_bytes       the bytes of an event; a step begins with the outside answers and the reply
 use Rattle.std.specs.Prelude.{ℕ, true, false, List, [], ◌∷◌, ◌++◌, length, Option, None, Some, if◌then◌else◌}
 use Rattle.std.specs.Int.{w16, w32, w64, to_le_bytes}
 use Rattle.jc_types.specs.declared.caller.Caller.{Caller}
@@ -39,7 +39,7 @@ use Rattle.jc_history.specs.Values.{repeats_outside}
 abbrev pub text_bytes : List ℕ → List ℕ
 text_bytes text = to_le_bytes w16 (length text) ++ text
 
--- 0 if there is nothing, else 1 and the bytes of what there is
+-- 0 if there is nothing, otherwise 1 and the bytes of the thing
 abbrev pub optional_bytes : {X : Type 0} → (X → List ℕ) → Option X → List ℕ
 optional_bytes bytes None = 0 ∷ []
 optional_bytes bytes (Some x) = 1 ∷ bytes x

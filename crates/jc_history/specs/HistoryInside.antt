@@ -1,7 +1,7 @@
--- What the fields of a history mean. No contract of a public call cites this.
---     past_of     the past that the fields mean
---     IsStored    the past is within its limit, each event is complete, and there is room for all that the past may hold
---     CanAppend   each event is complete, and there is room for one more
+-- The meaning of the fields of a history. No contract of a public function cites this.
+--     past_of         the past that the fields mean
+--     IsStored        the past is within its limit, each event is complete, and there is room for all that the past may hold
+--     CanAppend       each event is complete, and there is room for one more
 --     AppendsEvent    this event is appended: it is the last one, and each is complete
 use Rattle.std.specs.Prelude.{◌≡◌, ℕ, ◌≤◌, ◌<◌, ◌+◌, ◌*◌, ◌^◌, ◌++◌, ◌∷◌, [], All, length, vec_len, vec_capacity}
 use Rattle.std.specs.Global.{Vec}

@@ -1,14 +1,15 @@
--- How many values an event has. A reply may repeat a value that came from outside: then that value counts once. Nothing here says how
--- events are stored.
---     value_from_outside    the value that a reply may repeat: what the processor answered, or else what the loader found
+-- The number of values of an event. A reply may repeat a value from outside, which then counts once. Nothing here says how events
+-- are stored.
+--     value_from_outside    the value that a reply may repeat: the one that the processor answered, otherwise the one that the
+--                           loader found
 --     repeats_outside       a reply with this value repeats that one
---     values_in_op          how many values an operation has
---     values_in_load        how many the loader's answer has
---     values_in_effect      how many a processor's effect has
---     values_in_process     how many a processor's answer has: its effect's and its outcome's
---     values_in_out         how many all answers from outside have
---     values_in_reply       how many a reply has, beside those that came from outside
---     values_in             how many an event has
+--     values_in_op          the number of values of an operation
+--     values_in_load        the number of values of the loader's answer
+--     values_in_effect      the number of values of a processor's effect
+--     values_in_process     the number of values of a processor's answer: its effect's and its outcome's
+--     values_in_out         the number of values of all outside answers
+--     values_in_reply       the number of values of a reply, beside those from outside
+--     values_in             the number of values of an event
 --     IsStorable            an event has no more values than an event may have
 use Rattle.std.specs.Prelude.{ℕ, ◌+◌, ◌≤◌, Bool, Option, None, Some, if◌then◌else◌}
 use Rattle.std.specs.Option.{option_len, option_or}
@@ -29,7 +30,7 @@ use Rattle.jc_model.specs.Cache.{Bytes}
 use Rattle.jc_model.specs.Table.{holds, outcome_of, value_after_load}
 use Rattle.jc_history.specs.declared.room.TheConstants.{EVENT_VALUES}
 
--- the value that a reply may repeat: what the processor answered, or else what the loader found
+-- the value that a reply may repeat: the one that the processor answered, otherwise the one that the loader found
 abbrev pub value_from_outside : Out → Option Bytes
 value_from_outside out = option_or (outcome_of out.process) (value_after_load out.load None)
 

@@ -1,7 +1,7 @@
 //! Decodes events from bytes.
 //!
-//! Each function reads a thing at the beginning of its input, and leaves the bytes after it there. Bytes
-//! that no event was encoded as give some event, too.
+//! Each function reads a thing at the beginning of its input, and leaves the bytes after it there. Bytes that are no encoding of
+//! an event also decode to some event.
 ghost use Rattle.std.specs.Prelude.{◌≡◌, ◌≤◌, length, Some};
 ghost use Rattle.jc_history.specs.Past.{reply_in};
 ghost use Rattle.jc_history.specs.Values.{value_from_outside};
@@ -255,7 +255,7 @@ fn decode_refusal(input: &mut Input) -> Refusal
     }
 }
 
-/// The value that a reply may repeat: what the processor answered, or else what the loader found.
+/// The value that a reply may repeat: the one that the processor answered, otherwise the one that the loader found.
 fn value_from_outside(out: &Out) -> Option<Value>
     ensures { result ≡ value_from_outside out.now }
 {
@@ -332,7 +332,7 @@ pub(crate) fn decode_event(bytes: &[u8]) -> Event
     }
 }
 
-/// The reply of the event that the bytes begin with, if it is a step. Of the event no more is read than what came from outside and
+/// The reply of the event that the bytes begin with, if it is a step. It reads no more of the event than the outside answers and
 /// the reply.
 #[tactic(auto, unfolding(crate::specs::Decoding::decode_event, crate::specs::Decoding::decode_step))]
 pub(crate) fn decode_reply_of_step(bytes: &[u8]) -> Option<Reply>

@@ -1,7 +1,7 @@
 //! Encodes events as bytes.
 //!
-//! Each function appends to a vector that has room for the longest thing of its kind with as many values,
-//! so it takes no memory. Beside the bytes it ensures that they can be decoded again.
+//! Each function appends to a vector that has room for the longest thing of its kind with as many values, so it takes no memory.
+//! It ensures which bytes it appends, and that they decode to the thing.
 ghost use Rattle.std.specs.Prelude.{◌≡◌, ◌+◌, ◌*◌, ◌<◌, ◌≤◌, ◌^◌, ◌∷◌, ◌++◌, length, vec_len, vec_capacity, Some};
 ghost use Rattle.std.specs.Option.{option_len};
 ghost use Rattle.std.specs.Int.{w16, w32, to_le_bytes};
@@ -236,7 +236,7 @@ fn repeats_outside(answers: &Out, value: &[u8]) -> bool
     }
 }
 
-/// Appends a reply that is a value. One that came from outside is in the event already, and isn't stored again.
+/// Appends a reply that is a value. A value from outside is in the event already, and isn't stored again.
 fn encode_value_reply(out: &mut Vec<u8>, answers: &Out, value: &Value)
     requires { vec_len out.old + (TAG_ROOM + values_in_reply answers.now (reply.Value (Some value.now)) * VALUE_ROOM)
         ≤ vec_capacity out.old }
@@ -251,7 +251,7 @@ fn encode_value_reply(out: &mut Vec<u8>, answers: &Out, value: &Value)
     }
 }
 
-/// Appends a reply, of a step with these answers from outside.
+/// Appends the reply of a step with these outside answers.
 fn encode_reply(out: &mut Vec<u8>, answers: &Out, reply: &Reply)
     requires { vec_len out.old + (REPLY_ROOM + values_in_reply answers.now reply.now * VALUE_ROOM) ≤ vec_capacity out.old }
     ensures appends { Appends out.old out.new (reply_bytes answers.now reply.now)
@@ -298,8 +298,8 @@ pub(crate) fn encode_step(out: &mut Vec<u8>, step: &LentStep)
     encode_shared_with(out, step.shared_with);
 }
 
-/// Appends the length of a value and the tags before it: those of a step, of nothing said by the loader, the writer or a processor,
-/// and of a reply with a value.
+/// Appends the length of a value and the tags before it: those of a step, of a loader, a writer and a processor that were not
+/// asked, and of a reply with a value.
 fn encode_hit_start(out: &mut Vec<u8>, length: u16)
     requires { vec_len out.old + (5 * TAG_ROOM + LENGTH_ROOM) ≤ vec_capacity out.old }
     ensures { Appends out.old out.new (0 ∷ 0 ∷ 0 ∷ 0 ∷ 4 ∷ to_le_bytes w16 length) (5 * TAG_ROOM + LENGTH_ROOM) }
@@ -308,7 +308,7 @@ fn encode_hit_start(out: &mut Vec<u8>, length: u16)
     append(out, &[0, 0, 0, 0, 4, a, b]);
 }
 
-/// Appends a caller, and the length of the key behind it.
+/// Appends a caller, and the length of the key that follows.
 fn encode_hit_caller(out: &mut Vec<u8>, caller: &Caller, length: u16)
     requires { vec_len out.old + (CALLER_ROOM + LENGTH_ROOM) ≤ vec_capacity out.old }
     ensures appends { Appends out.old out.new (caller_bytes caller.now ++ to_le_bytes w16 length) (CALLER_ROOM + LENGTH_ROOM) }
@@ -321,8 +321,8 @@ fn encode_hit_caller(out: &mut Vec<u8>, caller: &Caller, length: u16)
     append(out, &[a, b, c, d, e, f, g, h, i, j, k, l, m, n]);
 }
 
-/// Appends the bytes of a `get` that found this value, and asked nobody: what [`encode_step`] appends of the same step, in fewer
-/// and fixed pieces.
+/// Appends the bytes of a `get` that found this value, and asked nobody. These are the bytes that [`encode_step`] appends for the
+/// same step, in fewer pieces of fixed size.
 pub(crate) fn encode_hit(out: &mut Vec<u8>, caller: &Caller, key: &Key, value: &Value)
     requires { vec_len out.old + EVENT_ROOM ≤ vec_capacity out.old }
     ensures appends { Appends out.old out.new (event_bytes (hit_event caller.now key.now value.now)) EVENT_ROOM }

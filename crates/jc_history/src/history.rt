@@ -1,8 +1,8 @@
 //! The history of one stripe. Its room is made with it, and places in it can be promised.
 //!
-//! A promised place is room that is reserved for an event that is still to be pushed. A call has the
-//! places promised that its events need before it asks the loader or the writer, and pushes its events
-//! when it has the answer: such a push is never refused. The places that it doesn't use it gives back.
+//! A promised place is room that is reserved for a later event. Before a call asks the loader or the writer, it gets the places
+//! promised that its events need. It pushes its events when it has the answer: such a push is never refused. It gives back the
+//! places that it doesn't use.
 ghost use Rattle.std.specs.Prelude.{◌≡◌, ◌+◌, ◌<◌, ◌≤◌, ◌^◌, true, ◌↔◌, [], length, vec_len, vec_capacity, ◌∷◌, ◌++◌, Some, IsTrue};
 ghost use Rattle.std.specs.Prelude.{IfOk, OnOk, OnErr, All, if◌then◌else◌, slice_get, slice_range};
 ghost use Rattle.jc_model.specs.Statistics.{statistics_of};
@@ -20,15 +20,15 @@ use jc_types::{Caller, HISTORY_MAX, Key, Value};
 use std::alloc::{AllocError, Global};
 use std::marker::Model;
 
-/// What happened in one stripe, and how many places are promised to what is still to happen.
+/// The events of one stripe, and how many places are promised to later ones.
 ///
-/// JSR 107 says nothing of a history: it is what a call's answer is checked against. The events and
-/// the promised places together are at most the limit, which is chosen when the history is made and
-/// stays. No method but [`new`](History::new) and [`append_to`](History::append_to) takes memory.
+/// JSR 107 has no history: here a call's answer is checked against it. The events and the promised places together are at most
+/// the limit, which is chosen when the history is made and stays. No method but [`new`](History::new) and
+/// [`append_to`](History::append_to) takes memory.
 ///
-/// An event is stored as bytes. Beside its key and its values a hit takes 27 of them, and the largest
-/// step at most 52. It has at most [`EVENT_VALUES`](crate::EVENT_VALUES) values. A value of the loader or the processor that
-/// the call is answered is stored once.
+/// An event is stored as bytes. Beside its key and its values a hit takes 27 bytes, and the largest step at most 52. An event has
+/// at most [`EVENT_VALUES`](crate::EVENT_VALUES) values. A value of the loader or the processor that is also the call's answer is
+/// stored once.
 #[derive(Drop)]
 pub struct History {
     // The events one after another, the earliest first.
@@ -37,7 +37,7 @@ pub struct History {
     starts: Vec<u32>,
     limit: usize,
     promised: usize,
-    // What was counted of the events.
+    // The counts of the events.
     statistics: Statistics,
 }
 
@@ -56,10 +56,10 @@ impl Model for History {
 impl History {
     /// A history with no event and with room for `limit` events, at most [`HISTORY_MAX`].
     ///
-    /// The room is all taken here, as much as the largest events need: 884 bytes for each place, which
-    /// are 52 bytes, a key and [`EVENT_VALUES`](crate::EVENT_VALUES) values of the greatest length. That makes 58 MB for
-    /// [`HISTORY_MAX`] places. Pages of it that no event has reached cost nothing if the system gives
-    /// out a page when it is first written. An `Err` says that an allocation failed.
+    /// All memory is allocated here, as much as the largest events need: 884 bytes for each place, which are 52 bytes, a key and
+    /// [`EVENT_VALUES`](crate::EVENT_VALUES) values of the greatest length. That makes 58 MB for [`HISTORY_MAX`] places. Pages of
+    /// it that no event has reached cost nothing if the system gives out a page when it is first written. An `Err` says that an
+    /// allocation failed.
     pub fn new(alloc: Global, limit: usize) -> Result<Self, AllocError>
         requires { limit ≤ HISTORY_MAX }
         ensures { IfOk result (λ h. h ≡ record { limit = limit; events = []; promised = 0; statistics = statistics_of [] }) }
@@ -82,7 +82,7 @@ impl History {
         n <= self.limit - self.starts.len() - self.promised
     }
 
-    /// Promises `n` places to later pushes, and says whether it did.
+    /// Promises `n` places to later pushes, and returns whether it did.
     ///
     /// A `false` says that fewer than `n` places are free, and leaves the history as it was.
     pub fn promise(&mut self, n: usize) -> bool
@@ -120,8 +120,8 @@ impl History {
         self.statistics = self.statistics.with_event(found, event);
     }
 
-    /// Appends a step, in a place that was promised: what [`push`](History::push) appends of the same event, which so needn't be
-    /// built. It is never refused, and takes no memory.
+    /// Appends a step, in a place that was promised, as [`push`](History::push) does; but the event needn't be built for it. It
+    /// is never refused, and takes no memory.
     pub fn push_step(&mut self, step: &LentStep, found: bool)
         requires promised { 0 < self.old.promised }
         requires storable { IsStorable step.now }
@@ -133,8 +133,8 @@ impl History {
         self.statistics = step.counted_in(found, &self.statistics);
     }
 
-    /// Appends the step of a `get` that found its entry and asked nobody, in a place that is free: what a promise of one place and
-    /// then a [`push`](History::push) of the same event do. It is never refused, and takes no memory.
+    /// Appends the step of a `get` that found its entry and asked nobody, in a place that is free. It does the same as a promise
+    /// of one place and then a [`push`](History::push) of that event. It is never refused, and takes no memory.
     pub fn push_hit(&mut self, caller: &Caller, key: &Key, value: &Value)
         requires { places_used self.old < self.old.limit }
         ensures after { self.new ≡ push true (hit_event caller.now key.now value.now) (promise 1 self.old) }
@@ -144,7 +144,7 @@ impl History {
         self.statistics = self.statistics.with_hit();
     }
 
-    /// Forgets all events, and what was counted of them. The promised places stay promised, and the room stays.
+    /// Forgets all events and their counts. The promised places stay promised, and the room stays.
     pub fn clear(&mut self)
         ensures after { self.new ≡ no_events self.old }
         ensures within { IsWithinLimit self.new }
@@ -154,8 +154,7 @@ impl History {
         self.statistics = Statistics::new();
     }
 
-    /// Forgets all events, what was counted of them, and what was promised: the history is then as [`new`](History::new) makes it. The
-    /// room stays.
+    /// Forgets all events, their counts, and all promises: the history is then as [`new`](History::new) makes it. The room stays.
     pub fn restart(&mut self)
         ensures { self.new ≡ record { limit = self.old.limit; events = []; promised = 0; statistics = statistics_of [] } }
     {
@@ -163,7 +162,7 @@ impl History {
         self.promised = 0;
     }
 
-    /// What was counted of the events, each with what its push said that it found. It reads none of them.
+    /// The counts of the events, each counted with the `found` of its push. It reads no event.
     pub fn statistics(&self) -> Statistics
         ensures { result ≡ self.now.statistics }
     {
@@ -260,7 +259,7 @@ fn append_hit(bytes: &mut Vec<u8>, starts: &mut Vec<u32>, caller: &Caller, key: 
     encode_hit(bytes, caller, key, value);
 }
 
-/// The event that starts at the index that is at a place.
+/// The event at a place: the one that starts at the place's index.
 #[tactic(auto, unfolding(crate::specs::Stored::event_at))]
 fn event_of(bytes: &[u8], starts: &[u32], place: usize) -> Event
     requires place { place < length starts.now }
@@ -271,7 +270,7 @@ fn event_of(bytes: &[u8], starts: &[u32], place: usize) -> Event
     decode_event(&bytes[start..])
 }
 
-/// The reply of the step that starts at the index that is at a place.
+/// The reply of the step at a place: the one that starts at the place's index.
 #[tactic(auto, unfolding(crate::specs::Stored::event_at))]
 fn reply_of(bytes: &[u8], starts: &[u32], place: usize) -> Option<Reply>
     requires { All (IsComplete bytes.now) starts.now }
@@ -285,7 +284,7 @@ fn reply_of(bytes: &[u8], starts: &[u32], place: usize) -> Option<Reply>
     }
 }
 
-/// Appends a copy, for which there is room.
+/// Appends a copy. There is room for it.
 fn push_copy<T: Copy>(items: &mut Vec<T>, item: &T)
     requires { vec_len items.old < vec_capacity items.old }
     ensures items { items.new.items ≡ items.old.items ++ item.now ∷ [] }

@@ -11,17 +11,17 @@ use std::marker::Model;
 /// A step has room for six values inline, so to build an event only to store it costs time.
 #[derive(Drop)]
 pub struct LentStep<'a> {
-    /// Who called.
+    /// The session and the number of the call.
     pub caller: &'a Caller,
     /// The operation.
     pub op: &'a Op,
     /// The key.
     pub key: &'a Key,
-    /// What the loader, the writer and the processor answered.
+    /// The answers of the loader, the writer and the processor.
     pub out: &'a Out,
     /// The place of the step whose load this one shares, if it shares one.
     pub shared_with: &'a Option<u32>,
-    /// What the call is answered.
+    /// The answer to the call.
     pub reply: &'a Reply,
 }
 

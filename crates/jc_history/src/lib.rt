@@ -1,13 +1,16 @@
-//! What happened in one stripe, stored as bytes, and the room that is reserved for what is still to happen.
+//! The events of one stripe, stored as bytes, and the room that is reserved for later events.
 //!
 //! - [`history`] has the history.
 //! - `encoding` appends the bytes of an event, and `decoding` reads the event again.
-//! - `room` says how many bytes an event takes at most.
+//! - `room` states how many bytes an event takes at most.
 //!
 //! Why it is so:
-//! - Each event is stored as bytes: its key and values and some thirty bytes. Room for the largest events is allocated when the history
-//!   is made: three values of 256 bytes, since by the operation table no step has more that differ (`Values.antt`); a reply that repeats
-//!   what came from outside is one byte. Room that grows would let a phase fail in the middle.
+//! - An event is stored as bytes, because it then takes its key, its values and some thirty bytes, not the room of the largest
+//!   event.
+//! - Room for the largest events is allocated when the history is made, because room that grows would let a phase fail in the
+//!   middle.
+//! - That room is three values of 256 bytes an event, because by the operation table no step has more that differ
+//!   (`Values.antt`). A reply that repeats a value from outside is one byte.
 #![tactic(auto)]
 
 mod decoding;

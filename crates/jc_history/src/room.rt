@@ -1,7 +1,7 @@
 //! How many bytes an event and its parts take at most.
 use jc_types::{KEY_MAX, VALUE_MAX};
 
-/// The most values that an event has. A reply that repeats a value of the loader or the processor counts no second one.
+/// The most values that an event has. A value of the loader or the processor that the reply repeats counts once.
 pub const EVENT_VALUES: usize = 3;
 
 pub(crate) const TAG_ROOM: usize = 1;
@@ -10,7 +10,7 @@ pub(crate) const CODE_ROOM: usize = 4;
 
 pub(crate) const CALLER_ROOM: usize = 4 + 8;
 
-// The length of a text stands before it.
+// The bytes of a text's length, which is stored in front of it.
 pub(crate) const LENGTH_ROOM: usize = 2;
 
 pub(crate) const KEY_ROOM: usize = LENGTH_ROOM + KEY_MAX;
@@ -21,12 +21,12 @@ pub(crate) const TAGGED_CODE_ROOM: usize = TAG_ROOM + CODE_ROOM;
 
 pub(crate) const TAGGED_VALUE_ROOM: usize = TAG_ROOM + VALUE_ROOM;
 
-// The most bytes of these parts beside their values.
+// The most bytes of these parts, without their values.
 
-// Of a fault, which has a code.
+// The longest is that of a fault, which has a code.
 pub(crate) const REPLY_ROOM: usize = TAG_ROOM + TAGGED_CODE_ROOM;
 
-// Of a loader, a writer and a processor that all failed.
+// The longest are those of a loader, a writer and a processor that all failed.
 pub(crate) const OUT_ROOM: usize = 3 * TAGGED_CODE_ROOM;
 
 const STEP_ROOM: usize = TAG_ROOM

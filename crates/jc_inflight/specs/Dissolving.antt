@@ -1,4 +1,4 @@
--- What the withdrawal of a load leaves of its joiners.
+-- The joiners after the withdrawal of their load.
 --     told_to_retry      a joiner that is told to retry, if it waits for the load
 --     after_dissolve     the joiners after the load is withdrawn
 use Rattle.std.specs.Prelude.{ℕ, List, map, if◌then◌else◌}

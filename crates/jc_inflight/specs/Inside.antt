@@ -1,6 +1,6 @@
--- What the field of `Joiners` means, and what is true of it. Callers see the list alone.
+-- The meaning of the field of `Joiners`, and its invariant. Callers see the list alone.
 --     joiners_of     the list that it means
---     HasJoiners     that list is as every list of joiners is
+--     HasJoiners     that list satisfies `IsJoinerList`
 use Rattle.std.specs.Prelude.{List}
 use Rattle.jc_inflight.specs.declared.joiner.Joiner.{Joiner}
 use Rattle.jc_inflight.specs.declared.joiners.Joiners.TheInside.{Inside}

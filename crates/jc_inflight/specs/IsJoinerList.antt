@@ -1,4 +1,4 @@
--- What is true of the joiners at any time.
+-- The invariant of the list of joiners.
 --     IsJoinerList     there are at most JOINERS_MAX, and no two are of one caller and key
 use Rattle.std.specs.Prelude.{◌≡◌, ◌≤◌, List, length, false, AllPairs}
 use Rattle.jc_types.specs.declared.limits.TheConstants.{JOINERS_MAX}

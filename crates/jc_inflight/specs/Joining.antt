@@ -1,11 +1,11 @@
--- Who has joined a load, as a list in the order of joining.
+-- The calls that have joined a load, as a list in the order of joining.
 --     belongs_to      whether a joiner is this caller's, at this key
---     has_joined      whether one of the joiners is
+--     has_joined      whether one of the joiners is this caller's, at this key
 --     is_waiting      whether the load of a joiner in this state isn't over
 --     waits           whether a joiner waits, for any load
 --     waits_for       whether a joiner waits for this load
---     callers_of      who waits for the load
---     with_joiner     the joiners with one more at the end, who waits
+--     callers_of      the callers that wait for the load
+--     with_joiner     the joiners with one more at the end, which waits
 use Rattle.std.specs.Prelude.{◌==◌, ◌&&◌, ℕ, filter, map, List, [], ◌∷◌, ◌++◌, Bool, true, false}
 use Rattle.std.specs.List.{list_any}
 use Rattle.std.specs.Cmp.Lexicographic.{pointwise}

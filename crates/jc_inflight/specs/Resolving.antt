@@ -1,7 +1,8 @@
--- What the commit of a load leaves of its joiners.
---     with_answer       a joiner that is answered: the place of its own step, and that of the step that loaded
---     answered_from     the joiners after each that waits for the load is answered, the first at this place, each further one at the next
---     after_resolve     the joiners after the load is committed at this step: the places follow the step's own
+-- The joiners after the commit of their load.
+--     with_answer      a joiner that is answered: the place of its own step, and that of the step that loaded
+--     answered_from    the joiners after each that waits for the load is answered, the first at this place, each further one at
+--                      the next
+--     after_resolve    the joiners after the load is committed at this step: the places follow the step's own
 use Rattle.std.specs.Prelude.{ℕ, ◌+◌, List, [], ◌∷◌, if◌then◌else◌}
 use Rattle.jc_inflight.specs.declared.joiner.Joiner.{Joiner}
 use Rattle.jc_inflight.specs.declared.joiner.JoinState.TheVariants.{Answered}

@@ -1,5 +1,5 @@
--- What a call learns that asks for its answer, and what that leaves.
---     join_state_of      how far the load is that the caller has joined at the key, if it has
+-- A joiner asks for its answer: what it is told, and the joiners afterwards.
+--     join_state_of      the state of the load that the caller has joined at the key, if it has joined one
 --     is_over            whether there is such a load, and it is over
 --     without_joiner     the joiners of the other callers and keys
 --     after_take         the joiners after the call has asked: without its joiner if the load is over

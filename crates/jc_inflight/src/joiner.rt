@@ -1,10 +1,10 @@
-//! One joiner, and how far its load is.
+//! One joiner, and the state of its load.
 ghost use Rattle.std.specs.Prelude.{◌≡◌};
 ghost use Rattle.jc_inflight.specs.Joining.{belongs_to, is_waiting, waits_for};
 
 use jc_types::{Caller, Key};
 
-/// How far the load of a joiner is.
+/// The state of a joiner's load.
 #[derive(Clone, Copy, Debug, PartialEq, Eq)]
 pub enum JoinState {
     /// The load isn't over.
@@ -35,13 +35,13 @@ impl JoinState {
 /// A call that has joined the load of its key.
 #[derive(Clone, Copy, Debug, PartialEq, Eq)]
 pub struct Joiner {
-    /// Who calls.
+    /// The session and the number of the call.
     pub caller: Caller,
     /// The key.
     pub key: Key,
     /// The load that it joined: the number of the reservation that loads.
     pub load: u64,
-    /// How far that load is.
+    /// The state of that load.
     pub state: JoinState,
 }
 

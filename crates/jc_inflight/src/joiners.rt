@@ -13,10 +13,10 @@ use arrayvec::ArrayVec;
 use jc_types::{Caller, JOINERS_MAX, Key};
 use std::marker::Model;
 
-/// The calls that have joined a load of their key and haven't taken its answer, in the order of joining: at most
-/// [`JOINERS_MAX`], and no two of one caller and key.
+/// The calls that have joined a load of their key and haven't taken its answer, in the order of joining: at most [`JOINERS_MAX`],
+/// and no two of one caller and key.
 ///
-/// The table lies in the value itself: no call allocates.
+/// The table is in the value itself: no call allocates.
 #[derive(Drop)]
 pub struct Joiners {
     joiners: ArrayVec<Joiner, JOINERS_MAX>,
@@ -45,14 +45,14 @@ impl Joiners {
         }
     }
 
-    /// Takes all joiners out: the table is then as [`new`](Joiners::new) makes it.
+    /// Removes all joiners: the table is then as [`new`](Joiners::new) makes it.
     pub fn clear(&mut self)
         ensures { self.new ≡ [] }
     {
         self.joiners.clear();
     }
 
-    /// Has a call join the load of its key, to wait for its end. The load is named by the number of its reservation.
+    /// Adds a joiner: a call that waits for the end of the load of its key. `load` is the number of that load's reservation.
     ///
     /// Conditions: the caller has no joiner of this key in [`list`](Joiners::list).
     ///
@@ -76,8 +76,8 @@ impl Joiners {
     }
 
     /// Ends a load that was committed at place `step` of the history. Each joiner that waits for it is answered, in the order of
-    /// joining: the first one's shared step has the place `step + 1`, each further one's the next. It answers how many they are.
-    /// The other joiners stay as they are.
+    /// joining: the first one's shared step has the place `step + 1`, each further one's the next. It returns the number of these
+    /// joiners. The other joiners stay as they are.
     ///
     /// Conditions: these places are below 2^32.
     pub fn resolve(&mut self, load: u64, step: u32) -> u32
@@ -88,8 +88,8 @@ impl Joiners {
         answer_each(&mut self.joiners, load, step)
     }
 
-    /// Ends a load that was withdrawn: each joiner that waits for it is told to retry. It answers how many they are. The other
-    /// joiners stay as they are.
+    /// Ends a load that was withdrawn: each joiner that waits for it is told to retry. It returns the number of these joiners.
+    /// The other joiners stay as they are.
     pub fn dissolve(&mut self, load: u64) -> u32
         ensures dissolved { self.new ≡ after_dissolve load self.old }
         ensures count { result ≡ count_by (waits_for load) self.old }
@@ -105,10 +105,9 @@ impl Joiners {
         self.joiners.iter().filter(|j| j.waits_for(load)).count() as u32
     }
 
-    /// How far the load is that a call has joined at a key, and takes the joiner out of the table if it is over.
+    /// Returns the state of the load that a call has joined at a key, and removes the joiner if the load is over.
     ///
-    /// A `None`, if the call hasn't joined or has taken its answer, leaves the table as it was. So does
-    /// [`JoinState::Waiting`].
+    /// A `None`, if the call hasn't joined or has taken its answer, leaves the table as it was. So does [`JoinState::Waiting`].
     pub fn take(&mut self, caller: Caller, key: &Key) -> Option<JoinState>
         ensures state { result ≡ join_state_of caller key.now self.old }
         ensures left { self.new ≡ after_take caller key.now self.old }
@@ -121,7 +120,7 @@ impl Joiners {
         Some(state)
     }
 
-    /// The joiners in the order of joining, which is the order in which [`Joiners::resolve`] gives out its places.
+    /// The joiners in the order of joining, in which [`Joiners::resolve`] gives out places.
     pub fn list(&self) -> &[Joiner]
         ensures joiners { result.now ≡ self.now }
         ensures list { IsJoinerList self.now }
@@ -159,7 +158,7 @@ fn place_of(joiners: &[Joiner], caller: Caller, key: &Key) -> Option<usize>
     joiners.iter().position(|j| j.belongs_to(caller, key))
 }
 
-/// Answers each joiner that waits for the load, which was committed at this place.
+/// Answers each joiner that waits for the load, which was committed at the place `step`.
 fn answer_each(joiners: &mut [Joiner], load: u64, step: u32) -> u32
     requires { step + count_by (waits_for load) joiners.old < 2 ^ 32 }
     ensures resolved { joiners.new ≡ after_resolve load step joiners.old }

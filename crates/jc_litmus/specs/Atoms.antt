@@ -1,16 +1,16 @@
--- What an expectation says of outcomes, from its words.
---     in_script             a fault of a script's word, as one of a program's line
---     number_or_bad         a number: a word that says none has no shape of an atom
---     numbers_in, numbers_of      the numbers of a thread and of an item there, from both sides of a dot, and from a word
---     cached_of, stored_of  what the cache and the store have of a key
---     replied_of            how a call is answered
---     pair_of               what is said of something, on both sides of an equals sign
---     pair_in, atom_of      what a word says of an outcome, from both sides of its equals sign, and from the word
---     is_about              something is said of a key, or of an item
---     is_pair, is_atom      a word has the shape of an atom, from both sides of its equals sign, and from the word
---     are_atoms             each word has the shape of an atom, and there is one at least
---     atom_onto             the atoms so far and one more
---     atoms_from            the atoms so far with those of more words
+-- The atoms of an expectation, from its words.
+--     in_script                 a fault in a word of a script, as a fault of a program's line
+--     number_or_bad             a number: a word that is none doesn't have the shape of an atom
+--     numbers_in, numbers_of    the numbers of a thread and of its item, from both sides of a dot, and from a word
+--     cached_of, stored_of      the entry of a key in the cache, and in the store
+--     replied_of                the reply to a call
+--     pair_of                   an atom from the words on both sides of an equals sign
+--     pair_in, atom_of          the atom of a word, from both sides of its equals sign, and from the word
+--     is_about                  the left side names a key, or an item
+--     is_pair, is_atom          a word has the shape of an atom, from both sides of its equals sign, and from the word
+--     are_atoms                 each word has the shape of an atom, and there is at least one
+--     atom_onto                 the atoms so far and one more
+--     atoms_from                the atoms so far with those of more words
 use Rattle.std.specs.Prelude.{ℕ, List, [], ◌∷◌, ◌++◌, drop, codes, Bool, true, false, ◌||◌, is_ok, Option, None, Some, Result, Ok, Err, if◌then◌else◌}
 use Rattle.std.specs.Str.{bytes_eq}
 use Rattle.std.specs.List.{list_all}

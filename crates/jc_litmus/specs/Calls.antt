@@ -1,12 +1,12 @@
--- The calls of a program, by the numbers that an expectation names them by.
---     answered       which replies a call has; a write of another program isn't answered
+-- The calls of a program, by the numbers with which an expectation names them.
+--     answered       the kind of replies of a call; a write of another program isn't answered
 --     is_call        an item is a call, and no write of another program
---     named_or       a call's place among its thread's, and which replies it has, if it has any
---     answered_at    which replies an item has, if there is one
---     call_in        a call of a thread: its place among the thread's calls, and which replies it has
+--     named_or       a call's place among its thread's calls, and its kind of replies, if it has replies
+--     answered_at    the kind of replies of an item, if there is one
+--     call_in        a call of a thread: its place among the thread's calls, and its kind of replies
 --     place_of       the place of a number that counts from 1
 --     call_at        the call at a place of a thread, if there is such a thread
---     call_named     the call with the numbers of its thread and of its item there, which count from 1
+--     call_named     the call with these numbers of its thread and of its item, which count from 1
 use Rattle.std.specs.Prelude.{ℕ, zero, suc, List, take, count_by, slice_get, Bool, true, false, Option, None, Some, Result, Ok, Err}
 use Rattle.jc_model.specs.declared.event.Op.TheVariants.{Invoke}
 use Rattle.jc_explore.specs.declared.program.Item.{Item}

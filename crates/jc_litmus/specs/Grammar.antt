@@ -1,16 +1,18 @@
--- Lines of a program that scripts spell otherwise.
---     begin_words, begin_line      the words behind `begin` in a line of a script that begins a call, from the call's own words, and what
---                          that line asks for: its number and its session don't count
---     after_space          a word after a space
---     process_text         the line of a script in which an entry processor makes calls
---     asks, made_line      what a line of a script asks for, from what was read of it, and from its bytes: it asks for something
---     operation_in         the operation that a line of a script begins
---     plain_calls, act_calls, line_calls, calls_of_text      the calls of an entry processor that fails neither by itself nor by its
---                          loader, from its run, from what happens next to a call, from a line, and from its text
---     failing_named        who may fail, and how, from the words that name them
---     with_number, may_fail_so, may_fail      who may fail, and with which code, from the words of a line
---     with_fault           the same who may fail, with one more
---     quantifier_named     of how many outcomes an expectation speaks
+-- Lines of a program that scripts spell in another way.
+--     begin_words, begin_line               the words after `begin` in a line of a script that begins a call, from the call's own
+--                                           words, and what that line asks for: its number and its session don't count
+--     after_space                           a word after a space
+--     process_text                          the line of a script in which an entry processor makes calls
+--     asks, made_line                       what a line of a script asks for, from what was read of it, and from its bytes: it
+--                                           asks for something
+--     operation_in                          the operation that a line of a script begins
+--     plain_calls, act_calls, line_calls, calls_of_text    the calls of an entry processor that fails neither by itself nor by
+--                                           its loader, from its run, from what happens next to a call, from a line, and from its
+--                                           text
+--     failing_named                         the partner that may fail, and how, from the words that name it
+--     with_number, may_fail_so, may_fail    the partner that may fail, and with which code, from the words of a line
+--     with_fault                            the faults that may happen, with one more
+--     quantifier_named                      the number of outcomes that an expectation is about
 use Rattle.std.specs.Prelude.{ℕ, List, [], ◌∷◌, ◌++◌, codes, ◌&&◌, Option, None, Some, Result, Ok, Err, if◌then◌else◌}
 use Rattle.std.specs.Str.{bytes_eq}
 use Rattle.jc_model.specs.declared.processor.EntryCall.{EntryCall}

@@ -1,21 +1,22 @@
 -- Whether outcomes are as a program's author expects.
---     reply_of         the reply to a call of a thread, by its place among the thread's calls
---     value_of_key     what entries have of a key: a value, or none
---     same_value, same_flag     two values, or none, are one; two yes or no are
---     code_of, same_code        the code of a refusal, if it has one; two codes, or none, are one
---     same_refusal     two refusals have one name and one code
---     same_reply       two replies are one
---     was_answered     a call was answered, and so
---     has_atom         an outcome has an atom
---     has_all          it has each of some atoms
---     decides_by       the same, of whether it has the atoms
---     decides          an outcome alone decides an expectation: it has the atoms of a `sometimes` or a `never`, or lacks one of an `always`
---     first_deciding   the place of the first outcome that does
---     verdict_from     what becomes of an expectation that this outcome decides, or none of those that were found
---     verdict_on       what becomes of an expectation, by an exploration
---     IsNumbered       the outcome in a verdict, counted from 1, has a number of 64 bits
---     is_failure       it says that the expectation fails
---     end_of           how an exploration ends, with these expectations
+--     reply_of                 the reply to a call of a thread, by its place among the thread's calls
+--     value_of_key             the value of a key in these entries, or none
+--     same_value, same_flag    two values, or none, are the same; two flags are
+--     code_of, same_code       the code of a refusal, if it has one; two codes, or none, are the same
+--     same_refusal             two refusals have the same name and the same code
+--     same_reply               two replies are the same
+--     was_answered             a call was answered with this reply
+--     has_atom                 an outcome has an atom
+--     has_all                  it has each of some atoms
+--     decides_by               an outcome decides an expectation, by whether it has the atoms
+--     decides                  an outcome alone decides an expectation: it has the atoms of a `sometimes` or a `never`, or lacks
+--                              one of an `always`
+--     first_deciding           the place of the first outcome that decides it
+--     verdict_from             the verdict on an expectation that this outcome decides, or none of those that were found
+--     verdict_on               the verdict on an expectation, by an exploration
+--     IsNumbered               the outcome in a verdict, counted from 1, has a number of 64 bits
+--     is_failure               the verdict is that the expectation fails
+--     end_of                   the end of an exploration with these expectations
 use Rattle.std.specs.Prelude.{◌==◌, ℕ, ◌+◌, ◌-◌, ◌<◌, ◌^◌, List, [], ◌∷◌, length, position, Bool, true, false, not, ◌&&◌, Option, None, Some, IfSome, if◌then◌else◌}
 use Rattle.std.specs.List.{list_all, list_any}
 use Rattle.std.specs.Cmp.Lexicographic.{pointwise}
@@ -40,7 +41,7 @@ use Rattle.jc_litmus.specs.declared.judge.Verdict.TheVariants.{Holds, Fails, Ope
 use Rattle.jc_litmus.specs.declared.run.LitmusEnd.{LitmusEnd}
 use Rattle.jc_litmus.specs.declared.run.LitmusEnd.TheVariants as end
 
--- 1. What an outcome has.
+-- 1. The atoms of an outcome.
 
 abbrev pub reply_of : ℕ → ℕ → List ThreadReply → Option Reply
 reply_of thread call [] = None
@@ -110,7 +111,7 @@ has_atom f Differs = not (length f.differing == 0)
 abbrev pub has_all : FinalValue → List Atom → Bool
 has_all f atoms = list_all (has_atom f) atoms
 
--- 2. What becomes of an expectation.
+-- 2. The verdict on an expectation.
 
 abbrev pub decides_by : Quantifier → Bool → Bool
 decides_by Never has = has
@@ -123,7 +124,7 @@ decides e f = decides_by e.quantifier (has_all f e.atoms.items)
 abbrev pub first_deciding : Expectation → List Finding → Option ℕ
 first_deciding e found = position (λ x. decides e (final_of x.state)) found
 
--- the outcomes that were found don't decide it: it holds, or fails, if there is no other
+-- if no outcome that was found decides it, it holds or fails only if there is no other outcome
 abbrev pub verdict_from : Quantifier → Option ℕ → Bool → Verdict
 verdict_from Sometimes (Some place) whole = Holds (Some place)
 verdict_from Never (Some place) whole = Fails (Some place)

@@ -1,10 +1,10 @@
--- What verdicts and ends say of all schedules of a program.
---     IsDecided      some whole schedule ends in an outcome that decides an expectation
---     IsUndecided    no whole schedule does
---     FulfilledBy, IsFulfilled   an expectation is fulfilled: a `sometimes` that is decided, a `never` or an `always` that isn't
---     MissedBy, IsMissed    it isn't
---     MeansBy, Means        what a verdict says of an expectation: that it is fulfilled, that it isn't, or nothing
---     EndMeans       what an end says of expectations: that each is fulfilled, that one isn't, or nothing
+-- The meaning of verdicts and ends, for all schedules of a program.
+--     IsDecided                   some whole schedule ends in an outcome that decides an expectation
+--     IsUndecided                 no whole schedule ends in such an outcome
+--     FulfilledBy, IsFulfilled    an expectation is fulfilled: a `sometimes` that is decided, a `never` or an `always` that isn't
+--     MissedBy, IsMissed          an expectation isn't fulfilled
+--     MeansBy, Means              the meaning of a verdict: that the expectation is fulfilled, that it isn't, or nothing
+--     EndMeans                    the meaning of an end: that each expectation is fulfilled, that one isn't, or nothing
 use Rattle.std.specs.Prelude.{◌≡◌, List, true, false}
 use Rattle.std.specs.List.{All, Any}
 use Rattle.jc_explore.specs.declared.moves.Move.{Move}

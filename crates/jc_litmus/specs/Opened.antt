@@ -1,6 +1,6 @@
 -- The cache's shape, as far as a program is read.
---     shape_fault      the fault of a line whose shape of a cache is refused
---     has_shape        a shape that was read is one that a cache may have
+--     shape_fault    the fault of a line whose shape of a cache is refused
+--     has_shape      a cache may have the shape that was read
 use Rattle.std.specs.Prelude.{Bool, true, is_ok, Option, None, Some}
 use Rattle.jc_types.specs.declared.config.Config.{Config}
 use Rattle.jc_types.specs.declared.refusal.Refusal.{Refusal}

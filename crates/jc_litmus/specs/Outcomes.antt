@@ -1,32 +1,34 @@
 -- An exploration's answer, as text.
---     calls_before     how many calls are before a place of a thread's list
---     replies_to       how many replies a thread got
---     item_name        the name of an item, and a space: its thread and its place there, both from 1
---     reply_line       the line of a call that was answered
---     unanswered_line  the line of a call that is never answered
---     answer_line      the line of a call: its reply, or that it has none, if it is the first such call of its thread
---     call_text        the same, of the call at this place among its thread's calls
---     item_if          what is said of an item, if there is one
---     item_text        what is said of a thread's item at a place
---     text_up_to       the texts of the numbers from 0, so many
---     thread_text      what is said of a thread
---     thread_at        the same, if there is one
---     threads_text     what is said of each thread
---     state_text       a final state
---     number_line      the number of an outcome, from 1
---     outcome_text     an outcome at a place of a list: its number, its final state and its script
---     outcome_if       the same, if there is one
---     outcomes_text    outcomes, one after the other
---     counts_text      how many outcomes there are, and of how many states
---     whole_line       how many outcomes and states there are
---     outcomes_line, budget_line     the exploration has stopped: after so many outcomes; after so many states
---     closing_text     which of these it is
---     first_text       the outcome that decides an expectation, if one does
---     ending_text      what becomes of an expectation
---     verdict_line     an expectation, and what becomes of it
---     verdicts_text    the same of several
---     answer_text      the whole answer
---     fault_text       the line for a fault of a line
+--     calls_before                  the number of calls before a place of a thread's list
+--     replies_to                    the number of replies that a thread got
+--     item_name                     the name of an item, and a space: its thread and its place there, both counted from 1
+--     reply_line                    the line of a call that was answered
+--     unanswered_line               the line of a call that is never answered
+--     answer_line                   the line of a call: its reply, or that it has none, if it is the first such call of its
+--                                   thread
+--     call_text                     the line of the call at this place among its thread's calls
+--     item_if                       the line of an item, if there is one
+--     item_text                     the line of a thread's item at a place
+--     text_up_to                    the texts of the numbers from 0 up to a count, one after another
+--     thread_text                   the lines of a thread
+--     thread_at                     the lines of the thread at a place, if there is one
+--     threads_text                  the lines of all threads
+--     state_text                    a final state
+--     number_line                   the number of an outcome, from 1
+--     outcome_text                  an outcome at a place of a list: its number, its final state and its script
+--     outcome_if                    the outcome at a place of a list, if there is one
+--     outcomes_text                 outcomes, one after another
+--     counts_text                   the numbers of outcomes and of states
+--     whole_line                    the line with both numbers
+--     outcomes_line, budget_line    the line of an exploration that has stopped: after a number of outcomes; after a number of
+--                                   states
+--     closing_text                  the one of these lines that applies
+--     first_text                    the outcome that decides an expectation, if one does
+--     ending_text                   the verdict on an expectation
+--     verdict_line                  an expectation, and its verdict
+--     verdicts_text                 several expectations, each with its verdict
+--     answer_text                   the whole answer
+--     fault_text                    the line for a fault of a line
 use Rattle.std.specs.Prelude.{◌==◌, ℕ, zero, suc, ◌+◌, List, [], ◌++◌, codes, decimal, length, take, count_by, Bool, true, false, nat_lt, Option, None, Some, slice_get, if◌then◌else◌}
 use Rattle.std.specs.List.{flat_map}
 use Rattle.std.specs.Global.{Vec}
@@ -49,7 +51,7 @@ use Rattle.jc_litmus.specs.ReplyTexts.{replied_text, unanswered_text}
 use Rattle.jc_litmus.specs.Judging.{reply_of, verdict_on}
 use Rattle.jc_litmus.specs.Witness.{witness_text}
 
--- 1. What the threads were answered.
+-- 1. The replies to the threads.
 
 abbrev pub calls_before : List Item → ℕ → ℕ
 calls_before items at = count_by is_call (take at items)

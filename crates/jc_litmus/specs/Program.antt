@@ -1,33 +1,34 @@
 -- A program, read line by line.
---     Expected, expected       an expectation, as data
---     ReadSoFar                what was read of the lines so far
---     nothing_read             the same, of no line
---     if_open                  a line that comes after the `open`
---     opened_with, after_open  an `open`: the first one, with a shape that a cache may have
---     stored_before, after_set       a `set`, before the first thread
---     onto_last                threads, with one item more in the last
---     room_in, may_add, with_item, after_item     an item, of the last thread: at most ITEMS_MAX, of all threads together
---     after_script_line        a line that scripts have too
---     one_thread_more, after_thread  a `thread`: at most THREADS_MAX
---     after_call               a call of one key
---     invocation_of, invocation, after_invoke     an entry processor on a key, with its calls
---     after_failing            who may fail
---     with_expected, after_expect    an expectation of the items above it
---     is_outside               a word names who is outside of the cache
---     after_own_line, after_words, after_other_line      a line that no script has, by its first word, from its words, and if no word
---                              is empty
---     after_fault, after_read, after_line      a line that is no line of a script, a line as scripts read it, and a line's bytes
---     ProgramValue             a program with what is expected of it, as data
---     value_of_program         the same, of one that was read
---     program_if, program_read the program that was read, if the cache's shape is there
---     whole                    what is read up to a number's line, if it is a program: one with no `open` has its fault there
---     ended                    the end of the text: after a line feed, or in a line that has none
---     is_blank                 a piece with no bytes
---     then_on                  what follows a line, or its fault
---     program_from             the program of the lines from a number on, or the first line at fault, and its fault
---     program_of               the same of a text, whose lines are what is between its line feeds
---     fault_at                 an error of the line with a number
---     ReadsLines, ReadsProgram what reading a text has given is what this says, unless an allocation failed
+--     Expected, expected                     an expectation, as data
+--     ReadSoFar                              the parts of a program that were read so far
+--     nothing_read                           the parts before the first line
+--     if_open                                a line that comes after the `open`
+--     opened_with, after_open                an `open`: the first one, with a shape that a cache may have
+--     stored_before, after_set               a `set`, before the first thread
+--     onto_last                              threads, with one more item in the last
+--     room_in, may_add, with_item, after_item    an item of the last thread: at most ITEMS_MAX, of all threads together
+--     after_script_line                      a line that scripts have, too
+--     one_thread_more, after_thread          a `thread`: at most THREADS_MAX
+--     after_call                             a call of one key
+--     invocation_of, invocation, after_invoke    an entry processor on a key, with its calls
+--     after_failing                          a fault that may happen
+--     with_expected, after_expect            an expectation about the items above it
+--     is_outside                             a word names one who is outside the cache
+--     after_own_line, after_words, after_other_line    a line that no script has, by its first word, from its words, and if no
+--                                            word is empty
+--     after_fault, after_read, after_line    a line that no script has, a line as scripts read it, and the bytes of a line
+--     ProgramValue                           a program with its expectations, as data
+--     value_of_program                       the data of a program that was read
+--     program_if, program_read               the program that was read, if the cache's shape is there
+--     whole                                  the parts that were read up to a line's number, if they are a program: without an
+--                                            `open` the fault is in that line
+--     ended                                  the end of the text: after a line feed, or in a line that has none
+--     is_blank                               a piece with no bytes
+--     then_on                                what follows a line, or its fault
+--     program_from                           the program of the lines from a number on, or the first line at fault, and its fault
+--     program_of                             the program of a text, whose lines are the pieces between its line feeds
+--     fault_at                               an error of the line with a number
+--     ReadsLines, ReadsProgram               the result of reading a text is that of `program_of`, unless an allocation failed
 use Rattle.std.specs.Prelude.{◌≡◌, ℕ, ◌+◌, List, [], ◌∷◌, ◌++◌, length, map, codes, Bool, true, false, ◌||◌, nat_lt, Option, None, Some, Result, Ok, Err, if◌then◌else◌}
 use Rattle.std.specs.Str.{bytes_eq}
 use Rattle.std.specs.List.{flat_map}
@@ -61,7 +62,7 @@ use Rattle.jc_litmus.specs.Grammar.{after_space, begin_line, calls_of_text, may_
 use Rattle.jc_litmus.specs.Opened.{shape_fault}
 use Rattle.jc_litmus.specs.Then.{◌>>=◌}
 
--- 1. What is read.
+-- 1. The parts that are read.
 
 pub record Expected : Type 0 where
   pub quantifier : Quantifier
@@ -71,7 +72,7 @@ pub record Expected : Type 0 where
 abbrev pub expected : Expectation → Expected
 expected e = record { quantifier = e.quantifier; atoms = e.atoms.items; text = e.text.items }
 
--- `items` is how many there are, of all threads together
+-- `items` is the number of items of all threads together
 pub record ReadSoFar : Type 0 where
   pub config : Option Config
   pub stored : List (Bytes × Bytes)
@@ -189,7 +190,7 @@ after_other_line so_far text words = if are_words words then after_words so_far 
 
 -- 4. A whole line.
 
--- what is no line of a script may be one of a program
+-- a line that no script has may be one of a program
 abbrev pub after_fault : ReadSoFar → List ℕ → Fault → Result ReadSoFar LineFault
 after_fault so_far text BadLine = after_other_line so_far text (words_of text)
 after_fault so_far text other = Err (Script other)
@@ -257,13 +258,13 @@ program_from so_far number (text ∷ next ∷ more) =
 abbrev pub program_of : List ℕ → Result ProgramValue (ℕ × LineFault)
 program_of text = program_from nothing_read 1 (pieces_of text)
 
--- 6. What the functions give.
+-- 6. The results of the functions.
 
 abbrev pub fault_at : ℕ → LineError → ProgramFault
 fault_at number errors.Memory = program_fault.OutOfMemory
 fault_at number (errors.Fault fault) = program_fault.Line number fault
 
--- where the lines end, and whether the last one does, with what was read of them
+-- by the place where the lines end, whether the last one has a line feed, and the parts that were read
 abbrev pub ReadsLines : Result (ℕ × Bool) ProgramFault → ReadSoFar → Result ProgramValue (ℕ × LineFault) → Type 0
 ReadsLines (Ok r) new said = said ≡ ended new r.0 r.1
 ReadsLines (Err program_fault.OutOfMemory) new said = Unit {0}

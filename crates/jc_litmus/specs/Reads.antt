@@ -1,6 +1,6 @@
--- What a function that reads a line gives.
---     error_of      an error of a script's reader, as one of a program's
---     Reads         what a function returned is what the definition says, unless an allocation failed
+-- The result of a function that reads a line.
+--     error_of    an error of a script's reader, as one of a program's
+--     Reads       a function returned what the definition states, unless an allocation failed
 use Rattle.std.specs.Prelude.{◌≡◌, Result, Ok, Err}
 use Rattle.jc_script.specs.declared.fault.ReadError.{ReadError}
 use Rattle.jc_script.specs.declared.fault.ReadError.TheVariants as script

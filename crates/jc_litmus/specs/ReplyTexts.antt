@@ -1,17 +1,17 @@
--- Replies, as text: what an outcome says of them, what an expectation writes for them, and the laws of both.
---     refused_text        what an outcome says of a refusal: a failure with its code, as a transcript does; any other as one, since a
---                         value may be spelled like its name
---     replied_text        what an outcome says of a reply
---     unanswered_text     what it says of a call that is never answered
---     colon_for_space, reply_word     what an expectation writes for a reply: that text, in one word
---     HasRefusal, HasReply      calls of a kind may be refused so, and have this reply
---     HasCode, IsSpelled  text can spell what is in a refusal, and in a reply: its code, or its value
---     IsReplyOf           both
---     RepliesAreTold      of two replies that calls of one kind have, the texts differ
---     SilenceIsTold       none of these texts is that of a call that is never answered
---     RepliesReadBack     what an expectation writes for such a reply is read as that reply
---     RepliesAreOfKind    what is read is such a reply, and no other
---     RepliesOfTable      each reply that the operation table gives is of the operation's kind
+-- Replies, as text: as an outcome shows them and as an expectation writes them, and the laws of both.
+--     refused_text                   the text of a refusal in an outcome: a failure with its code, as in a transcript; any other
+--                                    refusal is marked as one, since a value may be spelled like its name
+--     replied_text                   the text of a reply in an outcome
+--     unanswered_text                the text of a call that is never answered
+--     colon_for_space, reply_word    the word of a reply in an expectation: that text, with a colon for the space
+--     HasRefusal, HasReply           calls of a kind may be refused with this refusal, and may have this reply
+--     HasCode, IsSpelled             text can spell the code of a refusal, and the code or the value of a reply
+--     IsReplyOf                      a call of a kind may have this reply, and text can spell it
+--     RepliesAreTold                 two different replies of calls of one kind have different texts
+--     SilenceIsTold                  none of these texts is that of a call that is never answered
+--     RepliesReadBack                the word of such a reply is read as that reply
+--     RepliesAreOfKind               a word is read as such a reply, and as no other
+--     RepliesOfTable                 each reply that the operation table gives is of the operation's kind
 use Rattle.std.specs.Prelude.{◌≡◌, ◌≢◌, ◌==◌, ℕ, List, map, ◌++◌, codes, true, Option, Ok, IsTrue, if◌then◌else◌}
 use Rattle.jc_types.specs.declared.config.Config.{Config}
 use Rattle.jc_types.specs.declared.refusal.Refusal.{Refusal}

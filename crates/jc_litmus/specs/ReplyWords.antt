@@ -1,15 +1,16 @@
--- Replies: which ones an operation has, and how an expectation writes them. It writes what a transcript prints, with a colon in
--- place of a space.
---     silent, loading, writing     the replies of an operation that asks nobody outside, the loader alone, the writer alone
---     reply_kind           the replies that an operation has
---     plain_value          a value or none that is a reply
---     plain_reply          the reply of a call that nobody failed, from its only word
---     refusal_of           the reply of a call that was refused, from the refusal's name: a call whose history isn't full waits
---     failure_of           the reply of a call that somebody failed, from the name and the code of the failure
---     failure_with         the same, if the word of the code is a number
---     two_words            the reply of a call that was refused, or that somebody failed, from its two words
---     reply_from, reply_said       the reply that a word says of a call, from what is before its colon and after it, if it has one, and
---                          from the word alone
+-- Replies: those that an operation may have, and their words in an expectation. A word is what a transcript prints, with a colon
+-- in place of a space.
+--     silent, loading, writing    the replies of an operation that asks nobody outside, the loader alone, the writer alone
+--     reply_kind                  the replies that an operation may have
+--     plain_value                 a value or none that is a reply
+--     plain_reply                 the reply of a call without a fault, from its only word
+--     refusal_of                  the reply of a call that was refused, from the refusal's name: a call is refused only if its
+--                                 history is full, and waits otherwise
+--     failure_of                  the reply of a call with a fault, from the name and the code of the fault
+--     failure_with                the same reply, if the word of the code is a number
+--     two_words                   the reply of a call that was refused, or that had a fault, from its two words
+--     reply_from, reply_said      the reply that a word names, from the parts before and after its colon, if it has one, and from
+--                                 the word alone
 use Rattle.std.specs.Prelude.{ℕ, List, codes, Bool, true, false, ◌&&◌, Option, None, Some, Result, Ok, Err, if◌then◌else◌}
 use Rattle.std.specs.Str.{bytes_eq}
 use Rattle.jc_types.specs.declared.refusal.Refusal.TheVariants.{HistoryFull, LoaderFailed, WriterFailed, ProcessorFailed}
@@ -54,7 +55,7 @@ reply_kind op.Clear = silent answer.Unit
 reply_kind (op.LoadAll replace) = loading answer.Unit
 reply_kind op.Invoke = record { answer = answer.Value; loader = true; processor = true; writer = true }
 
--- 2. One word: nobody failed.
+-- 2. One word: there was no fault.
 
 abbrev pub plain_value : Result (Option Bytes) Fault → Result Reply LineFault
 plain_value (Ok value) = Ok (reply.Value value)
@@ -68,7 +69,7 @@ plain_reply answer.Flag word =
     Err BadReply
 plain_reply answer.Value word = plain_value (value_or_none_of word)
 
--- 3. Two words: the call was refused, or somebody failed.
+-- 3. Two words: the call was refused, or had a fault.
 
 abbrev pub refusal_of : List ℕ → Result Reply LineFault
 refusal_of name = if bytes_eq name (codes "HistoryFull") then Ok (reply.Fault HistoryFull) else Err BadReply

@@ -1,13 +1,13 @@
--- Runs: from what a reader gives to what a writer takes.
---     IsExplored   what an exploration with this budget of states has found: outcomes with shortest schedules of theirs, no two the same,
---                  and each one if it is whole, with no more states than the budget; else it has come to more states than the budget, or
---                  found more outcomes than the limit
---     IsAnswer     an output is the answer of an exploration of a program; each verdict in it, and the end, which is that of the
---                  expectations, mean what they say of all schedules
---     IsComplaint  an output names the line of the input that is the first at fault, with its fault, and the end says so
---     Answers      the answer to the program that the input's text says, or the complaint of that text
---     Ran          the input was read to its end, and its answer written
---     Broke        the same, up to a write that failed
+-- Runs, from the bytes of a reader to the bytes of a writer.
+--     IsExplored     the result of an exploration with this budget of states: outcomes with shortest schedules of theirs, no two
+--                    the same, and all of them if it is whole, with no more states than the budget; otherwise it has met more
+--                    states than the budget, or found more outcomes than the limit
+--     IsAnswer       an output is the answer of an exploration of a program; each verdict in it, and the end, which is that of
+--                    the expectations, has its meaning for all schedules
+--     IsComplaint    an output names the first line of the input that is at fault, with its fault, and the end is `LineFault`
+--     Answers        the answer to the program of the input's text, or the complaint about that text
+--     Ran            the input was read to its end, and its answer written
+--     Broke          the input was read to its end, and a prefix of its answer written, up to a write that failed
 use Rattle.std.specs.Prelude.{◌≡◌, ◌≤◌, ◌⊎◌, ℕ, List, take, length, Option, Ok, Err, true, false}
 use Rattle.std.specs.List.{All}
 use Rattle.std.specs.Io.KnownBytes.{Appends}

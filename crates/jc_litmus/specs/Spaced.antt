@@ -1,10 +1,11 @@
 -- Lines of scripts, from their words.
---     spaced           words, each after a space
---     open_text        the line that opens a cache of this shape, with these words for what is on, each after a space
---     begin_text       the line by which a session begins a call, with the words of its operation
---     lone_text        a word and a call's number
---     coded_text       a word, a call's number and a code
---     coded_line_text  the line of these as it is shown, if there is a code
+--     spaced             words, each after a space
+--     open_text          the line that opens a cache of this shape, with these words for the flags that are on, each after a
+--                        space
+--     begin_text         the line by which a session begins a call, with the words of its operation
+--     lone_text          a word and a call's number
+--     coded_text         a word, a call's number and a code
+--     coded_line_text    the line of a word, a call's number and a code as it is shown, if there is a code
 use Rattle.std.specs.Prelude.{ℕ, List, [], ◌∷◌, ◌++◌, codes, decimal, Option, None, Some}
 use Rattle.std.specs.List.{flat_map, join_with_byte}
 use Rattle.jc_types.specs.declared.config.Config.{Config}

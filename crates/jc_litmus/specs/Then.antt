@@ -1,4 +1,4 @@
--- What a step that may fail continues with.
+-- A step that may fail, and the step that follows it.
 use Rattle.std.specs.Prelude.{Result, Ok, Err}
 use Rattle.jc_litmus.specs.declared.program.LineFault.{LineFault}
 

@@ -1,26 +1,26 @@
 -- A schedule as a script: the lines that play it.
---     no_progress      how far a thread is that has begun nothing
---     has_numbers        both the next call's number and a count of items are below the largest number that a script names
---     begin_line       the line by which a session begins an item, with its call's number
---     if_coded         a line with a code, if there is one
---     run_line         the line of a processor's run
---     act_line         the line of an act of a call, with the calls of its processor
---     call_line        the line of an act of an item
---     line_at          the line of a move of a thread that is so far
---     line_of_move     the line of a move
---     begun_by         how far a thread is after an item began
---     last_by          the number of the last call after an item began
---     begun_item       the item that a move of a thread begins, if it begins one
---     progress_at      how far a thread is after a move of it
---     last_at          the number of the last call after a move of a thread
---     threads_at       how far the threads are after a move of a thread that is so far
---     progress_after   how far the threads are after a move
---     last_after       the number of the last call after a move
---     piped            a line as it is shown
---     piped_if         the same, if there is a line
---     steps_text       the lines of the moves of a schedule as they are shown
---     set_text         the line of an entry of the store as it is shown
---     witness_text     the script of a schedule as it is shown: the cache's shape, the store, the moves, and an audit
+--     no_progress       the state of a thread that has begun nothing
+--     has_numbers       both the next call's number and a count of items are below the largest number that a script names
+--     begin_line        the line by which a session begins an item, with its call's number
+--     if_coded          a line with a code, if there is one
+--     run_line          the line of a processor's run
+--     act_line          the line of an act of a call, with the calls of its processor
+--     call_line         the line of an act of an item
+--     line_at           the line of a move of a thread in this state
+--     line_of_move      the line of a move
+--     begun_by          the state of a thread after an item began
+--     last_by           the number of the last call after an item began
+--     begun_item        the item that a move of a thread begins, if it begins one
+--     progress_at       the state of a thread after a move of it
+--     last_at           the number of the last call after a move of a thread
+--     threads_at        the states of the threads after a move of a thread in this state
+--     progress_after    the states of the threads after a move
+--     last_after        the number of the last call after a move
+--     piped             a line as it is shown
+--     piped_if          the same, if there is a line
+--     steps_text        the lines of the moves of a schedule as they are shown
+--     set_text          the line of an entry of the store as it is shown
+--     witness_text      the script of a schedule as it is shown: the cache's shape, the store, the moves, and an audit
 use Rattle.std.specs.Prelude.{ℕ, ◌+◌, ◌-◌, List, [], ◌∷◌, ◌++◌, codes, length, replicate, Bool, ◌&&◌, nat_lt, Option, None, Some, slice_get, slice_set, if◌then◌else◌}
 use Rattle.std.specs.List.{flat_map}
 use Rattle.jc_types.specs.declared.limits.TheConstants.{NUMBER_MAX}
@@ -94,7 +94,7 @@ line_at p last m (Some progress) =
 abbrev pub line_of_move : Program → ℕ → List Progress → Move → Option Line
 line_of_move p last threads m = line_at p last m (slice_get threads m.thread)
 
--- 2. What a move changes.
+-- 2. The changes of a move.
 
 abbrev pub begun_by : ℕ → Progress → Option Item → Progress
 begun_by last progress None = progress

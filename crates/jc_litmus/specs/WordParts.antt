@@ -1,6 +1,6 @@
 -- Parts of a word.
---     sign_at                the place of the first such byte
---     halves_at, halves_of   what is before a place and after it, and before the first such byte and after it
+--     sign_at                 the place of the first byte that is this sign
+--     halves_at, halves_of    the parts before a place and after it, and before the first sign and after it
 use Rattle.std.specs.Prelude.{◌==◌, ℕ, ◌+◌, List, take, drop, Option, None, Some}
 use Rattle.std.specs.List.{position}
 

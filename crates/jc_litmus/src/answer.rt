@@ -10,7 +10,7 @@ use jc_explore::{Explored, OUTCOMES_MAX, Program};
 use jc_script::printing::{Piece, put, put_pieces};
 use std::alloc::{AllocError, Global};
 
-/// Appends how many outcomes there are, and of how many states.
+/// Appends the numbers of outcomes and of states.
 #[tactic(auto, unfolding(crate::specs::Outcomes::counts_text))]
 fn put_counts(out: &mut Vec<u8>, outcomes: usize, states: u64) -> Result<(), AllocError>
     ensures { OnOk result (out.new.items ≡ out.old.items ++ counts_text outcomes states) }
@@ -26,7 +26,7 @@ fn put_counts(out: &mut Vec<u8>, outcomes: usize, states: u64) -> Result<(), All
     )
 }
 
-/// Appends how many outcomes and states there are.
+/// Appends the line with the numbers of outcomes and of states.
 fn put_whole_line(out: &mut Vec<u8>, outcomes: usize, states: u64) -> Result<(), AllocError>
     ensures { OnOk result (out.new.items ≡ out.old.items ++ whole_line outcomes states) }
 {
@@ -65,7 +65,7 @@ fn put_budget_line(out: &mut Vec<u8>, states: usize) -> Result<(), AllocError>
     )
 }
 
-/// Appends how many outcomes and states there are, or where the exploration with this budget of states stopped.
+/// Appends the numbers of outcomes and of states, or after how many the exploration with this budget of states stopped.
 fn put_closing(out: &mut Vec<u8>, states: usize, explored: &Explored) -> Result<(), AllocError>
     ensures { OnOk result (out.new.items ≡ out.old.items ++ closing_text states explored.now) }
 {
@@ -93,7 +93,7 @@ fn put_first(out: &mut Vec<u8>, first: Option<usize>) -> Result<(), AllocError>
     }
 }
 
-/// Appends what becomes of an expectation.
+/// Appends the verdict on an expectation.
 fn put_ending(out: &mut Vec<u8>, verdict: Verdict) -> Result<(), AllocError>
     requires { IsNumbered verdict }
     ensures { OnOk result (out.new.items ≡ out.old.items ++ ending_text verdict) }
@@ -111,7 +111,7 @@ fn put_ending(out: &mut Vec<u8>, verdict: Verdict) -> Result<(), AllocError>
     }
 }
 
-/// Appends an expectation, and what becomes of it.
+/// Appends an expectation, and its verdict.
 #[tactic(auto, unfolding(crate::specs::Outcomes::verdict_line))]
 fn put_verdict(
     out: &mut Vec<u8>,
@@ -125,7 +125,7 @@ fn put_verdict(
     put(out, "\n")
 }
 
-/// Appends expectations, and what becomes of each.
+/// Appends expectations, each with its verdict.
 fn put_verdicts(
     out: &mut Vec<u8>,
     explored: &Explored,
@@ -157,7 +157,7 @@ pub fn answer(
     Ok(out)
 }
 
-/// What is said of a program of which a line is at fault.
+/// The output for a program with a line that is at fault.
 #[tactic(auto, unfolding(crate::specs::Outcomes::fault_text))]
 pub fn complaint(alloc: Global, line: u64, fault: LineFault) -> Result<Vec<u8>, AllocError>
     ensures { IfOk result (λ out. out.items ≡ fault_text line fault) }

@@ -1,4 +1,4 @@
-//! What an expectation says of outcomes, from its words.
+//! The atoms of an expectation, from its words.
 ghost use Rattle.std.specs.Prelude.{◌≡◌, ◌++◌, ◌∷◌, [], map, OnOk};
 ghost use Rattle.std.specs.List.{list_all};
 ghost use Rattle.jc_script.specs.Words.{key_of, value_or_none_of};
@@ -19,7 +19,7 @@ use jc_script::words::{is, key, number, value_or_none};
 use jc_types::{Key, Value};
 use std::alloc::AllocError;
 
-/// The number that a word says. A word that says none has no shape of an atom.
+/// The number that a word spells. A word that is no number doesn't have the shape of an atom.
 fn number_or_bad(word: &[u8]) -> Result<u32, LineFault>
     ensures { result ≡ number_or_bad word.now }
 {
@@ -29,7 +29,7 @@ fn number_or_bad(word: &[u8]) -> Result<u32, LineFault>
     }
 }
 
-/// The numbers of a thread and of an item there, with a dot between them.
+/// The numbers of a thread and of its item, with a dot between them.
 fn numbers_of(word: &[u8]) -> Result<(u32, u32), LineFault>
     ensures { result ≡ numbers_of word.now }
 {
@@ -63,7 +63,7 @@ fn value_or_fault(word: &[u8]) -> Result<Option<Value>, LineFault>
     }
 }
 
-/// What the cache has of a key.
+/// The atom that the cache has this value, or none, at a key.
 #[tactic(auto, unfolding(crate::specs::Atoms::cached_of))]
 fn cached_of(key: &[u8], value: &[u8]) -> Result<Atom, LineFault>
     ensures { result ≡ cached_of key.now value.now }
@@ -73,7 +73,7 @@ fn cached_of(key: &[u8], value: &[u8]) -> Result<Atom, LineFault>
     Ok(Atom::Cached { key, value })
 }
 
-/// What the store has of a key.
+/// The atom that the store has this value, or none, at a key.
 #[tactic(auto, unfolding(crate::specs::Atoms::stored_of))]
 fn stored_of(key: &[u8], value: &[u8]) -> Result<Atom, LineFault>
     ensures { result ≡ stored_of key.now value.now }
@@ -83,7 +83,7 @@ fn stored_of(key: &[u8], value: &[u8]) -> Result<Atom, LineFault>
     Ok(Atom::Stored { key, value })
 }
 
-/// How a call is answered.
+/// The atom that a call has this reply.
 #[tactic(auto, unfolding(crate::specs::Atoms::replied_of))]
 fn replied_of(threads: &[Vec<Item>], call: &[u8], reply: &[u8]) -> Result<Atom, LineFault>
     ensures { result ≡ replied_of (map (λ t. t.items) threads.now) call.now reply.now }
@@ -98,7 +98,7 @@ fn replied_of(threads: &[Vec<Item>], call: &[u8], reply: &[u8]) -> Result<Atom, 
     })
 }
 
-/// What is said of something, on both sides of an equals sign.
+/// The atom of two words that stood on both sides of an equals sign.
 fn pair_of(threads: &[Vec<Item>], what: &[u8], says: &[u8]) -> Result<Atom, LineFault>
     ensures { result ≡ pair_of (map (λ t. t.items) threads.now) what.now says.now }
 {
@@ -111,7 +111,7 @@ fn pair_of(threads: &[Vec<Item>], what: &[u8], says: &[u8]) -> Result<Atom, Line
     replied_of(threads, what, says)
 }
 
-/// What a word says of an outcome of these threads.
+/// The atom of a word, about an outcome of these threads.
 fn atom_of(threads: &[Vec<Item>], word: &[u8]) -> Result<Atom, LineFault>
     ensures { result ≡ atom_of (map (λ t. t.items) threads.now) word.now }
 {
@@ -127,7 +127,7 @@ fn atom_of(threads: &[Vec<Item>], word: &[u8]) -> Result<Atom, LineFault>
     }
 }
 
-/// Whether something is said of a key, or of an item.
+/// Whether the left side names a key, or an item.
 fn is_about(what: &[u8]) -> bool
     ensures { result ≡ is_about what.now }
 {
@@ -159,7 +159,7 @@ fn all_atoms(words: &[&[u8]]) -> bool
     true
 }
 
-/// Whether each word has the shape of an atom, and there is one at least.
+/// Whether each word has the shape of an atom, and there is at least one.
 pub(crate) fn are_atoms(words: &[&[u8]]) -> bool
     ensures { result ≡ are_atoms (map (λ w. w.now) words.now) }
 {
@@ -177,7 +177,7 @@ fn push_atom(atoms: &mut Vec<Atom>, atom: Atom) -> Result<(), AllocError>
     Ok(())
 }
 
-/// One more atom, which a word says of these threads.
+/// Appends the atom of a word, about these threads.
 fn add_atom(atoms: &mut Vec<Atom>, threads: &[Vec<Item>], word: &[u8]) -> Result<(), LineError>
     ensures { Reads (ok_with atoms.new.items result)
         (atom_onto (map (λ t. t.items) threads.now) atoms.old.items word.now) }
@@ -188,7 +188,7 @@ fn add_atom(atoms: &mut Vec<Atom>, threads: &[Vec<Item>], word: &[u8]) -> Result
     Ok(())
 }
 
-/// The atoms that the words say of these threads, behind those that are there.
+/// Appends the atoms of the words, about these threads.
 pub(crate) fn add_atoms(
     atoms: &mut Vec<Atom>,
     threads: &[Vec<Item>],

@@ -1,4 +1,4 @@
-//! The calls of a program, by the numbers that an expectation names them by.
+//! The calls of a program, by the numbers with which an expectation names them.
 ghost use Rattle.std.specs.Prelude.{◌≡◌, count_by, map, take, slice_get, option_copied};
 ghost use Rattle.jc_litmus.specs.Calls.{answered, is_call, answered_at, call_in, place_of, call_at, call_named};
 
@@ -7,7 +7,7 @@ use crate::reply_words::{ReplyKind, reply_kind};
 use jc_explore::Item;
 use jc_model::Op;
 
-/// Which replies a call has. A write of another program isn't answered.
+/// The kind of replies of a call. A write of another program isn't answered.
 fn answered(item: &Item) -> Option<ReplyKind>
     ensures { result ≡ answered item.now }
 {
@@ -28,7 +28,7 @@ pub(crate) fn is_call(item: &Item) -> bool
     }
 }
 
-/// How many of these items are calls.
+/// The number of calls among these items.
 fn calls_in(items: &[Item]) -> usize
     ensures { result ≡ count_by is_call items.now }
 {
@@ -53,7 +53,7 @@ fn item_at(items: &[Item], at: usize) -> Option<&Item>
     items.get(at)
 }
 
-/// Which replies the item at a place has, if it is there and is a call.
+/// The kind of replies of the item at a place, if it is there and is a call.
 fn answered_at(items: &[Item], at: usize) -> Option<ReplyKind>
     ensures { result ≡ answered_at (slice_get items.now at) }
 {
@@ -63,7 +63,7 @@ fn answered_at(items: &[Item], at: usize) -> Option<ReplyKind>
     }
 }
 
-/// A call of a thread: its place among the thread's calls, and which replies it has.
+/// A call of a thread: its place among the thread's calls, and its kind of replies.
 fn call_in(items: &[Item], at: usize) -> Result<(usize, ReplyKind), LineFault>
     ensures { result ≡ call_in items.now at }
 {
@@ -90,7 +90,7 @@ pub(crate) struct Named {
     pub thread: usize,
     /// The place among the thread's calls, from 0.
     pub call: usize,
-    /// Which replies it has.
+    /// Its kind of replies.
     pub kind: ReplyKind,
 }
 
@@ -107,7 +107,7 @@ fn call_at(threads: &[Vec<Item>], thread: usize, at: usize) -> Result<Named, Lin
     }
 }
 
-/// The call with these numbers of its thread and of its item there, which count from 1.
+/// The call with these numbers of its thread and of its item, which count from 1.
 #[tactic(auto, unfolding(crate::specs::Calls::call_named))]
 pub(crate) fn call_named(threads: &[Vec<Item>], thread: u32, item: u32) -> Result<Named, LineFault>
     ensures { result ≡ call_named (map (λ t. t.items) threads.now) thread item }

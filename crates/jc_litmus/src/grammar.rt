@@ -1,4 +1,4 @@
-//! Lines of a program that scripts spell otherwise.
+//! Lines of a program that scripts spell in another way.
 ghost use Rattle.std.specs.Prelude.{◌≡◌, ◌++◌, codes, map, OnOk, IfOk};
 ghost use Rattle.std.specs.List.{flat_map};
 ghost use Rattle.jc_script.specs.Lines.{ok_with};
@@ -17,7 +17,8 @@ use jc_script::words::{is, number};
 use jc_world::process::{EntryCalls, LoadSource};
 use std::alloc::{AllocError, Global};
 
-/// The words behind `begin` in a line of a script that begins this call. Of what the line asks for the call's own words alone count.
+/// The words after `begin` in a line of a script that begins this call. The call's number and session, which a program doesn't
+/// have, are placeholders.
 fn begin_words<'a>(
     alloc: Global,
     first: &'a [u8],
@@ -64,7 +65,7 @@ fn process_text(alloc: Global, words: &[&[u8]]) -> Result<Vec<u8>, AllocError>
     Ok(text)
 }
 
-/// Leaves in `line` what a line of a script asks for. It asks for something.
+/// Reads a line of a script into `line`. The line is no comment.
 fn made_line(alloc: Global, text: &[u8], line: &mut Line) -> Result<(), LineError>
     ensures { Reads (ok_with line.new result) (made_line text.now) }
 {
@@ -76,7 +77,7 @@ fn made_line(alloc: Global, text: &[u8], line: &mut Line) -> Result<(), LineErro
     }
 }
 
-/// Leaves in `line` the line of a script that begins the call of these words.
+/// Reads the line of a script that begins the call of these words into `line`.
 pub(crate) fn begin_line(
     alloc: Global,
     first: &[u8],
@@ -140,7 +141,7 @@ fn line_calls(alloc: Global, line: &Line) -> Result<EntryCalls, LineError>
     }
 }
 
-/// The calls that an entry processor makes, from their words. `line` is room for a line.
+/// The calls that an entry processor makes, from their words. `line` is a buffer for a line.
 pub(crate) fn entry_calls(
     alloc: Global,
     words: &[&[u8]],
@@ -154,7 +155,7 @@ pub(crate) fn entry_calls(
     line_calls(alloc, line)
 }
 
-/// Which of loader, writer and processor may fail, and how.
+/// The partner that may fail, and how.
 #[derive(Clone, Copy)]
 pub(crate) enum WhoFails {
     /// The loader.
@@ -167,7 +168,7 @@ pub(crate) enum WhoFails {
     Process,
 }
 
-/// Which of them may fail, and how, from the words that name it.
+/// The partner that may fail, and how, from the words that name it.
 fn failing_named(who: &[u8], how: &[u8]) -> Option<WhoFails>
     ensures { result ≡ failing_named who.now how.now }
 {
@@ -180,7 +181,7 @@ fn failing_named(who: &[u8], how: &[u8]) -> Option<WhoFails>
     }
 }
 
-/// Which of them may fail, and with which code, from the words of a line.
+/// The partner that may fail, and with which code, from the words of a line.
 pub(crate) fn may_fail(words: &[&[u8]]) -> Result<(WhoFails, u32), Fault>
     ensures { result ≡ may_fail (map (λ w. w.now) words.now) }
 {
@@ -193,7 +194,7 @@ pub(crate) fn may_fail(words: &[&[u8]]) -> Result<(WhoFails, u32), Fault>
     }
 }
 
-/// The same who may fail, with one more. Of two codes of one kind the later counts.
+/// The faults that may happen, with one more. If there are two codes of one kind, the later counts.
 pub(crate) fn with_fault(faults: Faults, failing: WhoFails, code: u32) -> Faults
     ensures { result ≡ with_fault faults failing code }
 {
@@ -207,7 +208,7 @@ pub(crate) fn with_fault(faults: Faults, failing: WhoFails, code: u32) -> Faults
     faults
 }
 
-/// Of how many outcomes an expectation speaks that begins with this word.
+/// The quantifier of an expectation that begins with this word.
 pub(crate) fn quantifier_named(word: &[u8]) -> Option<Quantifier>
     ensures { result ≡ quantifier_named word.now }
 {

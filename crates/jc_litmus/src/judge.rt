@@ -12,7 +12,7 @@ use jc_explore::{Explored, FinalState, Finding, ThreadReply};
 use jc_model::Reply;
 use jc_types::{Key, Refusal, Value};
 
-/// What becomes of an expectation. Outcomes are counted from 0.
+/// The verdict on an expectation. Outcomes are counted from 0.
 #[derive(Clone, Copy, Debug, PartialEq, Eq)]
 pub enum Verdict {
     /// It holds. A `sometimes` holds because of this outcome.
@@ -39,7 +39,7 @@ pub fn reply_of(thread: usize, call: usize, replies: &[ThreadReply]) -> Option<R
     None
 }
 
-/// What entries have of a key: a value, or none.
+/// The value of a key in these entries, or none.
 fn value_of_key(key: &Key, entries: &[(Key, Value)]) -> Option<Value>
     ensures { result ≡ value_of_key key.now entries.now }
 {
@@ -89,14 +89,14 @@ fn same_code(one: Option<u32>, other: Option<u32>) -> bool
     }
 }
 
-/// Whether two refusals have one name and one code.
+/// Whether two refusals have the same name and the same code.
 fn same_refusal(one: &Refusal, other: &Refusal) -> bool
     ensures { result ≡ same_refusal one.now other.now }
 {
     one.name().as_bytes() == other.name().as_bytes() && same_code(code_of(one), code_of(other))
 }
 
-/// Whether two replies are one.
+/// Whether two replies are the same.
 fn same_reply(one: &Reply, other: &Reply) -> bool
     ensures { result ≡ same_reply one.now other.now }
 {
@@ -109,7 +109,7 @@ fn same_reply(one: &Reply, other: &Reply) -> bool
     }
 }
 
-/// Whether a call was answered so.
+/// Whether a call was answered with this reply.
 fn was_answered(found: &Option<Reply>, reply: &Reply) -> bool
     ensures { result ≡ was_answered found.now reply.now }
 {
@@ -164,7 +164,7 @@ fn first_deciding(expectation: &Expectation, found: &[Finding]) -> Option<usize>
         .position(|one| decides(&one.state, expectation))
 }
 
-/// What becomes of an expectation that this outcome decides, or none of those that were found.
+/// The verdict on an expectation that this outcome decides, or none of those that were found.
 fn verdict_from(quantifier: Quantifier, first: Option<usize>, is_whole: bool) -> Verdict
     requires { IfSome first (λ place. place + 1 < 2 ^ 64) }
     ensures verdict { result ≡ verdict_from quantifier first is_whole }
@@ -179,7 +179,7 @@ fn verdict_from(quantifier: Quantifier, first: Option<usize>, is_whole: bool) ->
     }
 }
 
-/// What becomes of an expectation, by an exploration.
+/// The verdict on an expectation, by an exploration.
 pub fn verdict_on(explored: &Explored, expectation: &Expectation) -> Verdict
     ensures verdict { result ≡ verdict_on explored.now expectation.now }
     ensures numbered { IsNumbered result }
@@ -188,7 +188,7 @@ pub fn verdict_on(explored: &Explored, expectation: &Expectation) -> Verdict
     verdict_from(expectation.quantifier, first, explored.is_whole)
 }
 
-/// Whether it says that the expectation fails.
+/// Whether the verdict is that the expectation fails.
 fn is_failure(verdict: Verdict) -> bool
     ensures { result ≡ is_failure verdict }
 {
@@ -212,7 +212,7 @@ fn any_fails(explored: &Explored, expectations: &[Expectation]) -> bool
     expectations.iter().any(|one| fails(explored, one))
 }
 
-/// How an exploration ends, with these expectations.
+/// The end of an exploration with these expectations.
 pub fn end_of(explored: &Explored, expectations: &[Expectation]) -> LitmusEnd
     ensures { result ≡ end_of explored.now expectations.now }
 {

@@ -1,10 +1,10 @@
-//! Laws of the words of programs and their answers. Each function does nothing: what it says is its contract.
+//! Laws of the words of programs and their answers. Each function does nothing: its contract is the law.
 ghost use Rattle.jc_litmus.specs.ReplyTexts.{RepliesAreOfKind, RepliesAreTold, RepliesOfTable, RepliesReadBack, SilenceIsTold};
 
 use jc_script::laws::words_read_back;
 
-/// What an outcome says of a call tells its reply: of two replies that the call can have the texts differ, and neither is that of a
-/// call that is never answered. What an expectation writes for a reply is read as that reply.
+/// The text of a call in an outcome determines its reply: two replies that the call can have differ in their texts, and neither
+/// text is that of a call that is never answered. The word of a reply in an expectation is read as that reply.
 pub fn replies_are_told()
     ensures told { RepliesAreTold }
     ensures silence { SilenceIsTold }

@@ -1,4 +1,4 @@
-//! Programs of threads, from text: every outcome that they can have, each with a script that plays it, and what becomes of the
+//! Programs of threads, from text: every outcome that they can have, each with a script that plays it, and the verdicts on the
 //! author's expectations.
 #![tactic(auto)]
 

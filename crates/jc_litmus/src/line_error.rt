@@ -13,7 +13,7 @@ use std::alloc::AllocError;
 pub(crate) enum LineError {
     /// An allocation failed.
     Memory,
-    /// It has this fault.
+    /// The line has this fault.
     Fault(LineFault),
 }
 

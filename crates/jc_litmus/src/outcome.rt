@@ -14,7 +14,7 @@ use jc_script::printing::{Piece, put, put_pieces};
 use jc_types::Refusal;
 use std::alloc::{AllocError, Global};
 
-/// How many calls are before a place of a thread's list.
+/// The number of calls before a place of a thread's list.
 fn calls_before(items: &[Item], at: usize) -> usize
     requires { at < length items.now }
     ensures { result ≡ calls_before items.now at }
@@ -22,15 +22,15 @@ fn calls_before(items: &[Item], at: usize) -> usize
     items[..at].iter().filter(|item| is_call(*item)).count()
 }
 
-/// How many replies a thread got.
+/// The number of replies that a thread got.
 fn replies_to(thread: usize, replies: &[ThreadReply]) -> usize
     ensures { result ≡ replies_to thread replies.now }
 {
     replies.iter().filter(|r| r.thread == thread).count()
 }
 
-/// Appends what is said of a refusal. A failure is said as a transcript does, with its code, and any other refusal as one: a value may
-/// be spelled like its name.
+/// Appends the text of a refusal. A failure is written with its code, as in a transcript. Any other refusal is marked as one,
+/// since a value may be spelled like its name.
 fn put_refused(out: &mut Vec<u8>, refusal: &Refusal) -> Result<(), AllocError>
     ensures { OnOk result (out.new.items ≡ out.old.items ++ refused_text refusal.now) }
 {
@@ -41,7 +41,7 @@ fn put_refused(out: &mut Vec<u8>, refusal: &Refusal) -> Result<(), AllocError>
     }
 }
 
-/// Appends what is said of a reply.
+/// Appends the text of a reply.
 fn put_replied(out: &mut Vec<u8>, reply: &Reply) -> Result<(), AllocError>
     ensures { OnOk result (out.new.items ≡ out.old.items ++ replied_text reply.now) }
 {
@@ -121,7 +121,7 @@ fn put_call(
     }
 }
 
-/// Appends what is said of a thread's item.
+/// Appends the line of a thread's item, if it has one.
 fn put_item(
     out: &mut Vec<u8>,
     replies: &[ThreadReply],
@@ -140,7 +140,7 @@ fn put_item(
     }
 }
 
-/// Appends what is said of a thread.
+/// Appends the lines of a thread.
 fn put_thread(
     out: &mut Vec<u8>,
     replies: &[ThreadReply],
@@ -156,7 +156,7 @@ fn put_thread(
     Ok(())
 }
 
-/// Appends what is said of a thread, if there is one with this number.
+/// Appends the lines of a thread, if there is one with this number.
 fn put_thread_at(
     out: &mut Vec<u8>,
     program: &Program,
@@ -173,7 +173,7 @@ fn put_thread_at(
     }
 }
 
-/// Appends what is said of each thread.
+/// Appends the lines of all threads.
 fn put_threads(
     out: &mut Vec<u8>,
     program: &Program,
@@ -247,7 +247,7 @@ fn put_outcome_at(
     }
 }
 
-/// Appends outcomes, one after the other.
+/// Appends outcomes, one after another.
 pub fn put_outcomes(
     alloc: Global,
     out: &mut Vec<u8>,

@@ -1,4 +1,4 @@
-//! Programs of threads as text has them: what the threads do, and what the author expects of the outcomes.
+//! Programs of threads, as read from text: the items of the threads, and the author's expectations of the outcomes.
 ghost use Rattle.std.specs.Prelude.{◌≡◌};
 ghost use Rattle.jc_litmus.specs.LineFaults.{line_fault_text};
 
@@ -13,7 +13,7 @@ pub const THREADS_MAX: usize = 8;
 /// The most items of a program, of all its threads together.
 pub const ITEMS_MAX: usize = 32;
 
-/// A program, and what its author expects of its outcomes.
+/// A program, and its author's expectations of the outcomes.
 #[derive(Drop)]
 pub struct Litmus {
     /// The program.
@@ -22,7 +22,7 @@ pub struct Litmus {
     pub expectations: Vec<Expectation>,
 }
 
-/// Of how many outcomes an expectation speaks.
+/// The number of outcomes that an expectation is about.
 #[derive(Clone, Copy, Debug, PartialEq, Eq)]
 pub enum Quantifier {
     /// No outcome has all the atoms.
@@ -33,10 +33,10 @@ pub enum Quantifier {
     Always,
 }
 
-/// What an outcome may have.
+/// A statement about an outcome.
 #[derive(Clone, Copy, Debug, PartialEq, Eq)]
 pub enum Atom {
-    /// A thread's call was answered so.
+    /// A thread's call was answered with this reply.
     Replied {
         /// The thread, from 0.
         thread: usize,
@@ -45,14 +45,14 @@ pub enum Atom {
         /// The reply.
         reply: Reply,
     },
-    /// The cache has this of a key.
+    /// The cache has this value, or none, at a key.
     Cached {
         /// The key.
         key: Key,
         /// Its value, or none if there is no entry.
         value: Option<Value>,
     },
-    /// The store has this of a key.
+    /// The store has this value, or none, at a key.
     Stored {
         /// The key.
         key: Key,
@@ -65,12 +65,12 @@ pub enum Atom {
     Differs,
 }
 
-/// What a program's author expects of its outcomes.
+/// An expectation of a program's author about the outcomes.
 #[derive(Drop)]
 pub struct Expectation {
-    /// Of how many outcomes it speaks.
+    /// The number of outcomes that it is about.
     pub quantifier: Quantifier,
-    /// What these outcomes have, all of it.
+    /// The atoms, all of which such an outcome has.
     pub atoms: Vec<Atom>,
     /// The line as it was written.
     pub text: Vec<u8>,
@@ -83,15 +83,15 @@ pub enum LineFault {
     Script(Fault),
     /// A call or a write of another program is above the first thread.
     NoThread,
-    /// There is one thread more than [`THREADS_MAX`].
+    /// There are more threads than [`THREADS_MAX`].
     TooManyThreads,
-    /// There is one item more than [`ITEMS_MAX`].
+    /// There are more items than [`ITEMS_MAX`].
     TooManyItems,
-    /// A word that is to be a reply is none.
+    /// A word that should be a reply is none.
     BadReply,
     /// An expectation names a call that isn't above it.
     NoSuchItem,
-    /// The line has its place in scripts alone.
+    /// The line may occur only in scripts.
     NotACall,
 }
 

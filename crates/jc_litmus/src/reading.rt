@@ -36,7 +36,7 @@ use jc_world::EntryCalls;
 use std::alloc::{AllocError, Global};
 use std::marker::Model;
 
-/// A program, as far as its lines are read.
+/// The parts of a program whose lines were read.
 #[derive(Drop)]
 struct Reading {
     config: Option<Config>,
@@ -67,7 +67,7 @@ impl Model for Reading {
     ghost invariant = { λ r. (has_shape r.config ≡ true) × (length r.threads.items ≤ THREADS_MAX) × (r.items ≤ ITEMS_MAX) };
 }
 
-/// Room for the words of a line, and for what it asks for if it is one that scripts have. Each line takes the room of the one before.
+/// Buffers for the words of a line, and for the line of a script that it may be. Each line uses them again.
 #[derive(Drop)]
 struct Room<'a> {
     words: Vec<&'a [u8]>,
@@ -80,7 +80,7 @@ fn bad_line() -> LineError
     LineError::Fault(LineFault::Script(Fault::BadLine))
 }
 
-/// An entry processor on a key, with the calls that it makes there. `line` is room for a line.
+/// An entry processor on a key, with the calls that it makes there. `line` is a buffer for a line.
 #[tactic(auto, unfolding(crate::specs::Program::invocation))]
 fn invocation(alloc: Global, words: &[&[u8]], line: &mut Line) -> Result<Item, LineError>
     ensures { Reads result (invocation (map (λ w. w.now) words.now)) }
@@ -147,7 +147,7 @@ fn push_expectation(
 }
 
 impl Reading {
-    /// Nothing is read.
+    /// A program of which nothing was read yet.
     fn new(alloc: Global) -> Reading
         ensures { result ≡ nothing_read }
     {
@@ -166,7 +166,7 @@ impl Reading {
         }
     }
 
-    /// That the cache's shape was read.
+    /// Tests that the cache's shape was read.
     fn check_open(&self) -> Result<(), LineFault>
         ensures { result ≡ if_open self.now.config (Ok tt) }
     {
@@ -176,7 +176,7 @@ impl Reading {
         Ok(())
     }
 
-    /// That one item more may be read.
+    /// Tests that one more item may be read.
     fn check_item(&self) -> Result<(), LineFault>
         ensures may { result ≡ may_add self.now }
         ensures few { OnOk result (self.now.items < ITEMS_MAX) }
@@ -191,7 +191,7 @@ impl Reading {
         Ok(())
     }
 
-    /// The shape of the cache.
+    /// Takes the shape of the cache.
     #[tactic(auto, unfolding(crate::specs::Program::after_open))]
     fn open(&mut self, config: &Config) -> Result<(), LineFault>
         ensures { ok_with self.new result ≡ after_open self.old config.now }
@@ -208,7 +208,7 @@ impl Reading {
         }
     }
 
-    /// An entry of the store.
+    /// Adds an entry of the store.
     #[tactic(auto, unfolding(crate::specs::Program::after_set))]
     fn set(&mut self, key: &Key, value: &Value) -> Result<(), LineError>
         ensures { Reads (ok_with self.new result) (after_set self.old key.now value.now) }
@@ -221,7 +221,7 @@ impl Reading {
         Ok(())
     }
 
-    /// One item more, of the last thread.
+    /// Adds an item to the last thread.
     #[tactic(auto, unfolding(crate::specs::Program::after_item))]
     fn add(&mut self, item: Item) -> Result<(), LineError>
         ensures { Reads (ok_with self.new result) (after_item self.old item) }
@@ -232,7 +232,7 @@ impl Reading {
         Ok(())
     }
 
-    /// A write of another program.
+    /// Adds a write of another program.
     fn foreign(&mut self, key: &Key, value: &Option<Value>) -> Result<(), LineError>
         ensures { Reads (ok_with self.new result) (after_item self.old (items.Foreign key.now value.now)) }
     {
@@ -240,7 +240,7 @@ impl Reading {
         self.add(Item::Foreign { key, value })
     }
 
-    /// A line that a script may have, too.
+    /// Takes a line that a script may have, too.
     #[tactic(auto, unfolding(crate::specs::Program::after_script_line))]
     fn script_line(&mut self, line: &Line) -> Result<(), LineError>
         ensures { Reads (ok_with self.new result) (after_script_line self.old line.now) }
@@ -256,7 +256,7 @@ impl Reading {
         }
     }
 
-    /// One thread more.
+    /// Adds a thread.
     #[tactic(auto, unfolding(crate::specs::Program::after_thread))]
     fn thread(&mut self, alloc: Global, words: &[&[u8]]) -> Result<(), LineError>
         ensures { Reads (ok_with self.new result) (after_thread self.old (map (λ w. w.now) words.now)) }
@@ -272,7 +272,7 @@ impl Reading {
         Ok(())
     }
 
-    /// A call of one key.
+    /// Adds a call of one key.
     #[tactic(auto, unfolding(crate::specs::Program::after_call))]
     fn call(
         &mut self,
@@ -289,7 +289,7 @@ impl Reading {
         self.add(Item::Call { op, key })
     }
 
-    /// An entry processor on a key, with the calls that it makes there.
+    /// Adds an entry processor on a key, with the calls that it makes there.
     #[tactic(auto, unfolding(crate::specs::Program::after_invoke))]
     fn invoke(&mut self, alloc: Global, words: &[&[u8]], line: &mut Line) -> Result<(), LineError>
         ensures { Reads (ok_with self.new result) (after_invoke self.old (map (λ w. w.now) words.now)) }
@@ -298,7 +298,7 @@ impl Reading {
         self.add(item)
     }
 
-    /// Which of loader, writer and processor may fail.
+    /// Adds a fault that may happen.
     #[tactic(auto, unfolding(crate::specs::Program::after_failing))]
     fn failing(&mut self, words: &[&[u8]]) -> Result<(), LineError>
         ensures { Reads (ok_with self.new result) (after_failing self.old (map (λ w. w.now) words.now)) }
@@ -309,7 +309,7 @@ impl Reading {
         Ok(())
     }
 
-    /// What is expected of the outcomes.
+    /// Adds an expectation of the outcomes.
     #[tactic(auto, unfolding(crate::specs::Program::after_expect))]
     fn expect(
         &mut self,
@@ -338,7 +338,7 @@ impl Reading {
         Ok(())
     }
 
-    /// A line that no script has, from its first word and those after it.
+    /// Takes a line that no script has, by its first word and those after it.
     #[tactic(auto, unfolding(crate::specs::Program::after_own_line))]
     fn own_line(
         &mut self,
@@ -360,7 +360,7 @@ impl Reading {
         }
     }
 
-    /// A line that no script has, from its words.
+    /// Takes a line that no script has, by its words.
     #[tactic(auto, unfolding(crate::specs::Program::after_other_line))]
     fn other_line(
         &mut self,
@@ -381,7 +381,7 @@ impl Reading {
         }
     }
 
-    /// One line.
+    /// Reads one line.
     #[tactic(auto, unfolding(crate::specs::Program::after_line))]
     fn read_line<'a>(
         &mut self,
@@ -402,7 +402,7 @@ impl Reading {
         }
     }
 
-    /// The program, if all is read: the cache's shape is there.
+    /// The program, or none if the cache's shape wasn't read.
     fn finish(self) -> Option<Litmus>
         ensures program { MatchOption result (program_read self ≡ None) (λ x. program_read self ≡ Some (value_of_program x)) }
         ensures fits { IfSome result (λ litmus.
@@ -431,7 +431,7 @@ impl Reading {
     }
 }
 
-/// Whether a word names who is outside of the cache.
+/// Whether a word names one who is outside the cache.
 fn is_outside(word: &[u8]) -> bool
     ensures { result ≡ is_outside word.now }
 {
@@ -457,7 +457,8 @@ fn fault_at(number: u64, error: LineError) -> ProgramFault
     }
 }
 
-/// Reads each line that has an end, and answers the number of the next one, with the bytes that are left: those of a line with no end.
+/// Reads each line that ends in a line feed. It returns the number of the next line, and the bytes that are left: those of a line
+/// without a line feed.
 fn read_lines<'a>(
     alloc: Global,
     input: &'a [u8],
@@ -479,7 +480,7 @@ fn read_lines<'a>(
     Ok((number, is_blank(rest)))
 }
 
-/// The same, with room of its own.
+/// As [`read_lines`], with buffers of its own.
 fn read_all_lines(
     alloc: Global,
     input: &[u8],
@@ -494,7 +495,7 @@ fn read_all_lines(
     read_lines(alloc, input, reading, &mut room)
 }
 
-/// Reads a program, up to the first line with a fault. A program with no `open` has its fault at the line behind its last.
+/// Reads a program, up to the first line with a fault. A program without an `open` has its fault at the line after its last.
 pub(crate) fn read_program(alloc: Global, input: &[u8]) -> Result<Litmus, ProgramFault>
     ensures program { ReadsProgram result (program_of input.now) }
     ensures fits { IfOk result (λ litmus.

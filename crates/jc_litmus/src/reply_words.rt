@@ -9,22 +9,22 @@ use jc_model::{Op, Reply};
 use jc_script::words::{is, number, value_or_none};
 use jc_types::Refusal;
 
-/// What a call is answered if it is neither refused nor fails.
+/// The kind of answer of a call that is neither refused nor fails.
 #[derive(Clone, Copy)]
 pub(crate) enum Answer {
-    /// That it is done.
+    /// It is done, without a value.
     Unit,
-    /// Yes or no.
+    /// A flag.
     Flag,
     /// A value or none.
     Value,
 }
 
-/// The replies that an operation has. Besides these, each call may be refused because a history is full. Any other refusal makes a
-/// thread wait, and is no reply.
+/// The replies that an operation may have. Besides these, each call may be refused because a history is full. Any other refusal
+/// makes a thread wait, and is no reply.
 #[derive(Clone, Copy)]
 pub(crate) struct ReplyKind {
-    /// What it is answered if nobody fails.
+    /// The kind of answer without a fault.
     pub answer: Answer,
     /// Whether its loader may fail.
     pub loader: bool,
@@ -70,7 +70,7 @@ fn writing(answer: Answer) -> ReplyKind
     }
 }
 
-/// The replies that an operation has.
+/// The replies that an operation may have.
 pub(crate) fn reply_kind(op: &Op) -> ReplyKind
     ensures { result ≡ reply_kind op.now }
 {
@@ -92,7 +92,7 @@ pub(crate) fn reply_kind(op: &Op) -> ReplyKind
     }
 }
 
-/// The reply of a call that nobody failed, from its only word.
+/// The reply of a call without a fault, from its only word.
 fn plain_reply(answer: Answer, word: &[u8]) -> Result<Reply, LineFault>
     ensures { result ≡ plain_reply answer word.now }
 {
@@ -119,7 +119,7 @@ fn refusal_of(name: &[u8]) -> Result<Reply, LineFault>
     }
 }
 
-/// The reply of a call that somebody failed, from the name and the code of the failure.
+/// The reply of a call with a fault, from the name and the code of the fault.
 fn failure_of(kind: ReplyKind, name: &[u8], code: u32) -> Result<Reply, LineFault>
     ensures { result ≡ failure_of kind name.now code }
 {
@@ -137,7 +137,7 @@ fn failure_of(kind: ReplyKind, name: &[u8], code: u32) -> Result<Reply, LineFaul
     }
 }
 
-/// The same, from the word of the code.
+/// The reply of a call with a fault, from its name and the word of its code.
 fn failure_with(kind: ReplyKind, name: &[u8], word: &[u8]) -> Result<Reply, LineFault>
     ensures { result ≡ failure_with kind name.now (number_of word.now) }
 {
@@ -147,7 +147,7 @@ fn failure_with(kind: ReplyKind, name: &[u8], word: &[u8]) -> Result<Reply, Line
     }
 }
 
-/// The reply of a call that was refused, or that somebody failed, from its two words.
+/// The reply of a call that was refused, or that had a fault, from its two words.
 fn two_words(kind: ReplyKind, first: &[u8], second: &[u8]) -> Result<Reply, LineFault>
     ensures { result ≡ two_words kind first.now second.now }
 {
@@ -158,7 +158,7 @@ fn two_words(kind: ReplyKind, first: &[u8], second: &[u8]) -> Result<Reply, Line
     }
 }
 
-/// The reply that a word of an expectation says of a call of this kind: two words with a colon between them, or one.
+/// The reply that a word of an expectation names, for a call of this kind: two words with a colon between them, or one.
 pub(crate) fn reply_said(kind: ReplyKind, word: &[u8]) -> Result<Reply, LineFault>
     ensures { result ≡ reply_said kind word.now }
 {

@@ -1,4 +1,4 @@
-//! A program's run, from the bytes that are read to the bytes that are written.
+//! The run of a program, from the bytes that are read to the bytes that are written.
 ghost use Rattle.std.specs.Prelude.{◌≡◌, ◌≢◌, ◌↔◌, true, false, ◌<◌, length, IfOk, IfErr, IfSome};
 ghost use Rattle.jc_litmus.specs.Judging.{end_of};
 ghost use Rattle.jc_litmus.specs.Outcomes.{answer_text};
@@ -16,7 +16,7 @@ use std::alloc::{AllocError, Global};
 use std::io::{Read, Write};
 use thiserror::Error;
 
-/// How the run of a program ended.
+/// The end of a program's run.
 #[derive(Clone, Copy, Debug, PartialEq, Eq)]
 pub enum LitmusEnd {
     /// All outcomes were found, and each expectation holds.
@@ -60,7 +60,7 @@ fn text_of(
     answer(alloc, states, program, explored, expectations)
 }
 
-/// How the run of such a program ends.
+/// The end of the run of such a program.
 fn end_with(litmus: &Litmus, explored: &Explored) -> LitmusEnd
     ensures { result ≡ end_of explored.now litmus.now.expectations.items }
 {
@@ -114,8 +114,8 @@ fn answered<H: Watch>(
     }
 }
 
-/// Reads a program to its end, explores it, and writes the answer, which is made whole before the first write. `watch` is told how far
-/// the search is, and that it is over before anything is written.
+/// Reads a program to its end, explores it, and writes the answer, which is complete before the first write. `watch` is told the
+/// progress of the search, and that it is over before anything is written.
 pub fn run<R: Read, W: Write, H: Watch>(
     alloc: Global,
     reader: &mut Noted<R>,
@@ -123,13 +123,13 @@ pub fn run<R: Read, W: Write, H: Watch>(
     states: usize,
     watch: &mut H,
 ) -> Result<LitmusEnd, LitmusFault>
-    // What was written is the answer to what was read.
+    // The bytes written are the answer to the bytes read.
     ensures ran { IfOk result (λ end. Ran states (R.remaining reader.old.inner) (R.remaining reader.new.inner) (W.contents writer.old.inner) (W.contents writer.new.inner) end) }
-    // After a failed write, a prefix of it.
+    // After a failed write they are a prefix of it.
     ensures broke { result ≡ Err LitmusFault.Write → Broke states (R.remaining reader.old.inner) (R.remaining reader.new.inner) (W.contents writer.old.inner) (W.contents writer.new.inner) }
     // Any other fault writes nothing.
     ensures silent { IfErr result (λ e. e ≢ LitmusFault.Write → writer.new ≡ writer.old) }
-    // A program is too long only over the limit.
+    // `TooLong` means that the program is over the limit.
     ensures long { result ≡ Err LitmusFault.TooLong → IfSome (R.remaining reader.old.inner) (λ xs. SCRIPT_MAX < length xs) }
     // Reading failed exactly if the reader did, and writing exactly if the writer did, in this call.
     ensures read_failed { reader.old.failed ≡ false → (result ≡ Err LitmusFault.Read ↔ reader.new.failed ≡ true) }

@@ -13,7 +13,7 @@ use jc_types::{Config, Key, Value};
 use jc_world::LoadSource;
 use std::alloc::AllocError;
 
-/// Appends the line that opens a cache of this shape, with these words for what is on.
+/// Appends the line that opens a cache of this shape, with these words for the flags that are on.
 fn put_open_with(out: &mut Vec<u8>, config: &Config, flags: &str) -> Result<(), AllocError>
     ensures { OnOk result (out.new.items ≡ out.old.items ++ open_text config.now flags.now) }
 {
@@ -31,7 +31,7 @@ fn put_open_with(out: &mut Vec<u8>, config: &Config, flags: &str) -> Result<(), 
     )
 }
 
-/// The words for read-through and write-through, of what is on, each after a space.
+/// The words for read-through and write-through, as far as they are on, each after a space.
 fn flags(config: &Config) -> &'static str
     ensures { result.now ≡ spaced (flag_words config.now.read_through config.now.write_through) }
 {
@@ -217,7 +217,7 @@ pub fn put_coded(out: &mut Vec<u8>, name: &str, call: u64, code: u32) -> Result<
     )
 }
 
-/// Appends how a processor's loader answers, if it isn't as the store has it.
+/// Appends the answer of a processor's loader, unless it is that of the store.
 fn put_source(out: &mut Vec<u8>, load: &LoadSource) -> Result<(), AllocError>
     ensures { OnOk result (out.new.items ≡ out.old.items ++ spaced (source_words load.now)) }
 {
@@ -258,7 +258,7 @@ fn put_entry_calls(out: &mut Vec<u8>, calls: &[EntryCall]) -> Result<(), AllocEr
     Ok(())
 }
 
-/// Appends the code with which a processor fails, if it does.
+/// Appends the code with which a processor fails, if it fails.
 fn put_fail(out: &mut Vec<u8>, fail: Option<u32>) -> Result<(), AllocError>
     ensures { OnOk result (out.new.items ≡ out.old.items ++ spaced (fail_words fail)) }
 {

@@ -22,13 +22,13 @@ use std::alloc::{AllocError, Global};
 /// The state of a thread.
 #[derive(Clone, Copy)]
 pub struct Progress {
-    /// How many of its items have begun.
+    /// The number of its items that have begun.
     pub begun: usize,
     /// The number of the last call that it began: 0 before the first one.
     pub call: u64,
 }
 
-/// What a thread does at a place of its list.
+/// The item of a thread at a place of its list.
 fn item_at(program: &Program, thread: usize, at: usize) -> Option<&Item>
     ensures { option_copied result ≡ item_at program.now thread at }
 {
@@ -187,7 +187,7 @@ fn is_begin(act: Act) -> bool
     matches!(act, Act::Begin)
 }
 
-/// Appends the line of a move of a thread that is so far.
+/// Appends the line of a move of a thread in this state.
 fn put_line_at(
     out: &mut Vec<u8>,
     program: &Program,

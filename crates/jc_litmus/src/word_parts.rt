@@ -17,7 +17,7 @@ fn begins(first: &[u8], bytes: &[u8]) -> bool
     first.len() <= bytes.len() && &bytes[..first.len()] == first
 }
 
-/// What follows the first `count` bytes of a word.
+/// The part of a word after its first `count` bytes.
 pub(crate) fn behind(count: usize, word: &[u8]) -> &[u8]
     ensures { result.now ≡ drop count word.now }
 {
@@ -28,7 +28,7 @@ pub(crate) fn behind(count: usize, word: &[u8]) -> &[u8]
     }
 }
 
-/// The place of the first such byte.
+/// The place of the first byte that is this sign.
 fn sign_at(sign: u8, word: &[u8]) -> Option<usize>
     ensures place { result ≡ sign_at sign word.now }
     ensures within { IfSome result (λ at. at < length word.now) }
@@ -36,7 +36,7 @@ fn sign_at(sign: u8, word: &[u8]) -> Option<usize>
     word.iter().position(|b| *b == sign)
 }
 
-/// What is before the first such byte of a word, and what is after it.
+/// The parts of a word before the first such byte, and after it.
 pub(crate) fn halves_of(sign: u8, word: &[u8]) -> Option<(&[u8], &[u8])>
     ensures { MatchOption result
         (halves_of sign word.now ≡ None)

@@ -1,12 +1,12 @@
--- What each step of a lock's table tells its seat. `step` is the step, `me` the seat before it and `me'` after it; a seat is a view
--- and the slots that it has taken.
+-- The effect of each step of a lock's table on its seat. `step` is the step, `me` the seat before it and `me'` after it; a seat
+-- is a view and the slots that it has taken.
 --     Opens            the first seat has the slot, which is empty, and is a seat from now on
 --     state_in_hand    the state of the stripe in the slot that the seat has taken
---     Takes            a take that finds the word free has the slot, and the state in it is one that the seat may find; one that finds
---                      it held leaves what `missed` says of the seat's view
+--     Takes            a take that finds the word free has the slot, and the state in it is one that the seat may find; a take
+--                      that finds the word held leaves what `missed` states of the seat's view
 --     Gives            a give leaves the seat with the state that it gives
---     MergesFronts     the front becomes the longer one of its own and the one that was joined; both are prefixes of it, and it is one
---                      of the noted whole history if the seat holds
+--     MergesFronts     the front becomes the longer one of its own and the one that was joined; both are prefixes of it, and it
+--                      is one of the noted whole history if the seat holds
 use Rattle.std.specs.Prelude.{◌≡◌, ◌≢◌, ℕ, true, List, [], ◌∷◌, Option, Some, None}
 use mathlib.Core.List.{IsPrefix}
 use Rattle.atomic_table.specs.Table.{Me, Step, rest}

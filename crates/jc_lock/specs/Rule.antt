@@ -1,13 +1,13 @@
--- What a lock keeps true between any two steps of its table.
---     SeatFits     a seat agrees with the stripe's state: its front is a prefix of the whole history, the noted reservation number is at
---                  most the next one, the noted ended generations are the first of those that have ended, and unless it is spent it has
---                  noted the same stripe; of its session, whose only seat it is, the state has its own steps, in all generations; and
---                  one seat alone gives session numbers out
---     IsFree       the word is free: the slot has the stripe, and no seat holds
---     slot_while   the slot while the word is held: it is out with the holder, or empty at home as long as the lock isn't made
---     IsHeld       the word is held: of all seats one alone can hold, whose view notes the state; it is unopened or not
---     LockRule     there is one reached state of a stripe with which every seat agrees, and which has no step of a session to come;
---                  the slot has it, or the holder
+-- The invariant of a lock between any two steps of its table.
+--     SeatFits      a seat agrees with the stripe's state: its front is a prefix of the whole history, the noted reservation
+--                   number is at most the next one, the noted ended generations are the first of those that have ended, and
+--                   unless it is spent it has noted the same stripe; the state has the own steps, in all generations, of its
+--                   session, whose only seat it is; and only one seat gives session numbers out
+--     IsFree        the word is free: the slot has the stripe, and no seat holds
+--     slot_while    the slot while the word is held: it is out with the holder, or empty at home as long as the lock isn't made
+--     IsHeld        the word is held: only one of all seats can hold, and its view notes the state; it is unopened or not
+--     LockRule      there is one reached state of a stripe with which every seat agrees, and which has no step of a session to
+--                   come; the slot has it, or the holder
 use Rattle.std.specs.Prelude.{◌≡◌, ℕ, ◌<◌, ◌≤◌, ◌⊎◌, true, false, [], ◌∷◌, Bool, Option, Some, None}
 use mathlib.Core.Option.{Option as Option', some, none}
 use mathlib.Core.List.{IsPrefix}
@@ -19,7 +19,8 @@ use Rattle.jc_stripe.specs.Generations.{whole_history, IsOfSameStripe}
 use Rattle.jc_stripe.specs.Renewal.{all_own_steps}
 use Rattle.jc_lock.specs.declared.view.View.{View}
 
--- the seat with number `seat` and this view. Each session has one seat; the seat `giver` gives the session numbers out, from `given` on
+-- the seat with number `seat` and this view. Each session has one seat; the seat `giver` gives out the session numbers, from
+-- `given` on
 pub record SeatFits (seat_of : ℕ → ℕ) (giver given : ℕ) (now : State) (seat : ℕ) (v : View) : Type 0 where
   pub front : IsPrefix v.front (whole_history now)
   pub joined_front : IsPrefix v.joined_front (whole_history now)

@@ -1,28 +1,31 @@
--- What a seat knows, and what each call leaves of it.
---     IsPhaseBy           at most one phase of a seat's session leads from one state to another; none, if the seat is no session's
---     IsTurnBy            the same, or a renewal leads from one to the other
---     empty_stripe        a stripe of the smallest shape with nothing in it, which a seat that is gone notes
---     unopened_view       the first seat of a lock that isn't made yet: it holds the stripe, and the slot is empty
---     opened_view         the same once it has taken the slot
---     first_view          the first seat of a lock, which gives session numbers out, beginning with 0
---     spent_view          a seat that is gone
---     Finds               what a take of a seat may find: a reached state of the noted stripe, whose next reservation number is at least
---                         the noted one, with the noted ended generations first among those that have ended, and the seat's front as a
---                         prefix of its whole history; of the seat's session it has just the own steps, in all generations, and none of
---                         a session that the seat has yet to give out
---     after_take          a take notes the state that it found
---     own_steps_of        the own steps of a session in a state, in all generations; none, if there is no session
---     after_give          a give leaves the seat with the whole history, all generations in a row, as its front, and one lending more
---     after_miss          a try that found the stripe held by somebody else
---     session_number      the number in an option, if it has one
---     after_split         the seat that gave a session number out
---     session_view        the seat that was given it
---     front_note          a note of a seat's front, in a seat of its own
---     with_note           a seat into which a note, or a seat that ends, was joined: its lendings and misses are added
---     longer              the longer one of two lists
---     with_longer_front   its front is the longer one of its own and the note's
---     after_join          both at once: a seat into which another one was joined
---     IsSeated            a seat isn't spent; if it holds the stripe, it has the slot, which is empty, and else it has no slot
+-- The knowledge of a seat, and its change by each call.
+--     IsPhaseBy            at most one phase of a seat's session leads from one state to another; none, if the seat is no
+--                          session's
+--     IsTurnBy             the same, or a renewal leads from one to the other
+--     empty_stripe         a stripe of the smallest shape with nothing in it, which a seat that is gone notes
+--     unopened_view        the first seat of a lock that isn't made yet: it holds the stripe, and the slot is empty
+--     opened_view          the first seat once it has taken the slot
+--     first_view           the first seat of a lock, which gives out session numbers, beginning with 0
+--     spent_view           a seat that is gone
+--     Finds                the states that a take of a seat may find: a reached state of the noted stripe, whose next reservation
+--                          number is at least the noted one, with the noted ended generations first among those that have ended,
+--                          and the seat's front as a prefix of its whole history; its own steps of the seat's session, in all
+--                          generations, are just those of the seat, and it has none of a session that the seat has yet to give
+--                          out
+--     after_take           a take notes the state that it found
+--     own_steps_of         the own steps of a session in a state, in all generations; none, if there is no session
+--     after_give           a give leaves the seat with the whole history, all generations one after another, as its front, and
+--                          one more lending
+--     after_miss           a try that found the stripe held by somebody else
+--     session_number       the number in an option, if it has one
+--     after_split          the seat that gave out a session number
+--     session_view         the seat of the session that got the number
+--     front_note           a note of a seat's front, in a seat of its own
+--     with_note            a seat into which a note, or a seat that ends, was joined: the lendings and misses are added
+--     longer               the longer one of two lists
+--     with_longer_front    its front is the longer one of its own and the note's
+--     after_join           both at once: a seat into which another one was joined
+--     IsSeated             a seat isn't spent; if it holds the stripe, it has the slot, which is empty, otherwise it has no slot
 use Rattle.std.specs.Prelude.{◌≡◌, ℕ, ◌+◌, ◌≤◌, ◌⊎◌, true, false, List, [], ◌∷◌, ◌++◌, length, Option, Some, None, cond, nat_lt}
 use Rattle.std.specs.FinMap as map
 use mathlib.Core.List.{IsPrefix}
@@ -96,7 +99,7 @@ after_split v = record v { next_session = Some (session_number v.next_session + 
 abbrev pub session_view : View → View
 session_view v = record { session = Some (session_number v.next_session); next_session = None; spent = v.spent; holds = false; front = v.front; joined_front = []; own = []; noted = v.noted; lendings = []; misses = 0 }
 
--- 4. What one seat has seen, told to another.
+-- 4. Telling one seat what another has seen.
 
 abbrev pub front_note : View → View
 front_note v = record v { session = None; next_session = None; holds = false; joined_front = []; own = []; lendings = []; misses = 0 }
@@ -113,7 +116,7 @@ with_longer_front v = record v { front = longer v.front v.joined_front; joined_f
 abbrev pub after_join : View → View → View
 after_join v w = with_longer_front (with_note v w)
 
--- 5. What a seat has of the table.
+-- 5. The slots of a seat.
 
 abbrev pub IsSeated : {B : Type 0} → Me (Option B) View → Type 0
 IsSeated me = (me.0.spent ≡ false) × (((me.0.holds ≡ false) × (me.1 ≡ [])) ⊎ ((me.0.holds ≡ true) × (me.1 ≡ (0, None) ∷ [])))

@@ -3,13 +3,15 @@
 //! One holder at a time takes the stripe, makes at most one phase, and gives it back. Every user has a [`Seat`], which takes no
 //! bytes: contracts see in it the prefix of the history that its session has seen, and the session's own steps.
 //!
-//! The lock is one word and one slot of an `atomic_table`. What the table keeps true between any two of its steps is `LockRule` in
-//! `specs/Rule.antt`; what each call leaves of a seat's view is in `specs/Views.antt`.
+//! The lock is one word and one slot of an `atomic_table`. The table's invariant between any two of its steps is `LockRule` in
+//! `specs/Rule.antt`; the effect of each call on a seat's view is in `specs/Views.antt`.
 //!
 //! Why it is so:
-//! - What a user has seen is a seat, a value of its own without bytes. One seat a session and stripe; the first seat alone gives numbers
-//!   out. To tell a seat what another has seen is a split and a join, no step of its own. A lock is made held and opened by its first
-//!   give. A lock that is dropped drops its stripe.
+//! - A user's knowledge is a seat, a value of its own without bytes, so that contracts can state it without a cost at run time.
+//! - There is one seat for each session and stripe, because a seat's own steps are all those of its session there.
+//! - Only the first seat gives out session numbers, so that no two sessions get the same one.
+//! - Telling a seat what another has seen is a split and a join, so that the table needs no further kind of step.
+//! - A lock is made held, and opened by its first give, because a give is the step that puts the stripe into the slot.
 #![tactic(auto)]
 
 mod lock;

@@ -15,11 +15,11 @@ use std::sync::Wait;
 
 /// The word while nobody holds the stripe.
 const FREE: u64 = 0;
-/// The word while somebody holds it.
+/// The word while somebody holds the stripe.
 const HELD: u64 = 1;
 
-/// A lock round a stripe, which threads share by `&HistLock`. Contracts see which lock it is, and no more: the stripe's state is
-/// known to its holder alone.
+/// A lock round a stripe, which threads share by `&HistLock`. Contracts see only which lock it is: the stripe's state is known to
+/// its holder alone. A lock that is dropped drops its stripe.
 #[derive(Drop)]
 pub struct HistLock {
     table: Table<Slot, View, Stripe, Rule, Global>,
@@ -38,9 +38,10 @@ impl Model for HistLock {
     ghost invariant = { λ l. (l.table.shared.table_id.words ≡ 1) × (l.table.shared.table_id.slots ≡ 1) };
 }
 
-/// What one user of a lock needs for every call: one at a time takes part in a call, and threads don't share it. It takes no bytes.
+/// The seat of one user of a lock, which each call needs. A seat takes part in one call at a time, and threads don't share it. It
+/// takes no bytes.
 ///
-/// Contracts see whose seat it is: the lock, and a [`View`] of what it has seen of it.
+/// Contracts see its lock, and a [`View`] of what it has seen of the lock's stripe.
 #[derive(Drop)]
 pub struct Seat {
     token: atomic_table::Seat<Slot, View>,
@@ -63,11 +64,11 @@ impl Model for Seat {
 }
 
 impl HistLock {
-    /// A lock round a stripe, and its first seat, which is no session's and gives session numbers out from 0 on.
+    /// A lock round a stripe, and its first seat, which is no session's and gives out session numbers from 0 on.
     ///
-    /// It takes the memory of one word and one box. Without it the stripe is lost.
+    /// It allocates one word and one box. If an allocation fails, the stripe is dropped.
     ///
-    /// Condition: nothing has happened in the stripe, in whatever generation. Its opening may have entries.
+    /// Condition: nothing has happened in the stripe: its whole history is empty. Its opening may have entries.
     pub fn new(alloc: Global, stripe: Box<Stripe>) -> Result<(HistLock, Seat), AllocError>
         requires { whole_history stripe.value ≡ [] }
         ensures { IfOk result (λ r. (r.1.0 ≡ r.0) × (r.1.1 ≡ first_view stripe.value)) }
@@ -86,10 +87,11 @@ impl HistLock {
         Ok((lock, seat))
     }
 
-    /// Takes the stripe, if nobody holds it; else None, which the seat counts. It never waits and takes no memory.
+    /// Takes the stripe, if nobody holds it. Otherwise it returns `None`, and the seat counts that. It never waits and takes no
+    /// memory.
     ///
-    /// What is taken is a stripe as every stripe is: its history is legal from its opening and leaves its entries. The history has
-    /// the seat's front as a prefix and its session's own steps, which are as the seat knows them.
+    /// The stripe has the invariant of every stripe: its history is legal from its opening and leaves its entries. The seat's
+    /// front is a prefix of the history, and the session's own steps in it are those that the seat knows.
     ///
     /// Conditions: the seat is of this lock, and doesn't hold it.
     pub fn try_take(&self, seat: &mut Seat) -> Option<Box<Stripe>>
@@ -113,8 +115,8 @@ impl HistLock {
         }
     }
 
-    /// Takes the stripe as [`HistLock::try_take`] does, and waits as long as somebody else holds it. Nothing says that it returns,
-    /// nor in which order those who wait are served.
+    /// Takes the stripe as [`HistLock::try_take`] does, and waits as long as somebody else holds it. Neither progress nor
+    /// fairness is guaranteed.
     ///
     /// Conditions: the seat is of this lock, and doesn't hold it.
     pub fn take<R: Wait>(&self, rt: &R, seat: &mut Seat) -> Box<Stripe>
@@ -132,7 +134,7 @@ impl HistLock {
         unreachable!()
     }
 
-    /// The same once: None leaves the seat as it was.
+    /// Takes the stripe, if nobody holds it, in one try. `None` leaves the seat as it was.
     #[inline(always)]
     fn take_if_free(&self, seat: &mut Seat) -> Option<Box<Stripe>>
         requires { (seat.old.0 ≡ self.now) × (seat.old.1.holds ≡ false) }
@@ -155,11 +157,11 @@ impl HistLock {
         }
     }
 
-    /// Gives the stripe back. The seat has then seen its whole history, all generations in a row, and has one lending more: how it found
-    /// the stripe, and how it leaves it. It never waits and takes no memory.
+    /// Gives the stripe back. The seat has then seen the stripe's whole history, all generations one after another, and has one
+    /// more lending: the states in which it found and left the stripe. It never waits and takes no memory.
     ///
-    /// Conditions: the seat is of this lock and holds it; the stripe is the one that it took, after at most one phase of the seat's
-    /// session, or after a renewal. A seat that is no session's gives it back as it was, or renewed.
+    /// Conditions: the seat is of this lock and holds it; the stripe is the one that it took, after at most one phase of the
+    /// seat's session, or after a renewal. A seat that is no session's gives it back as it was, or renewed.
     pub fn give(&self, seat: &mut Seat, stripe: Box<Stripe>)
         requires held { (seat.old.0 ≡ self.now) × (seat.old.1.holds ≡ true) }
         requires phase { IsTurnBy seat.old.1.session seat.old.1.noted stripe.value }
@@ -177,7 +179,7 @@ impl HistLock {
 
     /// A seat for a new session, with the next number. It has seen what `seat` has seen.
     ///
-    /// Conditions: `seat` is of this lock, and gives session numbers out: only the first seat does.
+    /// Conditions: `seat` is of this lock, and gives out session numbers: only the first seat does.
     pub fn split(&self, seat: &mut Seat) -> Seat
         requires lock { seat.old.0 ≡ self.now }
         requires gives { (session : ℕ) × (seat.old.1.next_session ≡ Some session) }
@@ -188,8 +190,9 @@ impl HistLock {
         Seat { token }
     }
 
-    /// Ends `other`, and tells `seat` what it has seen: the longer one of both fronts is the seat's from now on. If the seat holds
-    /// the stripe, both are prefixes of the whole history in its hands. The lendings of `other` are the seat's from now on, behind its own.
+    /// Ends `other`, and tells `seat` what `other` has seen: from now on the seat's front is the longer one of both. If the seat
+    /// holds the stripe, both fronts are prefixes of that stripe's whole history. The lendings of `other` become the seat's,
+    /// after its own.
     ///
     /// Conditions: both seats are of this lock, and `other` doesn't hold it.
     pub fn join(&self, seat: &mut Seat, other: Seat)
@@ -206,7 +209,7 @@ impl HistLock {
         self.table.shared.load::<MergeFronts>(&mut seat.token, 0);
     }
 
-    /// Tells `to` what `from` has seen: the longer one of both fronts is its front from now on. `from` stays as it was.
+    /// Tells `to` what `from` has seen: from now on the front of `to` is the longer one of both. `from` stays as it was.
     ///
     /// Conditions: both seats are of this lock.
     pub fn tell(&self, from: &mut Seat, to: &mut Seat)
@@ -219,7 +222,7 @@ impl HistLock {
         self.join(to, Seat { token });
     }
 
-    /// Ends the lock, and returns its stripe as a take by `seat` would find it; None if a seat holds the stripe.
+    /// Ends the lock, and returns its stripe as a take by `seat` would find it, or `None` if a seat holds the stripe.
     ///
     /// Condition: the seat is of this lock.
     pub fn close(self, seat: Seat) -> Option<Box<Stripe>>

@@ -1,9 +1,9 @@
-//! The rule of a lock's table, and what each of its steps tells. The types are for the proofs alone.
+//! The rule of a lock's table, and its steps. The types are for the proofs alone.
 use crate::view::View;
 use atomic_table::{Join, Play, Split, TableRule};
 use jc_stripe::Stripe;
 
-/// What the slot has: the stripe, or nothing while a holder has it.
+/// The content of the slot: the stripe, or nothing while a holder has it.
 pub(crate) type Slot = Option<Box<Stripe>>;
 
 /// The rule.
@@ -36,7 +36,7 @@ impl Play<Slot, View> for Take {
     ghost then = { Takes (λ b. b.value) (λ v. v) };
 }
 
-/// A try. If somebody holds the stripe, the seat counts that.
+/// A try. If somebody holds the stripe, the seat counts the miss.
 pub(crate) struct Try;
 
 impl Play<Slot, View> for Try {

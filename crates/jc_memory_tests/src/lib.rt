@@ -1,5 +1,5 @@
-//! Tests of calls of which an allocation is refused: of what a cache is made of, of worlds, owners and clients. The crate has nothing
-//! but tests.
+//! Tests of calls in which an allocation is refused: calls of the parts of a cache, of worlds, owners and clients. The crate has
+//! nothing but tests.
 #![tactic(auto)]
 
 #[cfg(test)]

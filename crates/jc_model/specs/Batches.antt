@@ -1,8 +1,9 @@
--- What a bulk write means for each of its keys (`CacheWriter.writeAll`, `deleteAll`).
+-- The meaning of a bulk write for each of its keys (`CacheWriter.writeAll`, `deleteAll`).
 --     is_among           whether a key is among these keys
 --     fault_code         the code that a key which is left fails with: the writer's, or 0 if the writer returned normally
---     batch_answer       the answer for a key, by whether it is left: if so it failed with that code, and else it was written
---     answer_in_batch    the answer for a key, by the keys that are left. Keys that weren't asked count for nothing
+--     batch_answer       the answer for a key, by whether it is left: a key that is left failed with that code, any other was
+--                        written
+--     answer_in_batch    the answer for a key, by the keys that are left. Keys that weren't asked for have no effect
 use Rattle.std.specs.Prelude.{ℕ, List, Bool, true, false, ◌==◌, Option, None, Some}
 use Rattle.std.specs.List.{list_any}
 use Rattle.std.specs.Cmp.Lexicographic.{pointwise}

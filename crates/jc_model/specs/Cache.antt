@@ -3,8 +3,8 @@
 --     Cache          a cache, and a store
 --     entry_at       the value at a key, or none
 --     with_entry     the map with this value at a key, or with none; no other key changes
---     key_cmp        how keys are compared: by their first byte that differs, and else by their length
---     cache_code     a code for caches, which a type needs whose model holds one
+--     key_cmp        how keys are compared: by their first byte that differs, otherwise by their length
+--     cache_code     a code for caches, which is needed by a type whose model holds one
 use Rattle.std.specs.Prelude.{ℕ, List, Option, None, Some}
 use Rattle.std.specs.declared.cmp.Ordering.{Ordering}
 use Rattle.std.specs.Ordering.{nat_cmp}

@@ -1,22 +1,22 @@
 -- Events in groups. A group is one step with all that belongs to it.
---     Group                     at most one eviction from a full stripe, a step, the callers that share its load, at most one
---                               eviction of its key
---     nothing_said              the outside answers if nobody is asked
---     load_only, write_only     the outside answers if the loader alone answers, and if the writer alone does
---     victim_events             the eviction before a step, if there is one
---     evicted_events            the eviction of a step's own key after it, if there is one
---     step_event                the event of a group's step
---     shared_event              the shared step of a caller: a `Get` of the same key, which names the step's place and replies what
---                               its loader answered
---     step_place                the place of a group's step, from the place at which the group begins
---     events_of                 the events that a group is, from a place on
---     history_of                the events that a list of groups is, from a place on
---     without_victim                   a cache without the key that is evicted, if one is
---     cache_before_step                    the cache in which a group's step is made: without the group's victim
---     cache_after_step                   the cache behind the step of a group
---     without_own                 a cache without the step's own key, if that is evicted
---     cache_after_group                the cache behind a whole group
---     cache_after_groups               the cache behind a list of groups
+--     Group                    at most one eviction from a full stripe, a step, the callers that share its load, at most one
+--                              eviction of its key
+--     nothing_said             the outside answers of a step that asks nobody
+--     load_only, write_only    the outside answers if the loader alone answers, and if the writer alone does
+--     victim_events            the eviction before a step, if there is one
+--     evicted_events           the eviction of a step's own key after it, if there is one
+--     step_event               the event of a group's step
+--     shared_event             the shared step of a caller: a `Get` of the same key, which names the step's place, and whose
+--                              reply is what its loader answered
+--     step_place               the place of a group's step, from the place at which the group begins
+--     events_of                the events of a group that begins at a place
+--     history_of               the events of a list of groups that begins at a place
+--     without_victim           a cache without the key that is evicted, if one is
+--     cache_before_step        the cache in which a group's step is made: without the group's victim
+--     cache_after_step         the cache after the step of a group
+--     without_own              a cache without the step's own key, if that key is evicted
+--     cache_after_group        the cache after a whole group
+--     cache_after_groups       the cache after a list of groups
 use Rattle.std.specs.Prelude.{ℕ, ◌+◌, List, [], ◌∷◌, ◌++◌, length, map, Option, None, Some}
 use Rattle.std.specs.FinMap.{remove}
 use Rattle.jc_types.specs.declared.caller.Caller.{Caller}
@@ -55,7 +55,7 @@ load_only answer = record { load = answer; write = write.NotAsked; process = pro
 abbrev pub write_only : WriteAnswer → Out
 write_only answer = record { load = load.NotAsked; write = answer; process = process.NotAsked }
 
--- 2. The events that a group is.
+-- 2. The events of a group.
 
 abbrev pub victim_events : Option Bytes → List Event
 victim_events None = []
@@ -68,12 +68,12 @@ evicted_events key (Some cause) = Evict key cause ∷ []
 abbrev pub step_event : Group → Event
 step_event group = Step group.caller group.step.op group.step.key group.step.out None group.step.reply
 
--- the shared step of a caller: a `Get` of the key, with the load answer of the step at the place that it names. It found the key
--- missing, so its reply is that answer
+-- the shared step of a caller: a `Get` of the key, with the load answer of the step at that place. It found the key missing, so
+-- its reply is that answer
 abbrev pub shared_event : ℕ → Bytes → LoadAnswer → Caller → Event
 shared_event place key answer caller = Step caller Get key (load_only answer) (Some place) (reply_after Get None (load_only answer))
 
--- the place of a group's step, of a group that begins at a place
+-- the place of the step of a group that begins at a place
 abbrev pub step_place : ℕ → Group → ℕ
 step_place place group = place + length (victim_events group.victim)
 
@@ -86,7 +86,7 @@ abbrev pub history_of : ℕ → List Group → List Event
 history_of place [] = []
 history_of place (group ∷ groups) = events_of place group ++ history_of (place + length (events_of place group)) groups
 
--- 3. What a group leaves.
+-- 3. The cache that a group leaves.
 
 abbrev pub without_victim : Cache → Option Bytes → Cache
 without_victim cache None = cache

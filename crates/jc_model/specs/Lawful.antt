@@ -1,16 +1,16 @@
 -- When a group is lawful in a cache.
---     inserts          the step's key is missing before it and there after it
---     victim_fits      lawful eviction before the step: from a full stripe, another key that is there, for a step that inserts
---     evicted_fits     lawful eviction after the step: what it inserted goes, out of memory or from a full stripe that gave no
---                      other key
---     loads_whole      the operations that load a key whole, so that a `Get` may join them: `Get` and `LoadAll`
---     is_joinable      shared step: others may share the load of a `Get` or `LoadAll` that found its key missing, with read-through
---                      on
---     joined_fits      nobody shares the step's load, or it may be shared
---     IsLawfulStep     what is known when the step is made: it is a sequential step, and its victim is lawful
---     IsLawful         what is known when the group ends: its step, those that share its load and its eviction are lawful, and no
---                      more entries than fit are left
---     AreLawful        each group is lawful in the cache that those before it leave
+--     inserts         the step's key is missing before it and there after it
+--     victim_fits     lawful eviction before the step: from a full stripe, another key that is there, for a step that inserts
+--     evicted_fits    lawful eviction after the step: the entry that it inserted goes, out of memory or from a full stripe that
+--                     gave no other key
+--     loads_whole     the operations that load a key whole, so that a `Get` may join them: `Get` and `LoadAll`
+--     is_joinable     shared step: others may share the load of a `Get` or `LoadAll` that found its key missing, with
+--                     read-through on
+--     joined_fits     nobody shares the step's load, or it may be shared
+--     IsLawfulStep    holds when the step is made: it is a sequential step, and its victim is lawful
+--     IsLawful        holds when the group ends: its step, those that share its load, and its eviction are lawful, and no more
+--                     entries than fit are left
+--     AreLawful       each group is lawful in the cache that those before it leave
 use Rattle.std.specs.Prelude.{◌==◌, ◌≤◌, List, [], ◌∷◌, Bool, true, false, not, ◌&&◌, IsTrue, Option, None, Some, is_some, is_none}
 use Rattle.std.specs.Cmp.Lexicographic.{pointwise}
 use Rattle.std.specs.FinMap.{len}

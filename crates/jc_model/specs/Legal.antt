@@ -6,7 +6,7 @@
 --     event_key          the key of an event
 --     is_of_stripe       whether an event's key is of a stripe
 --     of_stripe          the events whose key is of a stripe
---     IsOpening          what a stripe's history may begin with: at most `capacity` entries, and only keys of the stripe
+--     IsOpening          the cache that a stripe's history may begin with: at most `capacity` entries, and only keys of the stripe
 --     IsHistory          the events are lawful groups from a cache, in the callers' order, and leave another cache
 --     Legal              a legal history of one stripe: of a lawful configuration, from an opening of the stripe, as `legal`
 --                        checks it
@@ -29,7 +29,7 @@ use Rattle.jc_model.specs.Lawful.{AreLawful}
 
 -- 1. The callers' order.
 
--- the call's number is above the event's, or they are one call at two keys; another session's event is no matter
+-- the call's number is above the event's, or they are one call at two keys; another session's event doesn't matter
 abbrev pub may_come : Event → Caller → Bytes → Bool
 may_come (Step who op k out shared reply) caller key =
     not (who.session == caller.session) || nat_lt who.call caller.call || ((who.call == caller.call) && not (pointwise ◌==◌ k key))
@@ -55,7 +55,7 @@ is_of_stripe stripes stripe event = stripe_of (event_key event) stripes == strip
 abbrev pub of_stripe : ℕ → ℕ → List Event → List Event
 of_stripe stripes stripe events = filter (is_of_stripe stripes stripe) events
 
--- what a stripe's history may begin with
+-- the cache that a stripe's history may begin with
 pub record IsOpening (config : Config) (stripe : ℕ) (cache : Cache) : Type 0 where
   pub few : len cache ≤ config.capacity
   pub own : (key : Bytes) → IsTrue (contains_key cache key) → stripe_of key config.stripes ≡ stripe

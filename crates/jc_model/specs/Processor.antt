@@ -1,29 +1,29 @@
--- What an entry processor's calls on its entry mean: each answer looks back over the calls before it. This is the provider's
+-- The meaning of an entry processor's calls on its entry: each answer looks back over the calls before it. This is the provider's
 -- reading of JSR 107, "Entry Processors". Given are whether read-through is on, the entry's initial value or none, and what the
 -- loader answers if it is asked.
---     mutation                      what a call makes of the entry, if it mutates: a value, or none
+--     mutation                      the entry after a call that mutates it: a value, or none
 --     last_mutation                 the last mutation among the calls, if any
 --     effect_of                     the net effect of a last mutation, or of none
---     is_get, has_get               a call asks for the value; one of these calls does
+--     is_get, has_get               whether a call asks for the value; whether one of these calls does
 --     before_mutation               the calls before the first mutation
 --     uses_load                     whether the loader is asked
 --     first_get                     the place of the first call that asks for the value, if any
 --     load_place                    the place of the call at which the loader is asked, if it is
---     answer_if                     an answer if the loader was asked, and else none
---     recorded_load                 what the loader answered: nothing was asked of it if the calls don't use it
---     found_in, failed_in           the value that a loader found, if it found one, and the code with which it failed, if it did
---     failed_load                   the code of the load that failed in these calls, if one did
---     value_or_fault                what a call for the value answers: the fault of a load that failed, or the value
+--     answer_if                     an answer if the loader was asked, otherwise none
+--     recorded_load                 the loader's answer: `NotAsked` if the calls don't use a load
+--     found_in, failed_in           the value that a loader found, if any, and the code with which it failed, if it failed
+--     failed_load                   the code of the load that failed in these calls, if one failed
+--     value_or_fault                the answer to a call for the value: the fault of a load that failed, or the value
 --     loaded_in                     the value that the loader found, if read-through is on
---     answer_after                  what a call answers, after the calls before it
---     answers_after, all_answers    what each of these calls answers, after others before them, and from the first
---     net_effect                    what the processor does to its entry in the end
---     process_answer                what a processor did, by its net effect and by what it returned
---     up_to_get                     the calls up to the first that asks for the value, with it
---     played_calls                  the calls that a played processor makes of those that it is given: none after a failed load
+--     answer_after                  the answer to a call, after the calls before it
+--     answers_after, all_answers    the answer to each of these calls, after others before them, and from the first
+--     net_effect                    the net effect of a processor on its entry
+--     process_answer                the answer of a processor, by its net effect and by what it returned
+--     up_to_get                     the calls up to and with the first that asks for the value
+--     played_calls                  those of the given calls that a played processor makes: none after a failed load
 --     answer_value                  the value in an answer, if it is that of a call for the value
 --     last_value                    the last value that was answered, if any
---     played_return                 what a played processor returns: its code, or the last value that it was given
+--     played_return                 the return of a played processor: its code, or the last value that it was answered
 use Rattle.std.specs.Prelude.{ℕ, ◌+◌, List, [], ◌∷◌, ◌++◌, Bool, true, false, ◌&&◌, ◌||◌, Option, None, Some, Result, Ok, Err, is_some, is_none, if◌then◌else◌, option_map, unwrap_or}
 use Rattle.std.specs.Option.{option_or}
 use Rattle.jc_model.specs.declared.processor.EntryCall.{EntryCall}
@@ -40,7 +40,7 @@ use Rattle.jc_model.specs.Cache.{Bytes}
 
 -- 1. Mutations.
 
--- an entry is missing, or has a value: what a mutation makes of it
+-- the entry that a mutation leaves: missing, or with a value
 abbrev pub mutation : EntryCall → Option (Option Bytes)
 mutation (SetValue value) = Some (Some value)
 mutation Remove = Some None
@@ -91,7 +91,7 @@ abbrev pub answer_if : Bool → LoadAnswer → LoadAnswer
 answer_if true answer = answer
 answer_if false answer = load.NotAsked
 
--- what the step records of the loader
+-- the loader's answer as the step records it
 abbrev pub recorded_load : Bool → Option Bytes → LoadAnswer → List EntryCall → LoadAnswer
 recorded_load read_through initial answer calls = answer_if (uses_load read_through initial calls) answer
 
@@ -107,11 +107,11 @@ failed_in load.NotAsked = None
 failed_in (load.Found value) = None
 failed_in load.Nothing = None
 
--- the code of the load that failed in these calls, if one did
+-- the code of the load that failed in these calls, if one failed
 abbrev pub failed_load : Bool → Option Bytes → LoadAnswer → List EntryCall → Option ℕ
 failed_load read_through initial answer calls = if uses_load read_through initial calls then failed_in answer else None
 
--- 3. What each call answers.
+-- 3. The answer to each call.
 
 -- after a failed load each `getValue` gives its fault
 abbrev pub value_or_fault : Option ℕ → Option Bytes → EntryAnswer
@@ -121,7 +121,7 @@ value_or_fault None value = Value value
 abbrev pub loaded_in : Bool → LoadAnswer → Option Bytes
 loaded_in read_through answer = if read_through then found_in answer else None
 
--- what a call answers, after these calls before it
+-- the answer to a call, after these calls before it
 abbrev pub answer_after : Bool → Option Bytes → LoadAnswer → List EntryCall → EntryCall → EntryAnswer
 answer_after read_through initial answer before GetValue =
     value_or_fault (failed_load read_through initial answer (before ++ GetValue ∷ []))
@@ -141,14 +141,14 @@ answers_after read_through initial answer before (call ∷ calls) =
 abbrev pub all_answers : Bool → Option Bytes → LoadAnswer → List EntryCall → List EntryAnswer
 all_answers read_through initial answer calls = answers_after read_through initial answer [] calls
 
--- 4. What the processor did.
+-- 4. The answer of the processor.
 
--- the net effect: that of the last mutation, and none after a failed load, which makes the mutations be ignored
+-- the net effect: that of the last mutation. After a failed load there is none, since the mutations are then ignored
 abbrev pub net_effect : Bool → Option Bytes → LoadAnswer → List EntryCall → Effect
 net_effect read_through initial answer calls =
     if is_some (failed_load read_through initial answer calls) then effect.Keep else effect_of (last_mutation calls)
 
--- what the step records of the processor: it returned a value or none, or failed
+-- the processor's answer as the step records it: it returned a value or none, or failed
 abbrev pub process_answer : Effect → Result (Option Bytes) ℕ → ProcessAnswer
 process_answer net (Ok outcome) = process.Ended net outcome
 process_answer net (Err code) = process.Failed code

@@ -1,25 +1,26 @@
--- How the checker `legal` goes over a history, event by event: what it keeps, and what it tests of the next event. Nobody above
--- needs to believe it, since `legal` is proved to answer `Legal`. Where the reader is, is a `Stage`: outside a group, behind a
--- group's victim, or behind a group's step.
---     first_stripe                 the stripe of the first key, of the opening or else of the events, and 0 if there is no key
---     are_of_stripe                the keys of the opening and of the events are all of this stripe
---     are_of_one_stripe            they are all of one stripe
---     read_group                   a group of which the step was read
---     opened_group                 what is kept of a group whose step is at a place
---     cause_fits                   the step's own key may go for this cause
---     own_goes                     this key, for this cause, is the step's own and may go
---     is_full                      a cause is `Full`
---     picked_victim                    the victim of the group that comes next, if it was read
---     group_at                     the group of a step that is read at a stage
---     is_within                    if a group ends here, no more entries are left than fit
---     FitsShared                   a shared step may come next
---     fits_evict                   an eviction may come next
---     Fits                         an event may come next
---     evict_stage, evict_cache     the stage and the cache behind an eviction
---     then_stage, then_cache       the stage and the cache behind an event
---     may_stop                     the history may end
---     Accepts                      each of the events fits behind those before it
---     comes_before                 an event is a step of the same session with a lower number than another
+-- How the checker `legal` goes over a history, event by event: what it keeps, and how it tests the next event. A reader of
+-- contracts needn't believe it, since `legal` is proved to answer `Legal`. The reader's position is a `Stage`: outside a group,
+-- after a group's victim, or after a group's step.
+--     first_stripe                the stripe of the first key, in the opening or otherwise in the events, and 0 if there is no
+--                                 key
+--     are_of_stripe               the keys of the opening and of the events are all of this stripe
+--     are_of_one_stripe           they are all of one stripe
+--     read_group                  a group of which the step was read
+--     opened_group                what is kept of a group whose step is at a place
+--     cause_fits                  the step's own key may go for this cause
+--     own_goes                    this key, for this cause, is the step's own and may go
+--     is_full                     a cause is `Full`
+--     picked_victim               the victim of the group that comes next, if it was read
+--     group_at                    the group of a step that is read at a stage
+--     is_within                   if a group ends here, no more entries are left than fit
+--     FitsShared                  a shared step may come next
+--     fits_evict                  an eviction may come next
+--     Fits                        an event may come next
+--     evict_stage, evict_cache    the stage and the cache after an eviction
+--     then_stage, then_cache      the stage and the cache after an event
+--     may_stop                    the history may end
+--     Accepts                     each of the events fits after those before it
+--     comes_before                an event is a step of the same session with a lower number than another
 use Rattle.std.specs.Prelude.{◌≡◌, ◌==◌, ◌&&◌, ◌||◌, ℕ, ◌+◌, List, [], ◌∷◌, Bool, true, false, IsTrue, Option, None, Some, is_none, nat_le, nat_lt, if◌then◌else◌}
 use Rattle.std.specs.List.{list_all}
 use Rattle.std.specs.Cmp.Lexicographic.{pointwise}
@@ -42,7 +43,7 @@ use Rattle.jc_model.specs.Group.{Group, shared_event, cache_after_step}
 use Rattle.jc_model.specs.Legal.{event_key, is_of_stripe}
 use Rattle.jc_model.specs.Lawful.{is_joinable, inserts, IsLawfulStep}
 
--- the stripe of the first key, of the opening or else of the events, and 0 if there is no key
+-- the stripe of the first key, in the opening or otherwise in the events, and 0 if there is no key
 abbrev pub first_stripe : ℕ → List (Bytes × Bytes) → List Event → ℕ
 first_stripe stripes (entry ∷ opening) events = stripe_of entry.0 stripes
 first_stripe stripes [] (event ∷ events) = stripe_of (event_key event) stripes
@@ -129,13 +130,13 @@ evict_cache cache Outside key cause = cache
 evict_cache cache (Picked victim) key cause = cache
 evict_cache cache (Inside kept) key cause = if own_goes kept key cause then remove cache key else cache
 
--- the stage behind an event at a place
+-- the stage after an event at a place
 abbrev pub then_stage : Config → Cache → ℕ → Stage → Event → Stage
 then_stage config cache place stage (Step caller op key out None reply) = Inside (opened_group config cache place (group_at stage caller op key out reply))
 then_stage config cache place stage (Step caller op key out (Some other) reply) = stage
 then_stage config cache place stage (Evict key cause) = evict_stage stage key cause
 
--- the cache behind an event; a victim goes with the step
+-- the cache after an event; a victim goes with the step
 abbrev pub then_cache : Cache → Stage → Event → Cache
 then_cache cache stage (Step caller op key out None reply) = cache_after_step cache (group_at stage caller op key out reply)
 then_cache cache stage (Step caller op key out (Some other) reply) = cache
@@ -147,7 +148,7 @@ may_stop config cache Outside = true
 may_stop config cache (Picked key) = false
 may_stop config cache (Inside kept) = nat_le (len cache) config.capacity
 
--- each of the events fits behind those before it
+-- each of the events fits after those before it
 abbrev pub Accepts : Config → ℕ → Cache → Stage → List Event → Type 0
 Accepts config place cache stage [] = IsTrue (may_stop config cache stage)
 Accepts config place cache stage (e ∷ es) =

@@ -1,4 +1,4 @@
--- What a cache counts, by the names of JSR 107 (`CacheStatisticsMXBean`).
+-- The counts of a cache, by the names of JSR 107 (`CacheStatisticsMXBean`).
 --     Occurrence             an event, and whether its key had an entry before it
 --     has_value, has_none    a reply is a value, and is that there is none
 --     has_flag               a reply is this yes or no
@@ -7,15 +7,15 @@
 --     step_hits              a step asked for its entry, and found it cached: it counts with the entry that it found
 --     step_misses            a step asked for its entry, and didn't find it cached
 --     step_puts              a step gave its entry a value that the caller brought
---     step_removes           a step removed its entry, or had a processor remove it
+--     step_removes           a step removed its entry, or its processor did
 --     event_hits, event_misses, event_puts, event_removes, event_evicts    an event counts so, with what it found
---     is_hit, is_miss, is_put, is_removal, is_eviction    the same of what occurred
+--     is_hit, is_miss, is_put, is_removal, is_eviction    the same for an occurrence
 --     capped                 a number, or the last one if it is beyond that
---     statistics_of          how much of what occurred counts as each
+--     statistics_of          the counts of a list of occurrences
 --     more_if                a count with one more, if a condition holds
 --     with_event             the counts with one more event
 --     together               two counts together
---     StatisticsLaws         the laws: how the counts of a row of events follow from those of its parts
+--     StatisticsLaws         the laws: how the counts of a list of events follow from those of its parts
 use Rattle.std.specs.Prelude.{◌≡◌, ℕ, ◌+◌, List, [], ◌∷◌, ◌++◌, Bool, true, false, not, ◌&&◌, ◌||◌, None, Some, min, if◌then◌else◌}
 use Rattle.std.specs.List.{count_by}
 use Rattle.std.specs.Bool.{beq}
@@ -186,7 +186,7 @@ is_removal o = event_removes o.event
 abbrev pub is_eviction : Occurrence → Bool
 is_eviction o = event_evicts o.event
 
--- 5. Rows of events.
+-- 5. Lists of events.
 
 abbrev pub capped : ℕ → ℕ
 capped number = min number LAST_NUMBER

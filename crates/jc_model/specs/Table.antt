@@ -1,33 +1,34 @@
--- The operation table: which operation asks the loader, which asks the writer and for what, the entry afterwards, the reply.
--- The two integration tables of JSR 107 are its first two columns; what is said of `Invoke`, and of `LoadAll` of an entry
--- that is there, is this provider's own.
---     holds                                            whether an entry has this value
---     is_load_given                                    whether the loader answered
---     always_if, wanted_if                             the loader is asked, and is asked if the processor wants it, if a condition holds
---     loader_ask                                       the loader table: whether an operation asks the loader, never, always or if the processor wants it
---     load_fits                                        whether the loader answered as the table has it asked
---     value_after_load                                 the entry with a loaded value, if one was found
---     to_change                                        a change whose value is lent
---     ask_if                                           a change, if it is asked for
---     effect_ask, process_ask                          what the writer is asked for after a processor, by its net effect and by its answer
---     write_ask                                        the writer table: what the writer is asked for, or nothing
---     is_write_given, is_process_given                 whether the writer answered, and whether the processor did
---     is_invoke                                        an operation runs a processor
---     load_fault, process_fault, write_fault           the fault of the loader, of the processor, of the writer, if it failed
---     first_of_two                                     the first of two faults that is there
---     early_fault                                      the fault of the loader or the processor, before the writer is asked
---     first_fault                                      the first fault: the loader's before the processor's before the writer's
---     answers_fit                                      exactly those answered that the tables ask for
---     after_effect                                     the entry with a processor's net effect
---     outcome_of                                       what a processor answers the caller
---     entry_after_replace                              a value in the place of an entry, if there is one
---     entry_without_fault, reply_without_fault         the last two columns, if there is no fault
---     entry_by_fault, reply_by_fault                   the entry and the reply, by whether there is a fault: a fault leaves the entry and is the
---                                                      reply
---     entry_after, reply_after                         the last two columns: a fault leaves the entry and is the reply
---     NewStep                                          one operation on one key with the outside answers and its reply
---     seq_entry, seq_cache                             the entry that it leaves at its key, and the whole cache
---     Seq                                              the sequential step: one operation made on a whole cache
+-- The operation table: which operation asks the loader, which asks the writer and for what, the entry afterwards, the reply. The
+-- two integration tables of JSR 107 are its first two columns. The rows of `Invoke`, and of `LoadAll` at an entry that is there,
+-- are this provider's own.
+--     holds                               whether an entry has this value
+--     is_load_given                       whether the loader answered
+--     always_if, wanted_if                under a condition: the loader is asked; it is asked if the processor wants it
+--     loader_ask                          the loader table: whether an operation asks the loader, never, always or if the
+--                                         processor wants it
+--     load_fits                           whether the loader answered as the table has it asked
+--     value_after_load                    the entry with a loaded value, if one was found
+--     to_change                           a change whose value is lent
+--     ask_if                              a change, if it is asked for
+--     effect_ask, process_ask             what the writer is asked for after a processor, by its net effect and by its answer
+--     write_ask                           the writer table: the change that the writer is asked for, or nothing
+--     is_write_given, is_process_given    whether the writer answered, and whether the processor did
+--     is_invoke                           an operation runs a processor
+--     load_fault, process_fault, write_fault    the fault of the loader, of the processor, of the writer, if it failed
+--     first_of_two                        the first of two faults that is there
+--     early_fault                         the fault of the loader or the processor, before the writer is asked
+--     first_fault                         the first fault: the loader's before the processor's before the writer's
+--     answers_fit                         exactly those answered whom the tables ask
+--     after_effect                        the entry with a processor's net effect
+--     outcome_of                          what a processor answers the caller
+--     entry_after_replace                 a value in the place of an entry, if there is one
+--     entry_without_fault, reply_without_fault    the last two columns, if there is no fault
+--     entry_by_fault, reply_by_fault      the entry and the reply, by whether there is a fault: a fault leaves the entry and is
+--                                         the reply
+--     entry_after, reply_after            the last two columns: a fault leaves the entry and is the reply
+--     NewStep                             one operation on one key with the outside answers and its reply
+--     seq_entry, seq_cache                the entry that it leaves at its key, and the whole cache
+--     Seq                                 the sequential step: one operation made on a whole cache
 use Rattle.std.specs.Prelude.{◌≡◌, ◌==◌, Bool, true, false, not, ◌&&◌, ◌||◌, IsTrue, Option, None, Some, is_some, is_none, if◌then◌else◌, unwrap_or}
 use Rattle.std.specs.Bool.{beq}
 use Rattle.std.specs.Cmp.Lexicographic.{pointwise}
@@ -202,7 +203,7 @@ early_fault out = first_of_two (load_fault out.load) (process_fault out.process)
 abbrev pub first_fault : Out → Option Refusal
 first_fault out = first_of_two (early_fault out) (write_fault out.write)
 
--- exactly those were asked that the tables ask for, and no writer after a loader's or processor's fault
+-- exactly those answered whom the tables ask, and no writer after a loader's or processor's fault
 abbrev pub answers_fit : Config → Op → Option Bytes → Out → Bool
 answers_fit config op entry out =
     load_fits (loader_ask config.read_through op entry) (is_load_given out.load)

@@ -1,4 +1,4 @@
--- Laws above the operation table.
+-- Laws that follow from the operation table.
 --     FaultLeavesCache     a step with a fault leaves the whole cache as it was
 --     OtherKeysStay        a step leaves the entry of every other key as it was
 use Rattle.std.specs.Prelude.{◌≡◌, ◌≢◌, IsTrue, is_some}

@@ -1,6 +1,6 @@
-//! What a bulk write means for each of its keys (JSR 107, "Integration"; `CacheWriter.writeAll`, `deleteAll`).
+//! The meaning of a bulk write for each of its keys (JSR 107, "Integration"; `CacheWriter.writeAll`, `deleteAll`).
 //!
-//! A writer takes each key that it has written or deleted out of the collection that it is given. So what is left there when it
+//! A writer is given a collection, and takes out each key that it has written or deleted. So a key that is left there when it
 //! returns, normally or with a fault, wasn't written; every other key was.
 ghost use Rattle.std.specs.Prelude.{◌≡◌};
 ghost use Rattle.jc_model.specs.Batches.{is_among, fault_code, batch_answer};
@@ -15,7 +15,7 @@ pub fn is_among(keys: &[Key], key: &Key) -> bool
     keys.iter().any(|k| *key == *k)
 }
 
-/// The code with which a key fails that is left: the writer's, or 0 if the writer returned normally.
+/// The code of a key that is left: the writer's, or 0 if the writer returned normally.
 fn fault_code(fault: Option<u32>) -> u32
     ensures { result ≡ fault_code fault }
 {

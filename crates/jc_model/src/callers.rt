@@ -18,8 +18,8 @@ fn does_follow(event: &Event, later: &Event) -> bool
 }
 
 impl Event {
-    /// Whether a step of this caller at this key may come after the event, in the callers' order: the call's number is
-    /// above the event's, or they are one call at two keys. Another session's event is no matter.
+    /// Whether a step of this caller at this key may come after the event, in the callers' order: the call's number is above the
+    /// event's, or they are one call at two keys. Another session's event doesn't matter.
     pub fn may_come(&self, caller: &Caller, key: &Key) -> bool
         ensures { result ≡ may_come self.now caller.now key.now }
     {
@@ -51,7 +51,7 @@ fn comes_before(event: &Event, later: &Event) -> bool
     }
 }
 
-/// Whether an event may come after each of these, which are in order. It looks back to the session's call before.
+/// Whether an event may come after each of these, which are in order. It looks back only to the session's previous call.
 fn does_follow_all(events: &[Event], event: &Event) -> bool
     requires { IsTrue (in_order events.now) }
     ensures { result ≡ list_all (λ earlier. may_follow earlier event.now) events.now }

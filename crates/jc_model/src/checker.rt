@@ -13,7 +13,7 @@ use crate::stripes::are_of_one_stripe;
 use jc_types::{Config, Key, Value};
 use std::alloc::{AllocError, Global};
 
-/// Whether no key is there twice. Each entry is compared with all that follow it, and no memory is taken.
+/// Whether no key is there twice. It compares each entry with all that follow it, and takes no memory.
 pub fn is_apart(entries: &[(Key, Value)]) -> bool
     ensures { result ≡ has_distinct_keys entries.now }
 {
@@ -25,7 +25,7 @@ pub fn is_apart(entries: &[(Key, Value)]) -> bool
     true
 }
 
-/// Whether the events are lawful groups, if all else fits.
+/// Whether the events are lawful groups, given that the configuration, the opening and the keys fit.
 fn is_spelled(
     alloc: Global,
     config: &Config,
@@ -42,17 +42,17 @@ fn is_spelled(
     are_accepted(alloc, config, opening, events)
 }
 
-/// Whether the events are a legal history of one stripe, which began with the entries of an opening.
+/// Whether the events are a legal history of one stripe, that began with these entries, its opening.
 ///
-/// That is: they fall into groups, each one step with what belongs to it (at most one eviction before it, the
-/// `Get`s that shared its load, at most one eviction of its key); each step asks, leaves and replies what the
-/// operation table says in the cache that the groups before it leave; each eviction and each shared load is lawful;
-/// the stripe never holds more than `capacity` entries behind a group; and the numbers of a session's calls never
-/// fall (JSR 107, "Consistency": each call is one step at its key, and a caller sees its calls in order).
+/// They are legal if they fall into groups, each of one step with at most one eviction before it, the `Get`s that shared its
+/// load, and at most one eviction of its key. Each step asks, leaves and replies as the operation table states, in the cache that
+/// the groups before it leave. Each eviction and each shared load is lawful. After a group the stripe holds at most `capacity`
+/// entries. And the numbers of a session's calls never fall (JSR 107, "Consistency": each call is one step at its key, and a
+/// caller sees its calls in order).
 ///
-/// A `config` that `check` refuses, an opening with a repeated key or with more than `capacity` entries, and keys
-/// of two stripes give false. The only error is that an allocation failed. The time is about that of going over the
-/// events once, and for the callers' order of looking back from each to the one before it in its session.
+/// A `config` that `check` refuses, an opening with a repeated key or with more than `capacity` entries, and keys of two stripes
+/// give false. The only error is that an allocation failed. It goes over the events once; for the callers' order it also looks
+/// back from each step to the previous one of its session.
 pub fn legal(
     alloc: Global,
     config: &Config,

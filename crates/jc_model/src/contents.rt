@@ -41,7 +41,7 @@ impl Contents {
         }
     }
 
-    /// The map of these entries: of two with one key the first counts. The only error is that an allocation failed.
+    /// The map of these entries. If two have the same key, the first counts. The only error is that an allocation failed.
     pub fn of(alloc: Global, entries: &[(Key, Value)]) -> Result<Self, AllocError>
         ensures { IfOk result (λ contents. contents ≡ map.from_entries entries.now) }
     {
@@ -76,15 +76,15 @@ impl Contents {
         Ok(())
     }
 
-    /// Takes the key's entry out, if there is one. The other keys keep theirs. It takes no memory.
+    /// Removes the key's entry, if there is one. The other keys keep theirs. It takes no memory.
     pub fn remove(&mut self, key: &Key)
         ensures { self.new ≡ with_entry self.old key.now None }
     {
         self.map.remove(key);
     }
 
-    /// Inserts a value at the key, or removes the key's entry. An error is that of [`insert`](Self::insert); to remove
-    /// never fails.
+    /// Inserts a value at the key, or removes the key's entry. An `Err` is that of [`insert`](Self::insert); a removal never
+    /// fails.
     pub fn set(&mut self, key: &Key, entry: Option<Value>) -> Result<(), AllocError>
         ensures ok { OnOk result (self.new ≡ with_entry self.old key.now entry) }
         ensures err { OnErr result (self.new ≡ self.old) }

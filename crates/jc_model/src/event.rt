@@ -1,10 +1,10 @@
-//! The words that every crate speaks: operations, outside answers, replies, and the events of a history.
+//! The types that every crate uses: operations, outside answers, replies, and the events of a history.
 use jc_types::{Caller, Key, Refusal, Value};
 
-/// What a call asks of the cache, at one key: the operations of `javax.cache.Cache`.
+/// An operation on the cache, at one key: those of `javax.cache.Cache`.
 ///
-/// A bulk call is one of these for each of its keys, and no more: it isn't atomic over them (JSR 107,
-/// "Consistency"). What each asks for outside, leaves and replies is in [`table`](crate::table).
+/// A bulk call is one of these for each of its keys, and isn't atomic over them (JSR 107, "Consistency"). The operation table, in
+/// [`table`](crate::table), states what each operation asks outside, leaves and replies.
 #[derive(Clone, Copy, Debug, PartialEq, Eq)]
 pub enum Op {
     /// `get`, and each key of `getAll`: the value, loaded if it is missing and read-through is on.
@@ -34,7 +34,7 @@ pub enum Op {
     },
     /// `getAndReplace`: mutates if the key has an entry.
     GetAndReplace(Value),
-    /// Each key of `clear`: takes the entry out, and asks no writer (JSR 107, "Integration").
+    /// Each key of `clear`: removes the entry, and asks no writer (JSR 107, "Integration").
     Clear,
     /// Each key of `loadAll`: loads a key that has no entry. The loader is asked whether read-through is on
     /// or not.
@@ -50,8 +50,8 @@ pub enum Op {
 impl Op {
     ghost use Rattle.std.specs.Prelude.{◌≡◌};
 
-    /// Makes this the other operation, in place. If both are a `get`, a `put`, a `remove(key)` or an `invoke`, only those bytes are
-    /// copied that count.
+    /// Copies the other operation into this one. If both are a `get`, a `put`, a `remove(key)` or an `invoke`, it copies only the
+    /// bytes that count.
     #[inline(always)]
     pub fn copy_from(&mut self, op: &Op)
         ensures { self.new ≡ op.now }
@@ -64,7 +64,7 @@ impl Op {
     }
 }
 
-/// What the loader answered, for one key (`javax.cache.integration.CacheLoader`; JSR 107, "Integration").
+/// The loader's answer, for one key (`javax.cache.integration.CacheLoader`; JSR 107, "Integration").
 #[derive(Clone, Copy, Debug, PartialEq, Eq)]
 pub enum LoadAnswer {
     /// It wasn't asked.
@@ -92,7 +92,7 @@ impl LoadAnswer {
     }
 }
 
-/// What the writer answered, for one key (`javax.cache.integration.CacheWriter`; JSR 107, "Integration").
+/// The writer's answer, for one key (`javax.cache.integration.CacheWriter`; JSR 107, "Integration").
 #[derive(Clone, Copy, Debug, PartialEq, Eq)]
 pub enum WriteAnswer {
     /// It wasn't asked.
@@ -118,7 +118,7 @@ impl WriteAnswer {
     }
 }
 
-/// What the writer is asked to do to the store, at one key.
+/// A change of the store at one key, which the writer is asked for.
 #[derive(Clone, Copy, Debug, PartialEq, Eq)]
 pub enum Change {
     /// To write this value (`CacheWriter.write`).
@@ -127,8 +127,8 @@ pub enum Change {
     Delete,
 }
 
-/// What a processor does to its entry in the end, all its calls on the entry taken together. The writer
-/// hears of this alone (JSR 107, "Entry Processors").
+/// The net effect of a processor on its entry, by all its calls on the entry together. The writer is asked for this alone (JSR
+/// 107, "Entry Processors").
 #[derive(Clone, Copy, Debug, PartialEq, Eq)]
 pub enum Effect {
     /// Nothing: the entry is kept as it is, or as it was loaded.
@@ -139,16 +139,16 @@ pub enum Effect {
     Remove,
 }
 
-/// What an entry processor said (`javax.cache.processor.EntryProcessor`).
+/// The answer of an entry processor (`javax.cache.processor.EntryProcessor`).
 #[derive(Clone, Copy, Debug, PartialEq, Eq)]
 pub enum ProcessAnswer {
-    /// It wasn't asked.
+    /// It didn't run.
     NotAsked,
     /// It ended.
     Ended {
-        /// What it does to its entry.
+        /// Its effect on the entry.
         effect: Effect,
-        /// What it answers the caller.
+        /// Its answer to the caller.
         outcome: Option<Value>,
     },
     /// It failed with this code. The step leaves the entry as it was, also if a value was loaded.
@@ -173,11 +173,11 @@ impl ProcessAnswer {
 /// The outside answers of one step: those of the loader, the writer and the entry processor.
 #[derive(Clone, Copy, Debug, PartialEq, Eq)]
 pub struct Out {
-    /// What the loader answered.
+    /// The loader's answer.
     pub load: LoadAnswer,
-    /// What the writer answered.
+    /// The writer's answer.
     pub write: WriteAnswer,
-    /// What the entry processor answered.
+    /// The entry processor's answer.
     pub process: ProcessAnswer,
 }
 
@@ -219,17 +219,17 @@ impl Out {
     }
 }
 
-/// What a step answers its caller.
+/// The answer of a step to its caller.
 #[derive(Clone, Copy, Debug, PartialEq, Eq)]
 pub enum Reply {
-    /// It is done, and there is nothing to say.
+    /// The operation is done, and answers nothing.
     Unit,
-    /// Yes or no: whether the key was there, or whether the operation mutated.
+    /// Whether the key was there, or whether the operation mutated.
     Flag(bool),
     /// A value, or none, which is `null` in Java.
     Value(Option<Value>),
-    /// The loader, the processor or the writer failed, the first of them that did: one of
-    /// `LoaderFailed`, `ProcessorFailed` and `WriterFailed`. The entry is as it was.
+    /// The loader, the processor or the writer failed. It names the first of them that failed: `LoaderFailed`, `ProcessorFailed`
+    /// or `WriterFailed`. The entry is as it was.
     Fault(Refusal),
 }
 
@@ -249,22 +249,22 @@ pub enum Event {
     Step {
         /// Whose call it is.
         caller: Caller,
-        /// What was asked of the cache.
+        /// The operation.
         op: Op,
-        /// The key that it was asked at.
+        /// The key of the operation.
         key: Key,
         /// The outside answers.
         out: Out,
-        /// Of a `Get` that joined a load: the place of the step whose load it shares.
+        /// For a `Get` that joined a load: the place of the step whose load it shares.
         shared_with: Option<u32>,
-        /// What the caller was answered.
+        /// The answer to the caller.
         reply: Reply,
     },
-    /// An entry goes. No writer is asked (JSR 107, "Integration").
+    /// An entry is evicted. No writer is asked (JSR 107, "Integration").
     Evict {
-        /// The key whose entry goes.
+        /// The key whose entry is evicted.
         key: Key,
-        /// Why it goes.
+        /// The cause of the eviction.
         cause: Cause,
     },
 }
@@ -273,7 +273,7 @@ impl Event {
     ghost use Rattle.std.specs.Prelude.{◌≡◌};
     ghost use Rattle.jc_model.specs.Legal.{event_key};
 
-    /// The key of the step, or the key that goes.
+    /// The key of the step, or the evicted key.
     pub(crate) fn key(&self) -> &Key
         ensures { result.now ≡ event_key self.now }
     {

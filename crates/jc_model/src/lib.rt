@@ -1,22 +1,22 @@
-//! What a cache is (JSR 107, JCache 1.1): the operations, what a loader, a writer and an entry processor
-//! answer, what a step leaves and replies, and the events of a history.
+//! The definition of a cache (JSR 107, JCache 1.1): the operations, the answers of a loader, a writer and an entry processor, the
+//! entry and the reply of a step, and the events of a history.
 //!
-//! - [`event`] has the words that every crate speaks.
-//! - [`table`] says what each operation asks for, leaves and replies, as methods of [`event::Op`].
-//! - [`batches`] says what a bulk write means for each of its keys.
+//! - [`event`] has the types that every crate uses.
+//! - [`table`] states what each operation asks for, leaves and replies, as methods of [`event::Op`].
+//! - [`batches`] states the meaning of a bulk write for each of its keys.
 //! - [`processor`] has an entry processor's calls on its entry.
-//! - [`statistics`] has what is counted of a history.
+//! - [`statistics`] has the counts of a history.
 //! - [`contents`] has a cache's contents as a map.
-//! - [`legal`] is the slow checker of one stripe's history. It rests on `callers` (the callers' order),
-//!   `stripes` (the keys of one stripe), `listed` (an opening as a plain list) and `reader` (reading
-//!   event by event).
+//! - [`legal`] is the slow checker of one stripe's history. It rests on `callers` (the callers' order), `stripes` (the keys of
+//!   one stripe), `listed` (an opening as a plain list) and `reader` (reading event by event).
 //!
 //! Why it is so:
-//! - `Op` has all fourteen operations, and the meaning of an entry processor's calls is defined beside them: an operation adds code and
-//!   changes no definition. Twelve are calls by themselves; `Clear` and `LoadAll` are one key of a call of many keys.
-//! - A group is the step with everything that belongs to it; a history is a list of groups and is judged group by group, since whether an
-//!   eviction is lawful depends on its step.
-//! - A session's calls may have any rising numbers: a refused call uses its number up.
+//! - `Op` has all fourteen operations, and the meaning of an entry processor's calls is defined beside them, so that a new
+//!   operation adds code and changes no definition. Twelve of them are calls by themselves; `Clear` and `LoadAll` are one key of
+//!   a bulk call.
+//! - A history is a list of groups, each of a step and all that belongs to it, and it is judged group by group, because whether
+//!   an eviction is lawful depends on its step.
+//! - The numbers of a session's calls rise, but may leave gaps, because a refused call uses its number up.
 #![tactic(auto)]
 
 pub mod batches;

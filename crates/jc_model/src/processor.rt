@@ -1,4 +1,4 @@
-//! The calls of an entry processor on its entry, and what each is answered (JSR 107, "Entry Processors";
+//! The calls of an entry processor on its entry, and the answer to each (JSR 107, "Entry Processors";
 //! `javax.cache.processor.MutableEntry`).
 use jc_types::Value;
 
@@ -15,14 +15,14 @@ pub enum EntryCall {
     Remove,
 }
 
-/// What a call of an entry processor on its entry is answered.
+/// The answer to a call of an entry processor on its entry.
 #[derive(Clone, Copy, Debug, PartialEq, Eq)]
 pub enum EntryAnswer {
     /// `getValue`: the value, or none, which is `null` in Java.
     Value(Option<Value>),
     /// `exists`: whether the entry has a value.
     Present(bool),
-    /// `setValue` and `remove`: nothing is answered.
+    /// `setValue` and `remove`, which answer nothing.
     Done,
     /// `getValue`: the loader failed with this code.
     Failed(u32),

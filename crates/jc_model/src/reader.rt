@@ -14,19 +14,19 @@ use crate::reader::follows::go_over;
 use jc_types::{Config, Key, Value};
 use std::alloc::{AllocError, Global};
 
-/// What is kept of a group whose step was read.
+/// The data that the reader keeps of a group whose step was read.
 #[derive(Clone, Copy)]
 pub(crate) struct Opened {
     // The place of the step.
     place: usize,
-    // The step's key, and what its loader said.
+    // The step's key, and its loader's answer.
     key: Key,
     load: LoadAnswer,
     // Whether other callers may share the load.
     is_joinable: bool,
     // Whether the key was missing before the step and is there after it.
     is_inserted: bool,
-    // Whether there were as many entries as fit before the step, and none was evicted for it.
+    // Whether the stripe was full before the step, and no entry was evicted for it.
     was_full: bool,
 }
 
@@ -35,14 +35,14 @@ pub(crate) struct Opened {
 pub(crate) enum Stage {
     /// Between two groups, after an event that ended its group for certain.
     Outside,
-    /// Behind the eviction of this key, which begins a group.
+    /// After the eviction of this key, which begins a group.
     Picked(Key),
-    /// Behind the step of a group.
+    /// After the step of a group.
     Inside(Opened),
 }
 
 impl Opened {
-    /// Whether the step's own key may go.
+    /// Whether the step's own key may be evicted.
     fn does_own_go(&self, key: &Key, cause: Cause) -> bool
         ensures { result ≡ own_goes self.now key.now cause }
     {
@@ -65,7 +65,7 @@ impl Stage {
         }
     }
 
-    /// Whether no more entries are there than fit, at the end of a group.
+    /// Whether at most `capacity` entries are there, if a group ends here.
     fn is_within(&self, config: &Config, contents: &Contents) -> bool
         ensures { result ≡ is_within config.now contents.now self.now }
     {
@@ -104,7 +104,7 @@ impl Stage {
     }
 }
 
-/// Whether the events can be read, each behind those before it.
+/// Whether the events can be read, each after those before it.
 pub(crate) fn are_accepted(
     alloc: Global,
     config: &Config,
@@ -114,7 +114,7 @@ pub(crate) fn are_accepted(
     requires { IsTrue (has_distinct_keys opening.now) }
     ensures { IfOk result (λ b. IsTrue b ↔ Accepts config.now 0 (from_entries opening.now) Stage.Outside events.now) }
 {
-    // Names the type that a `Stage` has inside, which the proof of this function doesn't find else.
+    // Names the type inside a `Stage`: otherwise the proof of this function doesn't find it.
     let _names: Option<Opened> = None;
     let mut contents = Contents::of(alloc, opening)?;
     let mut stage = Stage::Outside;

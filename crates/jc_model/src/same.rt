@@ -1,17 +1,17 @@
-//! Tests of equality, each with the fact that the two are one.
+//! Tests of equality, which ensure that the two are the same.
 ghost use Rattle.std.specs.Prelude.{◌≡◌, ◌↔◌, IsTrue};
 ghost use Rattle.jc_model.specs.Group.{load_only};
 
 use crate::event::{Event, LoadAnswer, Op, Out, ProcessAnswer, Reply, WriteAnswer};
 
-/// Whether two replies are one.
+/// Whether two replies are the same.
 pub(crate) fn is_same_reply(first: &Reply, second: &Reply) -> bool
     ensures { IsTrue result ↔ (first.now ≡ second.now) }
 {
     *first == *second
 }
 
-/// Whether two answers of the loader are one.
+/// Whether two answers of the loader are the same.
 pub(crate) fn is_same_load(first: &LoadAnswer, second: &LoadAnswer) -> bool
     ensures { IsTrue result ↔ (first.now ≡ second.now) }
 {

@@ -1,4 +1,4 @@
-//! What a cache counts (JSR 107, "Statistics"; `javax.cache.management.CacheStatisticsMXBean`).
+//! The counts of a cache (JSR 107, "Statistics"; `javax.cache.management.CacheStatisticsMXBean`).
 ghost use Rattle.std.specs.Prelude.{◌≡◌, ◌+◌, ℕ, Option, []};
 ghost use Rattle.jc_types.specs.declared.caller.Caller.{Caller};
 ghost use Rattle.jc_model.specs.Cache.{Bytes};
@@ -8,11 +8,11 @@ ghost use Rattle.jc_model.specs.declared.event.Event.TheVariants.{Step};
 
 use crate::event::{Effect, Event, Op, Out, ProcessAnswer, Reply};
 
-/// How often a cache was asked and changed. No count goes beyond `u64::MAX`.
+/// How often a cache was asked and changed. A count that has reached `u64::MAX` stays there.
 ///
-/// A step that asks for its entry counts as a hit if the key had an entry before it, else as a miss: also a `remove(key, oldValue)` or
-/// `replace(key, oldValue, newValue)` that answers false, and an `invoke`, whatever its processor does. But a call that its writer
-/// failed counts as neither, except for an `invoke`. A history has no times, so there are no averages.
+/// A step that asks for its entry counts as a hit if the key had an entry before it, otherwise as a miss. So do a `remove(key,
+/// oldValue)` or `replace(key, oldValue, newValue)` that answers false, and an `invoke`, whatever its processor does. A call
+/// whose writer failed counts as neither, unless it is an `invoke`. A history has no times, so there are no averages.
 #[derive(Clone, Copy, Debug, PartialEq, Eq)]
 pub struct Statistics {
     /// `CacheHits`: steps that asked for an entry, and found it cached. `containsKey` doesn't ask for it.
@@ -23,7 +23,7 @@ pub struct Statistics {
     pub puts: u64,
     /// `CacheRemovals`: steps that removed an entry, or whose processor did. `clear` and evictions aren't counted here.
     pub removals: u64,
-    /// `CacheEvictions`: entries that the cache let go.
+    /// `CacheEvictions`: entries that the cache evicted.
     pub evictions: u64,
 }
 
@@ -118,7 +118,7 @@ fn step_puts(op: &Op, out: &Out, reply: &Reply) -> bool
     }
 }
 
-/// Whether a step removed its entry, or had a processor remove it.
+/// Whether a step removed its entry, or its processor did.
 fn step_removes(op: &Op, out: &Out, reply: &Reply) -> bool
     ensures { result ≡ step_removes op.now out.now reply.now }
 {
@@ -143,7 +143,7 @@ fn more_if(counts: bool, number: u64) -> u64
 }
 
 impl Statistics {
-    /// Nothing was counted.
+    /// All counts are 0.
     pub fn new() -> Statistics
         ensures { result ≡ statistics_of [] }
     {
@@ -176,7 +176,8 @@ impl Statistics {
         }
     }
 
-    /// These counts with one more step, of which these parts tell how it counts. `found` says whether its key had an entry before it.
+    /// These counts with one more step, given by the parts that decide how it counts. `found` says whether its key had an entry
+    /// before it.
     pub fn with_step(&self, found: bool, op: &Op, out: &Out, reply: &Reply) -> Statistics
         ensures { (caller : Caller) (key : Bytes) (shared_with : Option ℕ)
             → result ≡ with_event self.now found (Step caller op.now key out.now shared_with reply.now) }
@@ -200,7 +201,7 @@ impl Statistics {
         }
     }
 
-    /// These counts and others, together.
+    /// The sums of these counts and others, each at most `u64::MAX`.
     pub fn together(&self, other: &Statistics) -> Statistics
         ensures { result ≡ together self.now other.now }
     {
@@ -214,7 +215,7 @@ impl Statistics {
     }
 }
 
-/// How the counts of a row of events follow from those of its parts: a law. It does nothing.
+/// A law: how the counts of a list of events follow from those of its parts. It does nothing.
 pub fn statistics_laws()
     ensures { StatisticsLaws }
 {}

@@ -1,7 +1,7 @@
-//! The operation table: what an [`Op`] asks of the loader and the writer, which entry it leaves, and what it
-//! replies (JSR 107, "Integration", whose two tables are the first two of these; "Entry Processors").
+//! The operation table: for each [`Op`] the asks of the loader and the writer, the entry that it leaves, and its reply (JSR 107,
+//! "Integration", whose two tables are the first two of these; "Entry Processors").
 //!
-//! The rows that a call's path reads are in line: out of line, each value that one gives would be cleared and copied once more.
+//! Functions on a call's path are inlined, to save a copy of the value that they return.
 ghost use Rattle.std.specs.Prelude.{◌≡◌, ◌↔◌, IsTrue, is_some, is_none, option_map, unwrap_or, Some, if◌then◌else◌};
 ghost use Rattle.std.specs.Option.{option_copied};
 ghost use Rattle.jc_model.specs.Table.{holds, entry_after_replace, value_after_load, loader_ask, always_if, wanted_if, load_fits};
@@ -25,7 +25,7 @@ fn holds(entry: Option<&Value>, value: &Value) -> bool
     }
 }
 
-/// The entry with a loaded value, if one was found.
+/// The entry, or the loaded value if one was found.
 #[inline(always)]
 fn value_after_load<'a>(answer: &'a LoadAnswer, entry: Option<&'a Value>) -> Option<&'a Value>
     ensures { option_copied result ≡ value_after_load answer.now (option_copied entry.entry) }
@@ -36,7 +36,7 @@ fn value_after_load<'a>(answer: &'a LoadAnswer, entry: Option<&'a Value>) -> Opt
     }
 }
 
-/// Another entry if this one has a value, and else this one.
+/// `next` if the entry has the value `old`, otherwise the entry.
 #[inline(always)]
 fn entry_if<'a>(entry: Option<&'a Value>, old: &Value, next: Option<&'a Value>) -> Option<&'a Value>
     ensures { option_copied result ≡ (if holds (option_copied entry.entry) old.now
@@ -56,7 +56,7 @@ fn entry_or<'a>(entry: Option<&'a Value>, value: &'a Value) -> Option<&'a Value>
     }
 }
 
-/// A value in the place of the entry, if there is one.
+/// The value, if there is an entry to replace.
 #[inline(always)]
 fn entry_after_replace<'a>(entry: Option<&Value>, value: &'a Value) -> Option<&'a Value>
     ensures { option_copied result ≡ entry_after_replace (option_copied entry.entry) value.now }
@@ -67,7 +67,7 @@ fn entry_after_replace<'a>(entry: Option<&Value>, value: &'a Value) -> Option<&'
     }
 }
 
-/// The entry with what a processor did to it.
+/// The entry with a processor's net effect.
 #[inline(always)]
 fn after_effect<'a>(answer: &'a ProcessAnswer, entry: Option<&'a Value>) -> Option<&'a Value>
     ensures { option_copied result ≡ after_effect answer.now (option_copied entry.entry) }
@@ -82,7 +82,7 @@ fn after_effect<'a>(answer: &'a ProcessAnswer, entry: Option<&'a Value>) -> Opti
     }
 }
 
-/// What a processor answers the caller.
+/// The value that a processor answers to the caller, or none.
 #[inline(always)]
 fn outcome_of(answer: &ProcessAnswer) -> Option<&Value>
     ensures { option_copied result ≡ outcome_of answer.now }
@@ -177,8 +177,8 @@ impl Op {
         }
     }
 
-    /// What a step replies if it found this entry, with these outside answers. A failed load, processor or write is
-    /// the reply, the first of them that failed.
+    /// The reply of a step that found this entry, with these outside answers. If the load, the processor or the write failed, the
+    /// reply is the first of these faults.
     #[inline(always)]
     pub fn reply_after(&self, entry: Option<&Value>, out: &Out) -> Reply
         ensures { result ≡ reply_after self.now (option_copied entry.entry) out.now }
@@ -188,7 +188,7 @@ impl Op {
         reply
     }
 
-    /// The same, written to `reply`: a value is copied once.
+    /// Writes the reply of a step that found this entry, with these outside answers, to `reply`: a value is copied once.
     #[inline(always)]
     pub fn reply_into(&self, entry: Option<&Value>, out: &Out, reply: &mut Reply)
         ensures { reply.new ≡ reply_after self.now (option_copied entry.entry) out.now }
@@ -200,7 +200,7 @@ impl Op {
     }
 }
 
-/// Whether an operation asks the loader: a row of the loader table.
+/// Whether an operation asks the loader: an answer of the loader table.
 #[derive(Clone, Copy, Debug, PartialEq, Eq)]
 pub enum LoaderAsk {
     /// The loader is not asked.
@@ -211,7 +211,7 @@ pub enum LoaderAsk {
     IfWanted,
 }
 
-/// The loader is asked, if this holds.
+/// `Always` if `asked` holds, otherwise `Never`.
 fn always_if(asked: bool) -> LoaderAsk
     ensures { result ≡ always_if asked }
 {
@@ -222,7 +222,7 @@ fn always_if(asked: bool) -> LoaderAsk
     }
 }
 
-/// The loader is asked if the processor wants it, if this holds.
+/// `IfWanted` if `asked` holds, otherwise `Never`.
 fn wanted_if(asked: bool) -> LoaderAsk
     ensures { result ≡ wanted_if asked }
 {
@@ -233,7 +233,7 @@ fn wanted_if(asked: bool) -> LoaderAsk
     }
 }
 
-/// Whether the loader answered as the loader table has it asked.
+/// Whether the loader was asked, or not, as the loader table states.
 fn load_fits(ask: LoaderAsk, given: bool) -> bool
     ensures { result ≡ load_fits ask given }
 {
@@ -273,7 +273,7 @@ fn ask_if<'a>(asked: bool, change: LentChange<'a>) -> Option<LentChange<'a>>
     if asked { Some(change) } else { None }
 }
 
-/// What the writer is asked for after a processor.
+/// The change that the writer is asked for after a processor.
 #[inline(always)]
 fn process_ask<'a>(answer: &'a ProcessAnswer) -> Option<LentChange<'a>>
     ensures { option_map to_change result ≡ process_ask answer.now }
@@ -370,8 +370,8 @@ impl Op {
         }
     }
 
-    /// The writer table: what the writer is asked for by a step that finds this entry, or nothing (JSR 107,
-    /// "Integration"). It holds with write-through on; with write-through off, nobody is asked.
+    /// The writer table: the change that the writer is asked for by a step that finds this entry, or nothing (JSR 107,
+    /// "Integration"). It holds with write-through on; with write-through off, the writer isn't asked.
     ///
     /// For `Invoke` the processor's answer decides; the other operations do not look at it.
     #[inline(always)]
@@ -399,9 +399,8 @@ impl Op {
         }
     }
 
-    /// Whether exactly those answered that a step asks for if it finds this entry: the loader and the writer by their
-    /// tables, and for `Invoke` the processor. After a failed load or processor no writer is asked. What they answered
-    /// is not judged.
+    /// Whether exactly those answered whom a step asks if it finds this entry: the loader and the writer by their tables, and for
+    /// `Invoke` the processor. After a failed load or processor no writer is asked. It doesn't judge what they answered.
     pub fn answers_fit(&self, config: &Config, entry: &Option<Value>, out: &Out) -> bool
         ensures { result ≡ answers_fit config.now self.now entry.now out.now }
     {

@@ -1,4 +1,4 @@
-//! Laws above the operation table, over every cache and every step. Each function does nothing: what it says is its contract.
+//! Laws of the operation table, for every cache and every step. Each function does nothing: its contract is the law.
 ghost use Rattle.jc_model.specs.TableLaws.{FaultLeavesCache, OtherKeysStay};
 
 /// A step whose loader, processor or writer failed leaves the whole cache as it was (JSR 107, "Integration").

@@ -1,6 +1,6 @@
 -- Done values of entry processors, as data.
---     ProcessResult    what a processor did for an ask, what its loader answered, and where that comes from
---     effect_change    what the writer is to be asked for: the net effect, and nothing after a loader's or processor's fault
+--     ProcessResult    what a processor did for an ask, the answer of its loader, and where these come from
+--     effect_change    the change that the writer is to be asked for: the net effect, or none after a loader's or processor's fault
 use Rattle.std.specs.Prelude.{Option, None, is_none, if◌then◌else◌}
 use Rattle.jc_model.specs.declared.event.LoadAnswer.{LoadAnswer}
 use Rattle.jc_model.specs.declared.event.WriteAnswer.TheVariants as write

@@ -1,5 +1,5 @@
--- An entry while a processor runs, and what the processor's calls make of it.
---     EntryState      an entry: its value when the processor began, whether it may load, what the loader answered, the net effect
+-- An entry while a processor runs, and the effect of the processor's calls on it.
+--     EntryState      an entry: its value when the processor began, whether it may load, the loader's answer, the net effect
 --     new_entry       an entry before the first call
 --     is_keep         a net effect that leaves the entry as it was
 --     asks_load       whether a `getValue` now asks the loader
@@ -7,9 +7,9 @@
 --     IsSameEntry     two states of one entry: it began with the same value, and the same leave to load
 --     Makes           one more call was made on an entry, and answered this
 --     MutableState    an entry with its key
---     get_answer      the answer to `getValue`, by what it returns
+--     get_answer      the answer to `getValue`, by its return
 --     LoadsWhole      a loader was called once, with this key and this answer
---     LoadsOn         a loader was called once if the entry's load came meanwhile, and else not at all
+--     LoadsOn         a loader was called once if the entry's load came meanwhile, otherwise not at all
 use Rattle.std.specs.Prelude.{◌≡◌, ℕ, List, [], ◌∷◌, ◌++◌, Bool, true, false, not, ◌&&◌, ◌⊎◌, Option, Result, Ok, Err, is_none}
 use Rattle.jc_model.specs.Cache.{Bytes}
 use Rattle.jc_model.specs.declared.event.LoadAnswer.{LoadAnswer}

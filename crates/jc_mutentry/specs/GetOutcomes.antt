@@ -1,5 +1,5 @@
--- What `getValue` answers without a loader.
---     IsGetOutcome    it is the answer of the call, and nothing changes; or the loader is to be asked
+-- The outcome of `getValue` before a loader is asked.
+--     IsGetOutcome    the outcome is the answer of the call, and nothing changes; or the loader is to be asked
 use Rattle.std.specs.Prelude.{◌≡◌, true}
 use Rattle.jc_model.specs.declared.processor.EntryCall.TheVariants.{GetValue}
 use Rattle.jc_model.specs.declared.processor.EntryAnswer.TheVariants as answer

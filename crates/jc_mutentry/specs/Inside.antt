@@ -1,10 +1,10 @@
--- What an entry answers from its one state.
---     is_present         whether a value is there: by the net effect, else by what was there first, else by what was loaded
---     outcome_by_load    what `getValue` comes to while nothing has mutated the entry
---     get_outcome        what `getValue` comes to
---     effect_after       the net effect after one more mutation: a failed load lets none count
+-- The answers of an entry, from its one state.
+--     is_present         whether a value is there: by the net effect, otherwise by the initial value, otherwise by the load
+--     outcome_by_load    the outcome of `getValue` while nothing has mutated the entry
+--     get_outcome        the outcome of `getValue`
+--     effect_after       the net effect after one more mutation: after a failed load none counts
 --     is_load_failed     whether the load failed
---     get_result         what `getValue` returns once the loader has answered
+--     get_result         the return of `getValue` once the loader has answered
 use Rattle.std.specs.Prelude.{ℕ, Bool, true, false, ◌&&◌, ◌||◌, Option, None, Some, Result, Ok, Err, is_some, is_none, if◌then◌else◌}
 use Rattle.jc_model.specs.Cache.{Bytes}
 use Rattle.jc_model.specs.declared.event.LoadAnswer.{LoadAnswer}

@@ -1,9 +1,9 @@
--- A played run of an entry processor: its calls on the entry are given, a code if it is to fail, and what its loader answers if it
--- is asked.
+-- A played run of an entry processor. Given are its calls on the entry, a code if it is to fail, and the answer of its loader if
+-- that is asked.
 --     played_answers    the answers to the calls that it makes: none is made after a failed load
---     played_load       what the loader answered
---     played_outcome    what the processor did
---     LoadsAs           an entry's load stays, or comes, and is this answer
+--     played_load       the loader's answer
+--     played_outcome    the processor's answer
+--     LoadsAs           an entry's load stays as it was, or it came and is this answer
 --     IsPlayed          an entry is after those of these calls that are made, with these answers and the last value among them
 use Rattle.std.specs.Prelude.{◌≡◌, ◌⊎◌, ℕ, List, Bool, Option, None, unwrap_or}
 use Rattle.jc_model.specs.Cache.{Bytes}

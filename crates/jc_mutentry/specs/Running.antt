@@ -1,9 +1,10 @@
 -- A run of an entry processor.
---     IsRun          the load, the answers and what the processor did are those of one list of calls on the entry
---     LoadsIfGiven   a session's loader was called once if it has answered, and else not at all
---     ProcessRelation    what a processor's run may be: the processor before, the key, the arguments, the calls on the entry, what they
---                        answered, what the run returned, its state afterwards
---     RunsOnce       a processor was run once, on an entry of this key that had this value at first or none, and this is what came of it
+--     IsRun              the load, the answers and the processor's answer are those of one list of calls on the entry
+--     LoadsIfGiven       a session's loader was called once if it has answered, otherwise not at all
+--     ProcessRelation    the relation of a processor's run: the processor before, the key, the arguments, the calls on the entry,
+--                        what they answered, what the run returned, its state afterwards
+--     RunsOnce           a processor was run once, on an entry of this key with this initial value or none, and this is its
+--                        outcome
 use Rattle.std.specs.Prelude.{◌≡◌, ℕ, List, Bool, Option, Result, MatchBool}
 use Rattle.jc_model.specs.Cache.{Bytes}
 use Rattle.jc_model.specs.declared.event.LoadAnswer.{LoadAnswer}
@@ -14,7 +15,7 @@ use Rattle.jc_model.specs.Table.{is_load_given}
 use Rattle.jc_model.specs.Processor.{uses_load, all_answers, net_effect, process_answer}
 use Rattle.jc_outside.specs.Calling.{LoadRelation, LoadsOnce}
 
--- of an entry that may ask the loader or not, and has this value at first or none
+-- for an entry that may ask the loader or not, and has this initial value or none
 pub record IsRun (may_load : Bool) (initial : Option Bytes) (load : LoadAnswer) (process : ProcessAnswer)
     (calls : List EntryCall) (answers : List EntryAnswer) (returned : Result (Option Bytes) ℕ) : Type 0 where
   pub asked : is_load_given load ≡ uses_load may_load initial calls

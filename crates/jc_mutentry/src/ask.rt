@@ -1,10 +1,10 @@
-//! What an entry processor is asked, of whichever crate makes such asks.
+//! Asks of an entry processor, whichever crate makes them.
 use jc_outside::Ask;
 use jc_types::Value;
 
 /// A permission to run an entry processor once, on one entry.
 ///
-/// It carries what its processor may see: the entry as it was when its key was reserved, and whether `getValue` of a missing
+/// It carries what the processor may see: the entry as it was when the key was reserved, and whether `getValue` of a missing
 /// entry may ask the loader (JSR 107, "Entry Processors").
 pub trait AskProcess: Ask {
     ghost use Rattle.std.specs.Prelude.{◌≡◌, Bool, Option};

@@ -1,4 +1,4 @@
-//! What an entry processor did, and what its loader answered.
+//! The outcome of an entry processor, and the answer of its loader.
 ghost use Rattle.std.specs.Prelude.{◌≡◌, true};
 ghost use Rattle.jc_model.specs.Table.{is_process_given, load_fits, wanted_if, is_load_given};
 ghost use Rattle.jc_mutentry.specs.Done.{effect_change};
@@ -9,10 +9,10 @@ use jc_outside::Origin;
 use std::marker::Model;
 use std::snapshot::Snapshot;
 
-/// What an entry processor did to the entry of one ask, and what the loader answered if `getValue` asked it.
+/// The outcome of an entry processor on the entry of one ask, and the loader's answer if `getValue` asked it.
 ///
-/// The ask was spent when this was made, and only clauses see it. It can't be dropped or copied: the commit that ends the ask's
-/// reservation spends it.
+/// The ask was spent when this was made, and only clauses see it. A done value can be neither dropped nor copied: the commit that
+/// ends the ask's reservation spends it.
 pub struct ProcDone<A: AskProcess> {
     ask: Snapshot<A>,
     origin: Origin,
@@ -34,22 +34,22 @@ impl<A: AskProcess> Model for ProcDone<A> {
 }
 
 impl<A: AskProcess> ProcDone<A> {
-    /// What the loader answered: `NotAsked` if the processor's calls didn't ask it.
+    /// The loader's answer: `NotAsked` if the processor's calls didn't ask it.
     pub fn load(&self) -> &LoadAnswer
         ensures { result.now ≡ self.now.load }
     {
         &self.load
     }
 
-    /// What the processor did.
+    /// The processor's answer.
     pub fn process(&self) -> &ProcessAnswer
         ensures { result.now ≡ self.now.process }
     {
         &self.process
     }
 
-    /// The write or delete to ask for with write-through on: that of the net effect, or none. After a loader's or processor's
-    /// fault there is none (JSR 107, "Entry Processors").
+    /// The write or delete that the writer is to be asked for with write-through on: that of the net effect, or none. After a
+    /// loader's or processor's fault there is none (JSR 107, "Entry Processors").
     pub fn change(&self) -> Option<Change>
         ensures { result ≡ effect_change self.now.load self.now.process }
     {
@@ -64,7 +64,7 @@ impl<A: AskProcess> ProcDone<A> {
         }
     }
 
-    /// What the loader answered, and what the processor did. The done value is spent.
+    /// The answers of the loader and the processor. The done value is spent.
     pub fn into_answers(self) -> (LoadAnswer, ProcessAnswer)
         ensures load { result.0 ≡ self.load }
         ensures process { result.1 ≡ self.process }

@@ -12,8 +12,8 @@ use std::marker::Model;
 
 /// The entry that a processor runs on (`javax.cache.processor.MutableEntry`; JSR 107, "Entry Processors").
 ///
-/// What its calls make of it counts once the processor has ended. The session's loader is lent beside it, and is called by
-/// `get_value` alone.
+/// The mutations take effect once the processor has ended. The session's loader is lent beside the entry, and only `get_value`
+/// calls it.
 #[derive(Drop)]
 pub struct MutableEntry {
     key: Key,
@@ -29,7 +29,7 @@ impl Model for MutableEntry {
 }
 
 impl MutableEntry {
-    /// An entry on which no call was made.
+    /// An entry on which no call was made yet.
     pub(crate) fn new(key: Key, initial: Option<Value>, may_load: bool) -> Self
         ensures { result ≡ record { key = key; entry = new_entry initial may_load } }
     {
@@ -53,8 +53,8 @@ impl MutableEntry {
         self.core.exists()
     }
 
-    /// `getValue`: the value, or none. If nothing is there and read-through is on, the loader is called, by the first such call
-    /// alone. An `Err` has the code of the loader's failure, which each later `getValue` gives again.
+    /// `getValue`: the value, or none. If nothing is there and read-through is on, the first such call, and no other, calls the
+    /// loader. An `Err` has the code of the loader's failure; each later `getValue` returns it again.
     ///
     /// It may wait, as long as the loader does.
     pub fn get_value(&mut self, loader: &mut dyn CacheLoader) -> Result<Option<Value>, u32>

@@ -11,21 +11,21 @@ use jc_model::{Effect, LoadAnswer};
 use jc_types::Value;
 use std::marker::Model;
 
-/// What `getValue` comes to, before a loader is asked.
+/// The outcome of `getValue` before a loader is asked.
 #[derive(Clone, Copy, Debug, PartialEq, Eq)]
 pub enum GetOutcome {
     /// The value, or none.
     Value(Option<Value>),
-    /// The loader is to be asked, and its answer given to [`EntryCore::load`].
+    /// The loader is to be asked, and its answer to be passed to [`EntryCore::load`].
     MustLoad,
     /// The loader has failed with this code.
     Failed(u32),
 }
 
 /// An entry while a processor runs (`javax.cache.processor.MutableEntry`; JSR 107, "Entry Processors"), without its key and
-/// without a loader: who has one asks it if the entry says so.
+/// without a loader: the caller asks the loader if [`get_value`](EntryCore::get_value) answers `MustLoad`.
 ///
-/// It keeps one state: what the loader answered, and the net effect of the calls so far. No call takes memory.
+/// It keeps one state: the loader's answer, and the net effect of the calls so far. No call takes memory.
 #[derive(Drop)]
 pub struct EntryCore {
     initial: Option<Value>,
@@ -64,15 +64,14 @@ impl EntryCore {
         is_present(&self.initial, &self.load, &self.effect)
     }
 
-    /// `getValue`, as far as it goes without a loader: the value, the fault of a load that has failed, or that the loader is to
-    /// be asked.
+    /// `getValue` without a loader: the value, the fault of a load that has failed, or that the loader is to be asked.
     pub fn get_value(&self) -> GetOutcome
         ensures { IsGetOutcome self.now result }
     {
         get_outcome(&self.initial, self.may_load, &self.load, &self.effect)
     }
 
-    /// `getValue`, once the loader has answered.
+    /// Ends a `getValue` with the loader's answer: the value, or the code of the failure.
     ///
     /// Conditions: the loader was to be asked, and has answered.
     pub fn load(&mut self, answer: LoadAnswer) -> Result<Option<Value>, u32>
@@ -101,7 +100,7 @@ impl EntryCore {
         mutate(&self.load, &mut self.effect, Effect::Remove);
     }
 
-    /// What the loader answered, if it was asked.
+    /// The loader's answer, if it was asked.
     pub fn load_answer(&self) -> LoadAnswer
         ensures { result ≡ self.now.load }
     {
@@ -116,7 +115,7 @@ impl EntryCore {
     }
 }
 
-/// Whether a value is there: by the net effect, else by what was there first, else by what was loaded.
+/// Whether a value is there: by the net effect, otherwise by the initial value, otherwise by the load.
 fn is_present(initial: &Option<Value>, load: &LoadAnswer, effect: &Effect) -> bool
     ensures { result ≡ is_present initial.now load.now effect.now }
 {
@@ -130,7 +129,7 @@ fn is_present(initial: &Option<Value>, load: &LoadAnswer, effect: &Effect) -> bo
     }
 }
 
-/// What `getValue` comes to.
+/// The outcome of `getValue`.
 fn get_outcome(
     initial: &Option<Value>,
     may_load: bool,
@@ -146,7 +145,7 @@ fn get_outcome(
     }
 }
 
-/// What `getValue` comes to while nothing has mutated the entry.
+/// The outcome of `getValue` while nothing has mutated the entry.
 fn outcome_by_load(initial: &Option<Value>, may_load: bool, load: &LoadAnswer) -> GetOutcome
     ensures { result ≡ outcome_by_load initial.now may_load load.now }
 {
@@ -164,7 +163,7 @@ fn outcome_by_load(initial: &Option<Value>, may_load: bool, load: &LoadAnswer) -
     }
 }
 
-/// What `getValue` returns once the loader has answered.
+/// The return of `getValue` once the loader has answered.
 fn get_result(load: &LoadAnswer) -> Result<Option<Value>, u32>
     ensures { result ≡ get_result load.now }
 {
@@ -175,7 +174,7 @@ fn get_result(load: &LoadAnswer) -> Result<Option<Value>, u32>
     }
 }
 
-/// One more mutation. After a failed load none counts.
+/// Adds a mutation to the net effect. After a failed load none counts.
 fn mutate(load: &LoadAnswer, effect: &mut Effect, next: Effect)
     ensures { effect.new ≡ effect_after load.now effect.old next }
 {

@@ -1,9 +1,11 @@
-//! Entry processors: what they are asked, and what they did (JSR 107, "Entry Processors"; `javax.cache.processor`).
+//! Entry processors: their asks, their runs on a mutable entry, and their outcomes (JSR 107, "Entry Processors";
+//! `javax.cache.processor`).
 //!
 //! Why it is so:
-//! - The definition of a processor's calls looks back in their list; the code keeps one state; so neither copies the other.
-//! - A session without a loader runs a processor with one that finds nothing: a second method of the trait, with a body, which no
-//!   processor writes.
+//! - The definition of a processor's calls looks back in their list, while the code keeps one state, so that neither copies the
+//!   other.
+//! - A session without a loader runs a processor with a loader that finds nothing. This is a second method of the trait, with a
+//!   body, so that no processor has to write it.
 #![tactic(auto)]
 
 mod ask;

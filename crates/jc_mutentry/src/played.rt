@@ -1,4 +1,4 @@
-//! Played runs of entry processors: a script or a test says which calls it makes.
+//! Played runs of entry processors: a script or a test states the calls that they make.
 ghost use Rattle.std.specs.Prelude.{◌≡◌, ◌++◌, ◌+◌, ◌≤◌, ◌<◌, List, [], ◌∷◌, true, None, length, vec_len, vec_capacity, unwrap_or};
 ghost use Rattle.jc_model.specs.declared.processor.EntryCall.{EntryCall};
 ghost use Rattle.jc_model.specs.declared.processor.EntryCall.TheVariants.{GetValue};
@@ -18,12 +18,12 @@ use jc_model::{EntryAnswer, EntryCall, LoadAnswer, ProcessAnswer};
 use jc_outside::Origin;
 use jc_types::Value;
 
-/// A run of a processor that is played: it makes these calls on the entry, and then fails with the code, or answers what its last
-/// `getValue` was answered, or none. If the loader is asked, it answers `load`. After a failed load no further call is made.
+/// A played run of a processor. It makes these calls on the entry, and then fails with the code, or returns the last value that a
+/// `getValue` answered, or none. If the loader is asked, it answers `load`. After a failed load no further call is made.
 ///
-/// What each call was answered is appended to `answers`, in their order.
+/// The answer to each call is appended to `answers`, in their order.
 ///
-/// Conditions: the loader's answer is one, and there is room for one answer for each call.
+/// Conditions: the loader's answer isn't `NotAsked`, and there is room for one answer for each call.
 pub fn played_process<A: AskProcess>(
     ask: A,
     calls: &[EntryCall],
@@ -54,7 +54,7 @@ pub fn played_process<A: AskProcess>(
     )
 }
 
-/// What a processor did that ran elsewhere: its driver says so.
+/// The done value of a processor that ran elsewhere, as its driver states it.
 ///
 /// Conditions: the processor ran, and the loader was asked only if the ask says that it may be.
 pub fn said_process<A: AskProcess>(ask: A, load: LoadAnswer, process: ProcessAnswer) -> ProcDone<A>
@@ -65,7 +65,7 @@ pub fn said_process<A: AskProcess>(ask: A, load: LoadAnswer, process: ProcessAns
     ProcDone::new(ask, Origin::Played, load, process)
 }
 
-/// Makes the calls, each unless the load has failed, and gives the last value that one was answered.
+/// Makes the calls, each unless the load has failed, and returns the last value among the answers.
 fn play_calls(
     entry: &mut EntryCore,
     calls: &[EntryCall],
@@ -86,7 +86,7 @@ fn play_calls(
     last
 }
 
-/// Makes one call more, unless the load has failed.
+/// Makes one more call, unless the load has failed.
 fn play_call(
     entry: &mut EntryCore,
     call: &EntryCall,
@@ -111,7 +111,7 @@ fn play_call(
     answers.push_reserved(answer);
 }
 
-/// Notes the value, if one was answered.
+/// Notes the value, if the answer has one.
 fn note(last: &mut Option<Value>, answer: &EntryAnswer)
     ensures { last.new ≡ unwrap_or (answer_value answer.now) last.old }
 {
@@ -131,7 +131,7 @@ fn has_failed(load: &LoadAnswer) -> bool
     }
 }
 
-/// Makes a call, and gives its answer. If the loader is asked, it answers this.
+/// Makes a call, and returns its answer. If the loader is asked, it answers this.
 fn make_call(entry: &mut EntryCore, call: &EntryCall, load: &LoadAnswer) -> EntryAnswer
     requires { is_load_given load.now ≡ true }
     ensures makes { Makes entry.old call.now result entry.new }

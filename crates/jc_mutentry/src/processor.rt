@@ -27,9 +27,9 @@ impl CacheLoader for NoLoader {
 
 /// Runs on one entry (`javax.cache.processor.EntryProcessor`; JSR 107, "Entry Processors").
 ///
-/// A run is a relation of the processor before, the key, the arguments, the calls that it makes on its entry with what they
-/// answer, its own answer, and the processor's state afterwards as plain data. So a contract can say that a processor was run
-/// once, and a processor says by its relation what it does.
+/// A run is a relation of the processor before, the key, the arguments, the calls on the entry with their answers, the
+/// processor's own answer, and its state afterwards as plain data. So a contract can state that a processor was run once, and a
+/// processor states by its relation what it does.
 pub trait EntryProcessor {
     ghost use Rattle.std.specs.Prelude.{◌≡◌, ℕ, List, Option, Result};
     ghost use Rattle.jc_model.specs.Cache.{Bytes};
@@ -43,11 +43,11 @@ pub trait EntryProcessor {
     /// The processor's state, as plain data.
     ghost process_state: { Self → List ℕ };
 
-    /// One run: the key, the arguments, the calls on the entry, what each of them answered, the answer.
+    /// One run: the key, the arguments, the calls on the entry, the answer to each of them, the processor's answer.
     ghost processes: { Self → Bytes → List Bytes → List EntryCall → List EntryAnswer → Result (Option Bytes) ℕ → List ℕ → Type 0 };
 
-    /// Runs on an entry on which no call was made, and keeps its key and its initial value. It calls the loader by the entry's
-    /// `get_value` alone. An `Err` has a code of the processor's own: then nothing that it did counts.
+    /// Runs on an entry on which no call was made, and keeps its key and its initial value. It calls the loader only by the
+    /// entry's `get_value`. An `Err` has a code of the processor's own, and then none of its mutations counts.
     ///
     /// Condition: no call was made on the entry.
     fn process(
@@ -64,7 +64,7 @@ pub trait EntryProcessor {
         ensures loader { LoadsOn loads load_state entry.old.key
             entry.old.entry.load entry.new.entry.load loader.old loader.new };
 
-    /// Runs on such an entry for a session without a loader: nothing is found.
+    /// As [`process`](EntryProcessor::process), for a session without a loader: a load finds nothing.
     ///
     /// Condition: no call was made on the entry.
     fn process_alone(

@@ -73,7 +73,7 @@ fn run_on(
     }
 }
 
-/// What a processor did, by its net effect and by what it returned.
+/// The answer of a processor, by its net effect and its return.
 pub(crate) fn process_answer(effect: Effect, returned: Result<Option<Value>, u32>) -> ProcessAnswer
     ensures { result ≡ process_answer effect returned }
 {

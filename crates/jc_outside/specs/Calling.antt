@@ -1,11 +1,11 @@
--- One call of a loader or a writer, and what it answers.
+-- One call of a loader or a writer, and its answer.
 --     KeepsType         the boxed object afterwards is of the type that it had before, or there is none, before and after
---     LoadRelation      what a loader's call may be: the loader before, the key, what it returns, its state afterwards
---     load_answer       the answer that a loader gives by what it returns
---     LoadsOnce         a loader that is there was called once, with this key and this answer; without one nothing is found
---     WriteRelation     what a writer's call may be: the writer before, the key, the change, what it returns, its state afterwards
---     write_answer      the report that a writer gives by what it returns
---     WritesOnce        a writer that is there was called once, with this key and change, and reported this
+--     LoadRelation      the relation of a loader's call: the loader before, the key, its return, its state afterwards
+--     load_answer       the answer of a loader, by its return
+--     LoadsOnce         the loader, if there is one, was called once, with this key and this answer; without one nothing is found
+--     WriteRelation     the relation of a writer's call: the writer before, the key, the change, its return, its state afterwards
+--     write_answer      the report of a writer, by its return
+--     WritesOnce        the writer, if there is one, was called once, with this key and change, and reported this
 use Rattle.std.specs.Prelude.{◌≡◌, ℕ, List, Option, None, Some, Result, Ok, Err, option_map}
 use Rattle.std.specs.declared.dyn_box.DynBox.{DynBox}
 use Rattle.jc_model.specs.Cache.{Bytes}
@@ -17,7 +17,7 @@ use Rattle.jc_model.specs.declared.event.WriteAnswer.TheVariants as write
 
 -- 1. Boxes.
 
--- so what its trait says of a second call is said of the same type
+-- so the relation that its trait states of a second call is that of the same type
 abbrev pub KeepsType : {I Z : Type 0} {D : I → Type 0} → Option (DynBox I Z D) → Option (DynBox I Z D) → Type 0
 KeepsType old new = option_map (λ b. b.vtable) new ≡ option_map (λ b. b.vtable) old
 

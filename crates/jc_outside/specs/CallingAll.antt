@@ -1,20 +1,24 @@
--- One call of a loader or a writer for many keys, and what it answers for each of them.
---     LoadAllRelation    what a loader's call may be: the loader before, the keys, whether it fails, what it puts, its state afterwards
---     found_or_nothing   a value that was found, or nothing
---     load_all_answer    the answer for a key: what was put there last, or nothing; of a failed call its failure
---     LoadsKeys          a loader that is there was called once, with these keys; it returned this, and put these answers. Without one
---                        the call succeeds, and no answer is put
---     LoadsAllOnce       a loader was called once, with these keys: its answers, or its failure, say what is told of each key
---     WriteAllRelation   what a writer's call may be: the writer before, the entries, what it returns, what it leaves, its state afterwards
---     DeleteAllRelation  the same of a call that deletes keys
---     returned_fault     the code of the fault that a writer returned, if any
---     WritesEntries      a writer that is there was called once, with exactly these entries; it returned this, and left these
---     DeletesKeys        the same of keys to be deleted
---     WritesAllOnce      a writer was called once, for exactly this batch: what it left and its fault say what became of each key
---     KeepsLoadRoom      a loader's call has taken the asks and the batch's keys out, and there is memory for as many as before
---     loads_done         the done values of asks, by what was answered for each key
---     writes_done        the same of asks of a writer
---     asked_changes      each ask's key, with the change that it asks for
+-- One call of a loader or a writer for many keys, and its answer for each of them.
+--     LoadAllRelation      the relation of a loader's call: the loader before, the keys, whether it fails, the answers that it
+--                          puts, its state afterwards
+--     found_or_nothing     a value that was found, or nothing
+--     load_all_answer      the answer for a key: the value that was put there last, or nothing; after a failed call its failure
+--     LoadsKeys            the loader, if there is one, was called once, with these keys; it returned this, and put these
+--                          answers. Without one the call succeeds, and no answer is put
+--     LoadsAllOnce         a loader was called once, with these keys: its answers, or its failure, give the answer for each key
+--     WriteAllRelation     the relation of a writer's call: the writer before, the entries, its return, the entries that it
+--                          leaves, its state afterwards
+--     DeleteAllRelation    the relation of a call that deletes keys
+--     returned_fault       the code of the fault that a writer returned, if any
+--     WritesEntries        the writer, if there is one, was called once, with exactly these entries; it returned this, and left
+--                          these
+--     DeletesKeys          the same for keys to be deleted
+--     WritesAllOnce        a writer was called once, for exactly this batch: the keys that it left and its fault give the outcome
+--                          of each key
+--     KeepsLoadRoom        a loader's call has removed the asks and the batch's keys, and there is memory for as many as before
+--     loads_done           the done values of asks, by the answer for each key
+--     writes_done          the done values of asks of a writer
+--     asked_changes        each ask's key, with the change that it asks for
 use Rattle.std.specs.Prelude.{◌≡◌, ◌+◌, ℕ, List, [], length, vec_capacity, Option, None, Some, Result, Ok, Err, map}
 use Rattle.std.specs.Global.{Vec}
 use Rattle.std.specs.Map.{keys_of}

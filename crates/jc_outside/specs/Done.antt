@@ -1,6 +1,6 @@
 -- Done values, as data.
---     LoadResult      what a loader answered to an ask, and where that comes from
---     WriteResult     what a writer reported of an ask, and where that comes from
+--     LoadResult      the answer of a loader to an ask, and where it comes from
+--     WriteResult     the report of a writer to an ask, and where it comes from
 use Rattle.jc_model.specs.declared.event.LoadAnswer.{LoadAnswer}
 use Rattle.jc_model.specs.declared.event.WriteAnswer.{WriteAnswer}
 use Rattle.jc_outside.specs.declared.done.Origin.{Origin}

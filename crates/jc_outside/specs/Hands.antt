@@ -1,5 +1,5 @@
 -- A session's hands, as data.
---     HandsState    how many stripes the session has taken and not given back, and what it reaches for outside
+--     HandsState    the number of stripes that the session has taken and not given back, and what it brings for calls outside
 use Rattle.std.specs.Prelude.{ℕ}
 
 pub record HandsState (T : Type 0) : Type 0 where

@@ -1,11 +1,11 @@
-//! What a loader or a writer is asked, of whichever crate makes such asks.
+//! Asks of a loader or a writer, whichever crate makes them.
 use jc_model::Change;
 use jc_types::Key;
 
 /// A permission to ask a loader or a writer once, about one key.
 ///
-/// An ask can be neither copied nor dropped. A stripe makes one for each of its reservations. A call outside takes it, and the
-/// done value that comes back keeps it: only the done value's end spends it.
+/// An ask can be neither copied nor dropped. A stripe makes one for each of its reservations. A call outside takes it and returns
+/// a done value in its place.
 pub trait Ask {
     ghost use Rattle.std.specs.Prelude.{◌≡◌};
     ghost use Rattle.jc_model.specs.Cache.{Bytes};
@@ -17,7 +17,7 @@ pub trait Ask {
     fn key(&self) -> &Key
         ensures { result.now ≡ key self.now };
 
-    /// It was answered.
+    /// Ends an ask that was answered.
     fn spend(self);
 }
 
@@ -29,7 +29,7 @@ pub trait AskWrite: Ask {
     /// The change of the store that is asked for, if the writer is asked.
     ghost change: { Self → Option Change };
 
-    /// What is to be written, or that it is to be deleted. Condition: the writer is asked.
+    /// The write or the delete that is asked for. Condition: the writer is asked.
     fn change(&self) -> Change
         requires { is_some (change self.now) ≡ true }
         ensures { change self.now ≡ Some result };

@@ -88,7 +88,7 @@ fn ask_writer(
     }
 }
 
-/// The answer that a loader gives by what its `load` returns.
+/// The answer of a loader, by the return of its `load`.
 pub fn load_answer(returned: Result<Option<Value>, u32>) -> LoadAnswer
     ensures answer { result ≡ load_answer returned }
     ensures given { is_load_given result ≡ true }

@@ -23,10 +23,11 @@ use jc_model::LoadAnswer;
 use jc_types::{Key, Value};
 use std::sync::Wait;
 
-/// Calls the loader once, with the keys of these asks (`loadAll`), and appends a done value for each ask, in their order. A failed
-/// call fails for each of the keys; a key without an answer isn't found. Without a loader nothing is found.
+/// Calls the loader once, with the keys of these asks (`loadAll`), and appends a done value for each ask, in their order. If the
+/// call fails, it fails for each of the keys. A key without an answer isn't found. Without a loader nothing is found.
 ///
-/// The asks are taken out, and the batch comes back without keys: both have memory for as many as before, so they serve another call.
+/// The asks are taken out, and the batch is returned without keys. Both keep memory for as many as before, so they can be used
+/// for another call.
 ///
 /// It may wait, as long as the loader does. It takes no memory of its own.
 ///
@@ -56,15 +57,15 @@ pub fn call_loader_all<A: Ask, R: Wait>(
     LoadBatch::of_parts(keys, answers)
 }
 
-/// Calls the writer once, for a whole batch (`writeAll` or `deleteAll`), and appends a done value for each ask, in their order: a
-/// key that the writer leaves in the collection failed, with the writer's code or, if it returned normally, with 0; every other
-/// key was written. Keys that the writer adds count for nothing. It returns what the writer returned: the writer may fail and
-/// leave nothing.
+/// Calls the writer once, for a whole batch (`writeAll` or `deleteAll`), and appends a done value for each ask, in their order. A
+/// key that the writer leaves in the collection failed, with the writer's code, or with 0 if the writer returned normally. Every
+/// other key was written. Keys that the writer adds have no effect. It returns what the writer returned, since a writer may fail
+/// and leave nothing.
 ///
 /// It may wait, as long as the writer does. It takes no memory of its own.
 ///
-/// Conditions: the session holds no stripe, and has brought a writer; the batch has exactly what the asks ask for, in their order;
-/// there is room for the done values.
+/// Conditions: the session holds no stripe, and has brought a writer; the batch has exactly what the asks ask for, in their
+/// order; there is room for the done values.
 pub fn call_writer_all<A: AskWrite, R: Wait>(
     _rt: &R,
     hands: &mut Hands<Outside>,
@@ -153,7 +154,7 @@ fn returned_fault(returned: &Result<(), u32>) -> Option<u32>
     }
 }
 
-/// What a loader's call says of one key.
+/// The answer of a loader's call for one key.
 fn load_all_answer(returned: &Result<(), u32>, answers: &Answers, key: &Key) -> LoadAnswer
     ensures answer { result ≡ load_all_answer returned.now answers.now.by_key key.now }
     ensures given { is_load_given result ≡ true }
@@ -167,7 +168,7 @@ fn load_all_answer(returned: &Result<(), u32>, answers: &Answers, key: &Key) -> 
     }
 }
 
-/// Ends the asks by what the loader answered for each key, and takes them out.
+/// Ends the asks by the loader's answer for each key, and takes them out.
 fn end_loads<A: Ask>(
     asks: &mut Vec<A>,
     returned: &Result<(), u32>,
@@ -186,7 +187,7 @@ fn end_loads<A: Ask>(
     }
 }
 
-/// Ends the asks by what became of the batch's keys.
+/// Ends the asks by the outcomes of the batch's keys.
 fn end_writes<A: AskWrite, C: Leftover>(
     asks: Vec<A>,
     keys: BatchKeys,

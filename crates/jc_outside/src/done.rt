@@ -1,8 +1,8 @@
-//! What was answered outside, and where that comes from.
+//! The answers of loaders and writers, and where they come from.
 //!
-//! A done value stands for the ask that it answers, and its type says who makes such asks. The ask is spent when the done value is
-//! made: only clauses see it from then on, so a done value has the size of its answer. It can't be dropped or copied: the commit
-//! that ends the ask's reservation spends it.
+//! A done value stands for the ask that it answers, and its type names the type of that ask. The ask is spent when the done value
+//! is made: only clauses see it from then on, so a done value has the size of its answer. It can be neither dropped nor copied:
+//! the commit that ends the ask's reservation spends it.
 ghost use Rattle.std.specs.Prelude.{◌≡◌, true};
 ghost use Rattle.jc_model.specs.Table.{is_load_given, is_write_given};
 ghost use Rattle.jc_outside.specs.declared.done.Origin.TheVariants.{Played};
@@ -12,16 +12,16 @@ use jc_model::{LoadAnswer, WriteAnswer};
 use std::marker::Model;
 use std::snapshot::Snapshot;
 
-/// Where a stripe, and the outside answers for it, come from.
+/// The origin of a stripe, and of the outside answers for it.
 #[derive(Clone, Copy, Debug, PartialEq, Eq)]
 pub enum Origin {
     /// A running cache, which asks real loaders and writers.
     Live,
-    /// A script or a test, which says what they answered.
+    /// A script or a test, which states the answers.
     Played,
 }
 
-/// What a loader answered to one ask: a value, nothing, or a failure.
+/// The answer of a loader to one ask: a value, nothing, or a failure.
 pub struct LoadDone<A> {
     ask: Snapshot<A>,
     origin: Origin,
@@ -41,7 +41,7 @@ impl<A> Model for LoadDone<A> {
 }
 
 impl<A: Ask> LoadDone<A> {
-    /// What was answered. The done value is spent.
+    /// The answer. The done value is spent.
     pub fn into_answer(self) -> LoadAnswer
         ensures answer { result ≡ self.answer }
         ensures given { is_load_given self.answer ≡ true }
@@ -69,7 +69,7 @@ impl<A: Ask> LoadDone<A> {
     }
 }
 
-/// What a writer reported of one ask: success or a failure.
+/// The report of a writer on one ask: success or a failure.
 pub struct WriteDone<A> {
     ask: Snapshot<A>,
     origin: Origin,
@@ -89,7 +89,7 @@ impl<A> Model for WriteDone<A> {
 }
 
 impl<A: AskWrite> WriteDone<A> {
-    /// What was reported. The done value is spent.
+    /// The report. The done value is spent.
     pub fn into_answer(self) -> WriteAnswer
         ensures answer { result ≡ self.answer }
         ensures given { is_write_given self.answer ≡ true }
@@ -117,9 +117,9 @@ impl<A: AskWrite> WriteDone<A> {
     }
 }
 
-/// A loader's answer that is played: what a script or a test has it say.
+/// A played answer of a loader, which a script or a test states.
 ///
-/// Condition: the answer is one; it isn't `NotAsked`.
+/// Condition: the answer isn't `NotAsked`.
 pub fn played_load<A: Ask>(ask: A, answer: LoadAnswer) -> LoadDone<A>
     requires { is_load_given answer ≡ true }
     ensures { result ≡ record { ask = ask; origin = Played; answer = answer } }
@@ -127,9 +127,9 @@ pub fn played_load<A: Ask>(ask: A, answer: LoadAnswer) -> LoadDone<A>
     LoadDone::new(ask, Origin::Played, answer)
 }
 
-/// A writer's report that is played: what a script or a test has it say.
+/// A played report of a writer, which a script or a test states.
 ///
-/// Condition: the answer is one; it isn't `NotAsked`.
+/// Condition: the answer isn't `NotAsked`.
 pub fn played_write<A: AskWrite>(ask: A, answer: WriteAnswer) -> WriteDone<A>
     requires { is_write_given answer ≡ true }
     ensures { result ≡ record { ask = ask; origin = Played; answer = answer } }

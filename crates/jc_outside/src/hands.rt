@@ -1,11 +1,11 @@
-//! How many stripes a session holds, and what it brings for calls outside.
+//! The number of stripes that a session holds, and what it brings for calls outside.
 ghost use Rattle.std.specs.Prelude.{◌≡◌, ◌+◌, ◌-◌, ◌<◌, ◌^◌, None};
 
 use crate::loader::CacheLoader;
 use crate::writer::CacheWriter;
 use std::marker::Model;
 
-/// What a session brings for calls outside.
+/// The loader and the writer that a session brings for calls outside.
 #[derive(Drop)]
 pub struct Outside {
     /// The loader, if it brings one. Without one nothing is found.
@@ -14,11 +14,11 @@ pub struct Outside {
     pub writer: Option<Box<dyn CacheWriter + Send + Drop>>,
 }
 
-/// The hands of a session: how many stripes it has taken and not given back, and what it reaches for outside.
+/// The hands of a session: the number of stripes that it has taken and not given back, and what it brings for calls outside.
 ///
-/// Hands are made of what they reach for, and give it back only if they hold nothing. So hands that are made while a stripe is
-/// held don't reach the session's loader or writer. A session keeps its hands private: who could put others in their place could
-/// hold a stripe with these and ask by those.
+/// Hands are made of the loader and the writer, and give them back only if they hold no stripe. So new hands that are made while
+/// a stripe is held don't have the session's loader or writer. A session keeps its hands private: otherwise a caller could hold a
+/// stripe with one pair of hands, and ask the loader with another.
 #[derive(Drop)]
 pub struct Hands<T> {
     pub(crate) held: u32,
@@ -34,7 +34,7 @@ impl<T> Model for Hands<T> {
 }
 
 impl<T> Hands<T> {
-    /// Hands that hold nothing, and reach for this.
+    /// Hands that hold no stripe, and have this for calls outside.
     pub fn new(outside: T) -> Self
         ensures { result ≡ record { held = 0; outside = outside } }
     {
@@ -61,9 +61,9 @@ impl<T> Hands<T> {
         self.held -= 1;
     }
 
-    /// What they reach for.
+    /// Ends the hands, and returns what they have for calls outside.
     ///
-    /// Condition: they hold nothing.
+    /// Condition: they hold no stripe.
     pub fn into_outside(self) -> T
         requires { self.held ≡ 0 }
         ensures { result ≡ self.outside }
@@ -76,7 +76,7 @@ impl<T> Hands<T> {
 impl Hands<Outside> {
     /// Takes the loader out, to lend it to an entry processor.
     ///
-    /// Condition: they hold nothing.
+    /// Condition: they hold no stripe.
     pub fn take_loader(&mut self) -> Option<Box<dyn CacheLoader + Send + Drop>>
         requires { self.old.held ≡ 0 }
         ensures loader { result ≡ self.old.outside.loader }
@@ -87,7 +87,7 @@ impl Hands<Outside> {
 
     /// Puts the loader back that was taken out.
     ///
-    /// Conditions: they hold nothing, and have no loader.
+    /// Conditions: they hold no stripe, and have no loader.
     pub fn put_loader(&mut self, loader: Option<Box<dyn CacheLoader + Send + Drop>>)
         requires held { self.old.held ≡ 0 }
         requires none { self.old.outside.loader ≡ None }

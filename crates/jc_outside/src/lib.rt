@@ -1,16 +1,16 @@
-//! What is outside a cache: loaders, writers and completion listeners that a caller brings, and what they answered.
+//! What is outside a cache: loaders, writers and completion listeners that a caller brings, and their answers.
 //!
-//! A call outside is made while the session holds no stripe, and takes an ask, which only the ticket of a reservation gives.
-//! It returns a done value, which only the commit of that reservation spends. So each answer that comes into a cache was given
-//! once, for one reservation (JSR 107, "Integration").
+//! A call outside is made while the session holds no stripe, and takes an ask, which only the ticket of a reservation gives. It
+//! returns a done value, which only the commit of that reservation spends. So each answer that comes into a cache was given once,
+//! for one reservation (JSR 107, "Integration").
 //!
 //! Why it is so:
-//! - A done value is made below the stripes, of an ask of any type: so loaders and writers need nothing of a stripe, and only this crate
-//!   makes a live answer.
-//! - A done value stands for its ask, which is spent for it and then seen by clauses alone (a `Snapshot`, no bytes): it is as large as
-//!   its answer.
-//! - Hands hold loader and writer: a count of stripes alone could be made anew by whoever wants to ask while he holds one.
-//! - A call outside for many keys takes asks and gives done values, one for each, in their order.
+//! - A done value is made in this crate, below the stripes, of an ask of any type, so that loaders and writers need nothing of a
+//!   stripe, and only this crate makes a live answer.
+//! - A done value stands for its ask, which is spent when it is made and is then seen by clauses alone (a `Snapshot`, no bytes),
+//!   so that it is as large as its answer.
+//! - Hands have the loader and the writer, because a mere count of stripes could be made anew by a caller who wants to ask while
+//!   it holds a stripe.
 #![tactic(auto)]
 
 mod ask;

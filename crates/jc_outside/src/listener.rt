@@ -1,10 +1,10 @@
 //! Completion listeners.
 use jc_types::Refusal;
 
-/// Is told how a `loadAll` ended (`javax.cache.integration.CompletionListener`; JSR 107, "Integration").
+/// A listener, which is told how a `loadAll` ended (`javax.cache.integration.CompletionListener`; JSR 107, "Integration").
 ///
-/// Being told is a relation of the listener before, how the `loadAll` ended, and the listener's state afterwards as plain data.
-/// So a contract can say that a listener was told once.
+/// That it is told is a relation of the listener before, the end of the `loadAll`, and the listener's state afterwards as plain
+/// data. So a contract can state that a listener was told once.
 pub trait CompletionListener {
     ghost use Rattle.std.specs.Prelude.{ℕ, List, Result, Ok, Err};
     ghost use Rattle.jc_types.specs.declared.refusal.Refusal.{Refusal};
@@ -12,10 +12,10 @@ pub trait CompletionListener {
     /// The listener's state, as plain data.
     ghost listener_state: { Self → List ℕ };
 
-    /// It is told once, of success or of what went wrong.
+    /// It is told once, of success or of the refusal.
     ghost hears: { Self → Result (Unit {0}) Refusal → List ℕ → Type 0 };
 
-    /// The `loadAll` has loaded what it was to load (`onCompletion`).
+    /// The `loadAll` has loaded all that it was to load (`onCompletion`).
     fn on_completion(&mut self)
         ensures { hears self.old (Ok tt) (listener_state self.new) };
 

@@ -2,11 +2,11 @@
 use jc_batch::Answers;
 use jc_types::{Key, Value};
 
-/// Loads what a cache misses (`javax.cache.integration.CacheLoader`; JSR 107, "Integration").
+/// Loads the entries that a cache misses (`javax.cache.integration.CacheLoader`; JSR 107, "Integration").
 ///
-/// A call is a relation of the loader before, what it is given, its answer, and the loader's state afterwards as plain data. So a
-/// contract can say that a loader was called once, with this key and this answer, and a loader says by its relations what it
-/// answers. A loader that waits, as for a lock, holds its own runtime.
+/// A call is a relation of the loader before, its arguments, its answer, and the loader's state afterwards as plain data. So a
+/// contract can state that a loader was called once, with this key and this answer, and a loader states by its relations what it
+/// answers. A loader that waits, for example for a lock, holds its own runtime.
 pub trait CacheLoader {
     ghost use Rattle.std.specs.Prelude.{◌≡◌, ℕ, List, Option, Result};
     ghost use Rattle.jc_model.specs.Cache.{Bytes};
@@ -25,8 +25,8 @@ pub trait CacheLoader {
     fn load(&mut self, key: &Key) -> Result<Option<Value>, u32>
         ensures { loads self.old key.now result (load_state self.new) };
 
-    /// Puts the value at each of the keys that has one into `answers` (`loadAll`). A key that is left out has none. An `Err`
-    /// has a code of the loader's own, and stands for each of the keys.
+    /// Puts the value at each of the keys that has one into `answers` (`loadAll`). A key that is left out has none. An `Err` has
+    /// a code of the loader's own, and holds for each of the keys.
     ///
     /// `answers` keep their memory, which is used again for the loads of a later round: change them by [`Answers::put`] alone.
     ///

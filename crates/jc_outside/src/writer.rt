@@ -2,10 +2,10 @@
 use indexmap::{IndexMap, IndexSet};
 use jc_types::{Key, Value};
 
-/// Changes the store as the cache is changed (`javax.cache.integration.CacheWriter`; JSR 107, "Integration").
+/// Changes the store when the cache is changed (`javax.cache.integration.CacheWriter`; JSR 107, "Integration").
 ///
-/// A call is a relation of the writer before, what it is given, its answer, and the writer's state afterwards as plain data. A
-/// write and a delete of one key are one relation.
+/// A call is a relation of the writer before, its arguments, its answer, and the writer's state afterwards as plain data. A write
+/// and a delete of one key are one relation.
 pub trait CacheWriter {
     ghost use Rattle.std.specs.Prelude.{ℕ, List, Result};
     ghost use Rattle.jc_model.specs.Cache.{Bytes};
@@ -28,17 +28,17 @@ pub trait CacheWriter {
     fn write(&mut self, key: &Key, value: &Value) -> Result<(), u32>
         ensures { writes self.old key.now (Write value.now) result (write_state self.new) };
 
-    /// Deletes what is at a key, if anything (`delete`). An `Err` has a code of the writer's own.
+    /// Deletes the entry of a key, if there is one (`delete`). An `Err` has a code of the writer's own.
     fn delete(&mut self, key: &Key) -> Result<(), u32>
         ensures { writes self.old key.now Delete result (write_state self.new) };
 
-    /// Writes entries (`writeAll`), and takes each that it has written out of the collection: what is left wasn't written. An
-    /// `Err` has a code of the writer's own.
+    /// Writes entries (`writeAll`), and removes each that it has written from the collection: an entry that is left wasn't
+    /// written. An `Err` has a code of the writer's own.
     fn write_all(&mut self, entries: &mut IndexMap<Key, Value>) -> Result<(), u32>
         ensures { writes_all self.old entries.old.entries result entries.new.entries (write_state self.new) };
 
-    /// Deletes what is at these keys (`deleteAll`), and takes each that it has deleted out of the collection: what is left
-    /// wasn't deleted. An `Err` has a code of the writer's own.
+    /// Deletes the entries of these keys (`deleteAll`), and removes each that it has deleted from the collection: a key that is
+    /// left wasn't deleted. An `Err` has a code of the writer's own.
     fn delete_all(&mut self, keys: &mut IndexSet<Key>) -> Result<(), u32>
         ensures { deletes_all self.old keys.old.keys result keys.new.keys (write_state self.new) };
 }

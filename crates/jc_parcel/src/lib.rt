@@ -1,4 +1,4 @@
-//! A box as its pointer, for a program in another language that keeps it meanwhile.
+//! A box as a raw pointer, for a program in another language that keeps the pointer meanwhile.
 #![tactic(auto)]
 
 ghost use Rattle.std.specs.Prelude.{◌≡◌};
@@ -7,8 +7,8 @@ ghost use Rattle.std_alloc.specs.Box.Ownership.{box_owns};
 use std::alloc::Allocator;
 use std::marker::Model;
 
-/// A box as its pointer, with its allocator. It can't be dropped: it ends by being made a box again, or taken apart by whoever keeps its
-/// pointer.
+/// A box as a raw pointer, with its allocator. It can't be dropped: it is made a box again, or taken apart by a program that
+/// keeps the pointer.
 pub struct Loose<T, A: Allocator> {
     /// Where the value is.
     pub at: *mut T,
@@ -23,7 +23,7 @@ impl<T, A: Allocator> Model for Loose<T, A> {
 }
 
 impl<T: Drop, A: Allocator> Loose<T, A> {
-    /// The box as its pointer.
+    /// Makes a box a raw pointer.
     pub fn of(value: Box<T, A>) -> Loose<T, A>
         ensures { result.value ≡ value.value }
     {
@@ -31,7 +31,7 @@ impl<T: Drop, A: Allocator> Loose<T, A> {
         Loose { at, alloc }
     }
 
-    /// The box again.
+    /// Makes it a box again.
     pub fn into_box(self) -> Box<T, A>
         ensures { result.value ≡ self.value }
     {

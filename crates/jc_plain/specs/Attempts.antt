@@ -1,6 +1,6 @@
 -- Attempts at the members of a collection, each a call of one closure that may fail.
---     FailsAt         an attempt at this key was made, and this says whether it failed
---     FailsAtEntry    an attempt at this entry was made, and this says whether it failed; its value stays
+--     FailsAt         an attempt at this key was made, and the flag tells whether it failed
+--     FailsAtEntry    an attempt at this entry was made, and the flag tells whether it failed; the entry's value stays
 use Rattle.std.specs.Prelude.{◌≡◌, ℕ, Bool, Result, is_err}
 use denote.Ref.{Bor}
 use Rattle.std.specs.Fn.{Mut, CalledAt, CalledAtTwo}

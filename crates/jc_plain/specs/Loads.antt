@@ -1,7 +1,7 @@
--- What the default `load_all` of a loader does: it loads one key after the other, up to the first failure.
---     with_found    the answers, with what was found at a key put in, if anything was
---     LoadsEach     each key was loaded once, in their order, and what was found was put into the answers; a failure of the whole is
---                   that of the first load that failed, after which nothing was loaded
+-- The default `load_all` of a loader: it loads one key after another, up to the first failure.
+--     with_found    the answers, with the value that was found at a key, if one was
+--     LoadsEach     each key was loaded once, in their order, and the values found were put into the answers; the call fails with
+--                   the first load that failed, after which nothing was loaded
 use Rattle.std.specs.Prelude.{◌≡◌, ◌⊎◌, ℕ, List, [], ◌∷◌, Result, Ok, Err, Option, None, Some}
 use Rattle.jc_model.specs.Cache.{Bytes}
 use Rattle.jc_outside.specs.Answers.{AnswersByKey, answers_with}

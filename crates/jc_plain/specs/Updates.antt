@@ -1,9 +1,11 @@
--- What a processor that sees the value alone makes of an entry.
+-- The effect on an entry of a processor that sees the value alone.
 --     change_to       the call that sets the entry to a value, or removes it
---     Changes         the calls after `getValue`: none if the value that is left is the one that was found, and else the change to it
+--     Changes         the calls after `getValue`: none if the value that is left is the one that was found, otherwise the change
+--                     to it
 --     ChangesAfter    the same after a success; after a failure there are none
---     UpdatesEntry    the value is got first. If that fails, the whole fails with its code, and the processor isn't asked; else it is
---                     asked once, with what was found, and its answer is that of the whole
+--     UpdatesEntry    the processor first gets the value. If that fails, the whole fails with its code, and the update isn't
+--                     asked; otherwise the update is asked once, with the value that was found, and its answer is that of the
+--                     whole
 use Rattle.std.specs.Prelude.{◌≡◌, ◌≢◌, ◌⊎◌, ℕ, List, [], ◌∷◌, Result, Ok, Err, Option, None, Some}
 use Rattle.jc_model.specs.Cache.{Bytes}
 use Rattle.jc_model.specs.declared.processor.EntryCall.{EntryCall}

@@ -1,8 +1,8 @@
--- What the default `write_all` and `delete_all` of a writer do: they try each member once, in their order, and leave those that failed.
---     WritesOne      an entry was written, and this says whether that failed; its value stays
---     WritesEach     each entry was written so, from the writer before to some later one, and exactly those that failed are left; the
---                    whole is a success exactly if none is
---     DeletesOne, DeletesEach    the same of keys, and deletes
+-- The default `write_all` and `delete_all` of a writer: they try each member once, in their order, and leave those that failed.
+--     WritesOne                  an entry was written, and the flag tells whether that failed; the entry's value stays
+--     WritesEach                 each entry was written once, from the writer before to some later one, and exactly those that
+--                                failed are left; the whole is a success exactly if none is left
+--     DeletesOne, DeletesEach    the same for keys, and deletes
 use Rattle.std.specs.Prelude.{◌≡◌, ◌↔◌, ℕ, Bool, List, [], Result, is_err, IsOk}
 use Rattle.std.specs.Map.Calls.{RetainsPairs}
 use Rattle.std.specs.List.Retain.{IsFiltered}

@@ -1,4 +1,4 @@
-//! Calls at each member of a collection, one after the other, that leave exactly what failed.
+//! Calls at each member of a collection, one after another, that leave exactly those that failed.
 ghost use Rattle.std.specs.Prelude.{◌≡◌, ◌↔◌, IsOk};
 ghost use Rattle.indexmap.specs.IndexMap.{index_map_len};
 ghost use Rattle.indexmap.specs.IndexSet.{index_set_len};
@@ -23,7 +23,7 @@ pub(crate) fn attempt_entries<F: FnMut(&Key, &Value) -> Result<(), u32>>(
     ensures ok { IsOk result ↔ (index_map_len entries.new ≡ 0) }
     ensures left { RetainsPairs (FailsAtEntry F.FnMut) attempt entries.old.entries entries.new.entries }
 {
-    // The code of the last failure. It is read only if there was one.
+    // The code of the last failure. It is read only if there was a failure.
     let mut last = 0;
     entries.retain(
         |key: &Key, value: &mut Value| -> bool
@@ -61,7 +61,7 @@ pub(crate) fn attempt_keys<F: FnMut(&Key) -> Result<(), u32>>(
     ensures ok { IsOk result ↔ (index_set_len keys.new ≡ 0) }
     ensures left { IsFiltered (FailsAt F.FnMut) attempt keys.old.keys keys.new.keys }
 {
-    // The code of the last failure. It is read only if there was one.
+    // The code of the last failure. It is read only if there was a failure.
     let mut last = 0;
     keys.retain(
         |key: &Key| -> bool

@@ -1,10 +1,10 @@
-//! Loaders, writers, entry processors and listeners of which their author states nothing (JSR 107, "Integration" and "Entry
+//! Loaders, writers, entry processors and listeners without contracts of their own (JSR 107, "Integration" and "Entry
 //! Processors").
 //!
-//! [`Load`], [`Write`], [`Update`] and [`Listen`] have plain methods alone. A wrapper makes of each what a cache calls: [`Loading`] a
-//! [`jc_outside::CacheLoader`], [`Writing`] a [`jc_outside::CacheWriter`], [`Updating`] a [`jc_mutentry::EntryProcessor`], and
-//! [`Listening`] a [`jc_outside::CompletionListener`]. A program puts the wrapper into a box in its `main`, and hands the box to a
-//! session or to a call:
+//! [`Load`], [`Write`], [`Update`] and [`Listen`] have only plain methods. A wrapper adapts each to the trait that a cache calls:
+//! [`Loading`] a [`jc_outside::CacheLoader`], [`Writing`] a [`jc_outside::CacheWriter`], [`Updating`] a
+//! [`jc_mutentry::EntryProcessor`], and [`Listening`] a [`jc_outside::CompletionListener`]. A program puts the wrapper into a box
+//! in its `main`, and hands the box to a session or to a call:
 //!
 //! ```rust,ignore
 //! let loader: Box<dyn CacheLoader + Send + Drop> = Box::new(alloc, Loading { loader: rows })?;
@@ -12,14 +12,15 @@
 //! let mut visit: Box<dyn EntryProcessor + Send + Drop> = Box::new(alloc, Updating { processor: Visit })?;
 //! ```
 //!
-//! **What is known of them** is that they can't break: no index, sum or cast goes wrong in them, and what doesn't wait returns.
-//! What they answer is theirs: unless their author states relations, these hold of every answer. So the cache's contracts say of a
-//! call that the loader was asked once, for this key, and what it answered; they don't say that this is what the store has. Whoever
-//! wants to state more of a loader, a writer or a processor gives the trait's relations, or implements the full trait.
+//! **Their contracts** state only that they can't break: no index, sum or cast goes wrong in them, and those that don't wait
+//! return. Their answers are free: unless the author states relations, the default relations hold of every answer. So the cache's
+//! contracts state for a call that the loader was asked once, for this key, and what it answered; they don't state that this is
+//! the store's value. To state more about a loader, a writer or a processor, give the trait's relations, or implement the full
+//! trait.
 //!
-//! **Codes.** A failure is a `u32` of the author's own, which comes to the caller as `LoaderFailed(code)`, `WriterFailed(code)` or
-//! `ProcessorFailed(code)`. What the database said beside it stays with the loader. It can keep its last error where the program
-//! looks it up, here behind a lock that both share:
+//! **Codes.** A failure is a `u32` of the author's own, which the caller gets as `LoaderFailed(code)`, `WriterFailed(code)` or
+//! `ProcessorFailed(code)`. The database's own error stays with the loader. The loader can keep its last error where the program
+//! can look it up, here behind a lock that both share:
 //!
 //! ```rust,ignore
 //! struct Rows<R: Wait + Drop> {

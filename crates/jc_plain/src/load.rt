@@ -5,13 +5,13 @@ ghost use Rattle.jc_plain.specs.Loads.{with_found};
 use jc_outside::{Answers, CacheLoader};
 use jc_types::{Key, Value};
 
-/// Reads a store, for what a cache misses (`javax.cache.integration.CacheLoader`; JSR 107, "Integration").
+/// Reads the entries that a cache misses from a store (`javax.cache.integration.CacheLoader`; JSR 107, "Integration").
 ///
-/// A loader is called while the session holds no stripe, and must not call the cache. One that waits, as for a lock or a
-/// connection, holds a runtime of its own.
+/// A loader is called while the session holds no stripe, and must not call the cache. A loader that waits, for example for a lock
+/// or a connection, holds a runtime of its own.
 ///
-/// Its relations are those of [`jc_outside::CacheLoader`]. They hold of every call unless an author gives others, so an author who
-/// states nothing writes none of the `ghost` lines.
+/// Its relations are those of [`jc_outside::CacheLoader`]. They hold of every call unless an author gives others, so without
+/// contracts of your own you write none of the `ghost` lines.
 pub trait Load {
     ghost use Rattle.std.specs.Prelude.{◌⊎◌, ℕ, List, [], Option, Result};
     ghost use Rattle.jc_model.specs.Cache.{Bytes};
@@ -36,9 +36,9 @@ pub trait Load {
 
     /// Puts the value at each of the keys that has one into `answers` (`loadAll`). A key that is left out has none.
     ///
-    /// By default it loads one key after the other, in their order, up to the first failure, which it returns. An `Err` stands for
-    /// each of the keys, whatever is in `answers` then. A store that finds many keys in one query has a body of its own here; it
-    /// changes `answers` by [`Answers::put`] alone, since a later round of the call uses their memory again.
+    /// By default it loads one key after another, in their order, up to the first failure, which it returns. An `Err` holds for
+    /// each of the keys, whatever `answers` have then. For a store that finds many keys in one query, write your own body; it
+    /// must change `answers` only by [`Answers::put`], since a later round of the call uses their memory again.
     fn load_all(&mut self, keys: &[Key], answers: &mut Answers) -> Result<(), u32>
         ensures loads { LoadsEach loads load_state self.old keys.now answers.old.by_key result answers.new.by_key (load_state self.new)
             ⊎ loads_all self.old keys.now result answers.new.by_key (load_state self.new) }
@@ -54,7 +54,7 @@ pub trait Load {
     }
 }
 
-/// Puts what was found at a key into the answers, if anything was.
+/// Puts the value that was found at a key into the answers, if one was.
 fn put_found(answers: &mut Answers, key: &Key, found: &Option<Value>)
     ensures found { answers.new.by_key ≡ with_found answers.old.by_key key.now found.now }
     ensures room { answers.new.room ≡ answers.old.room }
@@ -64,13 +64,13 @@ fn put_found(answers: &mut Answers, key: &Key, found: &Option<Value>)
     }
 }
 
-/// The loader of a cache that reads by `L`.
+/// Adapts an `L` to `CacheLoader`.
 ///
-/// It hands each call on, once, and answers what `L` answers: its relations are those of `L`. Whoever wants to state more implements
+/// It forwards each call once, and returns what `L` returns: its relations are those of `L`. To state more, implement
 /// [`jc_outside::CacheLoader`].
 #[derive(Drop)]
 pub struct Loading<L: Load + Drop> {
-    /// Who reads.
+    /// The wrapped loader.
     pub loader: L,
 }
 

@@ -34,8 +34,8 @@ fn value(rt: &impl Abort, byte: u8) -> Value {
     Value::new(&[byte]).ok().expect(rt, "a value")
 }
 
-/// What a loader has answered, as a byte: `.` if it wasn't asked, `-` if nothing is there, a capital letter that is the code of its
-/// failure, or else the value.
+/// The answer of a loader, from a byte: `.` if it wasn't asked, `-` if nothing is there, a capital letter that is the code of its
+/// failure, otherwise the value.
 fn load_answer(rt: &impl Abort, byte: u8) -> LoadAnswer {
     match byte {
         b'.' => LoadAnswer::NotAsked,

@@ -5,10 +5,11 @@ use jc_types::{Key, Value};
 
 /// Changes the value of an entry (`javax.cache.processor.EntryProcessor`; JSR 107, "Entry Processors").
 ///
-/// It sees the value alone, and neither the entry nor the loader. A processor that must not load, or that writes a value which is
-/// there already, implements [`jc_mutentry::EntryProcessor`].
+/// It sees only the value, and neither the entry nor the loader. If a processor must not load, or must write a value even if it
+/// is there already, implement [`jc_mutentry::EntryProcessor`].
 ///
-/// Its relation holds of every call unless an author gives another, so an author who states nothing writes none of the `ghost` lines.
+/// Its relation holds of every call unless an author gives another, so without a contract of your own you write none of the
+/// `ghost` lines.
 pub trait Update {
     ghost use Rattle.std.specs.Prelude.{ℕ, List, [], Option, Result};
     ghost use Rattle.jc_model.specs.Cache.{Bytes};
@@ -19,9 +20,9 @@ pub trait Update {
     /// One call: the key, the value that was found, the arguments, the answer, the value that is left.
     ghost updates: { Self → Bytes → Option Bytes → List Bytes → Result (Option Bytes) ℕ → Option Bytes → List ℕ → Type 0 } = { λ u key found args answer left after. Unit {0} };
 
-    /// Changes the value at a key in its place, and returns what the call answers: a value, or none. `args` are those of the call.
+    /// Changes the value at a key in place, and returns the call's answer: a value, or none. `args` are those of the call.
     ///
-    /// `value` is the entry's value, or what was loaded for a missing entry, or none. What it is afterwards decides:
+    /// `value` is the entry's value, or the value that was loaded for a missing entry, or none. Its value afterwards decides:
     ///
     /// | Before | After | The entry |
     /// |---|---|---|
@@ -41,17 +42,17 @@ pub trait Update {
         ensures { updates self.old key.now value.old args.now result value.new (update_state self.new) };
 }
 
-/// The entry processor of a call that updates by `U`.
+/// Adapts a `U` to `EntryProcessor`.
 ///
-/// It gets the value first, always: with read-through on a missing entry is loaded. If that load fails, the update isn't made, and
-/// the call fails with `LoaderFailed`. Then it lets `U` change the value, and sets or removes it if it has changed; if it hasn't,
-/// what was loaded is cached. It may wait, as long as the loader and `U` do.
+/// It always gets the value first: with read-through on, a missing entry is loaded. If that load fails, the update isn't made,
+/// and the call fails with `LoaderFailed`. Then it lets `U` change the value, and sets or removes the entry if the value has
+/// changed. If it hasn't, a value that was loaded is cached. It may wait, as long as the loader and `U` do.
 ///
-/// It asks `U` once, and answers what `U` answers; its relation says so by that of `U`. Whoever wants to state more implements
+/// It asks `U` once, and returns what `U` returns; its relation states this by that of `U`. To state more, implement
 /// [`jc_mutentry::EntryProcessor`].
 #[derive(Drop)]
 pub struct Updating<U: Update + Drop> {
-    /// Who changes the value.
+    /// The wrapped processor.
     pub processor: U,
 }
 

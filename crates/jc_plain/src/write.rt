@@ -4,13 +4,13 @@ use indexmap::{IndexMap, IndexSet};
 use jc_outside::CacheWriter;
 use jc_types::{Key, Value};
 
-/// Changes a store as its cache is changed (`javax.cache.integration.CacheWriter`; JSR 107, "Integration").
+/// Changes a store when its cache is changed (`javax.cache.integration.CacheWriter`; JSR 107, "Integration").
 ///
-/// A writer is called while the session holds no stripe, before the cache changes, and must not call the cache. One that waits,
-/// as for a lock or a connection, holds a runtime of its own.
+/// A writer is called while the session holds no stripe, before the cache changes, and must not call the cache. A writer that
+/// waits, for example for a lock or a connection, holds a runtime of its own.
 ///
-/// Its relations are those of [`jc_outside::CacheWriter`]. They hold of every call unless an author gives others, so an author who
-/// states nothing writes none of the `ghost` lines.
+/// Its relations are those of [`jc_outside::CacheWriter`]. They hold of every call unless an author gives others, so without
+/// contracts of your own you write none of the `ghost` lines.
 pub trait Write {
     ghost use Rattle.std.specs.Prelude.{◌⊎◌, ℕ, List, [], Result};
     ghost use Rattle.jc_model.specs.Cache.{Bytes};
@@ -37,20 +37,20 @@ pub trait Write {
     fn write(&mut self, key: &Key, value: &Value) -> Result<(), u32>
         ensures { writes self.old key.now (Write value.now) result (write_state self.new) };
 
-    /// Deletes what is at a key (`delete`). It is no failure if nothing is there.
+    /// Deletes the entry of a key (`delete`). It is no failure if there is none.
     ///
-    /// An `Err` is as that of [`write`](Write::write).
+    /// An `Err` has the meaning of that of [`write`](Write::write).
     fn delete(&mut self, key: &Key) -> Result<(), u32>
         ensures { writes self.old key.now Delete result (write_state self.new) };
 
-    /// Writes entries, and takes each that it has written out of the collection (`writeAll`).
+    /// Writes entries, and removes each that it has written from the collection (`writeAll`).
     ///
-    /// By default it writes one entry after the other, in their order, also behind one that failed. Then exactly those that failed
-    /// are left, in their order. It is `Ok` exactly if nothing is left; an `Err` is the last failure.
+    /// By default it writes one entry after another, in their order, and continues after one that failed. Then exactly those that
+    /// failed are left, in their order. It is `Ok` exactly if nothing is left; an `Err` is the last failure.
     ///
-    /// A store that writes many entries in one transaction has a body of its own here. The cache goes by what it leaves, whatever
-    /// it returns: each entry that is left failed, with the code, or with 0 after an `Ok`; each other one was written. So a
-    /// transaction that fails leaves all, and one that is committed ends with `entries.clear()`.
+    /// For a store that writes many entries in one transaction, write your own body. What it leaves decides, whatever it returns:
+    /// each entry that is left failed, with the code, or with 0 after an `Ok`; each other one was written. So a transaction that
+    /// fails should leave all, and one that commits should end with `entries.clear()`.
     fn write_all(&mut self, entries: &mut IndexMap<Key, Value>) -> Result<(), u32>
         ensures { WritesEach writes write_state self.old entries.old.entries result entries.new.entries
             ⊎ writes_all self.old entries.old.entries result entries.new.entries (write_state self.new) }
@@ -64,7 +64,7 @@ pub trait Write {
         )
     }
 
-    /// Deletes what is at these keys, and takes each that it has deleted out of the collection (`deleteAll`).
+    /// Deletes the entries of these keys, and removes each key that it has deleted from the collection (`deleteAll`).
     ///
     /// The default and the rules of a body of its own are those of [`write_all`](Write::write_all).
     fn delete_all(&mut self, keys: &mut IndexSet<Key>) -> Result<(), u32>
@@ -81,13 +81,13 @@ pub trait Write {
     }
 }
 
-/// The writer of a cache that writes by `W`.
+/// Adapts a `W` to `CacheWriter`.
 ///
-/// It hands each call on, once, and answers and leaves what `W` does: its relations are those of `W`. Whoever wants to state more
-/// implements [`jc_outside::CacheWriter`].
+/// It forwards each call once, and returns and leaves what `W` does: its relations are those of `W`. To state more, implement
+/// [`jc_outside::CacheWriter`].
 #[derive(Drop)]
 pub struct Writing<W: Write + Drop> {
-    /// Who writes.
+    /// The wrapped writer.
     pub writer: W,
 }
 

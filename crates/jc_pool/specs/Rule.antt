@@ -1,10 +1,11 @@
--- What a counter keeps true between any two steps of its table, and what a claim tells.
---     ClaimsFit      a claimer agrees with the number that the counter has: its claims are below it, and if one of its workers has
---                    ended, the number is past the last piece; a claimer of nobody has no claims, any other one has the counter's plan
---     CountsClaims   each piece below the counter's number was claimed by one claimer, once; every worker is some claimer's; and beyond
---                    the last piece the number only goes up when a worker ends
---     IsClaim        a claim finds a number above all of its claimer's claims: below the number of pieces it is the claimer's piece, and
---                    else a worker has ended
+-- The invariant of a counter between any two steps of its table, and the meaning of a claim.
+--     ClaimsFit       a claimer agrees with the number that the counter has: its claims are below it, and if one of its workers
+--                     has ended, the number is past the last piece; a claimer of nobody has no claims, any other one has the
+--                     counter's plan
+--     CountsClaims    each piece below the counter's number was claimed by one claimer, once; every worker is some claimer's; and
+--                     beyond the last piece the number rises only when a worker ends
+--     IsClaim         a claim finds a number above all of its claimer's claims: below the number of pieces it is the claimer's
+--                     piece, otherwise a worker has ended
 use Rattle.std.specs.Prelude.{◌≡◌, ℕ, ◌+◌, ◌^◌, ◌<◌, ◌≤◌, [], ◌∷◌, cond, nat_lt, min, sum_by}
 use mathlib.Core.Option.{some}
 use lib.ListN.{get_elem?}

@@ -1,12 +1,13 @@
--- Which worker did which pieces.
---     times          how often a number is in a list
---     once_below     1 for a number below n, and else 0
---     CanDoAll       a worker can do each piece below `pieces`
---     LeadsTo        one piece after another led from what a worker was to what it is
---     DoesShare      a worker did its share, in rising order, and no other piece; its pieces led from what it was to what it is; its job
---                    stayed, and of the pieces from `pieces` on it can still do those that it could do before
---     DoShares       each worker did its share
---     DoesEachOnce   the workers did the pieces below `pieces`: each of these is in one share, once, and no other number is
+-- The pieces that each worker did.
+--     times           how often a number is in a list
+--     once_below      1 for a number below n, otherwise 0
+--     CanDoAll        a worker can do each piece below `pieces`
+--     LeadsTo         one piece after another led from the worker before to the worker after
+--     DoesShare       a worker did its share, in rising order, and no other piece; the pieces led from the worker before to the
+--                     worker after; its job stayed, and of the pieces from `pieces` on it can still do those that it could do
+--                     before
+--     DoShares        each worker did its share
+--     DoesEachOnce    the workers did the pieces below `pieces`: each of these is in one share, once, and no other number is
 use Rattle.std.specs.Prelude.{◌≡◌, ℕ, ◌<◌, ◌≤◌, ◌==◌, List, [], ◌∷◌, ◌++◌, length, cond, nat_lt, count_by, slice_index_or}
 use Rattle.std.specs.List.{concat}
 use Rattle.std.specs.List.Sorted.{IsStrictlyIncreasing}

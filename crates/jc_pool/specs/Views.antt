@@ -1,13 +1,13 @@
--- What a claimer knows, and what each call leaves of it.
---     workers_of      how many workers a claimer is for
+-- The knowledge of a claimer, and its change by each call.
+--     workers_of      the number of workers that a claimer is for
 --     next_after      the least number above all of a list
---     fresh_claims    for so many workers, of whom none has claimed a piece
---     ended_claims    for so many workers, who all have ended after these claims
+--     fresh_claims    a claimer for a number of workers, none of whom has claimed a piece
+--     ended_claims    a claimer for a number of workers, all of whom have ended after these claims
 --     spent_claims    a claimer that is gone
 --     after_claim     a piece was claimed
---     after_end       one worker more has ended
+--     after_end       one more worker has ended
 --     after_split     the claimer that was split: it is for the larger half of the workers
---     split_off       the claimer that is made by that, which has claimed nothing
+--     split_off       the claimer that is made by a split, which has claimed nothing
 --     after_join      a claimer into which another one was joined
 --     IsOf            a claimer is of this counter
 use Rattle.std.specs.Prelude.{◌≡◌, ℕ, ◌+◌, ◌-◌, ◌/◌, List, [], ◌∷◌, ◌++◌, max}

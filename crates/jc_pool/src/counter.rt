@@ -28,7 +28,7 @@ impl Model for Counter {
     ghost invariant = { λ c. (c.table.shared.table_id.words ≡ 1) × (c.table.shared.table_id.slots ≡ 0) × (c.pieces ≡ c.table.shared.key.pieces) };
 }
 
-/// What some of the workers need for every claim. Threads don't share it, and it takes no bytes.
+/// The token with which some of the workers claim. Threads don't share it, and it takes no bytes.
 ///
 /// Contracts see its counter, and the [`Claims`] that were made with it.
 #[derive(Drop)]
@@ -51,7 +51,7 @@ impl Model for Claimer {
 impl Counter {
     /// A counter of pieces, none of which is claimed, and a claimer for all workers.
     ///
-    /// It takes the memory of one word.
+    /// It allocates one word.
     ///
     /// Condition: pieces and workers together are at most `usize::MAX`.
     pub(crate) fn new(alloc: Global, plan: &Plan) -> Result<(Counter, Claimer), AllocError>
@@ -67,7 +67,7 @@ impl Counter {
         Ok((counter, Claimer { token }))
     }
 
-    /// Claims the next piece, by one step. None if no piece is left: one worker of the claimer has then ended.
+    /// Claims the next piece, by one atomic step. `None` says that no piece is left: one worker of the claimer has then ended.
     ///
     /// Conditions: the claimer is of this counter, and one of its workers has not ended.
     pub(crate) fn claim(&self, claimer: &mut Claimer) -> Option<usize>
@@ -92,7 +92,7 @@ impl Counter {
 
     /// Splits a claimer: the new one is for half of the workers, rounded down.
     ///
-    /// Conditions: the claimer is of this counter, and is for two workers at least that have not ended.
+    /// Conditions: the claimer is of this counter, and is for at least two workers that haven't ended.
     pub(crate) fn split(&self, claimer: &mut Claimer) -> Claimer
         requires counter { IsOf self.now claimer.old }
         requires two { 1 < claimer.old.1.working }
@@ -105,7 +105,7 @@ impl Counter {
 
     /// Joins the claims of `other` to those of `claimer`.
     ///
-    /// Conditions: both are of this counter, and `claimer` is for some worker.
+    /// Conditions: both are of this counter, and `claimer` is for at least one worker.
     pub(crate) fn join(&self, claimer: &mut Claimer, other: Claimer)
         requires counter { IsOf self.now claimer.old × IsOf self.now other }
         requires some { 0 < claimer.old.1.working + claimer.old.1.ended }
@@ -120,7 +120,7 @@ impl Counter {
 
     /// Ends the counter, once all workers have ended: each piece was then claimed once.
     ///
-    /// Conditions: the claimer is of this counter and for all workers, of whom there is one at least, and all have ended.
+    /// Conditions: the claimer is of this counter and for all workers, of whom there is at least one, and all have ended.
     pub(crate) fn close(self, claimer: Claimer)
         requires counter { IsOf self claimer }
         requires all { (0 < self.1.workers) × (claimer.1.working ≡ 0) × (claimer.1.ended ≡ self.1.workers) }

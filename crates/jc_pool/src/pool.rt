@@ -14,14 +14,15 @@ use std::thread::{Threads, join_mut};
 
 /// Does the pieces whose numbers are below `pieces`, each once, by all workers side by side.
 ///
-/// A worker claims one piece after another, the next one each time, until none is left. So each has a share of the pieces, which it
-/// does in rising order. The first worker works on the calling thread, each of the others on a thread of its own; a worker for
-/// whom no thread can be started leaves its share to the others. It returns once all have ended, so it waits for as long as
-/// their pieces do. Nothing says which worker has which share.
+/// Each worker claims the next piece, does it and claims again, until none is left. So each has a share of the pieces, which it
+/// does in rising order. The first worker works on the calling thread, each of the others on a thread of its own. If no thread
+/// can be started, fewer threads do the work of all workers. It returns once all workers have ended, so it waits for as long as
+/// their pieces do. Which worker has which share is not promised.
 ///
-/// An `Err` says that memory ran out. No piece was done, and the workers are as they were.
+/// An `Err` says that an allocation failed. No piece was done, and the workers are as they were.
 ///
-/// Conditions: there is at least one worker; pieces and workers together are at most `usize::MAX`; each worker can do every piece.
+/// Conditions: there is at least one worker; pieces and workers together are at most `usize::MAX`; each worker can do every
+/// piece.
 pub fn run_pieces<W: Work + Send, R: Threads + Sync>(
     alloc: Global,
     rt: &R,
@@ -38,12 +39,12 @@ pub fn run_pieces<W: Work + Send, R: Threads + Sync>(
     run_pieces_with(alloc, rt, workers, tools.as_mut_slice(), pieces)
 }
 
-/// As [`run_pieces`] does, by workers each of whom is lent the tool at its own place.
+/// As [`run_pieces`], with a tool for each worker: the one at the worker's own place in `tools`.
 ///
-/// An `Err` says that memory ran out. No piece was done, and workers and tools are as they were.
+/// An `Err` says that an allocation failed. No piece was done, and workers and tools are as they were.
 ///
-/// Conditions: there is at least one worker, and there are as many tools; pieces and workers together are at most `usize::MAX`; each
-/// worker can do every piece.
+/// Conditions: there is at least one worker, and there are as many tools; pieces and workers together are at most `usize::MAX`;
+/// each worker can do every piece.
 pub fn run_pieces_with<T: Send, W: WorkWith<T> + Send, R: Threads + Sync>(
     alloc: Global,
     rt: &R,
@@ -69,11 +70,11 @@ pub fn run_pieces_with<T: Send, W: WorkWith<T> + Send, R: Threads + Sync>(
     Ok(())
 }
 
-/// All these workers claim and do pieces until none is left. The list is halved at each step, so that the stack grows as the logarithm
-/// of its length.
+/// All these workers claim and do pieces until none is left. The list is halved at each step, so that the stack grows as the
+/// logarithm of its length.
 ///
-/// Conditions: the claimer is for just these workers, of whom there is one at least, and nothing was claimed with it; there are as many
-/// tools; each worker can do every piece.
+/// Conditions: the claimer is for just these workers, of whom there is at least one, and nothing was claimed with it; there are
+/// as many tools; each worker can do every piece.
 #[cycle(halves)]
 fn work_side_by_side<T: Send, W: WorkWith<T> + Send, R: Threads + Sync>(
     rt: &R,
@@ -106,7 +107,8 @@ fn work_side_by_side<T: Send, W: WorkWith<T> + Send, R: Threads + Sync>(
     counter.join(claimer, other);
 }
 
-/// The first half of the workers on this thread, and the others on a new one, or afterwards if none can be started.
+/// The first half of the workers works on this thread, and the others on a new one. If no thread can be started, the others work
+/// afterwards on this one.
 #[cycle(halves)]
 fn work_in_halves<T: Send, W: WorkWith<T> + Send, R: Threads + Sync>(
     rt: &R,

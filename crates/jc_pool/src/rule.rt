@@ -1,4 +1,4 @@
-//! The rule of a counter's table, and what each of its steps tells. The types are for the proofs alone.
+//! The rule of a counter's table, and its steps. The types are for the proofs alone.
 use crate::view::{Claims, Plan};
 use atomic_table::{Join, Play, Split, TableRule};
 
@@ -23,7 +23,7 @@ impl Play<(), Claims> for Claim {
     ghost then = { IsClaim };
 }
 
-/// A claimer for half of the workers, and the other half joined again.
+/// A split of a claimer, and the join of both halves.
 pub(crate) struct Half;
 
 impl Split<Claims> for Half {

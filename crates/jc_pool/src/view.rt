@@ -1,23 +1,23 @@
-//! What a claimer knows.
+//! The knowledge of a claimer.
 use std::collections::LinkedList;
 
-/// What the pieces of one job are shared among.
+/// The numbers of pieces and of workers of one job.
 #[derive(Drop)]
 pub(crate) struct Plan {
-    /// How many pieces there are.
+    /// The number of pieces.
     pub pieces: usize,
-    /// How many workers there are.
+    /// The number of workers.
     pub workers: usize,
 }
 
-/// What a claimer knows of the pieces. It is data of contracts: no value of it is ever made.
+/// The knowledge of a claimer about the pieces. It is data of contracts: no value of it is ever made.
 pub(crate) struct Claims {
-    /// Of which pieces it claims some.
+    /// The plan of its counter.
     pub plan: Plan,
-    /// The pieces that it claimed, in the order in which it did.
+    /// The pieces that it claimed, in the order of claiming.
     pub claimed: LinkedList<usize>,
-    /// How many workers it claims for, but for those that have ended.
+    /// The number of its workers that haven't ended.
     pub working: usize,
-    /// How many of its workers have ended: each found once that no piece is left.
+    /// The number of its workers that have ended: each found once that no piece is left.
     pub ended: usize,
 }

@@ -1,26 +1,26 @@
 //! Workers.
 ghost use Rattle.std.specs.Prelude.{◌≡◌, ℕ, ◌<◌, ◌++◌, [], ◌∷◌, List};
 
-/// One that does pieces of a job. The pieces have numbers, from 0 on.
+/// A worker, which does pieces of a job. The pieces are numbered from 0 on.
 pub trait Work {
-    /// What the job is, as far as a worker's contract tells: no piece changes it.
+    /// The job, as data that the worker's contract names. No piece changes it.
     type Job;
 
-    /// The numbers of the pieces that it did, in the order in which it did them.
+    /// The numbers of the pieces that it did, in the order of doing them.
     ghost did: { Self → List ℕ };
 
     /// Its job.
     ghost job: { Self → Self.Job };
 
-    /// It can do the piece with this number: it has what that piece needs, and room to note that it did it.
+    /// It can do the piece with this number: it has all that the piece needs, and room to note that it did the piece.
     ghost can_do: { Self → ℕ → Type 0 };
 
-    /// What one piece does: the worker before, the piece's number, and the worker afterwards.
+    /// The effect of one piece: the worker before, the piece's number, and the worker afterwards.
     ghost does: { Self → ℕ → Self → Type 0 };
 
-    /// Does one piece, and notes that it did it. It may wait.
+    /// Does one piece, and notes that it did the piece. It may wait.
     ///
-    /// A later piece that it could do before it can do afterwards.
+    /// Doing a piece never makes a later piece impossible.
     ///
     /// Condition: it can do the piece.
     fn piece(&mut self, piece: usize)
@@ -31,27 +31,27 @@ pub trait Work {
         ensures later { (later : ℕ) → piece < later → can_do self.old later → can_do self.new later };
 }
 
-/// One that does pieces of a job with a tool, which the caller lends it for the time of the call. What is said of a worker is said of
-/// worker and tool together.
+/// A worker, which does pieces of a job with a tool that the caller lends it during the call. Its relations are about worker and
+/// tool together.
 pub trait WorkWith<T> {
-    /// What the job is, as far as a worker's contract tells: no piece changes it.
+    /// The job, as data that the worker's contract names. No piece changes it.
     type Job;
 
-    /// The numbers of the pieces that were done, in the order in which they were.
+    /// The numbers of the pieces that were done, in the order of doing them.
     ghost did: { Self × T → List ℕ };
 
     /// The job.
     ghost job: { Self × T → Self.Job };
 
-    /// It can do the piece with this number: it has what that piece needs, and room to note that it did it.
+    /// It can do the piece with this number: it has all that the piece needs, and room to note that it did the piece.
     ghost can_do: { Self × T → ℕ → Type 0 };
 
-    /// What one piece does: worker and tool before, the piece's number, and both afterwards.
+    /// The effect of one piece: worker and tool before, the piece's number, and both afterwards.
     ghost does: { Self × T → ℕ → Self × T → Type 0 };
 
-    /// Does one piece, and notes that it did it. It may wait.
+    /// Does one piece, and notes that it did the piece. It may wait.
     ///
-    /// A later piece that it could do before it can do afterwards.
+    /// Doing a piece never makes a later piece impossible.
     ///
     /// Condition: it can do the piece.
     fn piece_with(&mut self, tool: &mut T, piece: usize)

@@ -1,6 +1,6 @@
--- What the fields of `Reservations` mean, and what is true of them. Callers see the table alone.
+-- The meaning of the fields of `Reservations`, and their invariant. Callers see the table alone.
 --     table_of     the table that the fields mean
---     HasTable     the keys are those of the reservations, and the table is as every table is
+--     HasTable     the keys are those of the reservations, and the table satisfies `IsReservationTable`
 use Rattle.std.specs.Prelude.{◌≡◌, ℕ, map}
 use Rattle.jc_model.specs.Cache.{Bytes}
 use Rattle.jc_reserve.specs.Table.{Table}

@@ -1,5 +1,6 @@
--- What is true of every table.
---     IsReservationTable     at most RESERVATIONS_MAX keys are reserved, none of them twice, by numbers that rise and are all below the next one
+-- The invariant of every table.
+--     IsReservationTable    at most RESERVATIONS_MAX keys are reserved, none of them twice, by numbers that rise and are all
+--                           below the next one
 use Rattle.std.specs.Prelude.{◌≡◌, ◌<◌, ◌≤◌, ℕ, length, false, All, AllPairs}
 use Rattle.jc_model.specs.Cache.{Bytes}
 use Rattle.jc_types.specs.declared.limits.TheConstants.{RESERVATIONS_MAX}

@@ -1,4 +1,4 @@
--- Looking a key up, reserving it and releasing it. The key of a reservation is its owner's to say.
+-- Looking a key up, reserving it and releasing it. The key of a reservation is what its type states.
 --     has_key                 whether a reservation is of this key
 --     is_held                 whether the key is reserved
 --     reservation_at          the reservation of the key, or none

@@ -1,4 +1,4 @@
--- The reservations of a stripe as a caller may know them.
+-- The reservations of a stripe as a caller sees them.
 --     Table      the reservations in the order of reserving, and the number of the next one
 use Rattle.std.specs.Prelude.{ℕ, List}
 

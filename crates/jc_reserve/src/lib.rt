@@ -1,12 +1,13 @@
-//! Which keys of a stripe are reserved, by which numbers, and for whom.
+//! Which keys of a stripe are reserved, by which numbers, and for which calls.
 //!
 //! A call that asks a loader, a writer or an entry processor reserves its key while it asks, so that no other call changes the
 //! entry meanwhile (JSR 107, "Default Consistency").
 //!
 //! Why it is so:
-//! - An array of 64 places in the table itself: making it takes no memory, a look-up goes over at most 64 keys. When a reservation ends
-//!   those behind it move up; the order can't be given up behind the contracts, since the table lends records and keys as slices in the
-//!   order of reserving, and a stripe's state is that list.
+//! - The table is an array of 64 places in the value itself, because making it then takes no memory, and a look-up goes over at
+//!   most 64 keys.
+//! - When a reservation ends, those behind it move up, because the table lends its records and keys as slices in the order of
+//!   reserving, and a stripe's state is that list.
 #![tactic(auto)]
 
 mod reservations;

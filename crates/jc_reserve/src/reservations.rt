@@ -10,14 +10,16 @@ use arrayvec::ArrayVec;
 use jc_types::{Key, LAST_NUMBER, RESERVATIONS_MAX};
 use std::marker::Model;
 
-/// The reservations that calls have made, at most [`RESERVATIONS_MAX`] of them and none of a key twice, in the order of reserving.
+/// The reservations that calls have made, at most [`RESERVATIONS_MAX`] of them and none of a key twice, in the order of
+/// reserving.
 ///
-/// The numbers rise from one reservation to the next and are never used again, also after a release. So a number tells a
-/// reservation from an earlier one of the same key. The table lies in the value itself: no call allocates.
+/// The numbers rise from one reservation to the next and are never used again, also after a release. So a number distinguishes a
+/// reservation from an earlier one of the same key. The table is in the value itself: no call allocates.
 #[derive(Drop)]
 pub struct Reservations<R: Reserved> {
     held: ArrayVec<R, RESERVATIONS_MAX>,
-    // The keys of `held`, in the same order: alone, so that they can be lent as one slice and are looked up close together.
+    // The keys of `held`, in the same order. They are apart so that they can be lent as one slice, and so that a look-up reads
+    // them close together.
     keys: ArrayVec<Key, RESERVATIONS_MAX>,
     // The number of the next reservation.
     next: u64,
@@ -43,7 +45,7 @@ impl<R: Reserved> Reservations<R> {
         Reservations::new_from(0)
     }
 
-    /// A table with no key reserved, whose first reservation has this number. By [`LAST_NUMBER`] there is none.
+    /// A table with no key reserved, whose first reservation has this number. If it is [`LAST_NUMBER`], no key can be reserved.
     pub fn new_from(next: u64) -> Self
         ensures { result ≡ record { held = []; next = next } }
     {
@@ -63,19 +65,19 @@ impl<R: Reserved> Reservations<R> {
         self.next = 0;
     }
 
-    /// The number of the next reservation. It isn't used up, if a key can be reserved.
+    /// The number of the next reservation. It is [`LAST_NUMBER`] once the numbers are used up.
     pub fn next_number(&self) -> u64
         ensures { result ≡ self.now.next }
     {
         self.next
     }
 
-    /// Reserves the key of a reservation, and answers the reservation's number.
+    /// Reserves the key of a reservation, and returns the reservation's number.
     ///
     /// `None` leaves the table as it was: [`RESERVATIONS_MAX`] keys are reserved, or this key is one of them, or the numbers are
     /// used up.
     ///
-    /// Condition: the reservation is by the next number.
+    /// Condition: the reservation has the next number.
     pub fn reserve(&mut self, reservation: &R) -> Option<u64>
         requires { R.number reservation.now ≡ self.old.next }
         ensures can { IsTrue (is_some result) ↔ CanReserve R.key self.old (R.key reservation.now) }
@@ -109,7 +111,10 @@ impl<R: Reserved> Reservations<R> {
         self.place_of(key).is_some()
     }
 
-    /// Ends a key's reservation, and says whether there was one. The other keys stay in their order, and the next number stays.
+    /// Ends a key's reservation, and returns whether there was one. The other keys stay in their order, and the next number
+    /// stays.
+    ///
+    /// The reservations made after it move up one place each: up to [`RESERVATIONS_MAX`] - 1 records and keys are copied.
     pub fn release(&mut self, key: &Key) -> bool
         ensures found { result ≡ is_held R.key self.old key.now }
         ensures released { self.new ≡ without_reservation R.key self.old key.now }

@@ -1,9 +1,9 @@
 //! One reservation.
 use jc_types::Key;
 
-/// A reservation as the table keeps it: of a key, by a number. What else it has is its owner's.
+/// A reservation as the table keeps it: of a key, with a number. Its owner may add further fields.
 ///
-/// Its default is no reservation; with it the table fills its free places.
+/// Its default is no reservation; the table fills its free places with it.
 pub trait Reserved: Copy + Default {
     ghost use Rattle.std.specs.Prelude.{◌≡◌, ℕ};
     ghost use Rattle.jc_model.specs.Cache.{Bytes};

@@ -1,9 +1,10 @@
--- What a call outside leaves of the agent that makes it. Its hands hold nothing, and all else of it stays.
+-- The agent after a call outside. Its hands hold no stripe, and all else of it stays.
 --     LoaderAsked       the loader was called once, with the ask's key, and this is its done value; the writer stays
 --     WriterAsked       the writer was called once, for the ask's change, and this is its done value; the loader stays
 --     ProcessorRun      a processor was run once, on the entry of the ask, with at most one call of the loader; the writer stays
 --     LoaderAskedAll    the loader was called once, with these keys, and there is a done value for each ask; the writer stays
---     WriterAskedAll    the writer was called once, for this batch, and returned this; there is a done value for each ask; the loader stays
+--     WriterAskedAll    the writer was called once, for this batch, and returned this; there is a done value for each ask; the
+--                       loader stays
 use Rattle.std.specs.declared.dyn_box.DynBox.{DynBox}
 use Rattle.std.specs.Prelude.{◌≡◌, ◌++◌, ℕ, List, true, Result}
 use Rattle.jc_model.specs.Cache.{Bytes}

@@ -1,7 +1,9 @@
--- What an agent leaves when it takes a stripe, and when it gives it back.
---     Taken       the agent holds one stripe, which the token has taken in this state; it is one that a take may find, and is reached
---     NotTaken    no stripe was there: the agent stays, and a later take finds what this one might have found
---     Given       the agent holds no stripe, and has counted what its phase was; what the next take finds comes after what was given
+-- The agent after it has taken a stripe, and after it has given it back.
+--     Taken       the agent holds one stripe, which the token has taken in this state; it is one that a take may find, and is
+--                 reached
+--     NotTaken    the stripe was out: the agent stays, and a later take may find what this one might have found
+--     Given       the agent holds no stripe, and has counted its phase; the next take finds a state that comes after the one
+--                 given back
 use Rattle.std.specs.Prelude.{◌≡◌, ℕ}
 use Rattle.jc_stripe.specs.State.{State}
 use Rattle.jc_stripe.specs.Reached.{IsReached}

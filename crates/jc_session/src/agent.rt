@@ -1,4 +1,4 @@
-//! Agents.
+//! Agents: a session without its seats.
 ghost use Rattle.std.specs.Prelude.{◌≡◌, max, true, is_some, IsSome, IfSome, IfNone};
 ghost use Rattle.jc_stripe.specs.State.{State};
 ghost use Rattle.jc_stripe.specs.Tickets.{asks_loader, asks_processor};
@@ -21,15 +21,15 @@ use jc_stripe::{Ask, Stripe};
 use jc_types::{Caller, Value};
 use std::sync::Wait;
 
-/// The steps of a pause: as many as a `Backoff` has until it would rather block. The first are short spins, the last give the
+/// The steps of a pause: as many as a `Backoff` makes until it advises to block. The first are short spins, the last yield the
 /// processor to another thread.
 const PAUSE_STEPS: u32 = 11;
 
-/// A caller of a cache: the numbers of its calls, what it has begun and not ended, and its hands. A session is an agent beside a seat
-/// on every stripe.
+/// The core of a session: the numbers of its calls, the counts of what it has begun and not ended, and its hands. A session is an
+/// agent with a seat on every stripe.
 ///
 /// An agent reaches its loader and its writer only by its hands, which count the stripes that it has taken and not given back.
-/// Nobody can put other hands in their place.
+/// The hands can't be replaced by others.
 #[derive(Drop)]
 pub struct Agent {
     caller: Caller,
@@ -61,8 +61,8 @@ impl Agent {
         }
     }
 
-    /// Begins a call, by the next number. The last number, `u64::MAX`, is given to each call from then on; the cache refuses such a
-    /// call (`HistoryFull`).
+    /// Begins a call with the next number. Once the last number, `u64::MAX`, is reached, each further call gets it; the cache
+    /// refuses such a call (`HistoryFull`).
     pub fn next_call(&mut self) -> Caller
         ensures caller { result ≡ self.new.caller }
         ensures call { self.new
@@ -72,7 +72,7 @@ impl Agent {
         self.caller
     }
 
-    /// Has the next call begin by the number `n`, if its number is below that. Else nothing changes: numbers never fall.
+    /// Raises the number of the next call to `n`. If it is `n` or more already, nothing changes: numbers never fall.
     pub fn skip_to(&mut self, n: u64)
         ensures next { one_more self.new.caller.call ≡ max (one_more self.old.caller.call) n }
         ensures call { self.new
@@ -81,22 +81,22 @@ impl Agent {
         self.caller.call = self.caller.call.max(n.saturating_sub(1));
     }
 
-    /// The caller of the call that was begun last: the session's number, and the call's.
+    /// The caller of the latest call: the session's number, and the call's.
     pub fn caller(&self) -> Caller
         ensures { result ≡ self.now.caller }
     {
         self.caller
     }
 
-    /// How many steps the agent has made on the cache, up to `u64::MAX`: one for each key of a call that was neither refused
-    /// there nor is still to be answered.
+    /// How many steps the agent has made on the cache, up to `u64::MAX`: one for each key of a call that has been answered there
+    /// and not refused.
     pub fn own(&self) -> u64
         ensures { result ≡ self.now.counts.own }
     {
         self.counts.own
     }
 
-    /// Ends the agent, and gives its loader and its writer back.
+    /// Ends the agent, and returns its loader and its writer.
     ///
     /// Condition: it holds no stripe.
     pub fn into_outside(self) -> Outside
@@ -111,14 +111,14 @@ impl Agent {
         hands.into_outside()
     }
 
-    /// What the agent has begun and not ended, and what it has done.
+    /// The counts of what the agent has begun and not ended, and of its steps.
     pub fn counts(&self) -> Counts
         ensures { result ≡ self.now.counts }
     {
         self.counts
     }
 
-    /// Takes a stripe, if it is there. None says that somebody else has it.
+    /// Takes a stripe, if it is there. `None` says that somebody else has it.
     ///
     /// Conditions: the agent holds no stripe, and the token has not taken the gate's.
     pub fn try_take<G: Gate>(&mut self, gate: &mut G, token: &mut G::Token) -> Option<Box<Stripe>>
@@ -133,7 +133,7 @@ impl Agent {
         Some(stripe)
     }
 
-    /// Takes a stripe, and waits as long as somebody else has it. Nothing says that it returns.
+    /// Takes a stripe, and waits as long as somebody else has it. Neither progress nor fairness is guaranteed.
     ///
     /// Conditions: the agent holds no stripe, and the token has not taken the gate's.
     pub fn take<G: Gate, R: Wait>(
@@ -151,10 +151,10 @@ impl Agent {
         stripe
     }
 
-    /// Gives a stripe back in which no phase was made. Its generation may have ended.
+    /// Gives back a stripe in which no phase was made. Its generation may have ended.
     ///
-    /// Conditions: the agent holds one stripe, and the token speaks for its session. This is the stripe that the token has taken, as
-    /// it was, or with its generation ended, which may end.
+    /// Conditions: the agent holds one stripe, and the token speaks for its session. This is the stripe that the token has taken,
+    /// as it was, or after a renewal.
     pub fn give_back<G: Gate>(&mut self, gate: &mut G, token: &mut G::Token, stripe: Box<Stripe>)
         requires held { (self.old.hands.held ≡ 1) × G.speaks_for token.old self.old.caller.session }
         requires rest { (a : State) × G.has gate.old token.old a × StaysOrRenews a stripe.value }
@@ -165,10 +165,10 @@ impl Agent {
         self.hands.let_go();
     }
 
-    /// Gives a stripe back, and counts what its phase was.
+    /// Gives back a stripe, and counts its phase.
     ///
-    /// Conditions: the agent holds one stripe, and the token speaks for its session. This is the stripe that the token has taken, after
-    /// at most one phase of that session, which changes this of the agent's counts.
+    /// Conditions: the agent holds one stripe, and the token speaks for its session. This is the stripe that the token has taken,
+    /// after at most one phase of that session, and `counted` is the change of the agent's counts by that phase.
     pub fn give<G: Gate>(
         &mut self,
         gate: &mut G,
@@ -189,8 +189,8 @@ impl Agent {
 
     /// Pauses once between two takes. It may return though nothing has changed.
     ///
-    /// Conditions: the agent has no reservation out, so that nobody waits for it meanwhile, and holds no stripe; the token has not
-    /// taken the gate's.
+    /// Conditions: the agent has no reservation out, so that no other call waits for this one meanwhile; it holds no stripe; the
+    /// token has not taken the gate's.
     pub fn wait_for_change<G: Gate, R: Wait>(&self, _rt: &R, _gate: &G, _token: &G::Token)
         requires reservations { self.now.counts.reservations ≡ 0 }
         requires free { (self.now.hands.held ≡ 0) × G.is_free _gate.now _token.now }
@@ -201,8 +201,8 @@ impl Agent {
         }
     }
 
-    /// Pauses once between two takes, unless the agent has a reservation out: then it returns at once, so that nobody waits for the
-    /// reservation meanwhile.
+    /// Pauses once between two takes, unless the agent has a reservation out: then it returns at once, so that no other call
+    /// waits for the reservation meanwhile.
     ///
     /// Conditions: the agent holds no stripe, and the token has not taken the gate's.
     pub fn pause<G: Gate, R: Wait>(&self, rt: &R, gate: &G, token: &G::Token)

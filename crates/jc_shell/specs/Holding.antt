@@ -1,6 +1,6 @@
--- What a session has at hand of the lines that were accepted.
---     GoesOn   whatever is added to the script of the accepted lines is played on from this world
---     Holds    a session has that script, the count of its lines, and such a world
+-- The invariant of a session, by the lines that were accepted.
+--     GoesOn    a script that begins with the accepted lines is played on from this world
+--     Holds     a session has the script of the accepted lines, the count of those lines, and such a world
 use Rattle.std.specs.Prelude.{◌≡◌, ℕ, List, ◌++◌, length}
 use Rattle.jc_script.specs.declared.run.RunEnd.{RunEnd}
 use Rattle.jc_script.specs.Transcript.{IsTranscript, OpenedWorld, Transcript, pieces_of}

@@ -1,9 +1,11 @@
--- Sessions over streams: from what a reader gives to what a writer takes.
---     LastText     what is told of the bytes after the last line feed, at the end of the input: nothing of none, and else that it cuts a line
---     Ends         how a session ends: at a line `quit`, or at the end of the input, with such a text
---     WrittenBy    what was written of a text by an error: all of it, or a prefix if it was the writer's
---     Ran          the input was read up to the session's end, each line of it answered, and what was to be saved was saved
---     Stopped      the same up to an error: what was read, and which of its lines were answered
+-- Sessions over streams, from the bytes of a reader to the bytes of a writer.
+--     LastText     the text for the bytes after the last line feed, at the end of the input: nothing if there are none, otherwise
+--                  that the input cuts a line
+--     Ends         the end of a session: at a line `quit`, or at the end of the input, with such a text
+--     WrittenBy    the part of a text that was written by an error: all of it, or a prefix if it was the writer's
+--     Ran          the input was read up to the session's end, each line of it was answered, and all scripts to be saved were
+--                  saved
+--     Stopped      the same up to an error: the bytes that were read, and those of its lines that were answered
 use Rattle.std.specs.Prelude.{◌≡◌, ◌≤◌, ◌⊎◌, ℕ, List, [], ◌∷◌, ◌++◌, codes, false, length, take, Option}
 use Rattle.std.specs.Io.KnownBytes.{Appends, Consumes, IsAtEnd}
 use Rattle.jc_script.specs.declared.fault.Fault.TheVariants.{CutLine}
@@ -17,7 +19,7 @@ abbrev pub LastText : Accepted → (last text : List ℕ) → Type 0
 LastText a [] text = text ≡ []
 LastText a (b ∷ bs) text = text ≡ complaint (next_number a) (b ∷ bs) CutLine
 
--- after: what the reader has left; rest: what was read and isn't answered
+-- after: the bytes that the reader has left; rest: those that were read and aren't answered
 abbrev pub Ends : Accepted → (rest text : List ℕ) (after : Option (List ℕ)) → Type 0
 Ends a rest text after =
     ((text ≡ []) × ((others : List ℕ) × (rest ≡ codes "quit" ++ 10 ∷ others)))
@@ -27,7 +29,7 @@ abbrev pub WrittenBy : ShellFault → (said written : List ℕ) → Type 0
 WrittenBy Write said written = (count : ℕ) × (count ≤ length said) × (written ≡ take count said)
 WrittenBy fault said written = written ≡ said
 
--- before and after: what the reader has left; old and new: what the writer holds; kept and saved: what was saved
+-- before and after: the bytes that the reader has left; old and new: those that the writer has; kept and saved: the saved scripts
 pub record Ran (prompt : List ℕ) (before after old new : Option (List ℕ)) (kept saved : Option (List Saved)) : Type 0 where
   pub lines : List (List ℕ)
   pub rest : List ℕ

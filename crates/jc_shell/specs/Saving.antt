@@ -1,6 +1,6 @@
--- What was saved.
---     Saved   a script, and the name that it was saved under
---     Saves   what is known to be saved has these more at its end. `None` claims nothing
+-- The saved scripts.
+--     Saved    a script, and the name that it was saved under
+--     Saves    the list of saved scripts has these more at its end. `None` claims nothing
 use Rattle.std.specs.Prelude.{◌≡◌, ℕ, List, ◌++◌, Option, None, Some}
 
 pub record Saved : Type 0 where

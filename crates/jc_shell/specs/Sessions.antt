@@ -1,18 +1,19 @@
--- Sessions: lines that are typed one after another, and what is answered to each.
---     script_of       the script that lines make
---     has_feed        bytes have a line feed, so they are no line
---     Accepted        the lines that were accepted so far, and what was answered to them
---     nobody          nothing was typed yet
---     next_number     the number that the next line has in the script of the accepted ones
---     with_line       one more line was accepted, with its answer
---     IsPlayed        the line has no fault: what was answered to the accepted lines and it is the transcript of their script
---     IsTold          the line has a fault: the transcript of the accepted lines and it ends with that, the answer tells it as the run of
---                     that script does, and the line isn't accepted
---     IsSaved         a script was saved under a name, and the answer says so; or it wasn't, and the answer says why
---     AnswersWord     what is answered to a line, by what it asks for
---     Answers         the same, by the line alone
---     AreAnswered     lines one after another, each with its answer, and the prompt after that
---     TranscriptsAreShown   whatever is typed, what was answered to the accepted lines is the transcript of their script
+-- Sessions: lines that are typed one after another, and the answer to each.
+--     script_of              the script that lines make
+--     has_feed               bytes have a line feed, so they are no line
+--     Accepted               the lines that were accepted so far, and the answers to them
+--     nobody                 nothing was typed yet
+--     next_number            the number that the next line has in the script of the accepted ones
+--     with_line              one more line was accepted, with its answer
+--     IsPlayed               the line has no fault: the answers to the accepted lines and to it are the transcript of their
+--                            script
+--     IsTold                 the line has a fault: the transcript of the accepted lines and this one ends with the fault, the
+--                            answer tells it as the run of that script does, and the line isn't accepted
+--     IsSaved                a script was saved under a name, and the answer says so; or it wasn't, and the answer says why
+--     AnswersWord            the answer to a line, by what it asks for
+--     Answers                the answer to a line, by the line alone
+--     AreAnswered            lines one after another, each with its answer, and the prompt after that
+--     TranscriptsAreShown    whatever is typed, the answers to the accepted lines are the transcript of their script
 use Rattle.std.specs.Prelude.{◌≡◌, ◌⊎◌, ◌==◌, ◌+◌, ℕ, List, [], ◌∷◌, ◌++◌, length, Bool, false}
 use Rattle.std.specs.List.{flat_map, list_any}
 use Rattle.jc_script.specs.declared.fault.Fault.{Fault}
@@ -25,7 +26,7 @@ use Rattle.jc_shell.specs.declared.words.Word.TheVariants.{Help, Quit, Save, Lin
 use Rattle.jc_shell.specs.Saving.{Saved}
 use Rattle.jc_shell.specs.ShellWords.{help_text, name_in, not_saved_text, saved_text, word_of}
 
--- 1. What was accepted.
+-- 1. The accepted lines.
 
 abbrev pub script_of : List (List ℕ) → List ℕ
 script_of lines = flat_map (λ line. line ++ 10 ∷ []) lines
@@ -46,9 +47,9 @@ next_number a = length a.lines + 1
 abbrev pub with_line : Accepted → (line answer : List ℕ) → Accepted
 with_line a line answer = record { lines = a.lines ++ line ∷ []; shown = a.shown ++ answer }
 
--- 2. What is answered to a line.
+-- 2. The answer to a line.
 
--- a: what was accepted before it; b: after it
+-- a: the accepted lines before it; b: those after it
 abbrev pub IsPlayed : (a : Accepted) (line answer : List ℕ) (b : Accepted) → Type 0
 IsPlayed a line answer b =
     (b ≡ with_line a line answer)

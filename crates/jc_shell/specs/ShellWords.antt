@@ -1,9 +1,9 @@
 -- The shell's own words.
---     word_of          what a line asks of the shell
---     name_in          the name in a line that asks to save
---     help_text        what `help` is answered
---     saved_text       what a `save` is answered that saved the script
---     not_saved_text   what one is answered that didn't, and why
+--     word_of           the word of the shell that a line is
+--     name_in           the name in a line that asks to save
+--     help_text         the answer to `help`
+--     saved_text        the answer to a `save` that saved the script
+--     not_saved_text    the answer to a `save` that didn't, with the reason
 use Rattle.std.specs.Prelude.{◌++◌, ℕ, List, codes, drop, take, if◌then◌else◌}
 use Rattle.std.specs.Str.{bytes_eq}
 use Rattle.jc_shell.specs.declared.words.Word.{Word}

@@ -1,7 +1,7 @@
-//! What holds of each session.
+//! A law of every session.
 ghost use Rattle.jc_shell.specs.Sessions.{TranscriptsAreShown};
 
-/// Whatever is typed, what was answered to the accepted lines is the transcript of the script that they make.
+/// Whatever is typed, the answers to the accepted lines are the transcript of the script that these lines make.
 pub fn transcripts_are_shown()
     ensures { TranscriptsAreShown }
 {}

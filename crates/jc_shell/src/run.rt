@@ -21,7 +21,7 @@ use std::alloc::Global;
 use std::io::{Read, Write};
 use thiserror::Error;
 
-/// Why a session ended before its input did. The lines that were read whole before are answered.
+/// Why a session ended before its input did. The complete lines that were read before are answered.
 #[derive(Clone, Copy, Debug, PartialEq, Eq, Error)]
 pub enum ShellFault {
     /// The reader failed.
@@ -80,7 +80,7 @@ fn answer_line<W: Write, S: Save>(
         × Appends (W.contents writer.old.inner) (W.contents writer.new.inner) (answer ++ prompt.now)
         × Saves (S.saved saves.old) (S.saved saves.new) saved) }
     ensures kinds { IfErr result (λ e. (e ≡ ShellFault.Write) ⊎ (e ≡ ShellFault.OutOfMemory)) }
-    // The line was answered, and the answer wasn't written whole; or there was no memory for it.
+    // The line was answered, and a prefix of the answer was written; or an allocation for the answer failed.
     ensures err { IfErr result (λ e. (a : Accepted) → Holds a session.old.script.items session.old.lines (opened_world session.old.player.world)
         → (answered : List (List ℕ)) × (answers : List ℕ) × (written : List ℕ) × (saved : List Saved) × (b : Accepted)
         × ((answered ≡ []) ⊎ (answered ≡ line.now ∷ []))
@@ -97,7 +97,8 @@ fn answer_line<W: Write, S: Save>(
     }
 }
 
-/// Answers each whole line of these bytes, up to one that ends the session. Some says how many bytes are left after the last of them.
+/// Answers each complete line of these bytes, up to one that ends the session. `Some` has the number of bytes after the last
+/// line; `None` says that a line ended the session.
 fn answer_lines<W: Write, S: Save>(
     alloc: Global,
     prompt: &[u8],
@@ -139,7 +140,7 @@ fn answer_lines<W: Write, S: Save>(
     Ok(Some(rest.len()))
 }
 
-/// Tells that the end of the input cuts a line, if it does.
+/// Writes that the end of the input cuts a line, if it does.
 fn end_input<W: Write>(
     alloc: Global,
     session: &Session,
@@ -164,7 +165,7 @@ fn end_input<W: Write>(
     }
 }
 
-/// Reads more of the input. False says that it has ended.
+/// Reads more of the input. A `false` says that the input has ended.
 fn read_more<R: Read>(reader: &mut Noted<R>, input: &mut Vec<u8>) -> Result<bool, ShellFault>
     requires { length input.old.items ≤ SCRIPT_MAX }
     ensures ok { IfOk result (λ more. (bytes : List ℕ) × (input.new.items ≡ input.old.items ++ bytes)
@@ -198,13 +199,13 @@ fn converse<R: Read, W: Write, S: Save>(
     saves: &mut S,
 ) -> Result<(), ShellFault>
     requires { Holds nobody session.old.script.items session.old.lines (opened_world session.old.player.world) }
-    // What was written is the answers to the lines that were read, and what was saved is their scripts.
+    // The bytes written are the answers to the lines that were read, and the scripts saved are those of these lines.
     ensures ran { OnOk result (Ran prompt.now (R.remaining reader.old.inner) (R.remaining reader.new.inner) (W.contents writer.old.inner)
         (W.contents writer.new.inner) (S.saved saves.old) (S.saved saves.new)) }
-    // After an error too, up to there; after a failed write, a prefix of them.
+    // After an error this holds up to there; after a failed write, a prefix of the answers was written.
     ensures stopped { IfErr result (λ e. Stopped prompt.now e (R.remaining reader.old.inner) (R.remaining reader.new.inner) (W.contents writer.old.inner)
         (W.contents writer.new.inner) (S.saved saves.old) (S.saved saves.new)) }
-    // An input is too long only over the limit.
+    // `TooLong` means that the input is over the limit.
     ensures long { result ≡ Err ShellFault.TooLong → IfSome (R.remaining reader.old.inner) (λ xs. SCRIPT_MAX < length xs) }
     // Reading failed exactly if the reader did, and writing exactly if the writer did, in this call.
     ensures read_failed { reader.old.failed ≡ false → (result ≡ Err ShellFault.Read ↔ reader.new.failed ≡ true) }
@@ -232,11 +233,11 @@ fn converse<R: Read, W: Write, S: Save>(
     Err(ShellFault::TooLong)
 }
 
-/// Answers the lines of a script as they are read, up to the end of the input or a line `quit`, and writes the prompt before each is read:
-/// a line without a fault is played, and answered by what it prints; one with a fault is told, and does nothing. `save NAME` hands out the
-/// lines that were played, a script.
+/// Answers the lines of a script as they are read, up to the end of the input or a line `quit`, and writes the prompt before it
+/// reads a line. A line without a fault is played, and its answer is what it prints. A line with a fault does nothing, and its
+/// answer tells the fault. `save NAME` saves the lines that were played, as a script.
 ///
-/// What is read at once is answered before more is read, so who types gets an answer to each line.
+/// All that was read is answered before more is read, so a person who types gets an answer to each line.
 pub fn run<R: Read, W: Write, S: Save>(
     alloc: Global,
     prompt: &str,
@@ -244,13 +245,13 @@ pub fn run<R: Read, W: Write, S: Save>(
     writer: &mut Noted<W>,
     saves: &mut S,
 ) -> Result<(), ShellFault>
-    // What was written is the answers to the lines that were read, and what was saved is their scripts.
+    // The bytes written are the answers to the lines that were read, and the scripts saved are those of these lines.
     ensures ran { OnOk result (Ran prompt.now (R.remaining reader.old.inner) (R.remaining reader.new.inner) (W.contents writer.old.inner)
         (W.contents writer.new.inner) (S.saved saves.old) (S.saved saves.new)) }
-    // After an error too, up to there; after a failed write, a prefix of them.
+    // After an error this holds up to there; after a failed write, a prefix of the answers was written.
     ensures stopped { IfErr result (λ e. Stopped prompt.now e (R.remaining reader.old.inner) (R.remaining reader.new.inner) (W.contents writer.old.inner)
         (W.contents writer.new.inner) (S.saved saves.old) (S.saved saves.new)) }
-    // An input is too long only over the limit.
+    // `TooLong` means that the input is over the limit.
     ensures long { result ≡ Err ShellFault.TooLong → IfSome (R.remaining reader.old.inner) (λ xs. SCRIPT_MAX < length xs) }
     // Reading failed exactly if the reader did, and writing exactly if the writer did, in this call.
     ensures read_failed { reader.old.failed ≡ false → (result ≡ Err ShellFault.Read ↔ reader.new.failed ≡ true) }

@@ -1,14 +1,14 @@
 //! Where a session's script is saved.
 
-/// Where scripts are saved.
+/// A place where scripts are saved.
 pub trait Save {
     ghost use Rattle.std.specs.Prelude.{◌≡◌, ◌∷◌, List, [], Option, OnOk, OnErr};
     ghost use Rattle.jc_shell.specs.Saving.{Saved, Saves};
 
-    /// What was saved, in order. `None` claims nothing, as of files.
+    /// The saved scripts, in order. `None` claims nothing, which is so for files.
     ghost saved: { Self → Option (List Saved) };
 
-    /// Saves a script under a name, which may be no name of a file. An error says why nothing was saved.
+    /// Saves a script under a name, which needn't be a valid file name. An `Err` says why nothing was saved.
     fn save(&mut self, name: &[u8], script: &[u8]) -> Result<(), &'static str>
         ensures ok { OnOk result (Saves (saved self.old) (saved self.new) (record { name = name.now; script = script.now } ∷ [])) }
         ensures err { OnErr result (saved self.new ≡ saved self.old) };

@@ -36,7 +36,8 @@ impl Session {
         }
     }
 
-    /// The answer to a line goes to the end of `out`. After an error the session may only be closed, and nothing was saved.
+    /// Appends the answer to a line to `out`. An `Err` says that an allocation failed: then nothing was saved, and the session
+    /// may only be closed.
     pub fn answer<S: Save>(
         &mut self,
         alloc: Global,
@@ -67,7 +68,7 @@ impl Session {
         }
     }
 
-    /// A line of the script. If it has a fault, the answer is what the run of the script with it would tell.
+    /// Plays a line of the script. If it has a fault, the answer is what the run of the script with this line would tell.
     fn play(&mut self, alloc: Global, line: &[u8], out: &mut Vec<u8>) -> Result<(), AllocError>
         requires { has_feed line.now ≡ false }
         ensures { OnOk result ((a : Accepted) → Holds a self.old.script.items self.old.lines (opened_world self.old.player.world)
@@ -125,7 +126,7 @@ impl Session {
     }
 }
 
-/// Saves a script under a name, and says so, or why not. After an error nothing was saved.
+/// Saves a script under a name, and answers that it was saved, or why not. After an `Err` nothing was saved.
 fn save_as<S: Save>(
     name: &[u8],
     script: &[u8],
@@ -150,7 +151,7 @@ fn save_as<S: Save>(
     }
 }
 
-/// Says why nothing was saved.
+/// Appends the reason why nothing was saved.
 fn put_not_saved(out: &mut Vec<u8>, name: &[u8], why: &str) -> Result<(), AllocError>
     ensures { OnOk result (out.new.items ≡ out.old.items ++ not_saved_text name.now why.now) }
 {

@@ -4,23 +4,23 @@ ghost use Rattle.jc_shell.specs.ShellWords.{help_text, name_in, word_of};
 
 use jc_script::words::is;
 
-/// What a line asks of the shell.
+/// The word of the shell that a line is.
 #[derive(Clone, Copy, Debug, PartialEq, Eq)]
 pub enum Word {
-    /// To say the shell's words.
+    /// `help`: list the shell's words.
     Help,
-    /// To end the session.
+    /// `quit`: end the session.
     Quit,
-    /// To save the script of the accepted lines.
+    /// `save`: save the script of the accepted lines.
     Save,
-    /// Nothing: it's a line of a script.
+    /// None: it is a line of a script.
     Line,
 }
 
-/// What comes before the name under which a script is saved.
+/// The text before the name under which a script is saved.
 const SAVE: &str = "save ";
 
-/// What `help` is answered.
+/// The answer to `help`.
 pub const HELP: &str = "\
 A line of a script is answered by what it prints; docs/SCRIPT.md has the lines. A line with a fault does nothing.
 Beside these:
@@ -29,7 +29,7 @@ Beside these:
   quit       ends the session, as the end of the input does
 ";
 
-/// What a line asks for.
+/// The word that a line is.
 pub fn word_of(line: &[u8]) -> Word
     ensures { result ≡ word_of line.now }
 {

@@ -1,5 +1,5 @@
 -- The fingerprint of a snapshot: FNV-1a over its numbers.
---     print_with        a fingerprint with one number more
+--     print_with        a fingerprint with one more number
 --     fingerprint_of    the fingerprint of a list
 use Rattle.std.specs.Prelude.{ℕ, ◌*◌, ◌%◌, ◌^◌, List, bit_xor}
 use Rattle.std.specs.List.{fold}

@@ -1,5 +1,5 @@
--- What snapshots tell.
---     SnapshotsTell     equal snapshots over one table are of one essence
+-- Laws of snapshots.
+--     SnapshotsTell     equal snapshots over one state of the tables are of one essence
 --     SnapshotsStay     a snapshot stays one of its essence while the tables grow
 --     HasOneSnapshot    over these tables an essence has one snapshot
 use Rattle.std.specs.Prelude.{◌≡◌, ℕ, List}

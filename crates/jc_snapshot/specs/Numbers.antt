@@ -1,7 +1,7 @@
 -- Things by their numbers in a table.
 --     IsNumber          a thing is at this place of a table
 --     AreNumbers        things are, in their order, at these places of it
---     Extends           a list goes on behind another
+--     Extends           a list continues another
 --     IsAbsent          a thing is nowhere in a list
 --     IsDistinctTable   nothing is at two places of a list
 use Rattle.std.specs.Prelude.{◌≡◌, ℕ, List, ◌++◌, map, Some, slice_get}

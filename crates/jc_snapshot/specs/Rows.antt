@@ -1,5 +1,5 @@
--- Rows of numbers, written one behind the other.
---     framed     a row behind its length
+-- Rows of numbers, written one after another.
+--     framed     a row after its length
 --     flat       rows as one list
 --     AreRows    each row is of the thing at its place
 use Rattle.std.specs.Prelude.{ℕ, List, [], ◌∷◌, ◌++◌, length}

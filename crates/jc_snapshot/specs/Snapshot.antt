@@ -1,18 +1,18 @@
 -- Snapshots: the essence of a world as numbers.
---     origin_word       a number for where a stripe's outside answers come from
+--     origin_word       a number for the origin of a stripe's outside answers
 --     bit               a number for a flag
---     scalars_of        of a stripe's essence, by the number of its shape: what is no list
+--     scalars_of        the parts of a stripe's essence that are no lists, by the number of its shape
 --     IsStripeRow       a row is a stripe's essence, by the numbers of the tables
---     head_of           what is no list of a call
+--     head_of           the parts of a call that are no lists
 --     IsCallRow         a row is a call, by the numbers of the tables
 --     last_row          the highest number of a call so far, as a row
---     OwnRows           the numbers of what a world has beside its stripes and calls
---     own_rows          the rows of that
+--     OwnRows           the numbers of the parts of a world beside its stripes and calls
+--     own_rows          the rows of those parts
 --     HasOwnRows        these numbers are a world's, by the tables
 --     WorldRows         the numbers of a world, with the rows of its stripes and calls
 --     rows_of           all rows of a world's essence
 --     HasRows           these rows are a world's essence, by the numbers of the tables
---     IsSnapshot        a list of numbers is these rows, written one behind the other
+--     IsSnapshot        a list of numbers is these rows, written one after another
 --     GrowsTo           each table of another state extends that of the first
 --     AreTables         nothing is twice in a table
 use Rattle.std.specs.Prelude.{◌≡◌, ℕ, List, [], ◌∷◌, ◌++◌, Bool, true, false, Option, None, Some}
@@ -41,7 +41,7 @@ abbrev pub scalars_of : ℕ → StripeEssence → List ℕ
 scalars_of config x =
     config ∷ x.rest.stripe ∷ origin_word x.rest.origin ∷ bit x.rest.lives ∷ x.events ∷ x.rest.next ∷ []
 
--- no generation of it has ended, and its entries are what it caches
+-- no generation of it has ended, and its entries are the cached ones
 pub record IsStripeRow (seen : Seen) (x : StripeEssence) (row : List ℕ) : Type 0 where
   pub config : ℕ
   pub entries : List ℕ

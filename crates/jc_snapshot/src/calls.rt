@@ -14,7 +14,7 @@ use jc_types::Key;
 use jc_world::OpenCall;
 use std::alloc::{AllocError, Global};
 
-/// The rows of calls, written one behind the other. An `Err` says that an allocation failed.
+/// The rows of calls, written one after another. An `Err` says that an allocation failed.
 pub(crate) fn call_rows(
     alloc: Global,
     calls: &[OpenCall],
@@ -44,7 +44,7 @@ fn call_row(alloc: Global, call: &OpenCall, seen: &mut Seen) -> Result<Vec<u64>,
     Ok(row)
 }
 
-/// The numbers of what a call does at its keys.
+/// The numbers of the operations of a call at its keys.
 fn task_numbers(
     alloc: Global,
     call: &OpenCall,

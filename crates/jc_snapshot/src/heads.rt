@@ -1,4 +1,4 @@
-//! What is no list of a call.
+//! The parts of a call that are no lists.
 ghost use Rattle.std.specs.Prelude.{◌≡◌};
 ghost use Rattle.jc_snapshot.specs.Snapshot.{head_of};
 
@@ -13,13 +13,13 @@ pub struct CallHead {
     pub caller: Caller,
     /// How the call takes its keys.
     pub kind: CallKind,
-    /// What the call does at each key that it still finds, if it is to look at a stripe.
+    /// The operation of the call at each key that it still finds, if it is to look at a stripe.
     pub op_found: Option<Op>,
     /// The first fault, or refusal that isn't put off, that it has met.
     pub cause: Option<Refusal>,
 }
 
-/// What is no list of a call.
+/// The parts of a call that are no lists.
 pub(crate) fn head_of(call: &OpenCall) -> CallHead
     ensures { result ≡ head_of call.now }
 {

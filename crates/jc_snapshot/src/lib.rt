@@ -1,9 +1,13 @@
-//! What decides how a world goes on, as few numbers: two worlds of one essence have the same ones.
+//! Snapshots: a world's state as few numbers, without its events. Worlds with equal snapshots continue in the same way, and two
+//! worlds of one essence have equal snapshots.
 //!
 //! Why it is so:
-//! - A list of things is a list of their numbers in a table of what was met so far: things are few, and some have 1,700 bytes.
-//! - What no map has an order for, parts and joins, is in the order of the keys: else one essence would have several snapshots.
-//! - A snapshot is one list of numbers, each row behind its length: one comparison, one block of memory.
+//! - A list of things is a list of their numbers in a table of the things met so far, because there are few different things, and
+//!   some take 1,700 bytes.
+//! - Parts and joins are in the order of their keys, because a map has no order of its own, and one essence would otherwise have
+//!   several snapshots.
+//! - A snapshot is one list of numbers, each row after its length, because it then takes one block of memory, and two are
+//!   compared by one comparison.
 #![tactic(auto)]
 
 mod calls;

@@ -1,10 +1,10 @@
-//! Rows of numbers, written one behind the other.
+//! Rows of numbers, written one after another.
 ghost use Rattle.std.specs.Prelude.{◌≡◌, ◌++◌, ◌∷◌, [], IfOk, OnOk};
 ghost use Rattle.jc_snapshot.specs.Rows.{framed, flat};
 
 use std::alloc::{AllocError, Global};
 
-/// Appends a row behind its length. An `Err` says that an allocation failed.
+/// Appends the length of a row, and then the row. An `Err` says that an allocation failed.
 pub(crate) fn push_row(words: &mut Vec<u64>, row: &[u64]) -> Result<(), AllocError>
     ensures { OnOk result (words.new.items ≡ words.old.items ++ framed row.now) }
 {

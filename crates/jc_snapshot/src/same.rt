@@ -1,4 +1,5 @@
-//! Tests of equality, each with the fact that the two are one: by the fields, since the proof for all of them at once is too long.
+//! Tests of equality, which ensure that the two are the same. They compare field by field, since a proof for all fields at once
+//! is too long.
 ghost use Rattle.std.specs.Prelude.{◌≡◌, ◌↔◌, IsTrue};
 
 use jc_model::{Event, Op, Out, ProcessAnswer, Reply};
@@ -6,7 +7,7 @@ use jc_stripe::{First, Reservation};
 use jc_types::Refusal;
 use jc_world::{Part, PartProgress};
 
-/// Whether two reservations are one.
+/// Whether two reservations are the same.
 pub(crate) fn is_same_reservation(first: &Reservation, second: &Reservation) -> bool
     ensures { IsTrue result ↔ (first.now ≡ second.now) }
 {
@@ -17,7 +18,7 @@ pub(crate) fn is_same_reservation(first: &Reservation, second: &Reservation) -> 
         && is_same_first(&first.first, &second.first)
 }
 
-/// Whether two parts are one.
+/// Whether two parts are the same.
 pub(crate) fn is_same_part(first: &Part, second: &Part) -> bool
     ensures { IsTrue result ↔ (first.now ≡ second.now) }
 {
@@ -25,7 +26,7 @@ pub(crate) fn is_same_part(first: &Part, second: &Part) -> bool
         && is_same_progress(&first.progress, &second.progress)
 }
 
-/// Whether two events are one.
+/// Whether two events are the same.
 pub(crate) fn is_same_event(first: &Event, second: &Event) -> bool
     ensures { IsTrue result ↔ (first.now ≡ second.now) }
 {
@@ -66,14 +67,14 @@ pub(crate) fn is_same_event(first: &Event, second: &Event) -> bool
     }
 }
 
-/// Whether two causes are one.
+/// Whether two causes are the same.
 pub(crate) fn is_same_cause(first: &Option<Refusal>, second: &Option<Refusal>) -> bool
     ensures { IsTrue result ↔ (first.now ≡ second.now) }
 {
     *first == *second
 }
 
-/// Whether what two calls do at the keys that they still find is one.
+/// Whether the operations of two calls at the keys that they still find are the same.
 pub(crate) fn is_same_op_found(first: &Option<Op>, second: &Option<Op>) -> bool
     ensures { IsTrue result ↔ (first.now ≡ second.now) }
 {

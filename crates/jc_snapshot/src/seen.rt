@@ -1,4 +1,4 @@
-//! The tables of what snapshots have met.
+//! The tables of the things that snapshots have met.
 ghost use Rattle.jc_snapshot.specs.Snapshot.{AreTables};
 
 use crate::heads::CallHead;
@@ -13,12 +13,12 @@ use jc_types::{Config, Key, Value};
 use jc_world::{JoinedLoad, Part, Premises};
 use std::alloc::Global;
 
-/// What snapshots have met so far, each thing once: a snapshot names it by its number.
+/// The things that snapshots have met so far, each once: a snapshot names a thing by its number.
 #[derive(Drop)]
 pub struct Seen {
     /// Shapes of caches.
     pub configs: Table<Config>,
-    /// What has held of loaders, writers and others.
+    /// The premises: what has held for loaders, writers and others.
     pub premises: Table<Premises>,
     /// Entries, of caches and of stores.
     pub entries: Table<(Key, Value)>,
@@ -26,15 +26,15 @@ pub struct Seen {
     pub reservations: Table<Reservation>,
     /// The joiners of loads.
     pub joiners: Table<Joiner>,
-    /// What joiners are answered.
+    /// The answers to joiners.
     pub answers: Table<Option<Event>>,
-    /// What calls have asked and heard for the keys that they have reserved.
+    /// The asks of calls and their answers, for the keys that the calls have reserved.
     pub parts: Table<(Key, Part)>,
     /// Joins, by call and key.
     pub joins: Table<((u64, Key), JoinedLoad)>,
     /// Calls without their lists.
     pub heads: Table<CallHead>,
-    /// What calls do at a key.
+    /// The operations of calls at a key.
     pub tasks: Table<(Key, Option<Op>)>,
 }
 
@@ -55,7 +55,7 @@ impl Seen {
         }
     }
 
-    /// Nothing is twice in a table. This does nothing: what it says is its contract.
+    /// A law: nothing is twice in a table. It does nothing.
     pub(crate) fn are_tables(&self)
         ensures { AreTables self.now }
     {

@@ -26,8 +26,9 @@ const FINGERPRINT_START: u64 = 14695981039346656037;
 
 const FINGERPRINT_FACTOR: u64 = 1099511628211;
 
-/// What decides how a world goes on, as numbers: all of it but the events themselves. Each thing in it is named by its number in the
-/// tables of a [`Seen`], so that two snapshots over the same tables are equal exactly if their worlds go on alike by what they keep.
+/// The state of a world as numbers: all that decides how it continues, without the events themselves. Each thing is named by its
+/// number in the tables of a [`Seen`], so two snapshots over the same tables are equal exactly if their worlds have the same
+/// essence.
 #[derive(Drop)]
 pub struct Snapshot {
     words: Vec<u64>,
@@ -56,8 +57,8 @@ impl Eq for Snapshot {
 }
 
 impl Snapshot {
-    /// The snapshot of a world. What the tables haven't met gets the next numbers in them. An `Err` says that an allocation failed; what
-    /// the tables have got by then they keep.
+    /// The snapshot of a world. A thing that a table hasn't met gets its next number. An `Err` says that an allocation failed;
+    /// the tables keep the things that they have got by then.
     #[tactic(auto, using(crate::proofs::StripeRows::grows_twice))]
     pub fn of(alloc: Global, world: &World, seen: &mut Seen) -> Result<Snapshot, AllocError>
         ensures snapshot { IfOk result (λ s. IsSnapshot (essence_of_world world.now.world) seen.new s) }
@@ -85,7 +86,7 @@ impl Snapshot {
         *self == *other
     }
 
-    /// A number of its numbers, by which snapshots may be looked up: two that are equal have one.
+    /// A hash of the numbers, by which snapshots may be looked up: equal snapshots have equal hashes.
     pub fn fingerprint(&self) -> u64
         ensures { result ≡ fingerprint_of self.now }
     {
@@ -93,7 +94,7 @@ impl Snapshot {
     }
 }
 
-/// The rows of what a world has beside its stripes and calls.
+/// The rows of the parts of a world beside its stripes and calls.
 fn own_words(alloc: Global, world: &World, seen: &mut Seen) -> Result<Vec<u64>, AllocError>
     ensures rows { IfOk result (λ words. (n : OwnRows)
         × (words.items ≡ flat (own_rows n world.now.world)) × HasOwnRows seen.new world.now.world n) }
@@ -110,7 +111,7 @@ fn own_words(alloc: Global, world: &World, seen: &mut Seen) -> Result<Vec<u64>, 
     Ok(words)
 }
 
-/// The numbers of what the store holds.
+/// The numbers of the store's entries.
 fn store_numbers(
     alloc: Global,
     world: &World,
@@ -125,7 +126,7 @@ fn store_numbers(
     Ok(numbers)
 }
 
-/// The numbers of what calls have asked and heard for the keys that they have reserved, in the order of the keys.
+/// The numbers of the asks of calls and their answers, in the order of the reserved keys.
 fn part_numbers(
     alloc: Global,
     world: &World,
@@ -168,7 +169,7 @@ fn last_row(alloc: Global, last: Option<u64>) -> Result<Vec<u64>, AllocError>
     Ok(row)
 }
 
-/// Numbers folded to one.
+/// The FNV-1a hash of numbers.
 fn fingerprint_of(words: &[u64]) -> u64
     ensures { result ≡ fingerprint_of words.now }
 {

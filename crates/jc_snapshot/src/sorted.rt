@@ -6,9 +6,9 @@ ghost use Rattle.std.specs.FinMap.{IsAntisymmetric};
 use std::alloc::{AllocError, Global};
 use std::collections::BTreeMap;
 
-/// Entries in the order of their keys. Of two with one key the first counts. An `Err` says that an allocation failed.
+/// Entries in the order of their keys. If two have the same key, the first counts. An `Err` says that an allocation failed.
 ///
-/// Condition: no two keys tie that differ.
+/// Condition: only equal keys compare as equal.
 pub(crate) fn sorted<K: Ord + Copy, V: Copy>(
     alloc: Global,
     entries: &[(K, V)],

@@ -17,9 +17,9 @@ use jc_stripe::{Origin, Stripe};
 use jc_types::{Caller, Key, Refusal, Value};
 use std::alloc::{AllocError, Global};
 
-/// The rows of stripes, written one behind the other. An `Err` says that an allocation failed.
+/// The rows of stripes, written one after another. An `Err` says that an allocation failed.
 ///
-/// Condition: none has ended a generation.
+/// Condition: no stripe has ended a generation.
 pub(crate) fn stripe_rows(
     alloc: Global,
     stripes: &[Stripe],
@@ -78,7 +78,7 @@ fn entry_numbers(
     Ok(numbers)
 }
 
-/// The numbers of what a stripe's joiners are answered.
+/// The numbers of the answers to a stripe's joiners.
 fn answer_numbers(
     alloc: Global,
     stripe: &Stripe,
@@ -93,7 +93,7 @@ fn answer_numbers(
     Ok(numbers)
 }
 
-/// What a stripe's joiners are answered.
+/// The answers to a stripe's joiners.
 fn answers_of(alloc: Global, stripe: &Stripe) -> Result<Vec<Option<Event>>, AllocError>
     ensures { IfOk result (λ answers. answers.items
         ≡ map (λ j. answer_in stripe.now.history j.state) stripe.now.joiners) }
@@ -106,7 +106,7 @@ fn answers_of(alloc: Global, stripe: &Stripe) -> Result<Vec<Option<Event>>, Allo
     Ok(answers)
 }
 
-/// Appends what a joiner is answered.
+/// Appends the answer to a joiner, or none.
 fn push_answer(
     stripe: &Stripe,
     joiner: &Joiner,
@@ -159,7 +159,7 @@ fn event_at(stripe: &Stripe, place: usize) -> Option<Event>
     }
 }
 
-/// A number for where a stripe's outside answers come from.
+/// A number for the origin of a stripe's outside answers.
 fn origin_word(origin: Origin) -> u64
     ensures { result ≡ origin_word origin }
 {

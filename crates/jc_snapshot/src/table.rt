@@ -5,9 +5,9 @@ ghost use Rattle.jc_snapshot.specs.Numbers.{IsNumber, AreNumbers, Extends, IsAbs
 use std::alloc::{AllocError, Global};
 use std::marker::Model;
 
-/// What a table can have.
+/// A type of things that a table can have.
 pub trait Comparable: Copy {
-    /// Whether the two are one.
+    /// Whether the two are the same.
     fn is_same(&self, other: &Self) -> bool
         ensures { IsTrue result ↔ (self.now ≡ other.now) };
 }
@@ -39,7 +39,7 @@ impl<T: Comparable> Table<T> {
         }
     }
 
-    /// Nothing is at two places. This does nothing: what it says is its contract.
+    /// A law: nothing is at two places. It does nothing.
     pub fn is_distinct(&self)
         ensures { IsDistinctTable self.now }
     {

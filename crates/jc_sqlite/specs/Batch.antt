@@ -1,10 +1,12 @@
--- `RanEach`: the statement ran once for each row of parameters, in their order, inside one transaction.
--- `RanAll`: a whole batch ran so, from the connection before it, and left this database.
--- `FailsAt`: the statement failed at one of the rows, when it had run for those before it.
--- `FailsAtEnd`: it ran for all rows, and the commit failed.
--- `FailsInBatch`: why a batch failed, of these two, or because a transaction was open before it.
--- `RunsAsOne`: a batch ran in one transaction: all of it or none, and if a failure of the disk shut the connection, or if the machine
--- stopped at any moment, all or none of it is found when the file is opened again.
+-- Batches: a statement for each row of parameters, in one transaction.
+--     in_transaction    the connection, in an open transaction
+--     RanEach           the statement ran once for each row of parameters, in their order, inside one transaction
+--     RanAll            a whole batch ran in this way, from the connection before it, and left this database
+--     FailsAt           the statement failed at one of the rows, after it had run for those before it
+--     FailsAtEnd        the statement ran for all rows, and the commit failed
+--     FailsInBatch      the cause of a failed batch: one of these two, or a transaction was open before it
+--     RunsAsOne         a batch ran in one transaction: all of it or none. If a failure of the disk shut the connection, or if
+--                       the machine stopped at any moment, all or none of it is found when the file is opened again
 use Rattle.std.specs.Prelude.{◌≡◌, ◌⊎◌, ℕ, true, List, [], ◌∷◌, ◌++◌, Result, Ok, Err, IsTrue, OnOk, OnErr, IfErr}
 use Rattle.sqlite.specs.declared.error.Error.{Error}
 use Rattle.sqlite.specs.declared.error.Error.TheVariants.{SqliteFailure}

@@ -1,9 +1,10 @@
--- `LeavesAllOrNone`: after a success nothing is left in a collection that was to be written or deleted, and after a failure all of it
--- is. A failure's code isn't 0.
--- `says_closed`: the error says that an earlier failure has shut the connection.
--- `failure_to_keep`: the failure that is kept, which is the new one, unless that says only that an earlier one has shut the connection.
--- `KeepsFailure`: a call that succeeds leaves what is kept; one that fails keeps its failure, of which this holds.
--- `NeedsOpen`: a connection that is there stays there; without one the call fails.
+-- The collection that a write leaves, and the failure that is kept.
+--     LeavesAllOrNone    after a success nothing is left in a collection that was to be written or deleted, and after a failure
+--                        all of it is; a failure's code isn't 0
+--     says_closed        the error is that an earlier failure has shut the connection
+--     failure_to_keep    the failure that is kept: the new one, unless it only says that an earlier one has shut the connection
+--     KeepsFailure       a call that succeeds leaves the kept failure; one that fails keeps its own, for which this holds
+--     NeedsOpen          a connection that is there stays there; without one the call fails
 use Rattle.std.specs.Prelude.{◌≡◌, ◌<◌, ℕ, Bool, true, false, if◌then◌else◌, List, [], Result, Ok, Err, Option, None, Some, IsSome, IsErr}
 use Rattle.sqlite.specs.declared.error.ErrorCode.TheVariants.{Closed}
 use Rattle.sqlite.specs.declared.error.Error.{Error}

@@ -1,7 +1,8 @@
--- `HasOwn`: this connection has shown that `entry` is the table of keys and values.
--- `HasOwnTable`: the same of a connection to a file, as far as the disk has returned what was written to it.
--- `OpensInTurns`: it was tried until it wasn't locked, at most so many times again, with a pause between two tries, and the answer is that
--- of the last try.
+-- Opening a file with its table.
+--     HasOwn          this connection has shown that `entry` is the table of keys and values
+--     HasOwnTable     the same for a connection to a file, as long as the disk has returned what was written to it
+--     OpensInTurns    it was tried until it wasn't locked, at most `retries` times again, with a pause between two tries, and the
+--                     answer is that of the last try
 use Rattle.std.specs.Prelude.{◌≢◌, ◌⊎◌, ℕ, zero, suc, true, Result, Ok, Err}
 use Rattle.sqlite_disk.specs.declared.Disk as disk
 use Rattle.sqlite_store.specs.declared.store.FileStore.{FileStore}

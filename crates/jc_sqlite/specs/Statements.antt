@@ -1,21 +1,27 @@
--- `create_sql`, `count_sql`, `load_sql`, `write_sql`, `delete_sql`: the statements that make the table, count its rows, look a key up, write
--- an entry and delete what is at a key.
--- `kept_sql`: the statement that makes the table, as another program keeps it, which leaves out IF NOT EXISTS.
--- `schema_sql`: the statement that shows the texts of what has the table's name, and of triggers on it.
--- `IsOwnText`, `IsOwn`: the text is that of the statement that makes the table; the one row that the schema shows has it.
--- `TellsOwn`: whether the rows which the schema shows are this one row; an error is the query's.
--- `entry_row`, `key_row`: the row of parameters of an entry, and that of a key.
--- `RunsOnce`: the statement ran with these parameters, or failed.
--- `IsCount`: the number is that of the row's first column; an error is that of this column.
--- `Counts`: the number is that of the row which the count shows; an error is the query's, or that of this row.
--- `IsValue`: the column is a value of a cache.
--- `row_error`: why a row has no value: it has no column, or the first one has too many bytes, or no bytes.
--- `ReadsValue`: the row's first column has these bytes; an error says why it has no value.
--- `IsInFirst`: the value is that of the first row, or there is neither; an error says why the first row has no value.
--- `Loads`: the value is that of the first row which the query at this key shows; an error is the query's, or that of this row.
--- `with_found`: the answers, with what was found at a key put in, if anything was.
--- `LoadsInto`: what was loaded at a key was put into the answers; an error is that of the load, with its key.
--- `LoadsAll`: each key was loaded so, in their order; an error is that of the first load that failed, after which nothing was loaded.
+-- The statements on the table, and their results.
+--     create_sql, count_sql, load_sql, write_sql, delete_sql    the statements that make the table, count its rows, look a key
+--                           up, write an entry and delete the entry of a key
+--     kept_sql              the statement that makes the table as another program keeps it, without IF NOT EXISTS
+--     schema_sql            the statement that shows the text of the table or view with this name, and of triggers on it
+--     entry_row, key_row    the row of parameters of an entry, and that of a key
+--     RunsOnce              the statement ran with these parameters, or failed
+--     IsOwnText, IsOwn      the text is that of the statement that makes the table; the only row that the schema shows has this
+--                           text
+--     TellsOwn              the answer tells whether the schema shows only this row; an error is the query's
+--     IsCount               the number is that of the row's first column; an error is that of reading this column
+--     Counts                the number is that of the row which the count shows; an error is the query's, or that of this row
+--     IsValue               the column is a value of a cache
+--     row_error             the error of a row without a value: it has no column, or its first column has too many bytes, or is
+--                           no blob
+--     ReadsValue            the row's first column has these bytes; an error says why it has no value
+--     IsInFirst             the value is that of the first row, or there is neither; an error says why the first row has no value
+--     Loads                 the value is that of the first row which the query at this key shows; an error is the query's, or
+--                           that of this row
+--     with_found            the answers, with the value that was found at a key, if one was
+--     LoadsInto             the value that was loaded at a key was put into the answers; an error is that of the load, with its
+--                           key
+--     LoadsAll              each key was loaded in this way, in their order; an error is that of the first load that failed,
+--                           after which nothing was loaded
 use Rattle.std.specs.Prelude.{◌≡◌, ◌≤◌, ◌⊎◌, ℕ, pos, Bool, false, IsTrue, List, [], ◌∷◌, length, Result, Ok, Err, Option, None, Some, codes}
 use Rattle.jc_outside.specs.Answers.{AnswersByKey, answers_with}
 use Rattle.jc_types.specs.declared.limits.TheConstants.{VALUE_MAX}

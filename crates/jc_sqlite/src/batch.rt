@@ -9,10 +9,10 @@ use indexmap::{IndexMap, IndexSet};
 use jc_types::{Key, Value};
 use sqlite::{Alter, Connection, Error, ErrorCode, Transaction, params};
 
-/// A transaction is open already, which no function of this crate leaves.
+/// A transaction is open already. No function of this crate leaves one open.
 const IN_TRANSACTION: Error = Error::SqliteFailure(ErrorCode::TransactionState);
 
-/// Runs a statement with the key and the value of each entry, or for none of them.
+/// Runs a statement with the key and the value of each entry, for all of them or for none.
 pub(crate) fn execute_entries<S: Alter>(
     conn: &mut Connection<S>,
     sql: &str,
@@ -30,7 +30,7 @@ pub(crate) fn execute_entries<S: Alter>(
     transaction.commit()
 }
 
-/// Runs a statement with each key, or for none of them.
+/// Runs a statement with each key, for all of them or for none.
 pub(crate) fn execute_keys<S: Alter>(
     conn: &mut Connection<S>,
     sql: &str,

@@ -1,4 +1,4 @@
-//! What failed: a call, and at which key; or the opening of a file.
+//! Failures of a call, with its key, and of the opening of a file.
 ghost use Rattle.std.specs.Prelude.{◌≡◌};
 
 use jc_types::Key;
@@ -8,12 +8,12 @@ use std::fmt::{self, Display, Formatter, Write};
 
 /// A failure of a call, and the key of the call.
 ///
-/// It displays what failed, after the key: `at the key "ann": string or blob too big`.
+/// `Display` writes the key and then the error: `at the key "ann": string or blob too big`.
 #[derive(Clone, Copy)]
 pub struct Failure {
-    /// The key that was loaded, written or deleted. It is none if the call was of a batch that fails as one, or of no key.
+    /// The key that was loaded, written or deleted. It is none if the call was for a batch that fails as a whole, or for no key.
     pub key: Option<Key>,
-    /// What failed.
+    /// The error of the database.
     pub error: Error,
 }
 
@@ -61,12 +61,12 @@ impl From<Error> for OpenCause {
     }
 }
 
-/// Which file wasn't opened, and why.
+/// A file that wasn't opened, and the cause.
 ///
-/// It displays both: `visits.db: unable to open database file`.
+/// `Display` writes both: `visits.db: unable to open database file`.
 #[derive(Debug, Drop)]
 pub struct OpenError {
-    /// The file's path, as it was given. It is empty if no memory was left for it.
+    /// The file's path, as it was given. It is empty if an allocation for it failed.
     pub path: String,
     /// Why it wasn't opened.
     pub cause: OpenCause,

@@ -1,8 +1,8 @@
 //! A loader and a writer over a SQLite file: a table of keys and values.
 //!
-//! [`Database`] is the file. Each session brings a [`DatabaseLoader`] and a [`DatabaseWriter`] of it (JSR 107, "Integration"), which
-//! share the database's one connection behind a lock. A failure is its code, one of [`code`]'s constants, and its text is kept:
-//! [`Database::last_error`]. The statements themselves, over any connection, are in [`table`].
+//! [`Database`] is the file. Each session brings a [`DatabaseLoader`] and a [`DatabaseWriter`] of it (JSR 107, "Integration"),
+//! which share the database's one connection behind a lock. A call that fails returns a code, one of [`code`]'s constants;
+//! [`Database::last_error`] has the text of the last failure. The statements themselves, over any connection, are in [`table`].
 #![tactic(auto)]
 
 mod batch;

@@ -8,9 +8,9 @@ use std::sync::{Arc, Mutex, Wait};
 
 /// A loader of a database, for one session. A call waits for the database's lock.
 ///
-/// `load` is one query, and `load_all` one for each key, in their order, up to the first that fails. An `Err` has the failure's code,
-/// and the database keeps the failure. A row whose value is longer than a cache's value is a failure, `TOO_BIG`, and so is one whose
-/// value isn't bytes, `MISMATCH`.
+/// `load` makes one query, and `load_all` one for each key, in their order, up to the first that fails. An `Err` has the
+/// failure's code, and the database keeps the failure. A row whose value is longer than a cache's value is a failure, `TOO_BIG`,
+/// and so is one whose value isn't bytes, `MISMATCH`.
 #[derive(Drop)]
 pub struct DatabaseLoader<R: Wait + Drop> {
     rt: R,

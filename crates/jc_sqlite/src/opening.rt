@@ -10,12 +10,12 @@ use sqlite::{Alter, Connection, File, FileStore};
 use std::thread;
 use std::time::Duration;
 
-/// How a file is opened that something else may have open.
+/// Options for opening a file that another program may have open.
 #[derive(Clone, Copy, Debug, PartialEq, Eq)]
 pub struct OpenOptions {
-    /// How often a file that is locked is tried again: 0 answers at once.
+    /// How often a locked file is tried again. With 0 the first answer is returned at once.
     pub retries: u32,
-    /// How long is slept before it is tried again.
+    /// How long it sleeps before each further try.
     pub pause: Duration,
 }
 
@@ -27,15 +27,15 @@ impl OpenOptions {
     };
 }
 
-/// What is to be opened, and may be locked.
+/// A thing that is to be opened, and may be locked.
 pub(crate) trait Opening {
     ghost use Rattle.std.specs.Prelude.{Result};
     ghost use Rattle.jc_sqlite.specs.declared.failure.OpenCause.{OpenCause as Cause};
 
-    /// What it is, once it is open.
+    /// The type of the thing once it is open.
     type Opened;
 
-    /// One try: what it answers.
+    /// One try, and its answer.
     ghost opens: { Self → Result Self.Opened Cause → Self → Type 0 };
 
     /// One pause between two tries.
@@ -50,7 +50,8 @@ pub(crate) trait Opening {
         ensures { pauses self.old self.new };
 }
 
-/// Tries it until it isn't locked, at most so many times again, with a pause between two tries. It answers what the last try does.
+/// Tries it until it isn't locked, at most `retries` times again, with a pause between two tries. It returns what the last try
+/// does.
 pub(crate) fn open_in_turns<O: Opening>(
     opening: &mut O,
     retries: u32,
@@ -121,7 +122,7 @@ fn open_once(rt: &HostRuntime, path: &str) -> Result<Connection<FileStore<File>>
     }
 }
 
-/// Makes the table if it isn't there, and looks whether it is its own.
+/// Makes the table if it isn't there, and tests whether it is its own.
 fn make_own<S: Alter>(conn: &mut Connection<S>) -> Result<(), OpenCause>
     ensures { HasCleanDisk (state S.Store conn.new) → OnOk result (HasOwn S.Store conn.new) }
 {

@@ -1,4 +1,4 @@
-//! What all loaders and writers of a database share, behind a lock.
+//! The state that all loaders and writers of a database share, behind a lock.
 ghost use Rattle.std.specs.Prelude.{◌≡◌, ◌≢◌, ◌<◌, [], IsErr, Some, None, IsSome, IsSomeAnd, IfErr, OnOk, OnErr};
 ghost use Rattle.jc_sqlite.specs.Opening.{HasOwnTable};
 ghost use Rattle.jc_sqlite.specs.Leaving.{LeavesAllOrNone, failure_to_keep, KeepsFailure, NeedsOpen};
@@ -15,8 +15,8 @@ use sqlite::{Connection, Error, ErrorCode, File, FileStore};
 /// The file isn't open.
 const SHUT: Error = Error::SqliteFailure(ErrorCode::Closed);
 
-/// The one connection to the file, and the last failure. Each call keeps its failure, and returns the failure's code. A call that fails
-/// because the connection is shut keeps what shut it.
+/// The one connection to the file, and the last failure. Each call keeps its failure, and returns the failure's code. A call that
+/// fails because the connection is shut keeps the failure that shut it.
 #[derive(Drop)]
 pub struct Shared {
     connection: Option<Connection<FileStore<File>>>,
@@ -24,7 +24,7 @@ pub struct Shared {
 }
 
 impl Shared {
-    /// Condition: the connection's table was looked at.
+    /// A connection, of which no call has failed. Condition: its table was found to be its own.
     pub(crate) fn new(connection: Connection<FileStore<File>>) -> Shared
         requires { HasOwnTable connection }
     {
@@ -34,7 +34,7 @@ impl Shared {
         }
     }
 
-    /// Shuts the file and opens it again. If that fails there is no connection, and each call fails with `CLOSED`.
+    /// Closes the file and opens it again. If that fails there is no connection, and each call fails with `CLOSED`.
     pub(crate) fn reopen(
         &mut self,
         rt: &HostRuntime,
@@ -198,7 +198,7 @@ impl Shared {
     }
 }
 
-/// What is kept of a failure, beside what is kept already: a call on a connection that is shut leaves what shut it.
+/// The failure that is kept: the new one, unless it only says that the connection is shut, and the failure that shut it is kept.
 fn failure_to_keep(kept: Option<Failure>, failure: Failure) -> Failure
     ensures { result ≡ failure_to_keep kept failure }
 {

@@ -1,6 +1,14 @@
-//! The table's statements, each over a connection that is lent: a database's own, or one of yours.
+//! The table of keys and values, `entry`, and its statements. Each function is lent a connection: that of a
+//! [`Database`](crate::Database), or one of your own.
 //!
-//! What a clause says of the content is under `HasCleanDisk`: so far the disk has returned what was written to it.
+//! - [`create`] makes the table, and [`is_own`] tells whether `entry` is this table.
+//! - [`load`], [`load_all`] and [`entry_count`] read it.
+//! - [`write`] and [`delete`] change one entry by one statement.
+//! - [`write_all`] and [`delete_all`] change many entries in a transaction of their own.
+//!
+//! The contracts name each statement and its parameters, and state its effect in the words of `sqlite`. Those about the table's
+//! content hold under `HasCleanDisk`: as long as the disk has returned what was written to it. An `Err` is SQLite's error, which
+//! [`code_of`](crate::code::code_of) maps to the code that a loader or a writer returns.
 ghost use Rattle.std.specs.Prelude.{◌≡◌, ◌≢◌, ℕ, false, IsTrue, List, [], map, IsSome, IfOk, IfErr, OnOk, OnErr};
 ghost use Rattle.sqlite.specs.declared.types.Value.TheVariants.{Blob};
 ghost use Rattle.sqlite.specs.Order.{column};
@@ -23,7 +31,7 @@ use sqlite::{Alter, Connection, Error, ErrorCode, Row, params};
 const CREATE: &str =
     "CREATE TABLE IF NOT EXISTS entry (key BLOB PRIMARY KEY NOT NULL, value BLOB NOT NULL) STRICT";
 
-/// The text of the table as `sqlite3` keeps it, when it has run [`CREATE`].
+/// The table's text as `sqlite3` keeps it after it has run [`CREATE`].
 const KEPT: &str = "CREATE TABLE entry (key BLOB PRIMARY KEY NOT NULL, value BLOB NOT NULL) STRICT";
 
 const SCHEMA: &str = "SELECT sql FROM sqlite_schema WHERE tbl_name = 'entry' AND type <> 'index'";
@@ -40,15 +48,21 @@ const DELETE: &str = "DELETE FROM entry WHERE key = ?1";
 /// The bytes of a row are too many for a value of a cache.
 const NO_VALUE: Error = Error::SqliteFailure(ErrorCode::TooBig);
 
-/// Makes the table, if it isn't there, by one statement.
+/// Makes the table, if it isn't there, by one `CREATE TABLE IF NOT EXISTS`. Its columns are `key` and `value`, both `BLOB NOT
+/// NULL`, and `key` is its primary key; it is `STRICT`.
+///
+/// A table named `entry` that is there already stays as it is, whatever its columns: [`is_own`] tells whether it is this one. An
+/// `Err` is that of the statement, for example that the file can't be written.
 pub fn create<S: Alter>(conn: &mut Connection<S>) -> Result<(), Error>
     ensures { HasCleanDisk (state S.Store conn.new) → ExecutesAll S.Store create_sql conn.old conn.new result }
 {
     conn.execute_batch(CREATE)
 }
 
-/// Whether `entry` is the table that [`create`] makes, with no trigger on it. Of its text `IF NOT EXISTS` may be left out, as
-/// `sqlite3` does. The table stays as it is.
+/// Whether `entry` is the table that [`create`] makes, with no trigger on it. It compares the text in the schema, in which `IF
+/// NOT EXISTS` may be missing, since `sqlite3` leaves it out.
+///
+/// The table stays as it is. An `Err` is that of the query.
 pub fn is_own<S: Alter>(conn: &mut Connection<S>) -> Result<bool, Error>
     ensures { HasCleanDisk (state S.Store conn.new) → TellsOwn (state S.Store conn.old) (state S.Store conn.new) result }
 {
@@ -72,7 +86,7 @@ fn is_own_row(rows: &[Row]) -> bool
     }
 }
 
-/// Whether it is the table's text.
+/// Whether this is the table's text.
 fn is_own_text(text: &[u8]) -> bool
     ensures own { IsTrue result → IsOwnText text.now }
     ensures other { result ≡ false → ¬ IsOwnText text.now }
@@ -87,7 +101,9 @@ fn is_text(text: &[u8], wanted: &str) -> bool
     text == wanted.as_bytes()
 }
 
-/// How many entries the table has: what a count of its rows shows. The table stays as it is.
+/// The number of entries in the table, by a count of its rows.
+///
+/// The table stays as it is. An `Err` is that of the query, or says that its row has no number.
 pub fn entry_count<S: Alter>(conn: &mut Connection<S>) -> Result<u64, Error>
     ensures { HasCleanDisk (state S.Store conn.new) → Counts (state S.Store conn.old) (state S.Store conn.new) result }
 {
@@ -103,8 +119,8 @@ fn count_in(row: &Row) -> Result<u64, Error>
 
 /// The value at a key, or none (`load`): that of the first row that the query shows.
 ///
-/// The table stays as it is. An `Err` is the query's, or says that the row has no value of a cache: `TooBig` if it has more bytes,
-/// `InvalidColumnType` if it has none.
+/// The table stays as it is. An `Err` is that of the query, or says that the row has no value of a cache: `TooBig` if it has more
+/// bytes than a value may have, `InvalidColumnType` if it is no blob.
 pub fn load<S: Alter>(conn: &mut Connection<S>, key: &Key) -> Result<Option<Value>, Error>
     ensures loads { HasCleanDisk (state S.Store conn.new) → Loads key.now (state S.Store conn.old) (state S.Store conn.new) result }
     ensures survives { Survives (state S.Store conn.old) (state S.Store conn.new)
@@ -136,7 +152,8 @@ fn first_value(rows: &[Row]) -> Result<Option<Value>, Error>
     }
 }
 
-/// Puts the values at these keys into the answers, by one [`load`] after the other, in their order. The table stays as it is.
+/// Puts the values at these keys into the answers, by one [`load`] for each key, in their order. A key without an entry gets no
+/// answer. The table stays as it is.
 ///
 /// An `Err` is that of the first load that failed, and names its key. The answers then have the values of the keys before it.
 pub fn load_all<S: Alter>(
@@ -180,7 +197,7 @@ fn load_into<S: Alter>(
     }
 }
 
-/// Puts what was found at a key into the answers, if anything was.
+/// Puts the value that was found at a key into the answers, if one was.
 fn put_found(answers: &mut Answers, key: &Key, found: &Option<Value>)
     ensures found { answers.new.by_key ≡ with_found answers.old.by_key key.now found.now }
     ensures room { answers.new.room ≡ answers.old.room }
@@ -212,9 +229,9 @@ fn bytes_in(row: &Row) -> Result<&[u8], Error>
     }
 }
 
-/// Writes an entry: it is inserted, or its value replaced.
+/// Writes an entry by one statement: it inserts the entry, or replaces its value.
 ///
-/// One statement: after an `Err` the table is as it was, or an open transaction is rolled back.
+/// After an `Err` the table is as it was, or the transaction that was open is rolled back.
 pub fn write<S: Alter>(conn: &mut Connection<S>, key: &Key, value: &Value) -> Result<(), Error>
     ensures { HasCleanDisk (state S.Store conn.new)
         → RunsOnce write_sql (entry_row (key.now, value.now)) (state S.Store conn.old) (state S.Store conn.new) result }
@@ -222,9 +239,9 @@ pub fn write<S: Alter>(conn: &mut Connection<S>, key: &Key, value: &Value) -> Re
     run_once(conn, WRITE, params![key.bytes(), value.bytes()])
 }
 
-/// Deletes what is at a key, if anything.
+/// Deletes the entry of a key by one statement, if there is one.
 ///
-/// One statement: after an `Err` the table is as it was, or an open transaction is rolled back.
+/// After an `Err` the table is as it was, or the transaction that was open is rolled back.
 pub fn delete<S: Alter>(conn: &mut Connection<S>, key: &Key) -> Result<(), Error>
     ensures { HasCleanDisk (state S.Store conn.new)
         → RunsOnce delete_sql (key_row key.now) (state S.Store conn.old) (state S.Store conn.new) result }
@@ -247,10 +264,12 @@ fn run_once<S: Alter>(
 
 /// Writes all entries in one transaction, or none (`writeAll`), and empties the collection once they are in the file.
 ///
-/// What is left isn't in the file, and what isn't left is: after an `Ok` nothing is left, and the statement ran for each entry, in
-/// their order; after an `Err` all is left, and neither the table nor its last commit has changed, if the connection is still open.
-/// If a failure of the disk shut it, or the machine stops at any moment, the file is as it was or has the whole batch when it is
-/// opened again. An `Err` comes from the file, from memory, or from a transaction that was open before.
+/// After an `Ok` the collection is empty, and the statement ran for each entry, in their order. After an `Err` all entries are
+/// left in it, and neither the table nor its last commit has changed, if the connection is still open. If a failure of the disk
+/// shut the connection, or the machine stops at any moment, the file has the whole batch or nothing of it when it is opened
+/// again.
+///
+/// An `Err` is that of a statement or of the commit, or `TransactionState` if a transaction was open before.
 pub fn write_all<S: Alter>(
     conn: &mut Connection<S>,
     entries: &mut IndexMap<Key, Value>,
@@ -264,9 +283,8 @@ pub fn write_all<S: Alter>(
     Ok(())
 }
 
-/// Deletes what is at all of these keys in one transaction, or nothing (`deleteAll`), and empties the collection once it is done.
-///
-/// What is left isn't deleted, and what isn't left is, as with [`write_all`].
+/// Deletes the entries of all these keys in one transaction, or of none (`deleteAll`), and empties the collection once it is
+/// done. The outcomes and the errors are those of [`write_all`].
 pub fn delete_all<S: Alter>(conn: &mut Connection<S>, keys: &mut IndexSet<Key>) -> Result<(), Error>
     ensures deleted { OnOk result (keys.new.keys ≡ []) }
     ensures left { OnErr result (keys.new.keys ≡ keys.old.keys) }

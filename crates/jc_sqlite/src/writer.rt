@@ -9,14 +9,14 @@ use std::sync::{Arc, Mutex, Wait};
 
 /// A writer of a database, for one session. A call waits for the database's lock.
 ///
-/// Each call is one transaction: when it returns `Ok`, what it wrote is in the file, and stays there if the machine stops. So
+/// Each call is one transaction: when it returns `Ok`, its changes are in the file, and stay there if the machine stops. So
 /// `write_all` and `delete_all` leave nothing in the collection, or all of it. An `Err` has the failure's code, and the database
 /// keeps the failure.
 ///
-/// After an `Err` nothing of the call is in the file, with one exception: a failure of the disk may shut the connection, which fails
-/// every later call with `CLOSED`, until [`Database::reopen`] has opened it again. Then, as after a crash, the file has the call's whole
-/// transaction or nothing of it: a sync that failed may have written all. What a cache has of its keys may be older than the file, so
-/// load them anew.
+/// After an `Err` nothing of the call is in the file, with one exception: a failure of the disk may shut the connection, which
+/// fails every later call with `CLOSED`, until [`Database::reopen`] has opened it again. Then, as after a crash, the file has the
+/// call's whole transaction or nothing of it: a sync that failed may have written all. The cache's entries for these keys may be
+/// older than the file, so load them again.
 #[derive(Drop)]
 pub struct DatabaseWriter<R: Wait + Drop> {
     rt: R,

@@ -14,7 +14,7 @@ use std::sync::Wait;
 use std::test::Fail;
 use std::time::{Duration, Instant};
 
-/// How a file is opened that is locked: in three tries, with two pauses.
+/// Options to open a locked file: in three tries, with two pauses.
 fn patient() -> OpenOptions {
     OpenOptions {
         retries: 2,
@@ -48,7 +48,8 @@ fn cause(rt: &impl Abort, outcome: Result<Database, OpenError>, path: &str) -> O
     }
 }
 
-/// A file that is open is locked: one try answers at once, more take their pauses. Once it is shut, it is opened.
+/// A file that is open is locked: one try answers at once, and further tries take their pauses. Once the file is closed, it can
+/// be opened.
 #[test]
 fn a_locked_file_is_tried_again(rt: HostRuntime) {
     let path = fresh(&rt, "jc_sqlite_locked.db", "jc_sqlite_locked.db-wal");
@@ -105,7 +106,7 @@ fn reopens(host: &HostRuntime, rt: &(impl Abort + Wait), database: &Database, wa
     assert_eq!(rt; outcome.is_ok(), wanted);
 }
 
-/// Where a file is meanwhile, in whose place a folder is.
+/// The name of a file while a folder has taken its place.
 const AWAY: &str = "jc_sqlite_reopened.away";
 
 fn put_away(host: &HostRuntime, rt: &impl Abort, path: &str) {
@@ -136,7 +137,7 @@ const CODES: [(Error, u32); 14] = [
     (Error::SqliteFailure(ErrorCode::BadText), 1),
 ];
 
-/// Ends the test if what is found isn't what is wanted.
+/// Ends the test if the value found isn't the one wanted.
 fn is<T: Copy + Debug + PartialEq>(rt: &impl Abort, found: T, wanted: T) {
     assert_eq!(rt; found, wanted);
 }
@@ -148,7 +149,7 @@ fn codes_are_those_of_sqlite(rt: HostRuntime) {
     }
 }
 
-/// Has another program's connection make a table of another shape, and says whether it could.
+/// Makes a table of another shape by another program's connection, and returns whether that succeeded.
 fn makes_other_table(host: &HostRuntime, path: &str) -> bool {
     match Connection::open(host, path) {
         Ok(mut connection) => connection
@@ -158,7 +159,7 @@ fn makes_other_table(host: &HostRuntime, path: &str) -> bool {
     }
 }
 
-/// A table that is made otherwise is refused.
+/// A table of another shape is refused.
 #[test]
 fn another_table_is_refused(rt: HostRuntime) {
     let path = fresh(&rt, "jc_sqlite_other.db", "jc_sqlite_other.db-wal");
@@ -173,7 +174,7 @@ fn another_table_is_refused(rt: HostRuntime) {
 /// The key of a value that another program writes, with a byte more than a cache's value has.
 const LONG: &[u8] = b"ann";
 
-/// Has another program's connection write that value, and says whether it could.
+/// Writes that value by another program's connection, and returns whether that succeeded.
 fn writes_long(host: &HostRuntime, path: &str) -> bool {
     let long = [7u8; VALUE_MAX + 1];
     match Connection::open(host, path) {
@@ -187,7 +188,7 @@ fn writes_long(host: &HostRuntime, path: &str) -> bool {
     }
 }
 
-/// A value that is too long fails its load, and that of many keys, by its key. Other keys are loaded.
+/// A value that is too long fails its load, and a load of many keys, and the failure names its key. Other keys are loaded.
 #[test]
 fn a_value_that_is_too_long_is_told_by_its_key(rt: HostRuntime) {
     let path = fresh(&rt, "jc_sqlite_long.db", "jc_sqlite_long.db-wal");
@@ -212,7 +213,7 @@ fn loads_but_long<R: Wait + Drop>(rt: &impl Abort, alloc: Global, loader: Databa
     );
 }
 
-/// The failure that was kept names the key.
+/// Asserts that the failure that was kept names the key.
 fn tells(rt: &impl Abort, alloc: Global, kept: Option<Failure>) {
     let Some(failure) = kept else {
         panic!(rt; "nothing was kept");

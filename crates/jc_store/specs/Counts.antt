@@ -1,6 +1,6 @@
 -- Counts of calls of a loader and a writer.
---     one_more_call  a count and one call more, up to the greatest `u64`
---     after_call     the counts after one call more: its method's count is one more, and no other changes
+--     one_more_call    a count and one more call, up to the greatest `u64`
+--     after_call       the counts after one more call: its method's count is one more, and no other changes
 use Rattle.std.specs.Prelude.{◌+◌, ℕ, min}
 use Rattle.jc_store.specs.declared.doubles.counts.Call.{Call}
 use Rattle.jc_store.specs.declared.doubles.counts.Call.TheVariants.{Load, LoadAll, Write, WriteAll, Delete, DeleteAll}

@@ -1,22 +1,23 @@
 -- Faults of a loader or a writer at one of its calls.
---     is_due              whether this call is the scheduled one, if so many are left up to it, with it
---     CountsDown          a call of something with a schedule: afterwards one call less is left up to the scheduled one, and the rest
---                         of its state is so
---     FailsOr             a call fails with this code and the wrapped object isn't called; without a code it is called
---     load_failure        the code with which a loader's call fails, if it does
---     more_answers        what a loader answers beside the wrapped one
---     answers_with_all    answers with these put to them, in their order
---     AnswersToo          the wrapped loader's answers, with these put to them
---     write_failure       the code with which a writer's call for one key fails, if it does
---     FindsNoMemory       a writer found no memory to begin: it says so, all is left, and the wrapped writer isn't called
---     is_kept_back        whether the wrapped writer isn't told of a key
---     part_answer         what a writer answers at its scheduled call: its code, or else what the wrapped one answered
---     WritesPart          the wrapped writer is called for what isn't kept back; what was kept back and what it left is left, in the
---                         former order, and more is added
---     with_added_entry    a collection of entries with an entry put into it
---     with_added_key      a collection of keys with the key of an entry put into it
---     with_all            a collection with all of these put into it, in their order
---     WritesAsScheduled   a batch at any call: the wrapped writer's, or at the scheduled call a part of it
+--     is_due               whether this call is the scheduled one, by how many calls are left up to and with the scheduled one
+--     CountsDown           a call of something with a schedule: afterwards one call fewer is left up to the scheduled one, and
+--                          the rest of its state is the given one
+--     FailsOr              a call fails with this code and the wrapped object isn't called; without a code it is called
+--     load_failure         the code with which a loader's call fails, if it fails
+--     more_answers         the answers that a loader gives beside those of the wrapped one
+--     answers_with_all     answers with these put to them, in their order
+--     AnswersToo           the wrapped loader's answers, with these put to them
+--     write_failure        the code with which a writer's call for one key fails, if it fails
+--     FindsNoMemory        an allocation failed before a writer began: it answers `NO_MEMORY`, all is left, and the wrapped
+--                          writer isn't called
+--     is_kept_back         whether a key is kept back from the wrapped writer
+--     part_answer          the answer of a writer at its scheduled call: its code, otherwise the answer of the wrapped one
+--     WritesPart           the wrapped writer is called for the keys that aren't kept back; those kept back and those that it
+--                          left are left, in the former order, and more are added
+--     with_added_entry     a collection of entries with an entry put into it
+--     with_added_key       a collection of keys with the key of an entry put into it
+--     with_all             a collection with all of these put into it, in their order
+--     WritesAsScheduled    a batch at any call: the wrapped writer's, or at the scheduled call a part of it
 use Rattle.std.specs.Prelude.{◌≡◌, ◌⊎◌, ◌==◌, ◌-◌, ◌||◌, ℕ, List, [], ◌∷◌, Bool, true, false, not, map, filter, cond, Option, None, Some, Result, Err}
 use Rattle.std.specs.Cmp.Lexicographic.{pointwise}
 use Rattle.indexmap.specs.IndexMap.{insert_entry}
@@ -91,7 +92,7 @@ pub record WritesPart {A : Type 0} (key_of : A → Bytes) (with_added : List A �
   pub left_is : left ≡ with_all with_added (filter (λ i. is_kept_back fault (key_of i) || is_among (map key_of left_there) (key_of i)) items) fault.adds.items
   pub answer_is : answer ≡ part_answer fault.code said
 
--- by whether the call is the scheduled one, and the wrapped writer's state before
+-- parameters: whether the call is the scheduled one, and the wrapped writer's state before
 abbrev pub WritesAsScheduled : {A : Type 0} → (A → Bytes) → (List A → Bytes × Bytes → List A) → Bool → WriteFault
     → (List A → Result (Unit {0}) ℕ → List A → List ℕ → Type 0) → List ℕ → List A → Result (Unit {0}) ℕ → List A → List ℕ → Type 0
 WritesAsScheduled key_of with_added false fault Calls state items answer left after = Calls items answer left after

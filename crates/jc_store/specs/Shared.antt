@@ -1,11 +1,12 @@
--- What can be said of a loader and a writer whose store is behind a lock: which store it was at that moment, nobody knows.
---     LoadsFromAStore        the answer is what some store has at the key; it isn't a failure
---     LoadsAllFromAStore     the answers are what one store has at all the keys; it isn't a failure
---     NO_MEMORY              the code of a writer whose store finds no memory
---     store_report              what a writer answers of a change
---     ReportsChange          a write succeeds, or finds no memory; a delete succeeds
---     WritesAllToAStore      a prefix of the entries is taken out: all of them, or the store finds no memory
---     DeletesAll             it succeeds, and all keys are taken out
+-- The relations of a loader and a writer whose store is behind a lock. They don't name the store: contracts can't know its
+-- contents at the moment of a call.
+--     LoadsFromAStore       the answer is what some store has at the key; it isn't a failure
+--     LoadsAllFromAStore    the answers are what one store has at all the keys; it isn't a failure
+--     NO_MEMORY             the code of a writer whose store fails to allocate
+--     store_report          the report of a writer on a change
+--     ReportsChange         a write succeeds, or an allocation for it failed; a delete succeeds
+--     WritesAllToAStore     a prefix of the entries is taken out: all of them, or an allocation of the store failed
+--     DeletesAll            it succeeds, and all keys are taken out
 use Rattle.std.specs.Prelude.{◌≡◌, ◌++◌, ◌<◌, ◌⊎◌, ℕ, List, [], length, Option, Result, Ok, Err}
 use Rattle.jc_model.specs.Cache.{Bytes, Cache, entry_at}
 use Rattle.jc_model.specs.declared.event.Change.{Change}

@@ -1,8 +1,8 @@
 -- Reads and changes of many keys of a store (`CacheLoader.loadAll`, `CacheWriter.writeAll`, `CacheWriter.deleteAll`).
---     answers_from     of each of these keys the store's value at it, or none
---     with_entries     the store with these entries written, one after the other
---     without_keys     the store with these keys deleted, one after the other
---     WritesAll        a prefix of the entries is written, and the rest of them is left
+--     answers_from    for each of these keys, the store's value at it, or none
+--     with_entries    the store with these entries written, one after another
+--     without_keys    the store with these keys deleted, one after another
+--     WritesAll       a prefix of the entries is written, and the rest of them is left
 use Rattle.std.specs.Prelude.{◌≡◌, ◌++◌, List, [], ◌∷◌, map, None, Some}
 use Rattle.std.specs.FinMap.{from_entries}
 use Rattle.jc_model.specs.Cache.{Bytes, Cache, entry_at, with_entry}

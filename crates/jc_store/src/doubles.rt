@@ -1,8 +1,8 @@
 //! Test doubles of loaders and writers: they count their calls, or fail at one of them.
 //!
 //! Why it is so:
-//! - A double is a wrapper with the relations of what it wraps. It can't wrap a box.
-//! - A scheduled writer takes all memory before it hands a copy on, so that a refused allocation changes nothing.
+//! - A double is a wrapper with the relations of what it wraps, so that a test can wrap any loader or writer, except one in a box.
+//! - A scheduled writer makes all its allocations before it calls the wrapped writer, so that a refused allocation changes nothing.
 
 mod counting;
 mod counts;

@@ -37,7 +37,7 @@ impl EntryProcessor for Increment {
     }
 }
 
-/// The number after the one that a value spells, if it spells one and there is a next.
+/// The number after the one that a value spells, if it spells a number and there is a next one.
 fn next(value: &Option<Value>) -> Option<Value> {
     let number: u32 = match value {
         Some(value) => from_utf8(value.bytes()).ok()?.parse().ok()?,

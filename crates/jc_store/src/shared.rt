@@ -8,7 +8,7 @@ use std::sync::{Arc, Mutex, Wait};
 
 /// A store behind a lock, which the loaders and writers of many sessions share.
 ///
-/// The lock tells nothing of what the store has: what a read or a change does under it is said of the [`Store`] itself.
+/// Contracts don't see the store behind the lock. The effect of a read or a change is stated by the [`Store`] itself.
 #[derive(Drop)]
 pub struct SharedStore {
     store: Arc<Mutex<Store>, Global>,

@@ -13,7 +13,7 @@ use jc_types::{Key, Value};
 use std::alloc::{AllocError, Global};
 use std::marker::Model;
 
-/// The code that a writer answers if its store finds no memory.
+/// The code that a writer returns if an allocation of its store failed.
 pub const NO_MEMORY: u32 = 999_999_999;
 
 /// A store of record: a map from keys to values, kept as copies.
@@ -42,7 +42,7 @@ impl Store {
         }
     }
 
-    /// The store of these entries: of two with one key the first counts. An `Err` says that an allocation failed.
+    /// The store of these entries: if two have the same key, the first counts. An `Err` says that an allocation failed.
     pub fn of(alloc: Global, entries: &[(Key, Value)]) -> Result<Self, AllocError>
         ensures { IfOk result (λ store. store ≡ map.from_entries entries.now) }
     {
@@ -57,7 +57,7 @@ impl Store {
         self.contents.get(key)
     }
 
-    /// Answers each of these keys that has an entry with its value (`loadAll`). It takes no memory.
+    /// Puts the values of those of these keys that have an entry into `answers` (`loadAll`). It takes no memory.
     ///
     /// Condition: the answers are of these keys, and have no answer yet.
     pub fn read_all(&self, keys: &[Key], answers: &mut Answers)
@@ -80,15 +80,15 @@ impl Store {
         self.contents.insert(key, *value)
     }
 
-    /// Deletes what is at a key, if anything. It takes no memory.
+    /// Deletes the entry of a key, if there is one. It takes no memory.
     pub fn delete(&mut self, key: &Key)
         ensures { self.new ≡ with_entry self.old key.now None }
     {
         self.contents.remove(key);
     }
 
-    /// Writes entries in their order (`writeAll`), and takes each that it has written out of the collection. It stops at
-    /// the first for which an allocation fails, with an `Err`: that one and those after it are left.
+    /// Writes entries in their order (`writeAll`), and removes each that it has written from the collection. If an allocation
+    /// fails, it stops there with an `Err`: that entry and those after it are left.
     pub fn write_all(&mut self, entries: &mut IndexMap<Key, Value>) -> Result<(), AllocError>
         ensures written { WritesAll self.old entries.old.entries entries.new.entries self.new }
         ensures ok { OnOk result (entries.new.entries ≡ []) }
@@ -103,7 +103,7 @@ impl Store {
         }
     }
 
-    /// Deletes what is at these keys (`deleteAll`), and takes them all out of the collection. It takes no memory.
+    /// Deletes the entries of these keys (`deleteAll`), and removes all keys from the collection. It takes no memory.
     pub fn delete_all(&mut self, keys: &mut IndexSet<Key>)
         ensures store { self.new ≡ without_keys self.old keys.old.keys }
         ensures keys { keys.new.keys ≡ [] }
@@ -119,7 +119,7 @@ impl Store {
         self.contents.entries(alloc)
     }
 
-    /// Writes entries up to the first for which an allocation fails, and says how many.
+    /// Writes entries up to the first for which an allocation fails, and returns how many.
     fn write_some(&mut self, entries: &IndexMap<Key, Value>) -> usize
         ensures few { result ≤ length entries.now.entries }
         ensures store { self.new ≡ with_entries self.old (take result entries.now.entries) }

@@ -9,7 +9,7 @@ use jc_types::{Key, Value};
 use std::alloc::{AllocError, Global};
 use std::sync::{Arc, Mutex, Wait};
 
-/// Writes to a [`SharedStore`](crate::SharedStore), and waits for its lock. A write that finds no memory answers
+/// Writes to a [`SharedStore`](crate::SharedStore), and waits for its lock. If an allocation fails, a write returns
 /// [`NO_MEMORY`], and leaves the store as it was. A delete never fails.
 ///
 /// A batch is written under one lock.
@@ -57,7 +57,7 @@ impl<R: Wait + Drop> CacheWriter for StoreWriter<R> {
     }
 }
 
-/// What a writer answers of a change.
+/// The report of a writer on a change.
 fn report(changed: Result<(), AllocError>) -> Result<(), u32>
     ensures { result ≡ store_report changed }
 {

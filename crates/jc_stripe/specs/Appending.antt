@@ -1,26 +1,27 @@
--- How a step is made in the entries and appended. No contract of a public call cites this.
---     NewGroup            a step, and what is evicted before and after it: a group without those that share its load
---     group_in            what the fields of a `NewGroup` mean: what the step is made of is lent
---     inserts_into        the step inserts: its key is missing in the entries, and it leaves an entry there
---     overflows_in        it inserts into entries that are as many as may be
---     victim_in           the victim before it, if there has to be one and can be
---     callers_in          the callers that share a load, if there is one
---     new_step            the event of the step
---     group_events        the events of a step with all that belongs to it
---     count_all           the counts with more events, of each of which it is said whether its key had an entry before it
---     append_all          the past with more events, in reserved room
---     append_group        the same, and what of the reserved room isn't used is given back
---     eviction_of         the eviction of the step's own key, at the last place of its group, if it was evicted
---     is_write_due        the writer is due after a processor: write-through is on, neither loader nor processor failed, and there is a
---                         net effect on the store
---     AnswersProcess      the outside answers are those of a processor: its own, its loader's only if that may be asked, and the writer's
---                         exactly if it is due
---     AnswersFirst        the outside answers are those of whom a reservation asked first, and of the writer after a processor
---     HasToldStep         the step of a joiner that was answered is at the place that it is told
---     after_pick_up       the state once a joiner was told how far it is: without it if its load is over
---     without_own_entry   the entries without the step's own key, if that is evicted
---     entries_after       the entries behind the step, with who went before and after it
---     AppliesStep         what the step leaves of the entries, who went before it, and why its own key went after it
+-- How a step is made in the entries and appended. No contract of a public function cites this.
+--     NewGroup             a step, and what is evicted before and after it: a group without those that share its load
+--     group_in             the meaning of the fields of a `NewGroup`, whose parts are lent
+--     inserts_into         the step inserts: its key is missing in the entries, and it leaves an entry there
+--     overflows_in         it inserts, and the stripe is full
+--     victim_in            the victim before it, if one is needed and can be evicted
+--     callers_in           the callers that share the load of the step, if it has one
+--     new_step             the event of the step
+--     group_events         the events of a step with all that belongs to it
+--     count_all            the counts with more events, all of one key, which had an entry before them or not
+--     append_all           the past with more events, in reserved room
+--     append_group         the same, after which the reserved room that wasn't used is given back
+--     eviction_of          the eviction of the step's own key, at the last place of its group, if it was evicted
+--     is_write_due         the writer is due after a processor: write-through is on, neither loader nor processor failed, and
+--                          there is a net effect on the store
+--     AnswersProcess       the outside answers are those of a processor: its own, its loader's only if the loader may be asked,
+--                          and the writer's exactly if it is due
+--     AnswersFirst         the outside answers are those of whom a reservation asked first, and of the writer after a processor
+--     HasToldStep          the step of a joiner that was answered is at the place in its answer
+--     after_pick_up        the state after a joiner has asked: without the joiner if its load is over
+--     without_own_entry    the entries without the step's own key, if that is evicted
+--     entries_after        the entries after the step, without those evicted before and after it
+--     AppliesStep          a step in the entries: they change so, this key was evicted before it, and its own key after it for
+--                          this cause
 use Rattle.std.specs.Prelude.{◌≡◌, ◌==◌, ℕ, ◌+◌, ◌-◌, List, [], ◌∷◌, ◌++◌, length, map, Bool, true, ◌&&◌, Option, None, Some, is_some, is_none, option_map, if◌then◌else◌}
 use Rattle.std.specs.FinMap as finite
 use Rattle.jc_types.specs.declared.caller.Caller.{Caller}
@@ -93,7 +94,7 @@ group_events place new callers =
     victim_events new.victim ++ new_step new
     ∷ map (shared_event (place + length (victim_events new.victim)) new.key new.out.load) callers ++ evicted_events new.key new.evicted
 
--- of what a step's group is made of only the step itself counts by what it found
+-- of the events of a group only the step itself counts by `found`
 abbrev pub count_all : Bool → List Event → Statistics → Statistics
 count_all found [] statistics = statistics
 count_all found (event ∷ events) statistics = count_all found events (with_event statistics found event)
@@ -124,14 +125,14 @@ pub record AnswersProcess (config : Config) (loads : Bool) (out : Out) : Type 0 
   pub load : load_fits (wanted_if loads) (is_load_given out.load) ≡ true
   pub write : is_write_given out.write ≡ is_write_due config out
 
--- the outside answers are those of the one whom a reservation asked first
+-- the outside answers are those of whom a reservation asked first, and of the writer after a processor
 abbrev pub AnswersFirst : Config → First → Out → Type 0
 AnswersFirst config Nobody out = ⊥
 AnswersFirst config Loader out = (answer : LoadAnswer) × (out ≡ load_only answer) × (is_load_given answer ≡ true)
 AnswersFirst config (Writer change) out = (answer : WriteAnswer) × (out ≡ write_only answer) × (is_write_given answer ≡ true)
 AnswersFirst config (Processor entry loads) out = AnswersProcess config loads out
 
--- the step of a joiner that was answered is at the place that it is told
+-- the step of a joiner that was answered is at the place in its answer
 abbrev pub HasToldStep : State → JoinClaim → JoinState → Type 0
 HasToldStep state join (Answered place shared_with) = (reply : Reply) × IsSharedStep state join reply place shared_with
 HasToldStep state join Again = Unit {0}
@@ -143,7 +144,7 @@ after_pick_up state join (Answered place shared_with) = without_joiner state joi
 after_pick_up state join Again = without_joiner state join
 after_pick_up state join Waiting = state
 
--- 3. A step in the entries: who went before it, and why its own key went after it.
+-- 3. A step in the entries: the key evicted before it, and why its own key was evicted after it.
 
 abbrev pub without_own_entry : Bytes → Option Cause → List (Bytes × Bytes) → List (Bytes × Bytes)
 without_own_entry key None entries = entries

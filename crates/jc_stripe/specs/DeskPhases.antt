@@ -1,30 +1,30 @@
--- What the calls of a desk do to its stripe, and which of them it takes.
---     newest             the reservation that is out and was made last
---     BeginsWithMoves    a first phase gives this, with this reply and these moves if the call is done
---     RenewsAndBegins    the first phase of the desk's next call, before which a full generation has ended; the call might be made, and no
---                        events were to be taken first
---     BeginsAtDesk       the same; or nothing was done: the call might be made, and the events of a full generation are to be taken; or the
---                        call might not be made
---     is_first_misuse    a first phase was answered that the call may not begin
---     HitsAtDesk         a get that found its entry, as the desk's next call
---     hits_next          a get finds its entry, as the desk's next call
---     without_hit        the desk, if a get finds no entry: its generation has ended, if it was full and might end, the call might be
---                        made, and no events were to be taken first; else it is as it was
---     ticket_of          the reservation with this number that is out, if there is one
---     asks_first         a reservation is there, and asks this one first
---     AnswersTicket      a reservation with this number is out, and these are the answers of whom it asks first
---     takes_load         a reservation with this number is out that asks the loader, and the loader answered
---     takes_write        the same of the writer
---     fits_processor     a processor is asked, which ran, and its loader answered only if it may be asked
---     wants_writer       the writer is to be asked after a processor: with write-through, if the processor has a change for it
---     takes_process      a reservation with this number is out that asks a processor, these answers fit it, and the writer answered
---                        exactly if it was to be asked
---     has_joined_load    a joiner is there, of this load
---     is_join_out        a join is out: its call is among the joiners of its key, and joined this load
---     CommitsAtDesk      the last phase of the reservation with this number
---     WithdrawsAtDesk    the reservation with this number is given back
---     PicksUpAtDesk      a joiner asks for its answer; or no such join is out, and nothing was done
---     is_pick_up_misuse  it was answered that no such join is out
+-- The phases of a desk on its stripe, and which answers it accepts.
+--     newest               the reservation that is out and was made last
+--     BeginsWithMoves      a first phase has this outcome, with this reply and these moves if the call is done
+--     RenewsAndBegins      the first phase of the desk's next call, before which a full generation has ended; the call might be
+--                          made, and no events were to be taken first
+--     BeginsAtDesk         as `RenewsAndBegins`; or nothing was done: the call might be made, and the events of a full generation
+--                          are to be taken; or the call might not be made
+--     is_first_misuse      the answer is that the call may not begin
+--     HitsAtDesk           a get that found its entry, as the desk's next call
+--     hits_next            a get finds its entry, as the desk's next call
+--     without_hit          the desk, if a get finds no entry: its generation has ended, if it was full and might end, the call
+--                          might be made, and no events were to be taken first; otherwise it is as it was
+--     ticket_of            the reservation with this number that is out, if there is one
+--     asks_first           there is a reservation, and it asks this one first
+--     AnswersTicket        a reservation with this number is out, and these are the answers of whom it asks first
+--     takes_load           a reservation with this number is out that asks the loader, and the loader answered
+--     takes_write          the same for the writer
+--     fits_processor       a processor is asked, it ran, and its loader answered only if it may be asked
+--     wants_writer         the writer is to be asked after a processor: with write-through, if the processor has a change for it
+--     takes_process        a reservation with this number is out that asks a processor, these answers fit it, and the writer
+--                          answered exactly if it was to be asked
+--     has_joined_load      some joiner has joined this load
+--     is_join_out          a join is out: its call is among the joiners of its key, and joined this load
+--     CommitsAtDesk        the last phase of the reservation with this number
+--     WithdrawsAtDesk      the reservation with this number is given back
+--     PicksUpAtDesk        a joiner asks for its answer; or no such join is out, and nothing was done
+--     is_pick_up_misuse    the answer is that no such join is out
 use Rattle.std.specs.Prelude.{◌≡◌, ◌==◌, ◌&&◌, ◌+◌, ◌-◌, ℕ, Bool, true, false, not, Option, None, Some, is_some, find, length, slice_get, if◌then◌else◌}
 use Rattle.std.specs.Bool.{beq}
 use Rattle.jc_types.specs.declared.caller.Caller.{Caller}
@@ -114,7 +114,7 @@ abbrev pub without_hit : DeskState → ℕ → Bytes → DeskState
 without_hit desk session key =
     if may_call_next desk session key && not (awaits_end desk) then record desk { stripe = renewed_if_full desk.stripe } else desk
 
--- 2. Which answers a desk takes.
+-- 2. The answers that a desk accepts.
 
 abbrev pub ticket_of : State → ℕ → Option Reservation
 ticket_of state number = find (λ r. r.number == number) state.reservations

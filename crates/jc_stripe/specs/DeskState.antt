@@ -1,19 +1,22 @@
--- What a desk is: a stripe whose tickets are kept with it, and whose calls are numbered here.
---     DeskState         the stripe, the number of the next call, and whether its driver takes the events of a full generation
---     HasStepsBefore    every session's own steps are of calls before this number
---     is_joined_before  a joiner's call is before this number
---     IsDesk            the tickets are those of the stripe's reservations, in their order; each session's own steps, the reservations and
---                       the joiners are of calls before the next number; the outside answers are the driver's, and the stripe lives on
---     next_caller       who makes the next call, if it is this session
---     may_call_next     this session may make the next call at this key: there is a number for it, the key is of this stripe, and the
---                       session has nothing out here that is of another call or of this key
---     awaits_end        the generation is full and may end, and its events are to be taken first
---     renewed_if_full   a stripe after its generation has ended, if it was full and might end
---     nothing_is_out    no reservation and no join is out
---     is_open_shape     a cache may have this shape, and a stripe with this number
---     are_contents      a stripe may open with these entries: each key is there once and of the stripe, and there is room for all
---     opened_desk       a desk that opens with these entries
---     OpenFails         why none is opened: the shape doesn't fit; it does, and the entries don't; or both do, and an allocation failed
+-- A desk: a stripe with its tickets, whose calls the desk numbers.
+--     DeskState           the stripe, the number of the next call, and whether its driver takes the events of a full generation
+--     HasStepsBefore      every session's own steps are of calls before this number
+--     is_joined_before    a joiner's call is before this number
+--     IsDesk              the tickets are those of the stripe's reservations, in their order; each session's own steps, the
+--                         reservations and the joiners are of calls before the next number; the outside answers are the driver's,
+--                         and the stripe lives on
+--     next_caller         the caller of the next call, if this session makes it
+--     may_call_next       this session may make the next call at this key: there is a number for it, the key is of this stripe,
+--                         and the session has no reservation and no join here of another call or of this key
+--     awaits_end          the generation is full and may end, and its events are to be taken first
+--     renewed_if_full     a stripe after its generation has ended, if it was full and might end
+--     nothing_is_out      no reservation and no join is out
+--     is_open_shape       a cache may have this shape, and a stripe with this number
+--     are_contents        a stripe may open with these entries: each key is there once and of the stripe, and there is room for
+--                         all
+--     opened_desk         a desk that opens with these entries
+--     OpenFails           why no desk is opened: the shape doesn't fit; the shape fits, and the entries don't; or both fit, and
+--                         an allocation failed
 use Rattle.std.specs.Prelude.{◌≡◌, ◌==◌, ◌&&◌, ◌<◌, ℕ, List, length, Bool, true, false, not, nat_lt, nat_le, All, is_ok, if◌then◌else◌}
 use Rattle.std.specs.List.{list_all}
 use Rattle.jc_types.specs.declared.caller.Caller.{Caller}
@@ -74,7 +77,7 @@ renewed_if_full state = if is_renewable state then after_renewal state else stat
 abbrev pub nothing_is_out : State → Bool
 nothing_is_out state = (length state.reservations == 0) && (length state.joiners == 0)
 
--- 3. What a desk may open with.
+-- 3. The entries that a desk may open with.
 
 abbrev pub is_open_shape : Config → ℕ → Bool
 is_open_shape config number = is_ok (check config) && nat_lt number config.stripes

@@ -1,10 +1,10 @@
--- What is answered for a call that runs a processor, and when the writer's report is among it.
---     change_due      what the writer is asked for after a processor: with write-through on the processor's net effect on the store, and
---                     nothing after a loader's or processor's fault
---     HasReport       the writer's report is there exactly if a change is due, and then it was made for this reservation and this change,
---                     and comes from where the stripe's answers do
---     report_answer   the writer's answer, or that it wasn't asked
---     process_out     the outside answers of a processor's step
+-- The outside answers of a call that runs a processor, and when the writer's report is one of them.
+--     change_due       the change that the writer is asked for after a processor: with write-through on the processor's net
+--                      effect on the store, and nothing after a loader's or processor's fault
+--     HasReport        the writer's report is there exactly if a change is due, and then it was made for this reservation and
+--                      this change, and has the stripe's origin
+--     report_answer    the writer's answer, or that it wasn't asked
+--     process_out      the outside answers of a processor's step
 use Rattle.std.specs.Prelude.{◌≡◌, Option, None, Some, if◌then◌else◌}
 use Rattle.jc_types.specs.declared.config.Config.{Config}
 use Rattle.jc_model.specs.declared.event.Change.{Change}

@@ -1,5 +1,5 @@
--- What a first phase finds at its key, and keeps while it decides. No contract of a public call cites this.
---     found_at         the load that the call joins, whether there is anybody to ask, whether it needs its key free, and whether the key
+-- The findings of a first phase at its key, which it keeps while it decides. No contract of a public function cites this.
+--     found_at         the load that the call joins, whether it asks anybody, whether it needs its key free, and whether the key
 --                      is reserved though the call needs it free
 --     is_to_reserve    whether the call reserves its key, by what it has found
 use Rattle.std.specs.Prelude.{Bool, ◌&&◌, is_none}

@@ -1,14 +1,16 @@
--- The generations of a stripe, one after another. A generation is what happened between two renewals.
---     IsEnded             a generation's history is legal from its opening, and these are the entries that it left, in order of use
---     opening_after       what the generation after these ones opens with; these entries, if it is the one behind them all
---     IsChain             each generation left what the next one opens with; the last one left these entries
---     past_events         the events of all these generations, in a row
---     whole_history       the events of all generations of a stripe, the present one included, in a row
---     whole_place         the place in the whole history of a place in the present generation's history
---     first_opening       what the first of all generations of a stripe opened with
---     IsOfSameStripe      two states are of the same stripe, in whatever generations: of one shape, number, origin and first opening
---     present_generation  the present generation, as it is when it ends
---     after_renewal       the present generation has ended, and a new one opens with what it left
+-- The generations of a stripe, one after another. A generation is the history between two renewals.
+--     IsEnded               a generation's history is legal from its opening, and these are the entries that it left, in order of
+--                           use
+--     opening_after         the entries that the generation after these ones opens with, and the given entries after the last one
+--     IsChain               each generation left the entries that the next one opens with; the last one left the given entries
+--     past_events           the events of all these generations, one after another
+--     whole_history         the events of all generations of a stripe, the present one included, one after another
+--     whole_place           the place in the whole history that a place in the present generation has
+--     first_opening         the entries that the first of all generations of a stripe opened with
+--     IsOfSameStripe        two states are of the same stripe, in whatever generations: of one shape, number, origin and first
+--                           opening
+--     present_generation    the present generation, as it is when it ends
+--     after_renewal         the present generation has ended, and a new one opens with the entries that it left
 use Rattle.std.specs.Prelude.{◌≡◌, ◌+◌, ℕ, List, [], ◌∷◌, ◌++◌, length}
 use Rattle.jc_types.specs.declared.config.Config.{Config}
 use Rattle.jc_model.specs.declared.event.Event.{Event}
@@ -31,7 +33,7 @@ abbrev pub IsChain : Config → List Generation → List (Bytes × Bytes) → Ty
 IsChain config [] entries = Unit {0}
 IsChain config (g ∷ gs) entries = IsEnded config g (opening_after gs entries) × IsChain config gs entries
 
--- 2. All generations in a row.
+-- 2. All generations, one after another.
 
 abbrev pub past_events : List Generation → List Event
 past_events [] = []

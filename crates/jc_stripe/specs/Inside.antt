@@ -1,8 +1,8 @@
--- What a stripe's fields mean, and what is true of them. Callers see the state alone.
+-- The meaning of a stripe's fields, and their invariant. Callers see the state alone.
 --     state_of    the state that the fields mean
---     IsStripe    entries and history are as large as the stripe's config says, the entries are in the order of use, the places
---                 that are promised are the reserved ones, what occurred is counted, there is a free box for each ticket that may
---                 come, and the state is reached
+--     IsStripe    entries and history have the sizes of the stripe's config, the entries are in the order of use, the places that
+--                 are promised are the reserved ones, the occurrences are counted, there is a free box for each ticket that may
+--                 still come, and the state is reached
 use Rattle.std.specs.Prelude.{◌≡◌, ◌+◌, length}
 use Rattle.std.specs.FinMap.{from_entries}
 use Rattle.jc_types.specs.declared.limits.TheConstants.{RESERVATIONS_MAX}

@@ -1,4 +1,4 @@
--- The keys of a stripe, to look at.
+-- The keys of a stripe, as a look at it returns them.
 --     AreKeys    the keys that have an entry, each once, in byte order
 --     Looks      a look at the stripe appends its keys to a list
 use Rattle.std.specs.Map.{keys_of}

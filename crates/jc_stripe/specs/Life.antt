@@ -1,7 +1,7 @@
--- What contracts see of a stripe's life.
---     Life        what its present generation opened with, the most recently used first, and the generations that have ended, the oldest
---                 first
---     noted_in    the entries that a note of them has
+-- The generations of a stripe, as contracts see them.
+--     Life        the entries that the present generation opened with, the most recently used first, and the generations that
+--                 have ended, the oldest first
+--     noted_in    the entries in a note of a generation
 --     ended_in    the generations that are noted as ended
 use Rattle.std.specs.Prelude.{List, [], ◌∷◌, map}
 use Rattle.jc_model.specs.Cache.{Bytes}

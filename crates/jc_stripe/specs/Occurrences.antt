@@ -1,8 +1,9 @@
--- What occurred in a stripe: its events, each with whether its key had an entry before it. Statistics count these.
+-- The occurrences in a stripe: its events, each with whether its key had an entry before it. Statistics count these.
 --     has_entry           the key of an event has an entry among these
---     occurrences         what these events were from these entries on: an event finds what those before it left, in the order of use
---     past_occurrences    what occurred in generations that have ended, in a row, each from its own opening on
---     all_occurrences     what occurred in all generations of a stripe, the present one included, in a row
+--     occurrences         the occurrences of these events from these entries on: an event finds the entries that those before it
+--                         left, in the order of use
+--     past_occurrences    the occurrences of generations that have ended, one after another, each from its own opening on
+--     all_occurrences     the occurrences of all generations of a stripe, the present one included, one after another
 use Rattle.std.specs.Prelude.{List, [], ◌∷◌, ◌++◌, Bool, is_some}
 use Rattle.std.specs.FinMap as finite
 use Rattle.jc_model.specs.declared.event.Event.{Event}

@@ -1,19 +1,19 @@
--- At most one phase of one session, whose steps are whose, and what one phase leaves alone.
+-- At most one phase of one session, the own steps of a session, and what a phase doesn't change.
 --     FirstPhase      a first phase of a session's call that may begin
 --     LastPhase       the commit of a reservation of the session
 --     Withdrawal      a reservation of the session is given back
 --     PickUp          a joiner of the session asks for its answer
 --     IsPhaseOf       at most one phase of this session leads from one state to another
---     is_answered     a joiner was answered, and has not picked that up
+--     is_answered     a joiner was answered, and has not picked up its answer
 --     is_parked       a step is parked: it was appended for a joiner that has not picked up its answer
 --     is_own_step     an event is a step of the session that is not parked
 --     own_steps       the session's own steps: those of its steps that are not parked
---     GainsOwn        an event at a place is an own step from now on, between the former ones
+--     GainsOwn        the own steps are as before with one more, which is the event at this place
 --     is_of_others    a caller is of another session
---     join_claim      a joiner as its join: who joined which load of which key
---     IsUniform       what one phase of a session does to a stripe: the later state is reached and of the same stripe, its history grows,
---                     the numbers of reservations don't fall; the session's own steps are the same or one more; other sessions' own
---                     steps, reservations and joins stay, and so does the entry of a key that stays reserved
+--     join_claim      a joiner as its join: the caller, the key and the load
+--     IsUniform       the effect of one phase of a session on a stripe: the later state is reached and of the same stripe, its
+--                     history grows, the numbers of reservations don't fall; the session's own steps are the same or one more;
+--                     other sessions' own steps, reservations and joins stay, and so does the entry of a key that stays reserved
 --     OnePhase        the law: at most one phase of a session, from a reached state, is uniform
 use Rattle.std.specs.Prelude.{◌≡◌, ◌≤◌, ◌==◌, ◌⊎◌, ℕ, List, ◌∷◌, ◌++◌, filter, map, Bool, true, false, not, ◌&&◌, Some, slice_get}
 use Rattle.std.specs.List.{list_any}
@@ -87,7 +87,7 @@ is_own_step session joiners (Evict key cause) = false
 abbrev pub own_steps : ℕ → State → List Event
 own_steps session state = filter (is_own_step session state.joiners) state.history
 
--- an event at a place is an own step from now on, between the former ones
+-- the own steps are as before with one more, which is the event at this place
 pub record GainsOwn (session : ℕ) (old new : State) (event : Event) (place : ℕ) : Type 0 where
   pub there : slice_get new.history place ≡ Some event
   pub before : List Event

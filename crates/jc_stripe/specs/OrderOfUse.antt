@@ -1,13 +1,14 @@
 -- The order in which a stripe's entries were used, from its opening and its events alone.
---     uses               whether an operation without a fault, by what the loader answered, makes the entry that it leaves the most
---                        recently used: each does, but a `ContainsKey` and a `LoadAll` that kept no value
---     is_use             whether a step makes the entry that it leaves the most recently used: it has no fault, and its operation does
---     used_at            the entries behind a step that isn't shared: its entry is moved or put to the front, or goes
---     order_after_event  the entries behind an event, the most recently used first
---     by_use             the entries behind a history
---     pinned             the keys that are reserved: their entries can't be evicted
---     least_used         the victim if there is no room: the least recently used that isn't pinned, if there is one
---     next_victim        the victim of an insertion: none if there is room
+--     uses                 whether an operation without a fault, by the loader's answer, makes the entry that it leaves the most
+--                          recently used: all do, except a `ContainsKey` and a `LoadAll` that kept no value
+--     is_use               whether a step makes the entry that it leaves the most recently used: it has no fault, and its
+--                          operation does
+--     used_at              the entries after a step that isn't shared: its entry is moved or put to the front, or removed
+--     order_after_event    the entries after an event, the most recently used first
+--     by_use               the entries after a history
+--     pinned               the keys that are reserved: their entries can't be evicted
+--     least_used           the victim if there is no room: the least recently used key that isn't pinned, if there is one
+--     next_victim          the victim of an insertion: none if there is room
 use Rattle.std.specs.Prelude.{List, [], ◌∷◌, map, Bool, true, false, ◌&&◌, nat_lt, Option, None, Some, is_none, is_some, if◌then◌else◌}
 use Rattle.std.specs.FinMap as finite
 use Rattle.std.specs.FinMap.{len}
@@ -25,9 +26,9 @@ use Rattle.jc_entries.specs.ByUse.{lru_victim}
 use Rattle.jc_stripe.specs.declared.ticket.Reservation.{Reservation}
 use Rattle.jc_stripe.specs.State.{State}
 
--- 1. What a step uses.
+-- 1. The use by a step.
 
--- an operation that was made without a fault, and heard this of the loader
+-- for an operation that was made without a fault, with this answer of the loader
 abbrev pub uses : Op → LoadAnswer → Bool
 uses ContainsKey load = false
 uses (LoadAll replace) load = is_some (found_in load)
@@ -47,13 +48,13 @@ uses Invoke load = true
 abbrev pub is_use : Op → Out → Bool
 is_use op out = is_none (first_fault out) && uses op out.load
 
--- the entries behind a step at a key: its entry is moved or put to the front, or goes
+-- the entries after a step at a key: its entry is moved or put to the front, or removed
 abbrev pub used_at : List (Bytes × Bytes) → Bytes → Op → Out → List (Bytes × Bytes)
 used_at entries key op out = if is_use op out then with_entry_first key (entry_after op (finite.find key_cmp key entries) out) entries else entries
 
--- 2. What a history uses.
+-- 2. The use by a history.
 
--- a shared step finds its entry, if there is one, in front
+-- a shared step finds its entry, if there is one, in front already, so it leaves the order of use
 abbrev pub order_after_event : List (Bytes × Bytes) → Event → List (Bytes × Bytes)
 order_after_event entries (Step caller op key out None reply) = used_at entries key op out
 order_after_event entries (Step caller op key out (Some place) reply) = entries

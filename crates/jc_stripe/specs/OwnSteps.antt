@@ -1,21 +1,22 @@
--- What each kind of phase leaves of its own session's own steps, and what a caller may take from them.
---     AddsOwn          an event is at a place behind all that was there, and it is the session's last own step
---     OwnSteps         the law: a call that is done at once, and a commit, add their step so; a pick-up that is answered makes the
---                      parked step an own one, at its place; a refusal, a reservation, a join, a withdrawal, 'again' and 'not yet'
---                      leave the own steps
---     may_come_all     a step of this caller at this key may come after each of these events
---     is_before_call   an event is no step of this session with this call number or a later one
---     HasNoCallFrom    no step, reservation or join of a session has this call number or a later one
---     CallerNumbers    the law of a session's numbers: a call with such a number may begin at any key of the stripe, and once its steps
---                      were appended and nothing of it is out, the next number is such a number
---     HasOneMore       a list of steps has this one more than another, somewhere in it
---     OwnNumbers       the law of own steps' numbers: if they are all of earlier calls, a step of this call may come after them, at
---                      any key; a step of this call more, and they are all of calls before the next one; so they stay with a further
---                      one; and if a step of this call may come at a key, it may after one more at another key
---     StepsBehind      the law of places: a step that may come after a history is at a place behind it
---     WholeCall        the law of a whole call: a first phase that reserves its key, and its commit, are one step of that caller,
---                      operation and key
---     JoinsOnlyLoads   the law of joins: a first phase that finds no load of its key does not join
+-- The effect of each kind of phase on its session's own steps, and what follows for a caller.
+--     AddsOwn           an event is at a place after all earlier events, and it is the session's last own step
+--     OwnSteps          the law: a call that is done at once, and a commit, add their step in this way; a pick-up that is
+--                       answered makes the parked step an own one, at its place; a refusal, a reservation, a join, a withdrawal,
+--                       'again' and 'not yet' leave the own steps
+--     may_come_all      a step of this caller at this key may come after each of these events
+--     is_before_call    an event is no step of this session with this call number or a later one
+--     HasNoCallFrom     no step, reservation or join of a session has this call number or a later one
+--     CallerNumbers     the law of a session's numbers: a call with such a number may begin at any key of the stripe, and once
+--                       its steps were appended and nothing of it is out, the next number is such a number
+--     HasOneMore        a list of steps has this one more than another, somewhere in it
+--     OwnNumbers        the law of own steps' numbers: if they are all of earlier calls, a step of this call may come after them,
+--                       at any key; with one more step, which is of this call, they are all of calls before the next one, and
+--                       stay so with a further one; and if a step of this call may come at a key, it may after one more at
+--                       another key
+--     StepsBehind       the law of places: a step that may still come after a history has a place after all of it
+--     WholeCall         the law of a whole call: a first phase that reserves its key, and its commit, are one step of that
+--                       caller, operation and key
+--     JoinsOnlyLoads    the law of joins: a first phase that finds no load of its key does not join
 use Rattle.std.specs.Prelude.{◌≡◌, ◌≤◌, ◌==◌, ◌+◌, ℕ, List, [], ◌∷◌, ◌++◌, length, Bool, true, false, not, ◌||◌, Option, None, Some, IsTrue, slice_get, nat_lt}
 use Rattle.std.specs.List.{list_all}
 use Rattle.std.specs.Cmp.Lexicographic.{pointwise}
@@ -84,7 +85,7 @@ pub record CallerNumbers : Type 0 where
   pub committed : (old mid new : State) (caller : Caller) (key : Bytes) (op : Op) (ticket : TicketClaim) (out : Out) (done : StepDone) → IsReached old → HasNoCallFrom old caller.session caller.call
       → Begins old caller key op (Asks ticket) mid → Commits mid ticket.reservation out done new → HasNoCallFrom new caller.session (caller.call + 1)
 
--- a list of steps has this one more
+-- a list of steps has this one more than another, somewhere in it
 pub record HasOneMore (event : Event) (old new : List Event) : Type 0 where
   pub before : List Event
   pub after : List Event

@@ -1,19 +1,19 @@
--- A stripe as a machine of phases: what a first phase gives, and what the others leave.
---     is_other_call    a reservation is another session's, or the same call's of another key
---     is_other_join    the same of a joiner, also of one that has not picked up its answer
+-- A stripe as a machine of phases: the outcome of a first phase, and the effects of the others.
+--     is_other_call    a reservation is another session's, or the same call's at another key
+--     is_other_join    the same for a joiner, also for one that has not picked up its answer
 --     MayBegin         the conditions on a first phase that the callers' order rests on
 --     inserts_here     the step inserts: its key is missing before it and there after it
 --     overflows        it inserts into a full stripe
---     victim           the entry that goes before the step, if one has to and can
---     own_cause        why the step's own key is evicted after it, if it is
+--     victim           the entry that is evicted before the step, if one must be and can be
+--     own_cause        the cause for which the step's own key is evicted after it, if it is
 --     new_group        the group that a step makes here, from the order of use and the reservations
---     after_group      the stripe behind a group: its cache, and its history with the group's events
+--     after_group      the stripe after a group: its cache, and its history with the group's events
 --     own_eviction     the eviction of the step's own key, at the last place of its group, if it is evicted
 --     Steps            the stripe appends the group of one step
---     with_joiner      the stripe with one joiner more, who waits for a load
+--     with_joiner      the stripe with one more joiner, which waits for a load
 --     hit_done         the step of a get that found this value, at this place: nobody is evicted
---     with_reply       a step of which the reply was written apart
---     begun_with       what a first phase gives whose reply was written apart
+--     with_reply       a step whose reply was written apart
+--     begun_with       the outcome of a first phase whose reply was written apart
 --     Begins           the first phase
 --     after_commit     the stripe with a reservation over, and the answer parked for each that waits for its load
 --     Commits          the last phase: the reservation ends, its step is appended, and with it those of its joiners
@@ -21,7 +21,7 @@
 --     Withdraws        the reservation is given back, and its joiners are told to retry
 --     without_joiner   the stripe without a join that is over
 --     IsSharedStep     the event at a place is the join's own step, with this reply, and names the step that loaded
---     told_to          how far a join is: it waits, was answered, or is told to retry
+--     told_to          the state of a join: it waits, was answered, or is told to retry
 --     PicksUp          a joiner asks for its answer
 use Rattle.std.specs.Prelude.{◌≡◌, ◌==◌, ◌-◌, ◌+◌, ℕ, List, [], ◌++◌, length, Bool, true, false, not, ◌&&◌, ◌||◌, IsTrue, Option, None, Some, is_some, is_none, slice_get, option_map, if◌then◌else◌}
 use Rattle.std.specs.List.{list_all}
@@ -65,13 +65,13 @@ use Rattle.jc_stripe.specs.State.{State, is_of, new_reservation, with_reservatio
 use Rattle.jc_stripe.specs.Refusals.{first_refusal, first_asked, load_joined, reserves}
 use Rattle.jc_stripe.specs.OrderOfUse.{least_used}
 
--- 1. Who may begin.
+-- 1. The conditions on a first phase.
 
--- a reservation is another session's, or the same call's of another key
+-- a reservation is another session's, or the same call's at another key
 abbrev pub is_other_call : Caller → Bytes → Reservation → Bool
 is_other_call caller key r = not (r.caller.session == caller.session) || ((r.caller.call == caller.call) && not (pointwise ◌==◌ r.key key))
 
--- the same of a joiner, also of one that has not picked up its answer
+-- a joiner is another session's, or the same call's at another key, also one that has not picked up its answer
 abbrev pub is_other_join : Caller → Bytes → Joiner → Bool
 is_other_join caller key j = not (j.caller.session == caller.session) || ((j.caller.call == caller.call) && not (pointwise ◌==◌ j.key key))
 
@@ -93,11 +93,12 @@ inserts_here state key op out = is_none (entry_at state.cache key) && is_some (e
 abbrev pub overflows : State → Bytes → Op → Out → Bool
 overflows state key op out = inserts_here state key op out && (len state.cache == state.config.capacity)
 
--- the entry that goes before the step, if one has to and can
+-- the entry that is evicted before the step, if one must be and can be
 abbrev pub victim : State → Bytes → Op → Out → Option Bytes
 victim state key op out = if overflows state key op out then least_used state else None
 
--- why what was inserted is evicted, if it is: no other entry could be evicted for it, or the insertion was out of memory
+-- the cause for which the inserted entry is evicted, if it is: no other entry could be evicted for it, or the insertion was out
+-- of memory
 abbrev pub own_cause : Bool → Bool → Bool → Bool → Option Cause
 own_cause inserts full has_victim short =
     if inserts then (if full && not has_victim then Some Full else (if short then Some Memory else None)) else None
@@ -113,7 +114,7 @@ new_group state caller key op out callers short =
       evicted = own_cause (inserts_here state key op out) (overflows state key op out) (is_some (victim state key op out)) short;
     }
 
--- 3. The stripe appends the lawful group of one step, and says what was done.
+-- 3. The stripe appends the lawful group of one step, and reports it.
 
 abbrev pub after_group : State → Group → State
 after_group old group = record old { cache = cache_after_group old.cache group; history = old.history ++ events_of (length old.history) group }
@@ -165,7 +166,7 @@ Begins old caller key op (begun.Joined join) new =
 
 -- 5. The last phase.
 
--- the reservation is over, and for each that waits for its load the answer is parked, of the step at this place
+-- the reservation is over, and for each joiner that waits for its load the answer is parked: that of the step at this place
 abbrev pub after_commit : State → Reservation → ℕ → State
 after_commit old r place = record (without_reservation old r.key) { joiners = after_resolve r.number place old.joiners }
 

@@ -1,22 +1,22 @@
--- What is true of every stripe.
---     AllAsk           each reservation still asks first whom it asked at first
---     may_end          the step of a reservation may come behind these events
---     are_beside       no two reservations of a session have different call numbers, or the same key
---     AreNumbered      no key and no number of a reservation stands twice, and the numbers are below the next one
---     FindsLoad        a joiner finds the reservation of its load, which asked the loader; its key is missing, and read-through is
---                      on
---     HasStep          a joiner's own shared step stands at a place, and names the step that loaded
---     JoinFits         a joiner that waits finds its load, and one for whom an answer is parked has its step
---     AllJoin          that is so of all joiners
---     may_share        the shared step of a joiner that waits may come behind these events
---     are_apart        no two joiners of a session have different call numbers, or the same key
---     all_apart        and no reservation and joiner of a session
---     is_own           an event is of one of the stripe's keys
---     IsUsed           the entries by use are what is cached, each key once, and they are of the stripe's keys
---     IsReached        its opening is one of its stripe, its history is legal from it and leaves its entries, its tables are within
---                      their limits, each reservation still asks what it asked, each joiner that waits still finds its load, and the
---                      steps of both may still come
---     IsOpened         nothing has happened in it yet: it caches what it opens with, and nobody has called
+-- The invariant of every stripe.
+--     AllAsk         each reservation still asks first whom it asked at first
+--     may_end        the step of a reservation may come after these events
+--     are_beside     no two reservations of a session have different call numbers, or the same key
+--     AreNumbered    no two reservations have the same key or number, and the numbers are below the next one
+--     FindsLoad      a joiner finds the reservation of its load, which asked the loader; its key is missing, and read-through is
+--                    on
+--     HasStep        a joiner's own shared step is at a place, and names the step that loaded
+--     JoinFits       a joiner that waits finds its load, and one for whom an answer is parked has its step
+--     AllJoin        all joiners fit so
+--     may_share      the shared step of a joiner that waits may come after these events
+--     are_apart      no two joiners of a session have different call numbers, or the same key
+--     all_apart      no reservation and joiner of a session have different call numbers, or the same key
+--     is_own         an event is of one of the stripe's keys
+--     IsUsed         the entries by use are the cached ones, each key once, and they are of the stripe's keys
+--     IsReached      its opening is one of its stripe, its history is legal from it and leaves its entries, its tables are within
+--                    their limits, each reservation still asks what it asked, each joiner that waits still finds its load, and
+--                    the steps of both may still come
+--     IsOpened       nothing has happened in it yet: it caches what it opens with, and nobody has called
 use Rattle.std.specs.Prelude.{◌≡◌, ◌==◌, ◌+◌, ◌≤◌, ◌<◌, ℕ, List, [], ◌∷◌, length, Ok, IsTrue, Bool, true, false, not, ◌&&◌, ◌||◌, None, Some, All, AllPairs, slice_get}
 use Rattle.std.specs.List.{list_all}
 use Rattle.std.specs.FinMap.{len, from_entries}
@@ -48,16 +48,16 @@ abbrev pub AllAsk : Config → Cache → List Reservation → Type 0
 AllAsk config cache [] = Unit {0}
 AllAsk config cache (r ∷ rs) = (first_asked config r.op (entry_at cache r.key) ≡ r.first) × AllAsk config cache rs
 
--- the step of a reservation may come behind these events
+-- the step of a reservation may come after these events
 abbrev pub may_end : List Event → Reservation → Bool
 may_end history r = list_all (λ e. may_come e r.caller r.key) history
 
--- no two reservations of a session have different numbers, or the same key
+-- no two reservations of a session have different call numbers, or the same key
 abbrev pub are_beside : List Reservation → Bool
 are_beside [] = true
 are_beside (r ∷ rs) = list_all (is_other_call r.caller r.key) rs && are_beside rs
 
--- no key and no number stands twice, and the numbers are below the next one
+-- no two reservations have the same key or number, and the numbers are below the next one
 pub record AreNumbered (next : ℕ) (rs : List Reservation) : Type 0 where
   pub once : AllPairs (λ r later. is_key r.key later ≡ false) rs
   pub numbers : AllPairs (λ r later. (r.number == later.number) ≡ false) rs
@@ -65,13 +65,13 @@ pub record AreNumbered (next : ℕ) (rs : List Reservation) : Type 0 where
 
 -- 2. Joiners.
 
--- one that waits finds the reservation of its load, which asked the loader; the key is missing, and read-through is on
+-- a joiner that waits finds the reservation of its load, which asked the loader; the key is missing, and read-through is on
 pub record FindsLoad (state : State) (j : Joiner) : Type 0 where
   pub load : load_at (reservation_of state j.key) ≡ Some j.load
   pub missing : entry_at state.cache j.key ≡ None
   pub read_through : state.config.read_through ≡ true
 
--- one for whom an answer is parked has its step in the history
+-- a joiner for whom an answer is parked has its step in the history
 abbrev pub HasStep : List Event → Joiner → ℕ → ℕ → Type 0
 HasStep history j place shared =
     (out : Out) × (reply : Reply) × (slice_get history place ≡ Some (Step j.caller Get j.key out (Some shared) reply))
@@ -85,16 +85,16 @@ abbrev pub AllJoin : State → List Joiner → Type 0
 AllJoin state [] = Unit {0}
 AllJoin state (j ∷ js) = JoinFits state j j.state × AllJoin state js
 
--- the shared step of a joiner that waits may come behind these events
+-- the shared step of a joiner that waits may come after these events
 abbrev pub may_share : List Event → Joiner → Bool
 may_share history j = not (waits j) || list_all (λ e. may_come e j.caller j.key) history
 
--- no two joiners of a session have different numbers, or the same key
+-- no two joiners of a session have different call numbers, or the same key
 abbrev pub are_apart : List Joiner → Bool
 are_apart [] = true
 are_apart (j ∷ js) = list_all (is_other_join j.caller j.key) js && are_apart js
 
--- and no reservation and joiner
+-- no reservation and joiner of a session have different call numbers, or the same key
 abbrev pub all_apart : List Reservation → List Joiner → Bool
 all_apart rs js = list_all (λ r. list_all (is_other_join r.caller r.key) js) rs
 
@@ -104,7 +104,7 @@ all_apart rs js = list_all (λ r. list_all (is_other_join r.caller r.key) js) rs
 abbrev pub is_own : State → Event → Bool
 is_own state event = is_of_stripe state.config.stripes state.stripe event
 
--- the entries by use are what is cached, each key once, and they are of the stripe's keys
+-- the entries by use are the cached ones, each key once, and they are of the stripe's keys
 pub record IsUsed (state : State) : Type 0 where
   pub once : IsTrue (has_distinct_keys (by_use state.opening state.history))
   pub own : IsTrue (list_all (λ entry. is_of state entry.0) (by_use state.opening state.history))

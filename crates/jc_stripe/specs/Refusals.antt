@@ -1,24 +1,26 @@
--- Whom a first phase asks, and when it is refused.
---     writer_for         the writer, for a change that is asked for
---     first_by           whom a call asks first that runs no processor: the loader, if the loader table says so, and else the writer
---     is_wanted          the loader table leaves it to the processor whether its key is loaded
---     change_for         what the writer is asked for before any other answer, if write-through is on
---     first_asked        whom a call asks first: an `Invoke` its processor, about the entry that it finds, and every other call by the
---                        loader table and the writer table
---     reserves           a call that asks this one first has to reserve its key: somebody is asked
---     answers_at_once    a call that a reservation of its key does not stop: it answers from the cached entry
---     load_of            the number of a reservation, if it asked the loader
---     load_at            the same of a reservation that may not be there
---     load_joined        the load that a call joins: a `Get` whose key is missing and is being loaded, with read-through on
---     may_join           an operation whose call may join another call's load
---     needs_free_key     a call can be started only if its key is free: it neither answers from the entry nor joins a load
---     places_needed      the free places of the history that a call needs: `HIT_PLACES` if it answers from the entry or joins, and else `STEP_PLACES`
---     last_number        the number at which a session's call numbers and a stripe's reservation numbers end
---     has_room           the history has these places free, beside the reserved ones, and neither number is at its end
---     needs_reservation  the call reserves its key: it asks somebody, and does not join
---     full_refusal       why a call is refused that lacks room: the history is full; or, where a full history may end and no number is at
---                        its end, it is to try again
---     first_refusal      the first refusal whose condition holds: no room, busy, too many in flight, too many joiners
+-- The partner that a first phase asks, and its refusals.
+--     writer_for           the writer, for a change that is asked for
+--     first_by             whom a call without a processor asks first: the loader, if the loader table asks it, otherwise the
+--                          writer
+--     is_wanted            the loader table leaves it to the processor whether its key is loaded
+--     change_for           the change that the writer is asked for before any other answer, if write-through is on
+--     first_asked          whom a call asks first: an `Invoke` its processor, about the entry that it finds, and every other call
+--                          by the loader table and the writer table
+--     reserves             a call that asks this one first has to reserve its key: somebody is asked
+--     answers_at_once      a call that a reservation of its key does not stop: it answers from the cached entry
+--     load_of              the number of a reservation, if it asked the loader
+--     load_at              the same for a reservation that may not be there
+--     load_joined          the load that a call joins: a `Get` whose key is missing and is being loaded, with read-through on
+--     may_join             an operation whose call may join another call's load
+--     needs_free_key       a call can be started only if its key is free: it neither answers from the entry nor joins a load
+--     places_needed        the free places of the history that a call needs: `HIT_PLACES` if it answers from the entry or joins,
+--                          otherwise `STEP_PLACES`
+--     last_number          the last of a session's call numbers and of a stripe's reservation numbers: at it a call is refused
+--     has_room             the history has these places free, beside the reserved ones, and neither number is the last one
+--     needs_reservation    the call reserves its key: it asks somebody, and does not join
+--     full_refusal         the refusal of a call that lacks room: the history is full; or, if a full history may end and no
+--                          number is the last one, the call is to be tried again
+--     first_refusal        the first refusal whose condition holds: no room, busy, too many in flight, too many joiners
 use Rattle.std.specs.Prelude.{ℕ, ◌+◌, length, Bool, true, false, not, ◌&&◌, ◌||◌, Option, None, Some, is_some, is_none, nat_lt, nat_le, if◌then◌else◌}
 use Rattle.jc_types.specs.declared.caller.Caller.{Caller}
 use Rattle.jc_types.specs.declared.config.Config.{Config}
@@ -50,13 +52,13 @@ first_by Never change = writer_for change
 first_by Always change = Loader
 first_by IfWanted change = Processor None true  -- wanted only if the entry is missing
 
--- the processor has its key loaded if it wants it
+-- the key is loaded if the processor asks for the value
 abbrev pub is_wanted : LoaderAsk → Bool
 is_wanted Never = false
 is_wanted Always = false
 is_wanted IfWanted = true
 
--- what the writer is asked for before any other answer: nothing with write-through off
+-- the change that the writer is asked for before any other answer: none with write-through off
 abbrev pub change_for : Config → Op → Option Bytes → Option Change
 change_for config op entry = if config.write_through then write_ask op entry process.NotAsked else None
 
@@ -71,7 +73,7 @@ reserves Loader = true
 reserves (Writer change) = true
 reserves (Processor entry loads) = true
 
--- 2. What a call needs.
+-- 2. The needs of a call.
 
 abbrev pub answers_at_once : Config → Op → Option Bytes → Bool
 answers_at_once config Get entry = is_some entry || not config.read_through
@@ -131,13 +133,13 @@ places_needed false = HIT_PLACES
 abbrev pub last_number : ℕ
 last_number = LAST_NUMBER
 
--- the history has these places free, beside the reserved ones, and the numbers are not at their end
+-- the history has these places free, beside the reserved ones, and neither number is the last one
 abbrev pub has_room : State → ℕ → ℕ → Bool
 has_room state call needed = nat_le (length state.history + promised state + needed) state.config.history && nat_lt call last_number && nat_lt state.next last_number
 
 -- 3. The refusals, in their order.
 
--- of a call that lacks room. Where the stripe lives on and the numbers aren't at their end, a place will be free
+-- the refusal of a call that lacks room. If the stripe lives on and neither number is the last one, a place will become free
 abbrev pub full_refusal : State → ℕ → Refusal
 full_refusal state call = if state.lives && nat_lt call last_number && nat_lt state.next last_number then refusal.Busy else refusal.HistoryFull
 

@@ -2,17 +2,17 @@
 --     is_full         the history may lack the places of a call
 --     has_parked      an answer of a load is parked
 --     can_renew       a generation may end here: the stripe lives on, its history has an event, and no answer is parked
---     is_renewable    one may end here that is full
---     Renews          a generation that may end does, and a new one begins
---     RenewsIfFull    so it is if the generation is full and may end; else the stripe stays as it was
---     EndsGeneration  what a stripe's generation was, if it was ended: how many had ended before, and its events; none, if it may not end
+--     is_renewable    a full generation may end here
+--     Renews          a generation that may end has ended, and a new one has begun
+--     RenewsIfFull    the same if the generation is full and may end; otherwise the stripe stays as it was
+--     EndsGeneration  the answer to an end of the generation: how many had ended before, and its events; none, if it may not end
 --     StaysOrRenews   the stripe stays as it was, or its generation, which may end, has ended
 --     all_own_steps   a session's own steps in all generations
---     IsRenewed       what a renewal leaves: it is the same stripe; the whole history, all own steps, what is cached, and the next
+--     IsRenewed       a renewal leaves the same stripe; the whole history, all own steps, the cached entries, and the next
 --                     number stay
---     Renewal         the law: so it is
+--     Renewal         the law: each renewal does so
 --     live_on         the stripe lives on
---     LivesOn         the laws: what lives on is as every stripe is; and its history is full only where a number is at its end
+--     LivesOn         the laws: a stripe that lives on is reached; and it refuses a call as full only if a number is the last one
 use Rattle.std.specs.Prelude.{◌≡◌, ◌⊎◌, ◌≤◌, ◌+◌, ℕ, List, [], ◌++◌, filter, length, Bool, true, false, not, ◌&&◌, min, nat_le, nat_lt, Option, None, Some}
 use Rattle.std.specs.List.{list_any}
 use Rattle.jc_types.specs.declared.limits.TheConstants.{STEP_PLACES, LAST_NUMBER}
@@ -73,7 +73,7 @@ pub record IsRenewed (old new : State) : Type 0 where
 abbrev pub Renewal : Type 0
 Renewal = (old new : State) → IsReached old → Renews old new → IsRenewed old new
 
--- 3. Who lives on.
+-- 3. A stripe that lives on.
 
 abbrev pub live_on : State → State
 live_on state = record state { lives = true }

@@ -1,18 +1,18 @@
--- What becomes of a closed cache's entries when it is opened again, in any shape.
---     entries_of      what a stripe caches, the most recently used first
---     all_entries     what these stripes cache, stripe by stripe
---     shares_key      whether a key is cached in both stripes
---     some_share_key  whether it is so of two of these stripes
---     belongs_to      whether an entry is of the stripe with this number, in this shape
---     entries_for     the entries of the stripe with this number, in their order
---     kept            what that stripe opens with: the first of its entries, as many as it has room for
---     is_full_behind  whether the stripe of a key has as many entries as it has room for among these
---     dropped_behind  the entries that are dropped of a list that comes behind another: those whose stripe is full by then
---     dropped         the entries that are dropped
---     opened_stripe   the stripe with this number, in which nothing has happened: it opens with these entries
---     opened_stripes  as many, from a number on, each with what it keeps of these entries
---     KeepsOrDrops    what all these stripes open with, and what is dropped, are the given entries in another order: none is lost, and
---                     none is there more often than it was given
+-- The entries of a closed cache when it is opened again, in any shape.
+--     entries_of        the entries that a stripe caches, the most recently used first
+--     all_entries       the entries that these stripes cache, stripe by stripe
+--     shares_key        whether a key is cached in both stripes
+--     some_share_key    whether two of these stripes share a key
+--     belongs_to        whether an entry is of the stripe with this number, in this shape
+--     entries_for       the entries of the stripe with this number, in their order
+--     kept              the entries that this stripe opens with: its first ones, as many as it has room for
+--     is_full_behind    whether the stripe of a key has as many entries as it has room for among these
+--     dropped_behind    the entries that are dropped from a list that follows another: those whose stripe is full by then
+--     dropped           the entries that are dropped
+--     opened_stripe     the stripe with this number, in which nothing has happened: it opens with these entries
+--     opened_stripes    a number of such stripes, numbered from a first number on, each with the entries that it keeps
+--     KeepsOrDrops      the entries that all these stripes open with, and the dropped ones, are the given entries in another
+--                       order: none is lost, and none is there more often than it was given
 use Rattle.std.specs.Prelude.{◌≡◌, ◌==◌, ℕ, zero, suc, ◌+◌, List, [], ◌∷◌, ◌++◌, filter, length, take, Bool, false, not, ◌||◌, Ok, nat_le, if◌then◌else◌}
 use Rattle.std.specs.List.{list_any}
 use Rattle.std.specs.List.Sorted.{IsPermutation}
@@ -26,7 +26,7 @@ use Rattle.jc_outside.specs.declared.done.Origin.{Origin}
 use Rattle.jc_stripe.specs.State.{State}
 use Rattle.jc_stripe.specs.OrderOfUse.{by_use}
 
--- 1. What was cached.
+-- 1. The entries that were cached.
 
 abbrev pub entries_of : State → List (Bytes × Bytes)
 entries_of state = by_use state.opening state.history
@@ -40,12 +40,12 @@ all_entries (state ∷ states) = entries_of state ++ all_entries states
 abbrev pub shares_key : State → State → Bool
 shares_key state other = not (keys_apart (entries_of state) (entries_of other))
 
--- of a stripe and any of these, or of any two of these
+-- the stripe and one of the others, or two of the others
 abbrev pub some_share_key : List State → Bool
 some_share_key [] = false
 some_share_key (state ∷ states) = list_any (shares_key state) states || some_share_key states
 
--- 3. What is kept.
+-- 3. The entries that are kept.
 
 abbrev pub belongs_to : Config → ℕ → Bytes × Bytes → Bool
 belongs_to config number entry = stripe_of entry.0 config.stripes == number
@@ -56,7 +56,7 @@ entries_for config number entries = filter (belongs_to config number) entries
 abbrev pub kept : Config → ℕ → List (Bytes × Bytes) → List (Bytes × Bytes)
 kept config number entries = take config.capacity (entries_for config number entries)
 
--- 4. What is dropped.
+-- 4. The entries that are dropped.
 
 abbrev pub is_full_behind : Config → List (Bytes × Bytes) → Bytes → Bool
 is_full_behind config before key = nat_le config.capacity (length (entries_for config (stripe_of key config.stripes) before))
@@ -94,7 +94,7 @@ opened_stripes config origin entries number zero = []
 opened_stripes config origin entries number (suc count) =
     opened_stripe config origin number (kept config number entries) ∷ opened_stripes config origin entries (number + 1) count
 
--- 6. What is true of every reopening.
+-- 6. A law of every reopening.
 
 abbrev pub KeepsOrDrops : Type 0
 KeepsOrDrops =

@@ -1,6 +1,6 @@
 -- A stripe's state.
 --     Generation          a generation that has ended
---     State               the stripe as a caller may know it
+--     State               the stripe as a caller sees it
 --     is_of               whether a key is of this stripe
 --     waits               whether a joiner waits for its load
 --     promised            the reserved room in the history: `STEP_PLACES` for each reservation, `HIT_PLACES` for each joiner that waits
@@ -84,7 +84,7 @@ without_key key rs = filter (λ r. not (is_key key r)) rs
 abbrev pub without_reservation : State → Bytes → State
 without_reservation state key = record state { reservations = without_key key state.reservations }
 
--- the stripe's reservation of the key is this one, by its caller, operation, number and whom it asks
+-- the stripe's reservation of the key is this one: it has the same caller, operation and number, and asks the same first
 abbrev pub IsOut : State → Reservation → Type 0
 IsOut state r = reservation_of state r.key ≡ Some r
 

@@ -1,8 +1,8 @@
--- What a driver tests of a stripe, to know whether a condition of a phase holds.
---     is_clear         the part of the condition on a first phase that looks at no event: the key is of this stripe, and no reservation
---                      and no joiner of the session is of another call or of this key
---     may_begin        the whole condition on a first phase
---     asks_outside     a call asks the loader, the writer or the processor, or joins a load, unless it is refused
+-- The tests of a stripe by which a driver knows whether a condition of a phase holds.
+--     is_clear        the part of the condition on a first phase that looks at no event: the key is of this stripe, and no
+--                     reservation and no joiner of the session is of another call or of this key
+--     may_begin       the whole condition on a first phase
+--     asks_outside    a call asks the loader, the writer or the processor, or joins a load, unless it is refused
 use Rattle.std.specs.Prelude.{Bool, ◌&&◌}
 use Rattle.std.specs.List.{list_all}
 use Rattle.jc_types.specs.declared.caller.Caller.{Caller}

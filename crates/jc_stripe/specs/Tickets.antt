@@ -1,16 +1,16 @@
--- What tickets and joins are, as data.
---     TicketClaim       the ticket of a reservation: the whole reservation, whether the one whom it asks first was asked, and whether the
---                       writer was asked after a processor
+-- Tickets and joins, as data.
+--     TicketClaim       the ticket of a reservation: the whole reservation, whether the one whom it asks first was asked, and
+--                       whether the writer was asked after a processor
 --     ReservationId     a reservation as an ask names it: its key, its number, and whom it asks first
---     Claim             what is asked for a reservation, and for a writer the change of the store
+--     Claim             the content of an ask for a reservation, with the change of the store if the writer is asked
 --     id_of             a reservation as an ask names it
---     claim_of          what is asked first for a reservation
---     asks_loader       the one whom a reservation asks first is the loader
---     asks_writer       the one whom a reservation asks first is the writer
---     asks_processor    the one whom a reservation asks first is the processor
---     change_asked      the change of the store that the writer is asked for, if it is the writer who is asked first
---     entry_seen        the entry that a processor is asked about, if it is the processor who is asked first
---     is_loadable       it is the processor who is asked first, and its key may be loaded for it
+--     claim_of          the content of the first ask for a reservation
+--     asks_loader       a reservation asks the loader first
+--     asks_writer       a reservation asks the writer first
+--     asks_processor    a reservation asks the processor first
+--     change_asked      the change of the store that the writer is asked for, if the writer is asked first
+--     entry_seen        the entry that a processor is asked about, if the processor is asked first
+--     is_loadable       the processor is asked first, and its key may be loaded for it
 --     JoinClaim         a call that has joined the load of its key
 use Rattle.std.specs.Prelude.{ℕ, Bool, true, false, Option, None, Some}
 use Rattle.jc_types.specs.declared.caller.Caller.{Caller}

@@ -1,14 +1,14 @@
--- Which values came into a stripe with a step, and which left it.
---     MovesMade            what a driver is told of them: whether the key's entry has a new value, the value that it lost, the entry that was
---                          evicted for the step, and why the step's own entry was evicted after it, if it was
+-- The values that came into a stripe with a step, and those that left it.
+--     MovesMade            the values as a driver sees them: whether the key's entry has a new value, the value that it lost, the
+--                          entry that was evicted for the step, and why the step's own entry was evicted after it, if it was
 --     nothing_moved        no value came, and none left
 --     holds_value          an entry has this value
---     is_new_value         a key's entry has a value that it hadn't before
---     value_lost           the value that it had before, and hasn't any more
+--     is_new_value         a key's entry has a value that it didn't have before
+--     value_lost           the value that it had before, and doesn't have any more
 --     victim_entry         a victim with the value that it had
 --     KeepsOtherEntries    the entries of all keys but the step's own and the victim's are as they were
---     MovesValues          what a step at a key moved, of which this was the victim
---     HasMovesIfDone       what the step of a first phase moved, if the call is done
+--     MovesValues          the values that a step at a key moved, if this was its victim
+--     HasMovesIfDone       the values that the step of a first phase moved, if the call is done
 use Rattle.std.specs.Prelude.{◌≡◌, ◌==◌, Bool, false, not, Option, None, Some, option_map, if◌then◌else◌}
 use Rattle.std.specs.Cmp.Lexicographic.{pointwise}
 use Rattle.jc_model.specs.Cache.{Bytes, entry_at}

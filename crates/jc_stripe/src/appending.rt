@@ -1,5 +1,8 @@
-//! What a step leaves of the entries, and what is appended of it. What makes a step is in line: a group that a call returns
-//! would be cleared and copied once more.
+//! A step in the entries, and its events in the history. The functions that a step goes through are inlined, since a group that a
+//! function returns would be cleared and copied once more.
+//!
+//! The events of a step are in a fixed order: the eviction that makes room for it, the step, the shared steps of the calls that
+//! joined its load, and the eviction of its own key.
 ghost use Rattle.std.specs.Prelude.{◌≡◌, ◌+◌, ◌≤◌, ◌<◌, ◌^◌, [], ◌∷◌, ◌++◌, map, length, Option, None, Some, IsTrue, option_map};
 ghost use Rattle.std.specs.FinMap as finite;
 ghost use Rattle.jc_model.specs.Cache.{key_cmp};
@@ -20,22 +23,22 @@ use jc_model::{Cause, Event, LoadAnswer, Op, Out, Reply};
 use jc_types::{Caller, Key, Value};
 use std::marker::Model;
 
-/// A step, and what is evicted before and after it: a group without those that share its load. What the step is made of is lent.
+/// A step, and what is evicted before and after it: a group without those that share its load. Its parts are lent.
 #[derive(Drop)]
 pub(crate) struct NewGroup<'a> {
     /// The caller.
     pub(crate) caller: Caller,
-    /// At which key.
+    /// The key.
     pub(crate) key: &'a Key,
-    /// What is called.
+    /// The operation.
     pub(crate) op: &'a Op,
-    /// What came from outside.
+    /// The outside answers.
     pub(crate) out: &'a Out,
-    /// What is replied.
+    /// The reply.
     pub(crate) reply: &'a Reply,
     /// The key that was evicted before the step, since the stripe was full.
     pub(crate) victim: Option<Key>,
-    /// Why the step's own key was evicted after it, if it was.
+    /// The cause for which the step's own key was evicted after it, if it was.
     pub(crate) evicted: Option<Cause>,
     /// Whether its key had an entry before it.
     pub(crate) found: bool,
@@ -85,7 +88,8 @@ fn holds(entry: &Option<Value>, value: &Value) -> bool
     }
 }
 
-/// Makes a step in the entries if the key has this entry, and says who went before it and why its own key went after it.
+/// Makes a step in the entries, at a key that has this entry. It returns the key that was evicted before the step, and the cause
+/// for which the step's own key was evicted after it.
 #[inline(always)]
 pub(crate) fn apply_to_entries(
     entries: &mut Entries,
@@ -124,8 +128,7 @@ pub(crate) fn apply_to_entries(
     }
 }
 
-/// Appends an eviction. It is a function of its own, as the other that builds an event is: most steps come without, and needn't
-/// clear the room of an event.
+/// Appends an eviction. It isn't inlined, since most steps have no eviction, and shouldn't have to clear the memory of an event.
 #[inline(never)]
 fn append_eviction(history: &mut History, key: &Key, cause: Cause, found: bool)
     requires { 0 < history.old.promised }
@@ -134,7 +137,7 @@ fn append_eviction(history: &mut History, key: &Key, cause: Cause, found: bool)
     history.push(&Event::Evict { key: *key, cause }, found);
 }
 
-/// Appends the eviction before a step, if there is one, and the step. It answers the place of the step.
+/// Appends the eviction before a step, if there is one, and the step. It returns the place of the step.
 #[inline(always)]
 fn append_step(history: &mut History, group: &NewGroup) -> u32
     requires few { length history.old.events + 1 < 2 ^ 32 }
@@ -176,7 +179,7 @@ fn shared_event(place: u32, key: &Key, answer: LoadAnswer, caller: Caller) -> Ev
     }
 }
 
-/// Appends the shared step of a joiner. It is a function of its own, as the other that builds an event is.
+/// Appends the shared step of a joiner. It isn't inlined, for the reason given at [`append_eviction`].
 #[inline(never)]
 fn append_shared_step(history: &mut History, place: u32, group: &NewGroup, joiner: Caller)
     requires { 0 < history.old.promised }
@@ -207,7 +210,7 @@ fn append_shared(
     }
 }
 
-/// Appends that the step's own key was evicted after it, if it was, and says at which place.
+/// Appends the eviction of the step's own key, if it was evicted, and returns it with its place.
 fn append_evicted(history: &mut History, group: &NewGroup) -> Option<Eviction>
     requires few { length history.old.events < 2 ^ 32 }
     requires places { length (evicted_events group.now.key group.now.evicted) ≤ history.old.promised }
@@ -224,7 +227,8 @@ fn append_evicted(history: &mut History, group: &NewGroup) -> Option<Eviction>
     }
 }
 
-/// Appends a step with all that belongs to it, in room that was reserved for it, and gives back the room that it does not use.
+/// Appends a step with all that belongs to it, in places that were reserved for it, and gives back the places that it doesn't
+/// use.
 #[inline(always)]
 pub(crate) fn append_group(
     history: &mut History,

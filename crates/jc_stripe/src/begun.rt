@@ -1,4 +1,4 @@
-//! What a first phase gives, what a step was, and what a joiner is told.
+//! The outcomes of phases: of a first phase, of a step, and of a joiner that asks for its answer.
 ghost use Rattle.std.specs.Prelude.{◌≡◌};
 ghost use Rattle.jc_stripe.specs.Phases.{begun_with, with_reply};
 
@@ -9,13 +9,14 @@ use jc_types::{Key, Refusal};
 /// The eviction of an entry that a step had inserted.
 #[derive(Clone, Copy, Debug, PartialEq, Eq)]
 pub struct Eviction {
-    /// Why it went.
+    /// The cause of the eviction.
     pub cause: Cause,
     /// The place of the eviction in the stripe's history. Between it and the step are the steps that share its load.
     pub place: u32,
 }
 
-/// An appended step without its reply. The phase writes the reply into the caller's room, so that a value isn't copied on the way.
+/// An appended step without its reply. The phase writes the reply into the caller's buffer, so that a value isn't copied on the
+/// way.
 #[derive(Clone, Copy, Debug, PartialEq, Eq)]
 pub struct Appended {
     /// The place of the step in the stripe's history, from 0.
@@ -27,7 +28,7 @@ pub struct Appended {
 }
 
 impl Appended {
-    /// The step, whose reply this is.
+    /// The step with its reply.
     pub fn with_reply(self, reply: &Reply) -> StepDone
         ensures { result ≡ with_reply self reply.now }
     {
@@ -43,7 +44,7 @@ impl Appended {
 /// A step that was appended to the history, with the evictions that belong to it.
 #[derive(Clone, Copy, Debug, PartialEq, Eq)]
 pub struct StepDone {
-    /// What the caller is answered.
+    /// The answer to the caller.
     pub reply: Reply,
     /// The place of the step in the stripe's history, from 0.
     pub place: u32,
@@ -53,11 +54,11 @@ pub struct StepDone {
     pub evicted: Option<Eviction>,
 }
 
-/// The outcome of a first phase. The reply, if there is one, is in the caller's room.
+/// The outcome of a first phase. The reply, if there is one, is in the caller's buffer.
 pub enum Started {
     /// The call is done, and its reply is written.
     Done(Appended),
-    /// The key is reserved, and the ticket's reservation says who is to be asked next.
+    /// The key is reserved, and the ticket's reservation names whom to ask next.
     Asks(Ticket),
     /// The key is being loaded by another call: the call has joined that load, and its answer is to be picked up.
     Joined(Join),
@@ -66,7 +67,7 @@ pub enum Started {
 }
 
 impl Started {
-    /// What the first phase gives, with this reply if the call is done.
+    /// The outcome of the first phase, with this reply if the call is done.
     pub fn with_reply(self, reply: &Reply) -> Begun
         ensures { result ≡ begun_with self reply.now }
     {
@@ -79,11 +80,11 @@ impl Started {
     }
 }
 
-/// What a first phase gives.
+/// The outcome of a first phase, with the reply. Contracts and tests use it.
 pub enum Begun {
     /// The call is done.
     Done(StepDone),
-    /// The key is reserved, and the ticket's reservation says who is to be asked next.
+    /// The key is reserved, and the ticket's reservation names whom to ask next.
     Asks(Ticket),
     /// The key is being loaded by another call: the call has joined that load, and its answer is to be picked up.
     Joined(Join),
@@ -95,15 +96,15 @@ pub enum Begun {
 pub enum Picked {
     /// The load was committed.
     Answer {
-        /// What the caller is answered.
+        /// The answer to the caller.
         reply: Reply,
         /// The place of the joiner's own step in the stripe's history.
         place: u32,
         /// The place of the step that loaded.
         shared_with: u32,
     },
-    /// The load was withdrawn: the call is to be retried.
+    /// The load was withdrawn: the call is to be retried. It keeps its number, and no place of the history is reserved for it.
     Again,
-    /// The load isn't over: ask later, with the join that comes back.
+    /// The load isn't over: ask later, with the join that is returned.
     NotYet(Join),
 }

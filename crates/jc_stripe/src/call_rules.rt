@@ -1,5 +1,5 @@
-//! The rules by which a first phase decides: whether a call answers at once or may join a load, whom it asks first, what it needs.
-//! Functions that return a value are inlined, to save a copy of it.
+//! The rules by which a first phase decides: whether a call answers at once or may join a load, whom it asks first, and whether
+//! it reserves its key. Functions that return a value are inlined, to save a copy of it.
 ghost use Rattle.std.specs.Prelude.{◌≡◌, option_map};
 ghost use Rattle.jc_model.specs.Table.{to_change};
 ghost use Rattle.jc_model.specs.declared.event.ProcessAnswer.TheVariants.{NotAsked};
@@ -10,14 +10,14 @@ use crate::ticket::First;
 use jc_model::{Change, LentChange, LoaderAsk, Op, ProcessAnswer};
 use jc_types::{Config, HIT_PLACES, STEP_PLACES, Value};
 
-/// What a call finds at its key, before anything is done.
+/// The findings of a call at its key, before anything is done.
 ///
-/// It has no copy of the entry, nor of whom the call asks first: both may have a value.
+/// It copies neither the entry nor the one whom the call asks first, since both may hold a value.
 #[derive(Clone, Copy)]
 pub(crate) struct Found {
     /// The load that the call joins, if there is one.
     pub(crate) load: Option<u64>,
-    /// Whether there is anybody to ask, unless the call joins a load.
+    /// Whether the call asks anybody, unless it joins a load.
     pub(crate) asks: bool,
     /// Whether the call neither answers from the entry nor joins a load.
     pub(crate) needs_free_key: bool,
@@ -90,7 +90,7 @@ pub(crate) fn load_of(first: &First, number: u64) -> Option<u64>
     }
 }
 
-/// Writes the writer to `first`, for a change that is asked for.
+/// Writes `First::Writer` to `first`, if a change is asked for.
 #[inline(always)]
 fn write_writer_for(change: Option<LentChange<'_>>, first: &mut First)
     ensures { first.new ≡ writer_for (option_map to_change change.entry) }
@@ -102,7 +102,8 @@ fn write_writer_for(change: Option<LentChange<'_>>, first: &mut First)
     }
 }
 
-/// The change that the writer is asked for, if write-through is on, and a processor answered this.
+/// The change that the writer is asked for if write-through is on: before any outside answer if `answer` is `NotAsked`, otherwise
+/// after this answer of a processor.
 #[inline(always)]
 fn change_for<'a>(
     config: &Config,
@@ -119,7 +120,7 @@ fn change_for<'a>(
     }
 }
 
-/// Whether the loader table leaves it to the processor to have its key loaded.
+/// Whether the loader is asked only if the processor asks for the value.
 fn is_wanted(ask: &LoaderAsk) -> bool
     ensures { result ≡ is_wanted ask.now }
 {
@@ -161,7 +162,7 @@ pub(crate) fn write_first_asked(config: &Config, op: &Op, entry: &Option<Value>,
     }
 }
 
-/// Whether there is anybody to ask, for which a call has to reserve its key. It copies no value.
+/// Whether a call asks anybody, for which it has to reserve its key. It copies no value.
 #[inline(always)]
 pub(crate) fn asks_anybody(config: &Config, op: &Op, entry: &Option<Value>) -> bool
     ensures { result ≡ reserves (first_asked config.now op.now entry.now) }

@@ -1,11 +1,13 @@
-//! A stripe for a driver that can't be trusted with tickets, as a program in another language. The desk keeps them itself: the driver names
-//! a reservation by its number, and what isn't out is answered with nothing done. It also numbers the calls, ends full generations, and
-//! says which values came and went.
+//! A stripe for a driver that can't be trusted with tickets, for example a program in another language. The desk keeps the
+//! tickets itself: the driver names a reservation by its number, and if no such reservation is out, nothing is done and the
+//! answer says so. The desk also numbers the calls, ends full generations, and reports which values came and went.
 //!
 //! Why it is so:
-//! - The tickets are the stripe's reservations, in their order: so what a number means is one equation of the stripe's state.
-//! - A desk's outside answers are its driver's word: its stripe is of origin `Played`.
-//! - A full generation ends before a first phase, so no driver meets a full history; one that wants the events is told `Full` first.
+//! - The tickets are the stripe's reservations, in their order, so that the meaning of a number is one equation on the stripe's
+//!   state.
+//! - The stripe is of origin `Played`, because the outside answers are what the driver states.
+//! - A full generation ends before a first phase, so that no driver meets a full history. A driver that wants the events is
+//!   answered `Full` first.
 ghost use Rattle.std.specs.Prelude.{◌≡◌, ◌==◌, ◌≤◌, ◌<◌, true, not, Some, Ok, ◌++◌, length, slice_get, is_some, IsTrue, IfOk, IfErr, IfSome, IfNone, OnOk, OnErr};
 ghost use Rattle.std.specs.Bool.{OnTrue, OnFalse};
 ghost use Rattle.std.specs.List.{list_all};
@@ -44,8 +46,8 @@ use std::marker::Model;
 
 /// A stripe, and the boxes of the tickets that are out, in the order of the stripe's reservations.
 ///
-/// A driver makes calls of many sessions here: a session is whoever has at most one call out at this desk. It asks its loader, writer and
-/// processor itself, between the phases.
+/// A driver makes calls of many sessions here: a session is a caller that has at most one call out at this desk. It asks its
+/// loader, writer and processor itself, between the phases.
 #[derive(Drop)]
 pub struct Desk {
     stripe: Stripe,
@@ -71,10 +73,10 @@ impl Model for Desk {
 }
 
 impl Desk {
-    /// A desk over a stripe that opens with these entries, the first one the most recently used. With `keeps_events` a full generation
-    /// ends only by [`end_generation`](Desk::end_generation), so that its events can be taken before.
+    /// A desk over a stripe that opens with these entries, the first one the most recently used. With `keeps_events` a full
+    /// generation ends only by [`end_generation`](Desk::end_generation), so that its events can be read first.
     ///
-    /// An `Err` says why none was opened. `Memory` comes only with a shape and contents that fit.
+    /// An `Err` says why none was opened. `Memory` is returned only if the shape and the contents fit.
     pub fn open(
         alloc: Global,
         config: &Config,
@@ -98,7 +100,7 @@ impl Desk {
         }
     }
 
-    /// The same, of a shape and contents that fit. An `Err` says that an allocation failed.
+    /// Opens a desk whose shape and contents fit. An `Err` says that an allocation failed.
     fn open_over(
         alloc: Global,
         config: &Config,
@@ -124,9 +126,10 @@ impl Desk {
         })
     }
 
-    /// The first phase of a session's next call, and the call's number. If the call is done, its reply and what came and went are written.
+    /// The first phase of a session's next call. It returns the call's number and the outcome. If the call is done, its reply is
+    /// written to `reply`, and the values that came and went to `moves`.
     ///
-    /// A full generation ends first, unless its events are to be taken.
+    /// A full generation ends first, unless its events are to be taken: then the answer is `Full`.
     pub fn begin(
         &mut self,
         session: u32,
@@ -168,9 +171,12 @@ impl Desk {
         (call, asked)
     }
 
-    /// A `get` that finds its entry, as a session's next call: its value is written, and its number given. None says that no call was
-    /// made: the call may not begin, its key has no entry, or the generation is full and its events are to be taken, or an answer that is
-    /// parked keeps it from ending. If the call may begin, a full generation may have ended then, but none whose events are to be taken.
+    /// A `get` that finds its entry, as a session's next call: it writes the entry's value to `value`, and returns the call's
+    /// number.
+    ///
+    /// `None` says that no call was made: the call may not begin; its key has no entry; the generation is full and its events are
+    /// to be taken; or the generation is full and an answer that is parked keeps it from ending. If the call may begin, a full
+    /// generation may have ended, but none whose events are to be taken.
     pub fn hit(&mut self, session: u32, key: &Key, value: &mut Value) -> Option<u64>
         ensures found { is_some result ≡ hits_next self.old session key.now }
         ensures some { IfSome result (λ call. HitsAtDesk self.old session key.now value.new call self.new) }
@@ -194,7 +200,7 @@ impl Desk {
         Some(call)
     }
 
-    /// The reservation that is out and was made last. Its `first` says whom to ask.
+    /// The latest reservation among those that are out. Its `first` names whom to ask.
     pub fn newest(&self) -> Option<&Reservation>
         ensures { option_copied result ≡ newest self.now.stripe }
     {
@@ -211,14 +217,14 @@ impl Desk {
         self.stripe.entry(key)
     }
 
-    /// What the events of all generations count, the present one included (JSR 107, "Statistics"). It reads no event.
+    /// The counts of the events of all generations, the present one included (JSR 107, "Statistics"). It reads no event.
     pub fn statistics(&self) -> Statistics
         ensures { result ≡ statistics_of (all_occurrences self.now.stripe) }
     {
         self.stripe.statistics()
     }
 
-    /// Appends what is cached, each key once, the most recently used first.
+    /// Appends the cached entries, each key once, the most recently used first.
     ///
     /// An `Err` says that an allocation failed, and leaves `out` as it was.
     pub fn entries(&self, out: &mut Vec<(Key, Value)>) -> Result<(), AllocError>
@@ -246,8 +252,8 @@ impl Desk {
         self.stripe.event(place)
     }
 
-    /// Ends the present generation if it may end, and says whether it did. It may end if it has an event, and no answer is parked for a
-    /// joiner. Else nothing changes.
+    /// Ends the present generation if it may end, and returns whether it did. It may end if it has an event, and no answer is
+    /// parked for a joiner. Otherwise nothing changes.
     pub fn end_generation(&mut self) -> bool
         ensures may { result ≡ can_renew self.old.stripe }
         ensures done { OnTrue result (self.new ≡ record self.old { stripe = after_renewal self.old.stripe }) }

@@ -1,4 +1,5 @@
-//! The generations of a stripe. Contracts read what they were; when the program runs, it is known how many have ended.
+//! The generations of a stripe. Contracts read their openings and histories; a running program knows only how many have ended,
+//! and their counts.
 ghost use Rattle.std.specs.Prelude.{◌≡◌, [], ◌∷◌, ◌++◌, length, min};
 ghost use Rattle.jc_types.specs.declared.limits.TheConstants.{LAST_NUMBER};
 ghost use Rattle.jc_model.specs.Statistics.{statistics_of};
@@ -11,13 +12,14 @@ use jc_model::Statistics;
 use jc_model::statistics::statistics_laws;
 use std::marker::Model;
 
-/// What the present generation opened with, and the generations that have ended, each with its opening and its history.
+/// The entries that the present generation opened with, and the generations that have ended, each with its opening and its
+/// history.
 #[derive(Drop)]
 pub(crate) struct Life {
     opening: Log<Entries, ()>,
     ended: Log<Log<Entries, ()>, History>,
     count: u64,
-    // Of the generations that have ended.
+    // The counts of the generations that have ended.
     statistics: Statistics,
 }
 
@@ -49,9 +51,9 @@ impl Life {
         }
     }
 
-    /// The present generation has ended with this history, and the next one opens with these entries.
+    /// The life after the present generation has ended with this history, and the next one has opened with these entries.
     ///
-    /// Condition: the history has counted what occurred.
+    /// Condition: the history has counted its occurrences.
     pub(crate) fn next(&self, history: &History, entries: &Entries) -> Life
         requires { history.now.statistics ≡ statistics_of (occurrences self.now.opening history.now.events) }
         ensures { result ≡ record {
@@ -75,7 +77,7 @@ impl Life {
         self.count
     }
 
-    /// What the events of the generations that have ended count, each with what it found.
+    /// The counts of the events of the generations that have ended.
     pub(crate) fn statistics(&self) -> Statistics
         ensures { result ≡ statistics_of (past_occurrences self.now.ended) }
     {

@@ -1,4 +1,5 @@
-//! A list of pairs that only contracts read. It takes no memory, and its methods do nothing when they run.
+//! A list of pairs that only contracts read. It takes no memory, and its methods do nothing when they run. A stripe's opening is
+//! kept in one. It isn't the library's `Snapshot`, because the search for `Send` gives up at that.
 ghost use Rattle.std.specs.Prelude.{◌≡◌, List, [], ◌∷◌, ◌++◌};
 ghost use Rattle.std.specs.Borrow.{ftrue};
 
@@ -26,7 +27,7 @@ impl<A, B> Log<A, B> {
         Log { of: PhantomData }
     }
 
-    /// These pairs and one more, behind them.
+    /// These pairs, followed by one more.
     pub(crate) fn and(&self, first: &A, second: &B) -> Log<A, B>
         ensures { result.items ≡ self.now.items ++ (first.now, second.now) ∷ [] }
     {

@@ -1,4 +1,4 @@
-//! Stripes that open with what other stripes had cached, in any shape.
+//! Stripes that open with the entries that other stripes had cached, in any shape.
 ghost use Rattle.std.specs.Prelude.{◌≡◌, ℕ, ◌<◌, true, [], IfOk, All, Ok, Some, slice_get, option_map, vec_len};
 ghost use Rattle.jc_types.specs.Limits.{check};
 ghost use Rattle.jc_model.specs.Listed.{has_distinct_keys};
@@ -11,7 +11,7 @@ use jc_outside::Origin;
 use jc_types::{Config, Key, Value, stripe_of};
 use std::alloc::{AllocError, Global};
 
-/// Stripes that were opened with entries from before.
+/// Stripes that were opened with given entries.
 #[derive(Drop)]
 pub struct Reopened {
     /// The stripes, by their numbers.
@@ -27,8 +27,9 @@ struct Dealt {
     dropped: Vec<(Key, Value)>,
 }
 
-/// Opens as many stripes as the shape says with these entries. Each stripe keeps those of its own keys, in this order, which is then
-/// its order of use, the first one the most recently used; it keeps as many as it has room for, and the others are dropped.
+/// Opens as many stripes as the shape has, with these entries. Each stripe keeps the entries of its own keys, in the given order,
+/// which is then its order of use: the first one is the most recently used. It keeps as many as it has room for, and the others
+/// are dropped.
 ///
 /// An `Err` says that an allocation failed. Time and memory grow with the number of entries and with the shape.
 ///
@@ -54,8 +55,8 @@ pub fn reopen(
     Ok(Reopened { stripes, dropped })
 }
 
-/// Nothing is lost in a reopening, and nothing is there twice: what all the stripes open with and what is dropped, together, are the
-/// given entries, each as often as it was given. It does nothing: what it says is its contract.
+/// A law: a reopening loses no entry and doubles none. The entries that all the stripes open with and the dropped ones, together,
+/// are the given entries, each as often as it was given. It does nothing.
 pub fn keeps_or_drops()
     ensures { KeepsOrDrops }
 {}
@@ -81,7 +82,7 @@ fn deal(alloc: Global, config: &Config, entries: &[(Key, Value)]) -> Result<Deal
     Ok(Dealt { lists, dropped })
 }
 
-/// As many empty lists.
+/// `count` empty lists.
 fn empty_lists(alloc: Global, count: usize) -> Result<Vec<Vec<(Key, Value)>>, AllocError>
     ensures count { IfOk result (λ lists. vec_len lists ≡ count) }
     ensures empty { IfOk result (λ lists. (n : ℕ) → n < count →

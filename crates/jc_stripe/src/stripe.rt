@@ -46,7 +46,7 @@ use jc_types::{Caller, Config, HIT_PLACES, Key, STEP_PLACES, Value};
 use std::alloc::AllocError;
 use std::marker::Model;
 
-/// What the writer answered, if it was asked. The report is spent.
+/// The writer's answer, if it was asked. The report is spent.
 fn report_answer(report: Option<WriteDone<Ask>>) -> WriteAnswer
     ensures answer { result ≡ report_answer report }
     ensures given { is_write_given result ≡ is_some report }
@@ -57,9 +57,9 @@ fn report_answer(report: Option<WriteDone<Ask>>) -> WriteAnswer
     }
 }
 
-/// One stripe of a cache: what is cached, the keys that calls have reserved, who has joined a load, and the history.
+/// One stripe of a cache: the entries, the keys that calls have reserved, the calls that have joined a load, and the history.
 ///
-/// Each of its calls is one phase, and none of them allocates, except for an entry: all other room is made by `new`.
+/// Each of its calls is one phase, and allocates only for a new entry: all other memory is allocated by `new`.
 #[derive(Drop)]
 pub struct Stripe {
     config: Config,
@@ -95,13 +95,20 @@ impl Stripe {
 
     /// The first phase of a call, on one key.
     ///
-    /// It answers `Done` if nobody is asked, and writes what the call replies to `reply`; `Joined` if it is a `get` whose key is missing and is being loaded by another call,
-    /// with read-through on, and else reserves the key. It is refused, and nothing is done, if the history lacks the places or a
-    /// number is at its end (`HistoryFull`), if the key is reserved and the call needs it free (`Busy`), if `RESERVATIONS_MAX`
-    /// reservations are out and it needs one (`TooManyInFlight`), and if `JOINERS_MAX` joiners are there, those included that
-    /// have not picked up their answer, and it would join (`TooManyJoiners`), tested in this order. A `containsKey`, and a `get`
-    /// that finds the entry or doesn't read through, answer from the entry even while another call has the key reserved (JSR
-    /// 107, "Default Consistency").
+    /// - It answers `Done` if nobody is asked, and writes the call's reply to `reply`.
+    /// - It answers `Joined` if it is a `get` whose key is missing and is being loaded by another call, with read-through on.
+    /// - Otherwise it reserves the key and answers `Asks`.
+    ///
+    /// It is refused, and nothing is done, in these cases, tested in this order:
+    /// - `HistoryFull`: the history lacks the places, or a number would overflow: the call's own, or that of the next
+    ///   reservation.
+    /// - `Busy`: the key is reserved, and the call needs it free.
+    /// - `TooManyInFlight`: the call needs a reservation, and `RESERVATIONS_MAX` are out.
+    /// - `TooManyJoiners`: the call would join, and there are `JOINERS_MAX` joiners, counting those that haven't picked up their
+    ///   answer.
+    ///
+    /// A `containsKey`, and a `get` that finds the entry or doesn't read through, answer from the entry even while another call
+    /// has the key reserved (JSR 107, "Default Consistency").
     ///
     /// Conditions: the key is of this stripe, by `stripe_of`. The call's number is at least that of every step of its session in
     /// this history. The session has no reservation and no join out here under another number; a join counts until it is picked
@@ -122,8 +129,8 @@ impl Stripe {
         Started::Done(appended_alone(place))
     }
 
-    /// A `get` that finds its entry, as [`begin`](Stripe::begin) makes it, and writes its value to `value`. `false` says that the entry
-    /// is missing, or that the history lacks the place or a number is at its end, and nothing else; then nothing is done, and `value`
+    /// A `get` that finds its entry, as [`begin`](Stripe::begin) makes it, and writes its value to `value`. A `false` says that
+    /// the entry is missing, that the history lacks the place, or that a number would overflow. Then nothing is done, and `value`
     /// stays.
     ///
     /// Conditions: those of [`begin`](Stripe::begin).
@@ -142,15 +149,15 @@ impl Stripe {
         true
     }
 
-    /// The last phase of a call whose loader was asked: its reservation ends, and its step is appended with the loader's answer. What
-    /// the step replies is written to `reply`.
+    /// The last phase of a call whose loader was asked: its reservation ends, and its step is appended with the loader's answer.
+    /// The reply is written to `reply`.
     ///
     /// A failed load leaves the entry as it was, and is the step's reply (`LoaderFailed`). Each call that has joined the load and
-    /// waits shares it: its step is appended directly behind, in the order of joining, and its answer stays until it is picked
-    /// up.
+    /// waits shares it: its step is appended directly after this one, in the order of joining, and its answer stays until it is
+    /// picked up.
     ///
-    /// Conditions: the ticket's reservation is out here, and asks this one first. `done` was made of this ticket's ask,
-    /// and has this stripe's origin.
+    /// Conditions: the ticket's reservation is out here, and asks the loader first. `done` was made of this ticket's ask, and has
+    /// this stripe's origin.
     pub fn commit_load(
         &mut self,
         ticket: Ticket,
@@ -167,13 +174,13 @@ impl Stripe {
         self.commit(ticket.spend(), &Out::load_only(done.into_answer()), reply)
     }
 
-    /// The last phase of a call whose writer was asked: its reservation ends, and its step is appended with the writer's report. What
-    /// the step replies is written to `reply`.
+    /// The last phase of a call whose writer was asked: its reservation ends, and its step is appended with the writer's report.
+    /// The reply is written to `reply`.
     ///
     /// A failed write leaves the entry as it was, and is the step's reply (`WriterFailed`).
     ///
-    /// Conditions: the ticket's reservation is out here, and asks this one first. `done` was made of this ticket's ask,
-    /// and has this stripe's origin.
+    /// Conditions: the ticket's reservation is out here, and asks the writer first. `done` was made of this ticket's ask, and has
+    /// this stripe's origin.
     pub fn commit_write(
         &mut self,
         ticket: Ticket,
@@ -190,16 +197,16 @@ impl Stripe {
         self.commit(ticket.spend(), &Out::write_only(done.into_answer()), reply)
     }
 
-    /// The last phase of a call whose processor ran: its reservation ends, and its step is appended with what the loader, the
-    /// processor and the writer answered. What the step replies is written to `reply`.
+    /// The last phase of a call whose processor ran: its reservation ends, and its step is appended with the answers of the
+    /// loader, the processor and the writer. The reply is written to `reply`.
     ///
-    /// The processor's net effect becomes the entry; without one a loaded value is kept. A
-    /// failed load, processor or write leaves the entry as it was, also a missing one whose key was loaded, and the first of these
-    /// faults is the step's reply (JSR 107, "Entry Processors").
+    /// The processor's net effect becomes the entry; without one a loaded value is kept. A failed load, processor or write leaves
+    /// the entry as it was, and missing if it was missing, even if a value was loaded. The first of these faults is the step's
+    /// reply (JSR 107, "Entry Processors").
     ///
-    /// Conditions: the ticket's reservation is out here, and asks this one first. `done` was made of this ticket's ask. With
+    /// Conditions: the ticket's reservation is out here, and asks the processor first. `done` was made of this ticket's ask. With
     /// write-through on, and if `done` has a change to ask for, `report` is there and was made of this ticket's ask of the writer
-    /// for that change; else it isn't. Both have this stripe's origin.
+    /// for that change; otherwise it is `None`. Both have this stripe's origin.
     pub fn commit_process(
         &mut self,
         ticket: Ticket,
@@ -225,10 +232,11 @@ impl Stripe {
         self.commit(ticket.spend(), &out, reply)
     }
 
-    /// Gives a ticket back that asked nobody: nothing is appended, and the entry and the store stay. Each call that has joined a
+    /// Gives back a ticket that asked nobody: nothing is appended, and the entry and the store stay. Each call that has joined a
     /// load and waits is told to retry.
     ///
-    /// Conditions: the ticket's reservation is out here: it is this stripe's of its key. The ticket has asked nobody.
+    /// Conditions: the ticket's reservation is out here: the stripe's reservation of the key is this one. The ticket has asked
+    /// nobody.
     pub fn withdraw(&mut self, ticket: Ticket)
         requires out { IsOut self.old ticket.reservation }
         requires unasked { ticket.asked ≡ false }
@@ -238,7 +246,7 @@ impl Stripe {
         self.give_back(ticket.spend());
     }
 
-    /// Picks up the answer of the load that a call has joined. If the load isn't over, the join comes back and nothing changes;
+    /// Picks up the answer of the load that a call has joined. If the load isn't over, the join is returned and nothing changes;
     /// if it was withdrawn, the call is told to retry.
     ///
     /// Conditions: the join is out here: its call is among this stripe's joiners of its key, and joined this load.
@@ -250,7 +258,7 @@ impl Stripe {
         self.answer(join)
     }
 
-    /// The shape of the cache that the stripe is of.
+    /// The shape of the stripe's cache.
     pub fn config(&self) -> &Config
         ensures { result.now ≡ self.now.config }
     {
@@ -278,7 +286,7 @@ impl Stripe {
         self.reservations.is_empty() && self.joiners.is_empty()
     }
 
-    /// Appends what is cached, each key once, the most recently used first.
+    /// Appends the cached entries, each key once, the most recently used first.
     ///
     /// An `Err` says that an allocation failed, and leaves `out` as it was.
     pub fn entries(&self, out: &mut Vec<(Key, Value)>) -> Result<(), AllocError>
@@ -290,7 +298,7 @@ impl Stripe {
         self.entries.append_to(out)
     }
 
-    /// How many events the history has. It is legal from the stripe's opening, and what it leaves is what is cached.
+    /// The number of events of the history. The history is legal from the stripe's opening, and leaves the cached entries.
     pub fn events_len(&self) -> usize
         ensures len { result ≡ length self.now.history }
         ensures legal { Legal self.now.config self.now.opening self.now.history }
@@ -335,7 +343,17 @@ impl Stripe {
         self.commit_on(reservation, out, &entry, reply)
     }
 
-    /// The same, of a key that has this entry.
+    /// Ends the reservation of a key that has this entry, and appends its step and those of its joiners.
+    ///
+    /// The step's place in the history is the point at which the call takes effect (its linearization point), so the order here
+    /// counts:
+    /// 1. The reservation ends first: its key is no longer pinned when the step's entry is inserted.
+    /// 2. The step changes the entries, which may evict a victim or the step's own key.
+    /// 3. The reply is computed from the entry that the step found.
+    /// 4. The events are appended: the victim's eviction, the step, the shared step of each joiner, the eviction of the step's
+    ///    own key.
+    /// 5. Then each joiner gets its answer, the place of its shared step, which follows from the step's place.
+    /// 6. The box is given back last, since all of this reads the reservation in it.
     #[inline(always)]
     pub(crate) fn commit_on(
         &mut self,
@@ -375,7 +393,7 @@ impl Stripe {
         done
     }
 
-    /// Gives a reservation back. Its ticket's box is free again.
+    /// Ends a reservation without a step: its joiners are told to retry, its places are free, and so is its ticket's box.
     fn give_back(&mut self, reservation: Box<Reservation>)
         requires { IsOut self.old reservation.value }
         ensures { Withdraws self.old reservation.value self.new }
@@ -387,7 +405,7 @@ impl Stripe {
         self.boxes.give_back(reservation);
     }
 
-    /// The state of a joiner's load. It is a joiner no more if that is over.
+    /// The state of a joiner's load. If the load is over, the joiner is removed.
     fn take(&mut self, join: &Join) -> JoinState
         requires { IsJoined self.old join.now }
         ensures told { told_to self.old join.now ≡ Some result }
@@ -400,7 +418,7 @@ impl Stripe {
         }
     }
 
-    /// The answer of a joiner, and what is left once it was told.
+    /// The answer to a joiner, which is removed if its load is over.
     fn answer(&mut self, join: Join) -> Picked
         requires { IsJoined self.old join }
         ensures { PicksUp self.old join result self.new }

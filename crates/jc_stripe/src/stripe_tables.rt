@@ -1,10 +1,11 @@
 //! The tables of a stripe, each in a block of its own.
 //!
-//! A table has 64 places in itself, the reservations 56 kB. A stripe is made through many calls, and each would clear and copy them:
-//! that took 547 kB of stack. So a table is the one element of a vector, and the stripe has a pointer to it. To make a table takes
-//! memory once; nothing else does.
+//! A table has 64 places in the value itself; the reservations take 56 kB. A stripe is made through many function calls, and each
+//! would clear and copy the tables, which took 547 kB of stack. So a table is the only element of a vector, and the stripe has a
+//! pointer to it. Making a table allocates once; nothing else allocates.
 //!
-//! A vector, and no box: `push_reserved` writes the table to its block, where `Box::new` would copy it once more on the stack.
+//! It is a vector and not a box, because `push_reserved` writes the table to its block, while `Box::new` would copy it once more
+//! on the stack.
 ghost use Rattle.std.specs.Prelude.{◌≡◌, ◌≤◌, ◌<◌, ◌+◌, ◌^◌, ◌↔◌, [], false, IsTrue, IfOk, IfSome, MatchBool, is_some, count_by, length, map, nat_le, option_map};
 ghost use Rattle.std.specs.Bool.{OnTrue, OnFalse};
 ghost use Rattle.jc_types.specs.declared.limits.TheConstants.{RESERVATIONS_MAX, JOINERS_MAX, LAST_NUMBER};
@@ -24,7 +25,7 @@ use jc_types::{Caller, Key};
 use std::alloc::{AllocError, Global};
 use std::marker::Model;
 
-/// The stripe's [`Reservations`]: each method is theirs.
+/// The stripe's [`Reservations`]: each method forwards to theirs.
 #[derive(Drop)]
 pub(crate) struct StripeReservations {
     only: Vec<Reservations<Reservation>>,
@@ -66,7 +67,7 @@ impl StripeReservations {
         self.only[0].next_number()
     }
 
-    /// Reserves the key of a reservation that is by the next number.
+    /// Reserves the key of a reservation that has the next number.
     pub(crate) fn reserve(&mut self, reservation: &Reservation) -> Option<u64>
         requires { reservation.now.number ≡ self.old.next }
         ensures can { IsTrue (is_some result) ↔ CanReserve (λ (x : Reservation). x.key) self.old reservation.now.key }
@@ -84,7 +85,8 @@ impl StripeReservations {
         self.only[0].find(key)
     }
 
-    /// Ends a key's reservation, and says whether there was one.
+    /// Ends a key's reservation, and returns whether there was one. The reservations made after it move up: up to 63 of them, 840
+    /// bytes each. That takes time only if many are out.
     pub(crate) fn release(&mut self, key: &Key) -> bool
         ensures found { result ≡ is_held (λ (x : Reservation). x.key) self.old key.now }
         ensures released { self.new ≡ without_reservation (λ (x : Reservation). x.key) self.old key.now }
@@ -115,7 +117,7 @@ impl StripeReservations {
         self.only[0].is_empty()
     }
 
-    /// Whether as many keys are reserved as can be.
+    /// Whether all places for reservations are taken.
     pub(crate) fn is_full(&self) -> bool
         ensures { result ≡ nat_le RESERVATIONS_MAX (length self.now.held) }
     {
@@ -130,7 +132,7 @@ impl StripeReservations {
     }
 }
 
-/// The stripe's [`Joiners`]: each method is theirs.
+/// The stripe's [`Joiners`]: each method forwards to theirs.
 #[derive(Drop)]
 pub(crate) struct StripeJoiners {
     only: Vec<Joiners>,
@@ -150,7 +152,7 @@ impl Model for StripeJoiners {
 impl StripeJoiners {
     /// No joiner. An `Err` says that an allocation failed.
     ///
-    /// Out of line: inlined beside the other table's maker, it would add its room to that one's.
+    /// It isn't inlined: beside the maker of the other table it would add its stack to that one's.
     #[inline(never)]
     pub(crate) fn new(alloc: Global) -> Result<Self, AllocError>
         ensures { IfOk result (λ b. b ≡ []) }
@@ -160,14 +162,14 @@ impl StripeJoiners {
         Ok(StripeJoiners { only })
     }
 
-    /// Takes all joiners out.
+    /// Removes all joiners.
     pub(crate) fn clear(&mut self)
         ensures { self.new ≡ [] }
     {
         self.only[0].clear();
     }
 
-    /// Has a call that hasn't joined at the key join its load.
+    /// Adds a joiner: a call that hasn't joined at the key joins its load.
     pub(crate) fn join(&mut self, caller: Caller, key: &Key, load: u64) -> bool
         requires { has_joined caller key.now self.old ≡ false }
         ensures room { IsTrue result ↔ (length self.old < JOINERS_MAX) }
@@ -177,7 +179,7 @@ impl StripeJoiners {
         self.only[0].join(caller, key, load)
     }
 
-    /// Ends a load that was committed at place `step` of the history, and answers how many joiners waited for it.
+    /// Ends a load that was committed at place `step` of the history, and returns how many joiners waited for it.
     pub(crate) fn resolve(&mut self, load: u64, step: u32) -> u32
         requires { step + count_by (waits_for load) self.old < 2 ^ 32 }
         ensures resolved { self.new ≡ after_resolve load step self.old }
@@ -186,7 +188,7 @@ impl StripeJoiners {
         self.only[0].resolve(load, step)
     }
 
-    /// Ends a load that was withdrawn, and answers how many joiners waited for it.
+    /// Ends a load that was withdrawn, and returns how many joiners waited for it.
     pub(crate) fn dissolve(&mut self, load: u64) -> u32
         ensures dissolved { self.new ≡ after_dissolve load self.old }
         ensures count { result ≡ count_by (waits_for load) self.old }
@@ -202,7 +204,7 @@ impl StripeJoiners {
         self.only[0].waiting(load)
     }
 
-    /// The state of the load that a call has joined at a key. If it is over, the joiner is taken out of the table.
+    /// The state of the load that a call has joined at a key. If the load is over, the joiner is removed.
     pub(crate) fn take(&mut self, caller: Caller, key: &Key) -> Option<JoinState>
         ensures state { result ≡ join_state_of caller key.now self.old }
         ensures left { self.new ≡ after_take caller key.now self.old }

@@ -1,9 +1,10 @@
-//! Reservations, the tickets that stand for them, and what is asked outside for them.
+//! Reservations, the tickets that stand for them, and their asks.
 //!
-//! A ticket is the caller's part of a reservation. It can't be dropped or copied: one commit or one withdrawal spends
-//! it. It asks the one whom the reservation asks first at most once, by an ask that can't be copied either; a done value of
-//! `jc_outside` or `jc_mutentry` is made of that ask and says what was answered, and the commit spends both. After a processor
-//! it may ask the writer, once. A join stands for a call that shares another call's load; picking up its answer spends it.
+//! A ticket is the caller's part of a reservation. It can be neither dropped nor copied: one commit or one withdrawal spends it.
+//! It asks the reservation's partner (loader, writer or processor) at most once, by an ask that can't be copied either. A done
+//! value of `jc_outside` or `jc_mutentry` is made of that ask and has the answer, and the commit spends ticket and done value.
+//! After a processor the ticket may ask the writer, once. A join stands for a call that shares another call's load; picking up
+//! its answer spends it. Tickets and joins are two types, so a join can't be committed, and a ticket can't be picked up.
 ghost use Rattle.std.specs.Prelude.{◌≡◌, true, false, Some, is_some};
 ghost use Rattle.jc_mutentry.specs.Done as processed;
 ghost use Rattle.jc_stripe.specs.declared.ticket.First.TheVariants.{Nobody};
@@ -16,7 +17,7 @@ use jc_reserve::Reserved;
 use jc_types::{Caller, Key, Value};
 use std::marker::Model;
 
-/// What a call asks first.
+/// The one whom a call asks first.
 #[derive(Clone, Copy, Debug, PartialEq, Eq)]
 pub enum First {
     /// Nobody: the call is done at once.
@@ -41,11 +42,11 @@ pub struct Reservation {
     pub caller: Caller,
     /// The key.
     pub key: Key,
-    /// What is called.
+    /// The operation.
     pub op: Op,
     /// The reservation's number. A stripe's numbers rise and are never used again.
     pub number: u64,
-    /// What the call asks first.
+    /// The one whom the call asks first.
     pub first: First,
 }
 
@@ -78,7 +79,7 @@ impl Reserved for Reservation {
 }
 
 impl Reservation {
-    /// Makes this the reservation of a call. Whom it asks first stays.
+    /// Makes this the reservation of a call. Its `first` stays.
     #[inline(always)]
     pub(crate) fn set_call(&mut self, caller: Caller, key: &Key, op: &Op, number: u64)
         ensures { self.new ≡ record self.old { caller = caller; key = key.now; op = op.now; number = number } }
@@ -91,7 +92,7 @@ impl Reservation {
 }
 
 impl First {
-    /// The change of the store that the writer is asked for, if it is asked first.
+    /// The change of the store that the writer is asked for, if the writer is asked first.
     fn change(&self) -> Option<Change>
         ensures { result ≡ change_asked self.now }
     {
@@ -101,7 +102,7 @@ impl First {
         }
     }
 
-    /// The entry that the processor is asked about, if it is asked first.
+    /// The entry that the processor is asked about, if the processor is asked first.
     pub fn entry(&self) -> Option<Value>
         ensures { result ≡ entry_seen self.now }
     {
@@ -112,9 +113,9 @@ impl First {
     }
 }
 
-/// A call has reserved its key, and the one whom it asks first is to be asked.
+/// The ticket of a call that has reserved its key, and is to ask the one whom its reservation names.
 ///
-/// It keeps the reservation in a box of its stripe's, so it is cheap to hand on.
+/// It keeps the reservation in a box that its stripe has lent it, so moving it is cheap.
 pub struct Ticket {
     reservation: Box<Reservation>,
     is_asked: bool,
@@ -141,14 +142,14 @@ impl Ticket {
         }
     }
 
-    /// The reservation that the ticket stands for. Its `first` says whom to ask.
+    /// The reservation that the ticket stands for. Its `first` names whom to ask.
     pub fn reservation(&self) -> &Reservation
         ensures { result.now ≡ self.now.reservation }
     {
         &self.reservation
     }
 
-    /// What to ask the loader, the writer or the processor for. A ticket asks once.
+    /// The ask of the loader, the writer or the processor. A ticket asks once.
     pub fn ask(&mut self) -> Ask
         requires { self.old.asked ≡ false }
         ensures ask { result ≡ claim_of self.old.reservation }
@@ -159,8 +160,8 @@ impl Ticket {
         Ask::new(&self.reservation, change)
     }
 
-    /// What to ask the writer for after the processor: the reservation's key, and the change of the store that is the processor's
-    /// net effect. It is for a stripe with write-through on alone, and a ticket asks once.
+    /// The ask of the writer after the processor: the reservation's key, and the change of the store that is the processor's net
+    /// effect. It is used only with write-through on, and at most once for a ticket.
     ///
     /// Conditions: the ticket's processor was asked, and its writer was not. `done` was made of this ticket's ask, and there is a
     /// change to ask for: neither the loader nor the processor failed, and the processor set or removed the entry.
@@ -176,7 +177,7 @@ impl Ticket {
         Ask::new(&self.reservation, done.change())
     }
 
-    /// The ticket is spent: its box, with the reservation that it stood for.
+    /// Spends the ticket, and returns its box with the reservation.
     pub(crate) fn spend(self) -> Box<Reservation>
         ensures { result.value ≡ self.reservation }
     {
@@ -189,9 +190,9 @@ impl Ticket {
     }
 }
 
-/// What the loader, the writer or the processor is asked for. It is made by a ticket alone, and one done value is made of it.
+/// An ask of the loader, the writer or the processor. Only a ticket makes one, and one done value is made of it.
 ///
-/// It names its reservation by key, number and whom it asks first, and has no copy of the rest.
+/// It has the key, the number and the `first` of its reservation, and no copy of the rest.
 pub struct Ask {
     key: Key,
     number: u64,
@@ -211,7 +212,7 @@ impl Model for Ask {
 }
 
 impl Ask {
-    /// What is asked for a reservation, and for a writer the change of the store.
+    /// The ask for a reservation, with the change of the store if the writer is asked.
     fn new(reservation: &Reservation, change: Option<Change>) -> Self
         ensures { result ≡ record { reservation = id_of reservation.now; change = change } }
     {
@@ -271,7 +272,7 @@ impl AskProcess for Ask {
     }
 }
 
-/// A call has joined the load of its key, and its answer is to be picked up.
+/// The join of a call that has joined the load of its key, and is to pick up its answer.
 pub struct Join {
     caller: Caller,
     key: Key,

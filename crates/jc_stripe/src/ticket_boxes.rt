@@ -1,8 +1,8 @@
 //! The boxes in which tickets keep their reservations.
 //!
-//! A reservation has the values of its operation inline, and a ticket is handed through many calls before it is spent. So a ticket
-//! keeps its reservation in a box, and is as small as a pointer. All boxes are made with the stripe, one for each reservation that
-//! may be out: to hand out a ticket takes no memory.
+//! A reservation has the values of its operation inline, and a ticket is handed through many functions before it is spent. So a
+//! ticket keeps its reservation in a box, and is as small as a pointer. All boxes are made with the stripe, one for each
+//! reservation that may be out, so making a ticket allocates nothing. That is 65 allocations and 54 kB a stripe.
 ghost use Rattle.std.specs.Prelude.{◌≡◌, ◌≤◌, ◌<◌, ◌+◌, ℕ, length, vec_capacity, IfOk};
 ghost use Rattle.jc_types.specs.declared.limits.TheConstants.{RESERVATIONS_MAX};
 
@@ -11,14 +11,14 @@ use jc_types::RESERVATIONS_MAX;
 use std::alloc::{AllocError, Global};
 use std::marker::Model;
 
-/// The boxes that no ticket has now. What is in them means nothing.
+/// The boxes that no ticket has now. Their contents have no meaning.
 #[derive(Drop)]
 pub(crate) struct TicketBoxes {
     free: Vec<Box<Reservation>>,
 }
 
 impl Model for TicketBoxes {
-    /// How many there are.
+    /// The number of boxes.
     ghost Value = { ℕ };
 
     ghost view = { λ b. length b.free.items };
@@ -27,7 +27,7 @@ impl Model for TicketBoxes {
 }
 
 impl TicketBoxes {
-    /// As many boxes as there may be reservations.
+    /// `RESERVATIONS_MAX` boxes: one for each reservation that may be out.
     pub(crate) fn new(alloc: Global) -> Result<Self, AllocError>
         ensures { IfOk result (λ b. b ≡ RESERVATIONS_MAX) }
     {

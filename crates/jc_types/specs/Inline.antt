@@ -1,17 +1,17 @@
 -- Bytes that are kept inline: a buffer of fixed size, of which the first `len` bytes count and the rest is 0.
---     padded            the bytes, and zeros up to a size
---     IsInline          at least so many and at most so many bytes of a buffer count, and the others are 0
+--     padded            the bytes, and then zeros up to a size
+--     IsInline          of a buffer at least `least` and at most `size` bytes count, and the others are 0
 --     length-inline     as many bytes count as `len` says
 --     padded-inline     the bytes that count, padded, are the buffer
 use Rattle.std.specs.Prelude.{◌≡◌, ℕ, ◌-◌, ◌≤◌, List, ◌++◌, length, take, replicate}
 use Rattle.std.proofs.Common.{sym, ap, ◌∙◌, arith}
 use Rattle.std.proofs.lemmas.List.{length-take-le}
 
--- the bytes, and zeros up to size
+-- the bytes, and then zeros up to a size
 abbrev pub padded : ℕ → List ℕ → List ℕ
 padded size bytes = bytes ++ replicate (size - length bytes) 0
 
--- at least `least` and at most `size` bytes count, and the others are 0
+-- of a buffer at least `least` and at most `size` bytes count, and the others are 0
 pub record IsInline (least size : ℕ) (buf : List ℕ) (len : ℕ) : Type 0 where
   pub full : length buf ≡ size
   pub least_len : least ≤ len

@@ -1,4 +1,4 @@
--- The fields of a key, given back from its bytes.
+-- The fields of a key, found again from its bytes.
 --     again         the fields of the key of these bytes
 --     key_again     the bytes that count give a key's fields back
 use Rattle.std.specs.Prelude.{◌≡◌, List, ℕ, length, take}
@@ -10,6 +10,6 @@ use Rattle.jc_types.specs.declared.limits.TheConstants.{KEY_MAX}
 abbrev pub again : List ℕ → Inside
 again bytes = record { buf = padded KEY_MAX bytes; len = length bytes }
 
--- the bytes that count give the buffer back
+-- the bytes that count give a key's fields back
 pub key_again : (k : Inside) → IsInline 1 KEY_MAX k.buf k.len → again (take k.len k.buf) ≡ k
 key_again k h = λ i. record { buf = padded-inline 1 KEY_MAX k.buf k.len h i; len = length-inline 1 KEY_MAX k.buf k.len h i }

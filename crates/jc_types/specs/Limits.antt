@@ -1,7 +1,7 @@
 -- The limits of a configuration, tested in order.
 --     is_between   whether a number is at least the low limit and at most the high one
 --     is_session   whether a number is that of a session: from 1 to the most sessions
---     check        nothing if each field is within its limits, and else the refusal of the first one that isn't
+--     check        nothing if each field is within its limits, otherwise the refusal of the first one that isn't
 use Rattle.std.specs.Prelude.{ℕ, Bool, ◌&&◌, nat_le, Result, Ok, Err, if◌then◌else◌}
 use Rattle.jc_types.specs.declared.config.Config.{Config}
 use Rattle.jc_types.specs.declared.refusal.Refusal.{Refusal}
@@ -17,7 +17,7 @@ is_between low high n = nat_le low n && nat_le n high
 abbrev pub is_session : ℕ → Bool
 is_session session = is_between 1 SESSIONS_MAX session
 
--- nothing if each field is within its limits, and else the first field that isn't
+-- nothing if each field is within its limits, otherwise the refusal of the first one that isn't
 abbrev pub check : Config → Result (Unit {0}) Refusal
 check config =
     if is_between 1 STRIPES_MAX config.stripes

@@ -1,4 +1,4 @@
--- What a refusal is called, and what kind it is.
+-- The name of a refusal, and its kind.
 --     refusal_name     the letters of the variant's name, without its code or field: what a transcript shows
 --     is_fault         the loader, the writer or the processor failed: the refusal is the reply of a step
 --     is_put_off       a bulk call tries the key again in its next round

@@ -1,4 +1,4 @@
--- The fields of a value, given back from its bytes.
+-- The fields of a value, found again from its bytes.
 --     again           the fields of the value of these bytes
 --     value_again     the bytes that count give a value's fields back
 use Rattle.std.specs.Prelude.{◌≡◌, List, ℕ, length, take}
@@ -10,6 +10,6 @@ use Rattle.jc_types.specs.declared.limits.TheConstants.{VALUE_MAX}
 abbrev pub again : List ℕ → Inside
 again bytes = record { buf = padded VALUE_MAX bytes; len = length bytes }
 
--- the bytes that count give the buffer back
+-- the bytes that count give a value's fields back
 pub value_again : (v : Inside) → IsInline 0 VALUE_MAX v.buf v.len → again (take v.len v.buf) ≡ v
 value_again v h = λ i. record { buf = padded-inline 0 VALUE_MAX v.buf v.len h i; len = length-inline 0 VALUE_MAX v.buf v.len h i }

@@ -1,10 +1,10 @@
-//! Who calls.
+//! Callers.
 ghost use Rattle.std.specs.Prelude.{◌≡◌};
 ghost use Rattle.jc_types.specs.Limits.{is_session};
 
 use crate::limits::SESSIONS_MAX;
 
-/// Who calls: a session, and the number of its call.
+/// A caller: a session, and the number of its call.
 #[derive(Clone, Copy, Debug, PartialEq, Eq)]
 pub struct Caller {
     /// The session. In a script it is from 1 to [`SESSIONS_MAX`](crate::limits::SESSIONS_MAX).

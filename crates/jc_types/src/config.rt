@@ -5,7 +5,7 @@ use crate::limits::{CAPACITY_MAX, HISTORY_MAX, HISTORY_MIN, STRIPES_MAX};
 use crate::refusal::Refusal;
 use std::fmt::{self, Display, Formatter, Write};
 
-/// A number of a [`Config`] that has limits.
+/// A field of a [`Config`] that is a number and has limits.
 #[derive(Clone, Copy, Debug, PartialEq, Eq)]
 pub enum Field {
     /// `Config::stripes`, from 1 to [`STRIPES_MAX`].
@@ -31,16 +31,15 @@ impl Display for Field {
 /// limits that the standard leaves to the provider.
 #[derive(Clone, Copy, Debug, PartialEq, Eq)]
 pub struct Config {
-    /// How many stripes the cache has, from 1 to [`STRIPES_MAX`]. Each key belongs to one of them,
-    /// by [`stripe_of`](crate::key::stripe_of), and calls on different stripes do not meet.
+    /// How many stripes the cache has, from 1 to [`STRIPES_MAX`]. Each key belongs to one of them, by
+    /// [`stripe_of`](crate::key::stripe_of), and calls on different stripes don't contend.
     pub stripes: usize,
-    /// How many entries one stripe keeps, from 1 to [`CAPACITY_MAX`]. A new entry beyond them first evicts
-    /// the least recently used one that no call has reserved, and is not kept if calls have reserved all.
+    /// How many entries one stripe keeps, from 1 to [`CAPACITY_MAX`]. If the stripe is full, a new entry first evicts the least
+    /// recently used one that no call has reserved. If calls have reserved all of them, the new entry isn't kept.
     pub capacity: usize,
-    /// How many events the history of one stripe has room for, from [`HISTORY_MIN`] to
-    /// [`HISTORY_MAX`]. The room is taken when the cache is made: 884 bytes for each event and each
-    /// stripe, as much as the largest event needs. That is 58 MB for a stripe of [`HISTORY_MAX`], and
-    /// 3.7 GB for [`STRIPES_MAX`] of them.
+    /// How many events the history of one stripe has room for, from [`HISTORY_MIN`] to [`HISTORY_MAX`]. The memory is allocated
+    /// when the cache is made: 884 bytes for each event and each stripe, which is what the largest event needs. That is 58 MB for
+    /// a stripe of [`HISTORY_MAX`], and 3.7 GB for [`STRIPES_MAX`] of them.
     pub history: usize,
     /// Whether a missing entry is loaded (JSR 107, "Integration": read-through).
     pub read_through: bool,
@@ -48,11 +47,11 @@ pub struct Config {
     pub write_through: bool,
 }
 
-/// A shape for a service, until it has measured its own: 16 stripes with 4,096 entries each, and histories of 256 events, in a cache
-/// that reads and writes through.
+/// A shape for a service, until it has measured its own: 16 stripes with 4,096 entries each, and histories of 256 events, in a
+/// cache that reads and writes through.
 ///
-/// It is meant for a cache that lives on, in which a history that is full is begun anew. One field can be chosen alone:
-/// `Config { stripes: 64, ..Config::default() }`.
+/// It is meant for a cache that lives on: one that starts a new history when the history is full. To choose one field alone,
+/// write `Config { stripes: 64, ..Config::default() }`.
 impl Default for Config {
     ghost use Rattle.std.specs.Prelude.{◌≡◌, Ok, true};
     ghost use Rattle.jc_types.specs.Limits.{check};

@@ -34,13 +34,13 @@ pub enum KeyFault {
 /// ordered byte by byte, as slices are. `Debug` prints a key as text.
 #[derive(Clone, Copy)]
 pub struct Key {
-    // The bytes, and zeros behind them.
+    // The bytes, followed by zeros.
     buf: [u8; KEY_MAX],
-    // How many of the bytes count.
+    // The number of bytes that count.
     len: Len,
 }
 
-// The smallest number that counts to `KEY_MAX`.
+// The smallest type that holds `KEY_MAX`.
 type Len = u8;
 
 impl Model for Key {
@@ -61,7 +61,10 @@ impl Model for Key {
 }
 
 impl Key {
-    /// The key of these bytes, or what keeps them from being one.
+    /// A key of these bytes, which are copied. Every byte is allowed: a key needn't be text, and nothing is trimmed or folded.
+    ///
+    /// An `Err` says why there is no such key: [`KeyFault::Empty`] if there is no byte, [`KeyFault::TooLong`] if there are more
+    /// than [`KEY_MAX`]. It takes no memory.
     pub fn new(bytes: &[u8]) -> Result<Key, KeyFault>
         ensures made { IfOk result (λ key. key ≡ bytes.now) }
         ensures ok { IsOk result ↔ ((0 < length bytes.now) × (length bytes.now ≤ KEY_MAX)) }
@@ -102,7 +105,7 @@ impl Default for Key {
     }
 }
 
-/// Prints the bytes as a quoted text if they are UTF-8, and else as a list of numbers.
+/// Prints the bytes as a quoted text if they are UTF-8, otherwise as a list of numbers.
 impl Debug for Key {
     fn fmt<W: Write>(&self, f: &mut Formatter<W>) -> fmt::Result {
         fmt_bytes(self.bytes(), f)
@@ -150,8 +153,7 @@ impl PartialOrd for Key {
 }
 
 impl Hash for Key {
-    // All bytes in one write, with no length before them: a write for each byte would cost several
-    // times as much.
+    // All bytes are hashed by one write, without their length: one write for each byte would cost several times as much.
     ghost hash_input = { λ bytes. bytes ∷ [] };
 
     ghost respects_eq = { Prim.search (hashing, rules) };
@@ -170,12 +172,12 @@ pub fn stripe_of(key: &Key, stripes: usize) -> usize
     byte_sum(key) as usize % stripes
 }
 
-/// The sum of a key's bytes. Out of line, where the loop becomes a few vector instructions.
+/// The sum of a key's bytes. It isn't inlined, so that the loop becomes a few vector instructions.
 #[inline(never)]
 fn byte_sum(key: &Key) -> u32
     ensures { result ≡ sum key.now }
 {
-    // All of the buffer, of which the bytes that don't count are 0: so the length is fixed.
+    // The whole buffer is added up, since the bytes that don't count are 0: so the number of steps is fixed.
     let mut total: u32 = 0;
     for byte in &key.buf {
         total += *byte as u32;

@@ -21,7 +21,7 @@ pub const HISTORY_MAX: usize = 65536;
 /// The most keys of one stripe that are reserved at once.
 pub const RESERVATIONS_MAX: usize = 64;
 
-/// The most calls of one stripe that have joined a load and have not picked up their answer.
+/// The most calls of one stripe that have joined a load and haven't picked up their answer.
 pub const JOINERS_MAX: usize = 64;
 
 /// The most sessions of a cache. A script numbers them from 1 to this one; a cache that threads share numbers its own from 0.
@@ -34,11 +34,10 @@ pub const BULK_KEYS_MAX: usize = 1024;
 /// before its step, the step, and the eviction of its own key after it.
 pub const STEP_PLACES: usize = 3;
 
-/// The free places that a call needs if it evicts nothing for sure: one that answers from the cached entry, or joins
-/// a load.
+/// The free places that a call needs if it certainly evicts nothing: it answers from the cached entry, or joins a load.
 pub const HIT_PLACES: usize = 1;
 
-/// The end of the numbers that only rise: those of a session's calls, and of a stripe's reservations. A call is refused if its
+/// The last of the numbers that only rise: those of a session's calls, and of a stripe's reservations. A call is refused if its
 /// own number, or the next reservation's, is this one.
 pub const LAST_NUMBER: u64 = u64::MAX;
 

@@ -6,24 +6,23 @@ use thiserror::Error;
 
 /// Why a call was refused.
 ///
-/// The entry of a refused key stays as it was. `LoaderFailed`, `WriterFailed` and `ProcessorFailed`
-/// are what an outside call answered, and are in the history as the reply of a step. The others leave
-/// nothing in the history.
+/// The entry of a refused key stays as it was. `LoaderFailed`, `WriterFailed` and `ProcessorFailed` are answers of outside calls,
+/// and are in the history as the reply of a step. The others leave nothing in the history.
 #[derive(Clone, Copy, Debug, PartialEq, Eq, Error)]
 pub enum Refusal {
-    /// The history of the key's stripe has fewer free places than the call needs, or a number that
-    /// only rises, as that of a session's calls, has reached its end.
+    /// The history of the key's stripe has fewer free places than the call needs, or a number that only rises would overflow: the
+    /// call's own, or that of the next reservation.
     #[error("the history has no room for this call")]
     HistoryFull,
-    /// Another call has reserved the key, and this one needs it free.
+    /// Another call has reserved the key, and this one needs the key free.
     #[error("another call is at work on this key")]
     Busy,
     /// The call needs a reservation, and all [`RESERVATIONS_MAX`](crate::limits::RESERVATIONS_MAX) of the key's
     /// stripe are out.
     #[error("too many calls of this stripe are at work outside")]
     TooManyInFlight,
-    /// The call would join a load, and the key's stripe has [`JOINERS_MAX`](crate::limits::JOINERS_MAX) joiners
-    /// already. A joiner that was answered, or told to retry, counts until it picks that up.
+    /// The call would join a load, and the key's stripe has [`JOINERS_MAX`](crate::limits::JOINERS_MAX) joiners already. A joiner
+    /// that was answered, or told to retry, counts until it picks up its answer.
     #[error("too many calls of this stripe have joined a load")]
     TooManyJoiners,
     /// The loader failed with this code: the `CacheLoaderException` of JSR 107, "Integration".

@@ -29,13 +29,13 @@ pub enum ValueFault {
 /// by byte, as slices are. `Debug` prints a value as text.
 #[derive(Clone, Copy)]
 pub struct Value {
-    // The bytes, and zeros behind them.
+    // The bytes, followed by zeros.
     buf: [u8; VALUE_MAX],
-    // How many of the bytes count.
+    // The number of bytes that count.
     len: Len,
 }
 
-// The smallest number that counts to `VALUE_MAX`.
+// The smallest type that holds `VALUE_MAX`.
 type Len = u16;
 
 impl Model for Value {
@@ -56,7 +56,9 @@ impl Model for Value {
 }
 
 impl Value {
-    /// The value of these bytes, or [`ValueFault::TooLong`].
+    /// A value of these bytes, which are copied. Every byte is allowed, and a value may have none.
+    ///
+    /// An `Err` is [`ValueFault::TooLong`]: there are more than [`VALUE_MAX`] bytes. It takes no memory.
     pub fn new(bytes: &[u8]) -> Result<Value, ValueFault>
         ensures made { IfOk result (λ value. value ≡ bytes.now) }
         ensures ok { IsOk result ↔ (length bytes.now ≤ VALUE_MAX) }
@@ -79,8 +81,8 @@ impl Value {
         &self.buf[..self.len as usize]
     }
 
-    /// Takes the bytes of another value, in place: only the bytes that count are copied, and what is
-    /// left of a longer old value is cleared.
+    /// Takes the bytes of another value, in place: only the bytes that count are copied, and the rest of a longer old value is
+    /// cleared.
     pub fn copy_from(&mut self, other: &Value)
         ensures { self.new ≡ other.now }
     {
@@ -89,7 +91,7 @@ impl Value {
     }
 }
 
-/// The value of no bytes, with which a room for values begins.
+/// The value of no bytes, with which a buffer for values begins.
 impl Default for Value {
     ghost is_default = { λ value. value ≡ [] };
 
@@ -101,7 +103,7 @@ impl Default for Value {
     }
 }
 
-/// Prints the bytes as a quoted text if they are UTF-8, and else as a list of numbers.
+/// Prints the bytes as a quoted text if they are UTF-8, otherwise as a list of numbers.
 impl Debug for Value {
     fn fmt<W: Write>(&self, f: &mut Formatter<W>) -> fmt::Result {
         fmt_bytes(self.bytes(), f)

@@ -10,7 +10,7 @@ use std::cmp::Ordering;
 // The bytes of a word. `KEY_MAX` is a multiple of it.
 const WORD: usize = 8;
 
-/// The order of two buffers, byte by byte, as that of slices. It compares 8 bytes at once.
+/// The order of two buffers, byte by byte, which is the order of slices. It compares 8 bytes at once.
 #[inline]
 pub(crate) fn cmp_words(mine: &[u8; KEY_MAX], theirs: &[u8; KEY_MAX]) -> Ordering
     ensures { result ≡ slice_cmp nat_cmp mine.now theirs.now }
@@ -24,7 +24,7 @@ pub(crate) fn cmp_words(mine: &[u8; KEY_MAX], theirs: &[u8; KEY_MAX]) -> Orderin
     Ordering::Equal
 }
 
-/// The word of 8 bytes at a place of a buffer, whose first byte is the most significant one.
+/// The 8 bytes at a place of a buffer as a number, the first byte the most significant one.
 #[inline]
 fn word_at(buf: &[u8; KEY_MAX], at: usize) -> u64
     requires { at + WORD ≤ KEY_MAX }

@@ -1,6 +1,8 @@
-//! A file for each type or table. Tables of values are constants, and long ones are texts: a table in a function's body is dear
-//! to prove. So is an assertion in its own place: most are calls of `is`. And so is each `?` behind a value that has to be dropped:
-//! where memory may be short, `expect` is a call and no branch.
+//! Tests of the stripe and of the crates below it: a file for each type or table.
+//!
+//! Some habits keep the proof of these tests cheap. Tables of values are constants, and long ones are texts, since a table in a
+//! function's body takes long to prove. Most assertions are calls of `is`, since each assertion in its own place takes long, too.
+//! And where an allocation may fail, `expect` is called, since each `?` after a value that has to be dropped adds a branch.
 mod batches;
 mod beside_lists;
 mod callers;

@@ -1,27 +1,30 @@
--- What the program answers, by its words and its streams.
---     ExitOfPlay        the script was played, and this status says how that ended
---     status_of_fault   the status of a shell that ended before its input did: 4 if an allocation failed, else 3
---     ExitOfShell       the lines that were typed were answered, up to the end of the input or a line `quit`; or up to an error, which this
---                       status tells
---     status_of_end     the status of an exploration whose answer was written: 0 if all outcomes are known and each expectation holds, 1 if a
---                       line has a fault, 5 if an expectation fails, 6 if none fails and not all outcomes are known
---     ExitOfExplore     the answer of an exploration was written, and this status says how it ended; or a write failed, or nothing was written
---     status_of         the status of a report that was written: 0 if it is right, else 5
---     ShowsReport       a report was written, and this status says whether it is right; or a write failed; or an allocation did, and nothing
---                       was written
---     ExitOfThreads     a report on these threads was shown; or they were too much work; or an allocation failed, and nothing was written
---     ExitOfTask        a task was carried out, and this status says how that ended
---     version_text      what `--version` shows
---     ending_text       what help ends with: what the statuses mean, and what the repository's script does
---     IsHelp            a text of help; what `clap` says before the ending, its contract leaves open
---     Shows             a text that was asked for was written; or a write failed
---     ExitOfFault       what is written for these words with an error of this kind: the text that they asked for on standard
---                       output, or what is wrong with them on standard error
---     Exit              the task of right words is carried out; wrong ones are reported, and nothing is read; or an allocation failed,
---                       and nothing was read or written
---     status_without_words   the status if the words of the command line can't be had: 4 if memory is short, else 2
---     FailsByStreams    status 3 comes if a stream failed, and only then or if the input is too long; after a failed read this holds of standard
---                       output
+-- The statuses and the output of the program, by its words and its streams.
+--     ExitOfPlay              the script was played, and the status tells how that ended
+--     status_of_fault         the status of a shell that ended before its input did: 4 if an allocation failed, otherwise 3
+--     ExitOfShell             the lines that were typed were answered, up to the end of the input or a line `quit`; or up to an
+--                             error, which the status tells
+--     status_of_end           the status of an exploration whose answer was written: 0 if all outcomes are known and each
+--                             expectation holds, 1 if a line has a fault, 5 if an expectation fails, 6 if none fails and not all
+--                             outcomes are known
+--     ExitOfExplore           the answer of an exploration was written, and the status tells how it ended; or a write failed, or
+--                             nothing was written
+--     status_of               the status of a report that was written: 0 if it is right, otherwise 5
+--     ShowsReport             a report was written, and the status tells whether it is right; or a write failed; or an allocation
+--                             failed, and nothing was written
+--     ExitOfThreads           a report on these threads was shown; or they were too much work; or an allocation failed, and
+--                             nothing was written
+--     ExitOfTask              a task was carried out, and the status tells how that ended
+--     version_text            the output of `--version`
+--     ending_text             the end of the help: the meaning of the statuses, and the task of the repository's script
+--     IsHelp                  a text of help; `clap`'s contract leaves open the part before the ending
+--     Shows                   a text that was asked for was written; or a write failed
+--     ExitOfFault             the output for these words with an error of this kind: the text that they asked for on standard
+--                             output, or the error on standard error
+--     Exit                    the task of right words is carried out; wrong ones are reported, and nothing is read; or an
+--                             allocation failed, and nothing was read or written
+--     status_without_words    the status if the words of the command line can't be read: 4 if an allocation failed, otherwise 2
+--     FailsByStreams          status 3 is returned if a stream failed, and otherwise only if the input is too long; after a
+--                             failed read this holds for standard output
 use Rattle.std.specs.Prelude.{◌≡◌, ◌⊎◌, ◌<◌, ◌++◌, ℕ, List, [], Bool, true, false, Option, IfSome, codes, length, if◌then◌else◌}
 use Rattle.std.specs.Io.KnownBytes.{Appends}
 use Rattle.clap.specs.Walk.{Row, Text}
@@ -47,7 +50,8 @@ use Rattle.jc_commands.specs.declared.commands.Task.TheVariants as task
 use Rattle.jc_commands.specs.declared.plan.Plan.{Plan}
 use Rattle.jcache.specs.declared.report.Report.{Report}
 
--- before and after: what the reader has left; old and new: what standard output holds; silent: that nothing was written to it
+-- before and after: the bytes that the reader has left; old and new: those on standard output; silent: that nothing was written
+-- to it
 abbrev pub ExitOfPlay : (status : ℕ) (before after old new : Option (List ℕ)) (silent : Type 0) → Type 0
 ExitOfPlay status before after old new silent =
     ((status ≡ 0) × Ran before after old new [] [] Clean)
@@ -59,7 +63,7 @@ abbrev pub status_of_fault : ShellFault → ℕ
 status_of_fault shell.OutOfMemory = 4
 status_of_fault fault = 3
 
--- kept and saved: which scripts were saved before and after
+-- kept and saved: the scripts that were saved before and after
 abbrev pub ExitOfShell : (prompt : List ℕ) (status : ℕ) (before after old new : Option (List ℕ)) (kept saved : Option (List Saved)) → Type 0
 ExitOfShell prompt status before after old new kept saved =
     ((status ≡ 0) × RanShell prompt before after old new kept saved)
@@ -92,8 +96,8 @@ ExitOfThreads plan status old new silent =
     × (((report : Report) × IsReportOf plan report × ShowsReport report status old new silent)
     ⊎ ((status ≡ 4) × silent)))
 
--- played: that the script was played; explored: that at most so many states were followed; answered: that the lines were answered;
--- counted: that this plan was carried out; unread: that nothing was read
+-- played: that the script was played; explored: that at most this number of states was followed; answered: that the lines were
+-- answered; counted: that this plan was carried out; unread: that nothing was read
 abbrev pub ExitOfTask : Task → (played : Type 0) (explored : ℕ → Type 0) (answered : Type 0) (counted : Plan → Type 0) (unread : Type 0) → Type 0
 ExitOfTask task.Run played explored answered counted unread = played
 ExitOfTask task.Shell played explored answered counted unread = answered

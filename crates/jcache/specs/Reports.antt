@@ -1,9 +1,9 @@
--- What the counting on threads reports.
---     AreCounts      there is a number of steps for each of so many threads, at most its rounds
+-- The report of a count on threads.
+--     AreCounts      there is a number of steps for each thread, at most its rounds
 --     IsReportOf     a report is on this plan: there is a number of steps for each thread's session, at most its rounds
 --     is_count       a value spells this number in decimal digits
---     is_right       counter and store have as many increments as all threads were to make, each thread's session has as many steps as its
---                    rounds, and the history is legal
+--     is_right       counter and store have as many increments as all threads were to make, each thread's session has as many
+--                    steps as its rounds, and the history is legal
 --     plan_text      the line of the plan
 --     count_text     a counter's value as it is, with a dash for none
 --     counts_text    the lines of the counter and of the store

@@ -1,5 +1,5 @@
 -- Sessions of workers on threads.
---     HasCounted    a session may call the cache, and has made at most so many steps
+--     HasCounted  a session may call the cache, and has made at most a number of steps
 use Rattle.std.specs.Prelude.{◌≤◌, ℕ}
 use Rattle.jc_cache.specs.Caches.{CacheState}
 use Rattle.jc_cache.specs.Sessions.{MayCall}

@@ -1,4 +1,4 @@
-//! What the program does with its words, and the status that it ends with.
+//! The tasks of the program, and its exit statuses.
 ghost use Rattle.std.specs.Prelude.{◌≡◌, ◌≢◌, ◌⊎◌, ◌↔◌, Result, codes, map, string_bytes, true, false, IfOk, IfErr};
 ghost use Rattle.std.specs.Io.KnownBytes.{Appends};
 ghost use Rattle.std.specs.IoError.{error_kind};
@@ -35,15 +35,15 @@ const USAGE: u8 = 2;
 const STREAMS: u8 = 3;
 /// An allocation failed.
 const MEMORY: u8 = 4;
-/// What was counted on threads isn't what the plan says, or what was found isn't what is expected.
+/// The count on threads isn't the plan's, or an expectation fails.
 const UNEXPECTED: u8 = 5;
 /// Not all outcomes are known, and no expectation fails.
 const OPEN: u8 = 6;
 
-/// What `--version` shows.
+/// The output of `--version`.
 const VERSION: &str = "jcache 0.2.0\n";
 
-/// What help ends with. The script `jcache` at the top of the repository shows the same help.
+/// The end of the help. The script `jcache` at the top of the repository shows the same help.
 const ENDING: &str = "
 Exit status: 0 done, 1 a line has a fault, 2 wrong words, 3 a stream failed, 4 out of memory, 5 wrong report or an expectation fails,
   6 the outcomes aren't all known, and no expectation fails
@@ -57,25 +57,25 @@ For example: ./jcache run examples/put_seen_after_commit.script
 The words of a script, and all limits: docs/SCRIPT.md; of a program of threads: docs/EXPLORE.md
 ";
 
-/// What a command has beside standard input and output.
+/// The parts that a command uses beside standard input and output.
 #[derive(Drop)]
 pub struct Console<'a, E, H, S> {
-    /// Gets what is wrong: standard error.
+    /// Standard error, for error messages.
     pub err: E,
-    /// Is told how far a search is.
+    /// It is told the progress of a search.
     pub watch: H,
-    /// What a shell writes before each line is typed. Empty if nobody types.
+    /// The text that a shell writes before each line is typed. It is empty if nobody types.
     pub prompt: &'a str,
     /// Where a shell saves scripts.
     pub saves: S,
 }
 
-/// Says what failed. Nobody is left to hear of it if that fails, too.
+/// Writes what failed. If this write fails, too, there is no one left to tell.
 fn complain<E: Write>(err: &mut E, text: &str) {
     let _ = err.write_all(text.as_bytes());
 }
 
-/// Says that a stream failed, and why if it has said so.
+/// Writes that a stream failed, and the cause if it is known.
 fn complain_of<S, E: Write>(stream: &Noted<S>, err: &mut E, text: &str) {
     match stream.failure() {
         Some(why) => {
@@ -87,8 +87,8 @@ fn complain_of<S, E: Write>(stream: &Noted<S>, err: &mut E, text: &str) {
     }
 }
 
-/// Says that standard output failed, and answers the status. It says nothing if nobody reads standard output any more: who has closed
-/// it, as `head` does, has all that was wanted.
+/// Writes that standard output failed, and returns the status. It writes nothing if the reader of standard output has closed it,
+/// as `head` does: that reader has all that it wanted.
 fn end_of_output<W, E: Write>(out: &Noted<W>, err: &mut E) -> u8
     ensures { result ≡ 3 }
 {
@@ -98,7 +98,7 @@ fn end_of_output<W, E: Write>(out: &Noted<W>, err: &mut E) -> u8
     STREAMS
 }
 
-/// Says that an allocation failed, and answers the status.
+/// Writes that an allocation failed, and returns the status.
 fn end_without_memory<E: Write>(err: &mut E) -> u8
     ensures { result ≡ 4 }
 {
@@ -106,7 +106,7 @@ fn end_without_memory<E: Write>(err: &mut E) -> u8
     MEMORY
 }
 
-/// Says that the input is too long, and answers the status.
+/// Writes that the input is too long, and returns the status.
 fn end_of_long_input<E: Write>(err: &mut E) -> u8
     ensures { result ≡ 3 }
 {
@@ -114,7 +114,7 @@ fn end_of_long_input<E: Write>(err: &mut E) -> u8
     STREAMS
 }
 
-/// Says why the words of the command line couldn't be had, and answers the status.
+/// Writes why the words of the command line couldn't be read, and returns the status.
 fn end_without_words<E: Write>(why: io::ErrorKind, err: &mut E) -> u8
     ensures status { result ≡ status_without_words why }
     ensures others { (result ≡ 2) ⊎ (result ≡ 4) }
@@ -128,13 +128,13 @@ fn end_without_words<E: Write>(why: io::ErrorKind, err: &mut E) -> u8
     }
 }
 
-/// Says where a line's fault is.
+/// Writes where a line's fault is.
 fn tell<E: Write>(err: &mut E, told: &[u8]) {
     complain(err, "jcache: ");
     let _ = err.write_all(told);
 }
 
-/// Plays the script, and answers the status.
+/// Plays the script, and returns the status.
 fn play<R: Read, W: Write, E: Write>(
     alloc: Global,
     reader: &mut Noted<R>,
@@ -163,7 +163,7 @@ fn play<R: Read, W: Write, E: Write>(
     }
 }
 
-/// Answers the lines of a script as they are typed, and answers the status.
+/// Answers the lines of a script as they are typed, and returns the status.
 fn converse<R: Read, W: Write, E: Write, H, S: Save>(
     alloc: Global,
     reader: &mut Noted<R>,
@@ -201,7 +201,7 @@ fn status_of_end(end: LitmusEnd) -> u8
     }
 }
 
-/// Writes the outcomes of a program of threads, of which at most `states` states are followed, and answers the status.
+/// Writes the outcomes of a program of threads, for which it follows at most `states` states, and returns the status.
 fn explore_and_show<R: Read, W: Write, E: Write, H: Watch, S>(
     alloc: Global,
     states: u32,
@@ -226,7 +226,7 @@ fn explore_and_show<R: Read, W: Write, E: Write, H: Watch, S>(
     }
 }
 
-/// Shows the text that was asked for, and answers the status.
+/// Shows the text that was asked for, and returns the status.
 fn show<W: Write, E: Write>(text: &str, out: &mut Noted<W>, err: &mut E) -> u8
     ensures shown { result ≡ 0 → Appends (W.contents out.old.inner) (W.contents out.new.inner) text.now }
     ensures others { (result ≡ 0) ⊎ (result ≡ 3) }
@@ -238,7 +238,7 @@ fn show<W: Write, E: Write>(text: &str, out: &mut Noted<W>, err: &mut E) -> u8
     }
 }
 
-/// Says what is wrong with the words, or shows the text that they ask for, and answers the status.
+/// Writes the error of the words, or shows the text that they ask for, and returns the status.
 fn answer<W: Write, E: Write>(alloc: Global, error: &Error, out: &mut Noted<W>, err: &mut E) -> u8
     ensures answered { ExitOfFault (kind_of error.now) result (W.contents out.old.inner) (W.contents out.new.inner) (out.new ≡ out.old)
         ⊎ ((result ≡ 4) × (out.new ≡ out.old)) }
@@ -269,7 +269,7 @@ fn help(alloc: Global, error: &Error) -> Result<String, AllocError>
     Ok(text)
 }
 
-/// Writes a report, and answers the status.
+/// Writes a report, and returns the status.
 fn show_report<W: Write, E: Write>(
     alloc: Global,
     report: &Report,
@@ -295,7 +295,7 @@ fn status_of(report: &Report) -> u8
     if report.is_right() { CLEAN } else { UNEXPECTED }
 }
 
-/// Says that a plan is too much work.
+/// Writes that a plan is too much work.
 fn complain_of_plan<E: Write>(plan: &Plan, err: &mut E) {
     let (workers, rounds) = (plan.workers, plan.rounds);
     let _ = write!(
@@ -304,7 +304,7 @@ fn complain_of_plan<E: Write>(plan: &Plan, err: &mut E) {
     );
 }
 
-/// What is reported on a plan.
+/// The report on a plan.
 fn report_on<F: FnOnce(&Plan) -> Result<Report, AllocError>>(
     count: F,
     plan: &Plan,
@@ -316,7 +316,7 @@ fn report_on<F: FnOnce(&Plan) -> Result<Report, AllocError>>(
     count(plan)
 }
 
-/// Has threads count, and answers the status.
+/// Lets threads count, and returns the status.
 fn count_and_show<F: FnOnce(&Plan) -> Result<Report, AllocError>, W: Write, E: Write>(
     alloc: Global,
     count: F,
@@ -339,7 +339,7 @@ fn count_and_show<F: FnOnce(&Plan) -> Result<Report, AllocError>, W: Write, E: W
     }
 }
 
-/// Carries a task out, and answers the status.
+/// Carries a task out, and returns the status.
 fn carry_out<
     F: FnOnce(&Plan) -> Result<Report, AllocError>,
     R: Read,
@@ -378,7 +378,7 @@ fn carry_out<
     }
 }
 
-/// Does what these words ask for, and answers the status.
+/// Carries out the task of these words, and returns the status.
 fn do_words<
     F: FnOnce(&Plan) -> Result<Report, AllocError>,
     R: Read,
@@ -422,19 +422,24 @@ fn do_words<
     }
 }
 
-/// Does what the words of a command line ask for, and answers the status: 0 if the script was played to its end, if the lines that
-/// were typed were answered, also those with a fault, if all outcomes of a program of threads were written and each expectation holds,
-/// if threads counted right, or if a text was asked for and shown, as by `--help` and `--version`; 1 if the transcript ends with a line's fault, of which standard error gets the column and the word, or
-/// a line of the program of threads has one; 2 if the words are none of this program's, ask for too much work or aren't UTF-8, which
-/// is written to standard error; 3 if the input or output failed, or the input is too long; 4 if an allocation failed; 5 if the report
-/// that was written shows a wrong number, or that the history isn't legal, or an expectation fails; 6 if no expectation fails, and not
-/// all outcomes are known.
+/// Carries out the task of a command line, and returns the status:
 ///
-/// `count` has threads count by a plan. It is called once if the words ask for it and it isn't too much work, else never, so what
-/// threads need is made only then. While it is at work, this waits. Nothing else waits. The watch is told how far the search is while
-/// outcomes are looked for.
+/// - 0: the script was played to its end; or the lines that were typed were answered, also those with a fault; or all outcomes of
+///   a program of threads were written, and each expectation holds; or threads counted right; or a text was asked for and shown,
+///   for example by `--help` and `--version`.
+/// - 1: the transcript ends with a line's fault, whose column and word are on standard error; or a line of the program of threads
+///   has a fault.
+/// - 2: the words aren't this program's, ask for too much work or aren't UTF-8, which is written to standard error.
+/// - 3: the input or output failed, or the input is too long.
+/// - 4: an allocation failed.
+/// - 5: the report that was written has a wrong number, or the history isn't legal; or an expectation fails.
+/// - 6: no expectation fails, and not all outcomes are known.
 ///
-/// Conditions: `count` may be called, and what it reports is on the plan that it was given.
+/// `count` lets threads count by a plan. It is called once if the words ask for it and the plan isn't too much work, otherwise
+/// never, so the loaders and writers of the threads are made only then. While it is at work, this waits. Nothing else waits. The
+/// watch is told the progress of a search for outcomes.
+///
+/// Conditions: `count` may be called, and its report is on the plan that it was given.
 pub fn exec<
     F: FnOnce(&Plan) -> Result<Report, AllocError>,
     R: Read,
@@ -452,7 +457,7 @@ pub fn exec<
 ) -> u8
     requires callable { (plan : _) → F.pre count plan }
     requires reports { (plan : _) (r : _) → F.post count plan r → IfOk r (IsReportOf plan.now) }
-    // What right words ask for is done. For others, that they are wrong is said, or the text that they ask for is shown; then
+    // The task of right words is carried out. For other words the error is written, or the text that they ask for is shown; then
     // nothing is read.
     ensures answered { IfOk words (λ w. Exit (faults_at (map string_bytes w.items)) (subcommand_at (map string_bytes w.items)) result
         (λ task. ExitOfTask task
@@ -467,8 +472,8 @@ pub fn exec<
         (reader.new ≡ reader.old) (W.contents out.old.inner) (W.contents out.new.inner) (out.new ≡ out.old)) }
     // Without words nothing is read or written.
     ensures without_words { IfErr words (λ e. (result ≡ status_without_words (error_kind e)) × (reader.new ≡ reader.old) × (out.new ≡ out.old)) }
-    // Status 3 comes if a stream failed in this call, and only then or if the script is too long. After a failed read nothing was
-    // written, unless a shell had answered lines before.
+    // Status 3 is returned if a stream failed in this call, and otherwise only if the script is too long. After a failed read
+    // nothing was written, unless a shell had answered lines before.
     ensures streams { IfOk words (λ w. reader.old.failed ≡ false → out.old.failed ≡ false
         → FailsByStreams result reader.new.failed out.new.failed (R.remaining reader.old.inner)
         (Names (subcommand_at (map string_bytes w.items)) (codes "shell") ⊎ (out.new ≡ out.old))) }

@@ -1,11 +1,13 @@
-//! The program: a command line, the script that it plays, the shell that answers lines of one, the program of threads whose outcomes
-//! it looks for, and threads that count.
+//! The program: a command line, with a script that it plays, a shell that answers the lines of one, a program of threads whose
+//! outcomes it looks for, and threads that count.
 //!
 //! Why it is so:
-//! - The command line is what `clap`'s contract says of its words; a law computes it at the words that matter. A help text is put
-//!   together before it is written by one call. Help ends with what the statuses mean.
-//! - What threads need is made by a closure of `main`, once the words ask for it: a loader that waits is made into a box only where the
-//!   runtime is known, and a type with a box in it can't be named by a bound. So the closure has the threads count, too.
+//! - The tasks and errors of a command line are what `clap`'s contract states of its words; a law computes them for the words
+//!   that matter.
+//! - A help text is complete before one call writes it, because the statuses are added at its end.
+//! - What threads need is made by a closure of `main`, once the words ask for it, because a loader that waits can be boxed only
+//!   where the runtime is known, and because a bound can't name a type with a box in it. So this closure also lets the threads
+//!   count.
 #![tactic(auto)]
 
 ghost use Rattle.std.specs.Prelude.{IfOk};
@@ -33,7 +35,7 @@ use std::io::{self, IsTerminal};
 use std::process::ExitCode;
 use threads::{Crew, OUTFITS, Outfit, count_on_threads};
 
-/// What a shell on a terminal writes before each line is typed.
+/// The text that a shell on a terminal writes before each line is typed.
 const PROMPT: &str = "jcache> ";
 
 /// The words of the command line, the program's name first.

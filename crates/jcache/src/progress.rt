@@ -1,16 +1,17 @@
-//! How far a search is, on a terminal.
+//! The progress of a search, on a terminal.
 
 use jc_explore::Watch;
 use std::io::Write;
 
-/// After how many states the line is written again: a few times in a second.
+/// The number of states after which the line is written again: a few times a second.
 const STATES: u64 = 4096;
 
-/// What is written over the line at last: 60 spaces. The line has at most 49 letters, since at most 1,000,000 states are followed, with
-/// at most 88 moves each.
+/// The text that is finally written over the line: 60 spaces. The line has at most 49 letters, since at most 1,000,000 states are
+/// followed, with at most 88 moves each.
 const BLANK: &str = "\r                                                            \r";
 
-/// A line on a terminal that says how far a search is, written over itself. It is erased when the search is over.
+/// A line on a terminal with the progress of a search, which is written again and again over itself. It is erased when the search
+/// is over.
 #[derive(Drop)]
 pub struct ProgressLine<E> {
     err: E,
@@ -28,7 +29,7 @@ impl<E: Write> ProgressLine<E> {
         }
     }
 
-    /// Whether the line is to be written after so many states.
+    /// Whether the line is to be written after this number of states.
     fn is_due(&self, followed: u64) -> bool {
         self.is_terminal && followed > 0 && followed % STATES == 0
     }

@@ -1,4 +1,4 @@
-//! What became of the counting on threads.
+//! The report of a count on threads.
 ghost use Rattle.std.specs.Prelude.{◌≡◌, ◌++◌, ◌==◌, OnOk, IfOk, decimal};
 ghost use Rattle.std.specs.List.{flat_map, list_all};
 ghost use Rattle.jcache.specs.Reports.{is_right, is_count, plan_text, count_text, own_text, counts_text, steps_text, report_text};
@@ -9,23 +9,23 @@ use jc_script::{put, put_flag, put_number};
 use jc_types::Value;
 use std::alloc::{AllocError, Global};
 
-/// What was found after the threads have counted.
+/// The numbers found after the threads have counted.
 #[derive(Drop)]
 pub struct Report {
-    /// How many threads have counted, and how often each.
+    /// The plan: the number of threads, and the increments of each.
     pub plan: Plan,
-    /// The counter as the last session got it from the cache.
+    /// The counter in the cache, as the last session got it.
     pub counter: Option<Value>,
     /// The counter in the store of record.
     pub store: Option<Value>,
-    /// How many steps each thread's session has made.
+    /// The number of steps of each thread's session.
     pub own: Vec<u64>,
     /// Whether the stripe's history is legal.
     pub legal: bool,
 }
 
 impl Report {
-    /// Whether each number is the one that the plan says, and the history is legal.
+    /// Whether each number is the plan's, and the history is legal.
     pub fn is_right(&self) -> bool
         ensures { result ≡ is_right self.now }
     {

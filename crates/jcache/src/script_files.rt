@@ -6,15 +6,15 @@ use std::fs::{self, Files};
 use std::io::ErrorKind;
 use std::str::from_utf8;
 
-/// Saves each script in the file of its name, in place of what that had. Nothing is known of files, so nothing is claimed of them:
-/// after an error a file may have a prefix of the script.
+/// Saves each script in the file of its name, in place of the file's former content. Contracts claim nothing about files: after
+/// an error a file may have a prefix of the script.
 #[derive(Drop)]
 pub struct ScriptFiles<R> {
     files: R,
 }
 
 impl<R: Files> ScriptFiles<R> {
-    /// Files where the program runs.
+    /// Files in the folder where the program runs.
     pub fn new(files: R) -> ScriptFiles<R> {
         ScriptFiles { files }
     }

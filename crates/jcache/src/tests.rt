@@ -1,4 +1,4 @@
-//! Each exit status, and what stands on standard output and standard error beside it.
+//! Each exit status, with the text on standard output and standard error.
 ghost use Rattle.std.specs.Prelude.{None, Result, IfOk};
 ghost use Rattle.jcache.specs.Reports.{IsReportOf};
 
@@ -24,7 +24,7 @@ macro_rules! boxed {
     }};
 }
 
-/// What a command line is to end with.
+/// The expected end of a command line.
 #[derive(Clone, Copy)]
 struct Wanted<'a> {
     status: u8,
@@ -42,7 +42,7 @@ fn words(rt: &impl Abort, alloc: Global, text: &str) -> Vec<String> {
     all
 }
 
-/// A folder that keeps each name with its script, and has no room for one named `full`.
+/// A folder that keeps each name with its script, and has no room for a script named `full`.
 #[derive(Drop)]
 struct Folder(Vec<u8>);
 
@@ -68,7 +68,7 @@ impl Folder {
     }
 }
 
-/// Standard error, nobody who is told how far a search is, nobody who types, and an empty folder.
+/// Standard error, no watch, no prompt, and an empty folder.
 fn unwatched(alloc: Global) -> Console<'static, Vec<u8>, Unwatched, Folder> {
     Console {
         err: Vec::new(alloc),
@@ -78,7 +78,7 @@ fn unwatched(alloc: Global) -> Console<'static, Vec<u8>, Unwatched, Folder> {
     }
 }
 
-/// Has these words done, with this script on standard input.
+/// Carries out the task of these words, with this script on standard input.
 fn ends<F: FnOnce(&Plan) -> Result<Report, AllocError>>(
     rt: &impl Abort,
     alloc: Global,
@@ -105,7 +105,7 @@ fn ends<F: FnOnce(&Plan) -> Result<Report, AllocError>>(
     assert_eq!(rt; console.err.as_slice(), wanted.err.as_bytes(), "{text}");
 }
 
-/// The same, of words that don't have threads count.
+/// As [`ends`], for words that don't let threads count.
 fn ends_alone(rt: &impl Abort, alloc: Global, text: &str, script: &[u8], wanted: Wanted<'_>) {
     let count = |plan: &Plan| -> Result<Report, AllocError>
         ensures { IfOk result (IsReportOf plan.entry.now) }
@@ -170,13 +170,13 @@ fn answers_lines(rt: HostRuntime) {
     assert_eq!(&rt; console.err.len(), 0);
 }
 
-/// A program of threads with one outcome and two states, and how the answer begins.
+/// A program of threads with one outcome and two states, and the beginning of the answer.
 const PROGRAM: &str = "open 1 2 100\nthread\nget a\n";
 
 const ANSWER: &str =
     "outcome 1\n1.1 -\ncache\nstore\ncoherent\n| open 1 2 100\n| begin 1 s1 get a\n| audit\nall outcomes: 1 of 2 states\n";
 
-/// Explores this program with one expectation more.
+/// Explores this program with one more expectation.
 fn expects(rt: &impl Abort, alloc: Global, expectation: &str, status: u8, verdict: &str) {
     let program = format!(in alloc; "{PROGRAM}{expectation}\n").expect(rt, "memory");
     let answer = format!(in alloc; "{ANSWER}{expectation}: {verdict}\n").expect(rt, "memory");
@@ -205,7 +205,7 @@ fn stops_after_its_states(rt: HostRuntime) {
     ends_alone(&rt, rt.alloc(), words, PROGRAM.as_bytes(), wanted);
 }
 
-/// A watch that keeps the last numbers that it was told, and how often it was told some, and that a search is over.
+/// A watch that keeps the last numbers that it was told, how often it was told some, and how many searches are over.
 #[derive(Drop)]
 struct Told {
     numbers: (u64, u64, u64),
@@ -224,7 +224,8 @@ impl Watch for Told {
     }
 }
 
-/// What a watch is told of these words, with this text on standard input: the last numbers, how often, and how many searches are over.
+/// Asserts what a watch is told for these words, with this text on standard input: the last numbers, how often, and how many
+/// searches are over.
 fn is_told(
     rt: &impl Abort,
     alloc: Global,
@@ -277,7 +278,7 @@ fn tells_how_far_a_search_is(rt: HostRuntime) {
     );
 }
 
-/// What a line of progress writes of a search, in which it is told of each state from the first one on.
+/// Asserts what a line of progress writes during a search, in which it is told of each state from the first one on.
 fn shows(rt: &impl Abort, alloc: Global, is_terminal: bool, states: u64, wanted: &str) {
     let mut text = Vec::new(alloc);
     let mut line = ProgressLine::new(&mut text, is_terminal);
@@ -341,7 +342,7 @@ fn shows_the_version(rt: HostRuntime) {
     );
 }
 
-/// A stream that fails, and says this.
+/// A stream that fails with this kind of error.
 #[derive(Drop)]
 struct Broken(io::ErrorKind);
 
@@ -382,7 +383,7 @@ fn says_why_a_read_failed(rt: HostRuntime) {
     assert_eq!(&rt; console.err.as_slice(), said.as_bytes());
 }
 
-/// Shows the version on a standard output that fails so.
+/// Shows the version on a standard output that fails with this kind of error.
 fn write_fails(rt: &impl Abort, alloc: Global, why: io::ErrorKind, said: &str) {
     let mut console = unwatched(alloc);
     let count = |plan: &Plan| -> Result<Report, AllocError>
@@ -444,7 +445,7 @@ fn needs_its_words(rt: HostRuntime) {
     has_no_words(&rt, alloc, io::ErrorKind::InvalidData, 2, unknown);
 }
 
-/// The words of most counts.
+/// The words of most tests of a count.
 const FOUR: &str = "jcache threads --workers 4 --rounds 100";
 
 #[test]

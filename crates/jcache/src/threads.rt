@@ -21,13 +21,14 @@ use std::thread::{self, Threads};
 /// The key that all threads increment.
 const COUNTER: &[u8] = b"counter";
 
-/// The entries that the cache keeps at most. It has one.
+/// The most entries that the cache keeps. It has one.
 const CAPACITY: usize = 16;
 
-/// The events that the history has room for beside the increments: a call needs room for three, and the last `get` for one.
+/// The number of events that the history has room for beside the increments: a call needs room for three, and the last `get` for
+/// one.
 const SPARE_EVENTS: u64 = 16;
 
-/// What a thread has for itself: its session, and its entry processor.
+/// A thread's own session and entry processor.
 #[derive(Drop)]
 pub struct Worker {
     session: Session,
@@ -56,36 +57,35 @@ fn owner_for(alloc: Global, plan: &Plan) -> Result<CacheOwner, Refusal> {
     }
 }
 
-/// What a session on a thread is made with: a loader and a writer of its own, and an entry processor that increments.
+/// The parts of a session on a thread: a loader and a writer of its own, and an entry processor that increments.
 #[derive(Drop)]
 pub struct Outfit {
     /// The session's loader.
     pub loader: Box<dyn CacheLoader + Send + Drop>,
     /// The session's writer.
     pub writer: Box<dyn CacheWriter + Send + Drop>,
-    /// What the thread runs.
+    /// The entry processor that the thread runs.
     pub increment: Box<dyn EntryProcessor + Send + Drop>,
 }
 
-/// What threads bring that count: the store of record, which is to be empty, and an outfit over it for each session, of which there
-/// are to be [`OUTFITS`].
+/// The parts of a count: the store of record, which must be empty, and an outfit over it for each session, [`OUTFITS`] of them.
 ///
-/// `main` says how it is made: a loader that waits is made into a box only where the runtime is known.
+/// `main` makes it, since a loader that waits can be boxed only where the runtime is known.
 #[derive(Drop)]
 pub struct Crew {
     /// The store of record.
     pub store: SharedStore,
-    /// What the sessions are made with.
+    /// The outfits of the sessions.
     pub outfits: Vec<Outfit>,
 }
 
-/// How many outfits a crew has: one for each of the most threads, and one for the session that reads the counter in the end.
+/// The number of outfits of a crew: one for each of the most threads, and one for the session that reads the counter in the end.
 pub const OUTFITS: u32 = WORKERS_MAX + 1;
 
-/// Counts on threads, as the plan says, each worker on a thread of its own if one can be started, and reports what was found.
+/// Counts on threads by the plan, each worker on a thread of its own if one can be started, and reports the numbers found.
 ///
-/// It waits until all threads have ended. An `Err` says that an allocation failed, that there is no session left, or that the crew has too
-/// few outfits.
+/// It waits until all threads have ended. An `Err` says that an allocation failed, that there is no session left, or that the
+/// crew has too few outfits.
 pub fn count_on_threads<R: Threads + Wait + Sync>(
     rt: &R,
     alloc: Global,
@@ -149,7 +149,8 @@ fn enlist(
     }
 }
 
-/// All of the team but the last count, each on a thread of its own. The last gets the counter then, and the cache is ended.
+/// Lets all of the team except the last one count, each on a thread of its own. Then the last one gets the counter, and the cache
+/// is closed.
 fn count<R: Threads + Wait + Sync>(
     rt: &R,
     alloc: Global,
@@ -181,8 +182,8 @@ fn count<R: Threads + Wait + Sync>(
     })
 }
 
-/// Each of the team works, on a thread of its own if one can be started: how many steps each session has made then, in their order. It
-/// waits until all have ended.
+/// Lets each of the team work, on a thread of its own if one can be started. It waits until all have ended, and returns the
+/// number of steps of each session, in their order.
 fn work_side_by_side<R: Threads + Wait + Sync>(
     rt: &R,
     cache: &Cache,
@@ -203,7 +204,7 @@ fn work_side_by_side<R: Threads + Wait + Sync>(
     )
 }
 
-/// What one thread does: `rounds` increments. It returns how many steps its session has made.
+/// The work of one thread: `rounds` increments. It returns the number of steps that its session has made.
 fn work<R: Wait>(rt: &R, cache: &Cache, worker: Worker, key: &Key, rounds: u32) -> u64
     requires { HasCounted cache.now 0 worker.session }
     ensures { result ≤ rounds }
@@ -215,7 +216,7 @@ fn work<R: Wait>(rt: &R, cache: &Cache, worker: Worker, key: &Key, rounds: u32) 
     worker.session.own()
 }
 
-/// One increment, of a thread that has made `made`. If it is refused or fails, it shows in the end.
+/// Makes one increment, in a thread that has made `made` of them. If it is refused or fails, the final numbers show it.
 fn increment<R: Wait>(rt: &R, cache: &Cache, worker: &mut Worker, key: &Key, made: u32)
     requires { HasCounted cache.now made worker.old.session }
     ensures { HasCounted cache.now (made + 1) worker.new.session }
@@ -223,7 +224,7 @@ fn increment<R: Wait>(rt: &R, cache: &Cache, worker: &mut Worker, key: &Key, mad
     let _ = cache.invoke(rt, &mut worker.session, key, &mut worker.increment, &[]);
 }
 
-/// The counter in the cache, as this worker's session gets it. None if it isn't there, or can't be got.
+/// The counter in the cache, as this worker's session gets it, or `None` if it isn't there or the call fails.
 fn counter<R: Wait>(rt: &R, cache: &Cache, worker: Worker, key: &Key) -> Option<Value>
     requires { MayCall cache.now worker.session }
 {
@@ -234,8 +235,8 @@ fn counter<R: Wait>(rt: &R, cache: &Cache, worker: Worker, key: &Key) -> Option<
     }
 }
 
-/// Ends the cache, and says whether its history is legal. It isn't said to be if the cache can't be ended. An `Err` says that an
-/// allocation failed.
+/// Closes the cache, and returns whether its history is legal. If the cache can't be closed, it returns `false`. An `Err` says
+/// that an allocation failed.
 fn end(alloc: Global, owner: CacheOwner) -> Result<bool, AllocError> {
     match owner.end(alloc) {
         Ok(ended) => Ok(ended.legal),

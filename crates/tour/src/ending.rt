@@ -1,10 +1,10 @@
-//! What there is at the end, and the end of the cache.
+//! The numbers at the end, and the end of the cache.
 use jc_cache::{CacheOwner, Refusal};
 use jc_store::{SharedCounts, SharedStore};
 use std::alloc::Global;
 use std::sync::Wait;
 
-/// Shows how much each worker did. An `Err` says why a worker's call failed.
+/// Shows the number of steps of each worker. An `Err` says why a worker's call failed.
 pub fn show_steps(
     rt: &impl Print,
     names: &[&str],
@@ -16,7 +16,7 @@ pub fn show_steps(
     Ok(())
 }
 
-/// Shows how often the store was called, and what it has.
+/// Shows how often the store was called, and its entries.
 pub fn show(
     rt: &(impl Print + Wait),
     alloc: Global,
@@ -34,7 +34,7 @@ pub fn show(
     Ok(())
 }
 
-/// Ends the cache, and shows what its stripes have recorded.
+/// Closes the cache, and shows the events that its stripes have recorded.
 pub fn end(rt: &impl Print, alloc: Global, owner: CacheOwner) -> anyhow::Result<()> {
     match owner.end(alloc) {
         Ok(closed) => {

@@ -1,5 +1,5 @@
-//! A tour: a store, a cache in front of it that threads share, and clients of the cache. One is a guide's, who makes
-//! one call after another; the others are of workers, each on a thread of its own.
+//! A tour: a store, a cache in front of it that threads share, and clients of the cache. One client is the guide's, which makes
+//! one call after another; the others are the workers', each on a thread of its own.
 #![tactic(auto)]
 
 mod ending;
@@ -21,7 +21,7 @@ const CONFIG: Config = Config {
     write_through: true,
 };
 
-/// Who calls the cache. The last one is the guide.
+/// The names of the callers. The last one is the guide.
 const NAMES: [&str; 5] = ["ann", "ben", "cid", "dot", "guide"];
 
 fn main(rt: HostRuntime) -> anyhow::Result<()> {
@@ -57,7 +57,7 @@ fn stocked(alloc: Global) -> anyhow::Result<SharedStore> {
     Ok(SharedStore::new(alloc, Store::of(alloc, &entries)?)?)
 }
 
-/// A cache is opened, all call it, and then it is ended.
+/// Opens a cache, lets all clients call it, and closes it.
 fn tour<R: Print + Threads + Wait + Sync>(
     rt: &R,
     alloc: Global,

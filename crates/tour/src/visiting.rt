@@ -6,7 +6,7 @@ use jc_store::Increment;
 use std::alloc::Global;
 use std::sync::Wait;
 
-/// Some calls of each kind, by the guide.
+/// Makes some calls of each kind, by the guide.
 pub fn visit(rt: &(impl Print + Wait), alloc: Global, guide: Client<'_>) -> anyhow::Result<()> {
     let mut client = guide;
     let mut increment: Box<dyn EntryProcessor + Send + Drop> = Box::new(alloc, Increment)?;
@@ -19,7 +19,7 @@ pub fn visit(rt: &(impl Print + Wait), alloc: Global, guide: Client<'_>) -> anyh
     Ok(())
 }
 
-/// The first call has the key loaded, the second one finds its entry.
+/// The first call loads the key, the second one finds its entry.
 fn read(rt: &(impl Print + Wait), client: &mut Client<'_>, apple: &Key) -> anyhow::Result<()>
     requires { Unit {0} }
 {
@@ -29,7 +29,7 @@ fn read(rt: &(impl Print + Wait), client: &mut Client<'_>, apple: &Key) -> anyho
     Ok(())
 }
 
-/// What these calls change is written, or deleted in the store, before the cache changes.
+/// Each change is written to the store, or deleted there, before the cache changes.
 fn change(
     rt: &(impl Print + Wait),
     client: &mut Client<'_>,
@@ -62,7 +62,7 @@ fn count(
     Ok(())
 }
 
-/// These calls wait for nobody: what is cached can be got so, and what has to be written is refused.
+/// These calls don't wait: a `get` of a cached entry succeeds, and a change that has to be written is refused.
 fn try_both(
     rt: &impl Print,
     client: &mut Client<'_>,

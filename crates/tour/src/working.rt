@@ -1,4 +1,4 @@
-//! Workers, each with a client of its own, who call one cache on threads of their own.
+//! Workers, each with its own client, that call one cache, each on its own thread.
 use crate::NAMES;
 use jc_cache::{Client, EntryProcessor, Key, Refusal, Service, Value, work_all};
 use jc_store::Increment;
@@ -6,11 +6,11 @@ use std::alloc::Global;
 use std::sync::Wait;
 use std::thread::Threads;
 
-/// How many rounds each worker makes.
+/// The number of rounds of each worker.
 const ROUNDS: u32 = 25;
 
-/// What all workers share: a key for each of them, by its session's number, and the keys that all of them have; and the value that
-/// each puts at its own.
+/// The data that all workers share: a key for each of them, by its session's number, the keys that all of them use, and the value
+/// that each puts at its own key.
 #[derive(Drop)]
 struct Shared {
     alloc: Global,
@@ -38,8 +38,8 @@ impl Shared {
 }
 
 impl<R: Wait> Service<R, Result<u64, Refusal>> for Shared {
-    /// One worker's work: what all get at first is loaded once, by the first who asks. It ends at the first call that is refused or
-    /// fails. It returns how many steps the worker has made.
+    /// One worker's work. The keys that all get at first are loaded once, by the first worker that asks. It ends at the first
+    /// call that is refused or fails, and returns the number of steps that the worker has made.
     fn work(&self, rt: &R, client: &mut Client<'_>) -> Result<u64, Refusal> {
         let Some(name) = self.names.get(client.caller().session as usize) else {
             return Err(Refusal::TooManySessions);
@@ -56,7 +56,7 @@ impl<R: Wait> Service<R, Result<u64, Refusal>> for Shared {
     }
 }
 
-/// All workers work, each on a thread of its own. It says how many steps each has made, or why it ended too soon.
+/// Runs all workers, each on a thread of its own. It returns the number of steps of each, or why it ended too soon.
 pub fn work<R: Threads + Wait + Sync>(
     rt: &R,
     alloc: Global,
@@ -66,7 +66,7 @@ pub fn work<R: Threads + Wait + Sync>(
     Ok(work_all(rt, &shared, clients)?)
 }
 
-/// One round of a worker: it counts at the key that all have, and puts and gets at its own.
+/// One round of a worker: it counts at a key that all use, and puts and gets at its own.
 fn make_round<R: Wait>(
     rt: &R,
     shared: &Shared,

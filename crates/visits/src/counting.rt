@@ -1,4 +1,4 @@
-//! Workers, who count visits.
+//! Workers that count visits.
 use itoa::Buffer;
 use jc_cache::{Client, EntryProcessor, Key, Refusal, Service, Value, work_all};
 use jc_plain::{Update, Updating};
@@ -10,7 +10,7 @@ use std::thread::Threads;
 /// The code of a count that is no number, or the last one.
 const NO_NUMBER: u32 = 1;
 
-/// A visit. A user's count of visits, in decimal digits, is one more after it; a user who has none yet counts as 0.
+/// A visit: it adds one to a user's count of visits, in decimal digits. A user without a count has 0.
 #[derive(Drop)]
 struct Visit;
 
@@ -36,19 +36,19 @@ fn next(count: &Option<Value>) -> Option<Value> {
     Value::new(buffer.format(number.checked_add(1)?).as_bytes()).ok()
 }
 
-/// The work of each worker: to count a visit of each of these.
+/// The work of each worker: it counts a visit of each of these users.
 #[derive(Clone, Copy)]
 struct Counting<'a> {
     alloc: Global,
     visitors: &'a [Key],
 }
 
-/// What a worker has done.
+/// The result of a worker.
 #[derive(Clone, Copy)]
 struct Tally {
-    /// How many visits it has counted.
+    /// The number of visits that it has counted.
     visits: usize,
-    /// Why it ended before it had counted all, if it did.
+    /// The refusal at which it ended before it had counted all, if it did.
     refusal: Option<Refusal>,
 }
 
@@ -76,7 +76,8 @@ impl<R: Wait> Service<R, Tally> for Counting<'_> {
     }
 }
 
-/// Each worker counts a visit of each visitor, on a thread of its own. What each has done is shown. An `Err` says why one ended too soon.
+/// Lets each worker count a visit of each visitor, on a thread of its own, and shows the results. An `Err` says why a worker
+/// ended too soon.
 pub fn count<R: Print + Threads + Wait + Sync>(
     rt: &R,
     alloc: Global,
@@ -88,7 +89,7 @@ pub fn count<R: Print + Threads + Wait + Sync>(
     check(&tallies)
 }
 
-/// Shows what each worker has done.
+/// Shows the result of each worker.
 fn show(rt: &impl Print, tallies: &[Tally]) -> anyhow::Result<()> {
     for tally in tallies {
         match tally.refusal {
@@ -102,7 +103,7 @@ fn show(rt: &impl Print, tallies: &[Tally]) -> anyhow::Result<()> {
     Ok(())
 }
 
-/// An `Err` says why a worker ended too soon.
+/// Tests that no worker ended too soon. An `Err` says why one did.
 fn check(tallies: &[Tally]) -> anyhow::Result<()> {
     for tally in tallies {
         if let Some(refusal) = tally.refusal {

@@ -1,11 +1,11 @@
-//! The desk, which enters new users, and reports. Its calls are for many users each.
+//! The desk, which enters new users, and reports. Each of its calls is for many users.
 use indexmap::{IndexMap, IndexSet};
 use jc_bulk::{get_all, put_all};
 use jc_cache::{Client, Key, Refusal, Service, Value};
 use std::alloc::Global;
 use std::sync::Wait;
 
-/// Reads the counts of these users, of whom the cache or the store has one.
+/// Reads the counts that the cache or the store has of these users.
 #[derive(Clone, Copy)]
 struct Reading<'a> {
     alloc: Global,
@@ -37,7 +37,7 @@ impl<R: Wait> Service<R, Result<(), Refusal>> for Putting<'_> {
     }
 }
 
-/// Enters those of these users of whom the store has no count, with none.
+/// Enters those of these users of whom the store has no count, with a count of 0.
 #[derive(Clone, Copy)]
 struct Entering<'a> {
     alloc: Global,
@@ -84,7 +84,7 @@ impl<R: Print + Wait> Service<R, anyhow::Result<()>> for Reporting<'_> {
     }
 }
 
-/// The desk opens: new users are entered. The client comes back.
+/// Opens the desk: it enters new users, and returns the client.
 pub fn open<'a>(
     rt: &(impl Print + Wait),
     alloc: Global,
@@ -96,7 +96,7 @@ pub fn open<'a>(
     Ok(desk)
 }
 
-/// The desk closes: it reports.
+/// Closes the desk: it reports.
 pub fn close(
     rt: &(impl Print + Wait),
     alloc: Global,
@@ -107,7 +107,7 @@ pub fn close(
     Reporting { alloc, users }.work(rt, &mut desk)
 }
 
-/// The users who aren't known, each with no visit. It shows how many there are.
+/// The users that aren't known, each with no visit. It shows how many there are.
 fn new_users(
     rt: &impl Print,
     alloc: Global,
@@ -119,7 +119,7 @@ fn new_users(
     Ok(new)
 }
 
-/// The users who aren't known, each with no visit.
+/// The users that aren't known, each with no visit.
 fn others(
     alloc: Global,
     users: &IndexSet<Key>,

@@ -1,5 +1,5 @@
 //! A service that counts how often each user came. Four workers count side by side, each on a thread of its own, through a cache
-//! in front of a SQLite file, which is the store of record. Started again, the service goes on from what the file has.
+//! in front of a SQLite file, which is the store of record. When it is started again, it continues from the counts in the file.
 #![tactic(auto)]
 
 mod counting;
@@ -24,10 +24,10 @@ const CONFIG: Config = Config {
     write_through: true,
 };
 
-/// How many clients there are: four workers, and the desk.
+/// The number of clients: four workers, and the desk.
 const CLIENTS: usize = 5;
 
-/// Who comes to each worker, one after the other.
+/// The visitors that come to each worker, one after another.
 const VISITORS: [&str; 8] = ["ann", "ben", "ann", "cid", "dot", "ann", "ben", "eve"];
 
 fn main(rt: HostRuntime) -> anyhow::Result<()> {
@@ -50,7 +50,7 @@ fn main(rt: HostRuntime) -> anyhow::Result<()> {
     serve_from(&rt, alloc, &database, outside)
 }
 
-/// One session more, which brings this loader and this writer.
+/// Adds the loader and the writer of one more session.
 fn bring(
     outside: &mut Vec<Outside>,
     loader: Box<dyn CacheLoader + Send + Drop>,
@@ -63,7 +63,7 @@ fn bring(
     Ok(())
 }
 
-/// Serves from a database, and shows what its last failure was, if it had one.
+/// Serves from a database, and shows its last failure, if it had one.
 fn serve_from<R: Print + Threads + Wait + Sync>(
     rt: &R,
     alloc: Global,
@@ -75,7 +75,7 @@ fn serve_from<R: Print + Threads + Wait + Sync>(
     served
 }
 
-/// A cache is opened, all clients call it, and it is ended.
+/// Opens a cache, lets all clients call it, and closes it.
 fn serve<R: Print + Threads + Wait + Sync>(
     rt: &R,
     alloc: Global,
@@ -91,7 +91,7 @@ fn serve<R: Print + Threads + Wait + Sync>(
     }
 }
 
-/// The desk enters new users, the workers count who comes, and the desk reports. An `Err` says why a call failed.
+/// The desk enters new users, the workers count the visitors, and the desk reports. An `Err` says why a call failed.
 fn call_all<R: Print + Threads + Wait + Sync>(
     rt: &R,
     alloc: Global,
@@ -127,7 +127,7 @@ fn users(alloc: Global, visitors: &[Key]) -> anyhow::Result<IndexSet<Key>> {
     Ok(users)
 }
 
-/// Shows the last failure of the database, if any. A call of the cache has its code alone.
+/// Shows the last failure of the database, if any. A call of the cache returns only its code.
 fn show_error(rt: &(impl Print + Wait), database: &Database) -> anyhow::Result<()> {
     if let Some(error) = database.last_error(rt) {
         println!(rt; "the database: {error}")?;

@@ -1,7 +1,7 @@
-//! Each call that takes memory and is no session's own, made once.
+//! Each call that allocates and is no session's own, made once.
 //!
-//! Nothing here refuses an allocation. `tools/library_allocations` does, one in each run, and reads what is printed: before each
-//! call a line `> CALL`, after it a line `=`, and then a line `< END`. While all memory is there, each call ends in `done`.
+//! Nothing here refuses an allocation. `tools/library_allocations` does, one in each run, and reads the output: before each
+//! call a line `> CALL`, after it a line `=`, and then a line `< END`. If no allocation fails, each call ends in `done`.
 use jc_types::{Config, Key, Value};
 use std::alloc::Global;
 use std::fmt::Debug;
@@ -10,7 +10,7 @@ use std::process::Abort;
 mod owners;
 mod parts;
 
-/// One stripe, before no store.
+/// One stripe, without a store.
 const SHAPE: Config = Config {
     stripes: 1,
     capacity: 128,
@@ -28,12 +28,12 @@ fn say(rt: &(impl Abort + Print), text: &str) {
     rt.println(text).ok().expect(rt, "output");
 }
 
-/// Says how a call has ended that leaves all as it was if memory is short.
+/// Prints the end of a call that leaves all as it was if an allocation fails.
 fn say_whole(rt: &(impl Abort + Print), is_done: bool) {
     say(rt, if is_done { "< done" } else { "< refused whole" });
 }
 
-/// Says how a call has ended that drops what it took if memory is short.
+/// Prints the end of a call that drops its arguments if an allocation fails.
 fn say_dropped(rt: &(impl Abort + Print), is_done: bool) {
     let end = if is_done {
         "< done"

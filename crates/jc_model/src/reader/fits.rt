@@ -12,7 +12,7 @@ use crate::reader::Stage;
 use crate::same::{is_load_only, is_same_reply};
 use jc_types::{Config, Key, Value};
 
-/// The entry at a key once the victim, if any, has gone.
+/// The entry at a key once the victim, if any, is evicted.
 pub(super) fn entry_before(contents: &Contents, victim: &Option<Key>, key: &Key) -> Option<Value>
     ensures { result ≡ entry_at (without_victim contents.now victim.now) key.now }
 {
@@ -35,7 +35,7 @@ pub(super) fn does_insert(entry: &Option<Value>, op: &Op, out: &Out) -> bool
     entry.is_none() && op.entry_after(entry.as_ref(), out).is_some()
 }
 
-/// Whether the victim may go before the step.
+/// Whether the victim may be evicted before the step.
 fn does_victim_fit(
     config: &Config,
     contents: &Contents,
@@ -59,7 +59,7 @@ fn does_victim_fit(
     }
 }
 
-/// Whether the step is one of the operation table, at the entry that it found.
+/// Whether the step is as the operation table states, at the entry that it found.
 fn is_made(config: &Config, entry: Option<Value>, op: &Op, out: &Out, reply: &Reply) -> bool
     ensures { IsTrue result ↔ (IsTrue (answers_fit config.now op.now entry out.now)
         × (reply.now ≡ reply_after op.now entry out.now)) }

@@ -1,4 +1,4 @@
-//! What an event leads to: where the reader is after it, and what the cache then has.
+//! How the reader goes over an event: its stage afterwards, and the cache.
 ghost use Rattle.std.specs.Prelude.{◌≡◌, IfOk, OnOk};
 ghost use Rattle.jc_model.specs.Group.{cache_after_step};
 ghost use Rattle.jc_model.specs.Reader.{read_group, opened_group, then_stage, then_cache};
@@ -10,7 +10,7 @@ use crate::reader::{Opened, Stage};
 use jc_types::{Config, Key};
 use std::alloc::AllocError;
 
-/// What is kept of a group at its step.
+/// The data that the reader keeps of a group at its step.
 fn opened_group(
     config: &Config,
     contents: &Contents,
@@ -37,7 +37,7 @@ fn opened_group(
     }
 }
 
-/// Takes a victim out, and gives the step's key what the step leaves.
+/// Removes a victim, and gives the step's key the entry that the step leaves.
 fn make_step(
     contents: &mut Contents,
     victim: &Option<Key>,

@@ -6,9 +6,9 @@ use jc_types::{Key, Value};
 /// code; a delete fails with the small letter.
 #[derive(Drop)]
 pub struct Letters {
-    /// How often it was called.
+    /// The number of its calls.
     pub calls: u32,
-    /// What it was to write last.
+    /// The value that it was last asked to write.
     pub last: Option<Value>,
 }
 

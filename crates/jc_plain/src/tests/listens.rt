@@ -1,10 +1,10 @@
-//! What a listener is told.
+//! Calls of a listener.
 use super::is;
 use crate::{Listen, Listening};
 use jc_outside::CompletionListener;
 use jc_types::Refusal;
 
-/// Counts what it is told, and keeps the last failure.
+/// Counts its calls, and keeps the last failure.
 #[derive(Drop)]
 struct Counts {
     completions: u32,

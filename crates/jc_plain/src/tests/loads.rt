@@ -12,8 +12,8 @@ use std::alloc::Global;
 use std::process::Abort;
 use std::sync::Wait;
 
-/// The keys that are asked, the failure of the call, what is answered for each key, `-` for none, and how often the store was
-/// called.
+/// The keys that are asked, the failure of the call, the answer for each key (`-` for none), and the number of calls of the
+/// store.
 type Row = (&'static str, Option<u8>, &'static str, u32);
 
 const ROWS: &[Row] = &[
@@ -43,7 +43,7 @@ fn answer_at(answers: &Answers, key: &Key) -> u8 {
     }
 }
 
-/// The answers are as this text says.
+/// Asserts that the answers are those of this text.
 fn answers_are(rt: &impl Abort, answers: &Answers, keys: &[Key], text: &str) {
     for (key, want) in keys.iter().zip(text.as_bytes()) {
         is(rt, text, answer_at(answers, key), *want);
@@ -87,7 +87,7 @@ impl Load for Query {
     }
 }
 
-/// What a loader is asked.
+/// An ask of a loader.
 struct Asked {
     key: Key,
 }
@@ -119,7 +119,7 @@ fn load<R: Abort + Wait>(rt: &R, hands: &mut Hands<Outside>, byte: u8, want: u8)
     is(rt, "load", answer, load_answer(rt, want));
 }
 
-/// The last done value has this answer.
+/// Asserts that the last done value has this answer.
 fn was_loaded(rt: &impl Abort, done: &mut Vec<LoadDone<Asked>>, want: u8) {
     let last = done.pop().expect(rt, "a done value");
     is(rt, "load all", last.into_answer(), load_answer(rt, want));

@@ -6,7 +6,7 @@ use jc_types::{Key, Value};
 use std::alloc::Global;
 use std::sync::{Arc, Mutex, Wait};
 
-/// What the database said.
+/// The errors of the database.
 #[derive(Clone, Copy, Debug, PartialEq, Drop)]
 enum TableError {
     Locked,

@@ -1,4 +1,4 @@
-//! Runs of an update on one entry, before a loader of letters.
+//! Runs of an update on one entry, with a loader of letters.
 ghost use Rattle.std.specs.Prelude.{◌≡◌};
 
 use super::letters::Letters;
@@ -12,8 +12,8 @@ use std::alloc::Global;
 use std::process::Abort;
 use std::sync::Wait;
 
-/// Does what the first argument says: `set` the second argument or none, set the `key`, `remove`, `fail` with the code `9` after a
-/// change, or nothing. It returns the value that it was given.
+/// The first argument names what it does: `set` the second argument or none, set the `key`, `remove`, `fail` with the code `9`
+/// after a change, or nothing. It returns the value that it was given.
 #[derive(Drop)]
 struct Edit;
 
@@ -42,12 +42,12 @@ impl Update for Edit {
     }
 }
 
-/// A run: the key and the value of its entry, the arguments, and what comes of it: what the loader has answered, the net effect,
-/// and what the processor returns.
+/// A run: the key and the value of its entry, the arguments, and its outcome: the loader's answer, the net effect, and the
+/// processor's return.
 ///
-/// A value is one byte, where `0` is the empty value and `-` none. The loader has each small letter as its own value, and fails at
-/// each capital one; `.` says that it wasn't asked. The net effect is `=` to keep the entry, `-` to remove it, the value to set, or
-/// `!` if the processor fails, with the code of the last byte.
+/// A value is one byte, where `0` is the empty value and `-` none. The loader has each small letter as its own value, and fails
+/// at each capital one; `.` says that it wasn't asked. The net effect is `=` to keep the entry, `-` to remove it, the value to
+/// set, or `!` if the processor fails, with the code of the last byte.
 type Row = (&'static str, &'static str, &'static str);
 
 // With read-through: the loader may be asked if there is no entry.
@@ -87,7 +87,7 @@ const ALONE: &[Row] = &[
     ("B1", "remove", ".-1"),
 ];
 
-/// What a processor is asked.
+/// An ask of a processor.
 struct Asked {
     key: Key,
     initial: Option<Value>,
@@ -165,7 +165,7 @@ fn args(rt: &impl Abort, alloc: Global, text: &str) -> Vec<Value> {
     args
 }
 
-/// What is asked at an entry. The loader may be asked with read-through, if there is no entry.
+/// The ask at an entry. The loader may be asked with read-through, if there is no entry.
 fn ask_at(rt: &impl Abort, entry: &str, read_through: bool) -> Asked {
     let &[name, initial] = entry.as_bytes() else {
         panic!(rt; "a key and a value: {entry}");

@@ -47,7 +47,7 @@ fn keys(rt: &impl Abort, alloc: Global, text: &str) -> IndexSet<Key> {
     keys
 }
 
-/// The entries are these, in this order, each with its value.
+/// Asserts that the entries are these, in this order, each with its value.
 fn entries_are(rt: &impl Abort, entries: &IndexMap<Key, Value>, text: &str) {
     is(rt, text, entries.len(), text.len());
     for ((key, value), byte) in entries.iter().zip(text.as_bytes()) {
@@ -55,7 +55,7 @@ fn entries_are(rt: &impl Abort, entries: &IndexMap<Key, Value>, text: &str) {
     }
 }
 
-/// The keys are these, in this order.
+/// Asserts that the keys are these, in this order.
 fn keys_are(rt: &impl Abort, keys: &IndexSet<Key>, text: &str) {
     is(rt, text, keys.len(), text.len());
     for (key, byte) in keys.iter().zip(text.as_bytes()) {
@@ -133,7 +133,7 @@ impl Write for Transaction {
     }
 }
 
-/// What a writer is asked.
+/// An ask of a writer.
 struct Asked {
     key: Key,
     change: Change,
@@ -208,7 +208,7 @@ fn a_cache_calls_what_was_wrapped(rt: HostRuntime) {
     change(&rt, &mut hands, b'B', false, Some(98));
 }
 
-/// Changes many keys by a writer, which leaves this.
+/// Changes many keys by a writer, and asserts what it leaves.
 fn leaves(rt: &impl Abort, alloc: Global, writer: &mut dyn CacheWriter, row: &Row) {
     let (text, code, left) = row;
     let mut entries = entries(rt, alloc, text);

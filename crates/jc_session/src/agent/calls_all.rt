@@ -12,10 +12,10 @@ use jc_stripe::Ask;
 use std::sync::Wait;
 
 impl Agent {
-    /// Calls the loader once, with the keys of these asks (`loadAll`), and appends a done value for each ask, in their order. A
-    /// failed call fails for each of the keys; a key without an answer isn't found. Without a loader nothing is found.
+    /// Calls the loader once, with the keys of these asks (`loadAll`), and appends a done value for each ask, in their order. If
+    /// the call fails, it fails for each of the keys. A key without an answer isn't found. Without a loader nothing is found.
     ///
-    /// The asks are taken out, and the batch comes back without keys: both have memory for as many as before.
+    /// The asks are taken out, and the batch is returned without keys. Both keep memory for as many as before.
     ///
     /// It may wait, as long as the loader does. It takes no memory of its own.
     ///
@@ -38,8 +38,8 @@ impl Agent {
     }
 
     /// Calls the writer once, for a whole batch (`writeAll` or `deleteAll`), and appends a done value for each ask, in their
-    /// order: a key that the writer leaves in the collection failed, with the writer's code or, if it returned normally, with 0;
-    /// every other key was written. It returns what the writer returned: the writer may fail and leave nothing.
+    /// order. A key that the writer leaves in the collection failed, with the writer's code, or with 0 if the writer returned
+    /// normally. Every other key was written. It returns what the writer returned, since a writer may fail and leave nothing.
     ///
     /// It may wait, as long as the writer does. It takes no memory of its own.
     ///

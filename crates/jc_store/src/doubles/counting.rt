@@ -6,26 +6,26 @@ use jc_types::{Key, Value};
 use std::alloc::{AllocError, Global};
 use std::sync::{Arc, Mutex, Wait};
 
-/// Counts behind a lock. All handles made from one count together, and read the same.
+/// Counts behind a lock. All handles made from one `SharedCounts` count together, and read the same counts.
 #[derive(Drop)]
 pub struct SharedCounts {
     counts: Arc<Mutex<Counts>, Global>,
 }
 
 impl SharedCounts {
-    /// Counts of no call. An `Err` says that an allocation failed.
+    /// Counts that are all 0. An `Err` says that an allocation failed.
     pub fn new(alloc: Global) -> Result<Self, AllocError> {
         let counts = Arc::new(alloc, Mutex::new(Counts::ZERO))?;
         Ok(SharedCounts { counts })
     }
 
-    /// What was counted so far. It waits for the lock.
+    /// The counts so far. It waits for the lock.
     pub fn now<R: Wait>(&self, rt: &R) -> Counts {
         *self.counts.lock(rt)
     }
 
-    /// A loader or a writer that counts here and then calls this one. It waits for the lock by `rt`. An `Err` says that there
-    /// are too many handles, and drops both.
+    /// A loader or a writer that counts each call here, and forwards it to `inner`. It waits for the lock by `rt`. An `Err` says
+    /// that there are too many handles, and drops both.
     pub fn counting<T: Drop, R: Wait + Drop>(
         &self,
         rt: R,
@@ -36,9 +36,9 @@ impl SharedCounts {
     }
 }
 
-/// A loader or a writer that counts each call, and then makes it of another (`inner`), whatever that one answers.
+/// A loader or a writer that counts each call and forwards it to another one (`inner`), whatever that one answers.
 ///
-/// Its relations are those of the other: only the counts know of it.
+/// Its relations are those of `inner`: contracts don't see the counts.
 #[derive(Drop)]
 pub struct Counting<T, R: Wait + Drop> {
     rt: R,

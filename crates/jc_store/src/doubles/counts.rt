@@ -19,8 +19,8 @@ pub enum Call {
     DeleteAll,
 }
 
-/// How often a loader and a writer were called, by method. A call of a batch counts once, and none of its keys does. A count
-/// stays at `u64::MAX`.
+/// How often a loader and a writer were called, by method. A call for many keys counts as one call. A count that has reached
+/// `u64::MAX` stays there.
 #[derive(Clone, Copy, Debug, PartialEq, Eq)]
 pub struct Counts {
     /// Calls of `load`.
@@ -38,7 +38,7 @@ pub struct Counts {
 }
 
 impl Counts {
-    /// No call yet.
+    /// All counts are 0.
     pub const ZERO: Self = Counts {
         loads: 0,
         load_batches: 0,

@@ -1,8 +1,9 @@
-//! The call at which a fault comes.
+//! The call at which a fault happens.
 ghost use Rattle.std.specs.Prelude.{◌≡◌, ◌-◌};
 ghost use Rattle.jc_store.specs.Schedules.{is_due};
 
-/// Counts a call, by how many are left up to the scheduled one, and says whether it is the scheduled one. None is if 0 are left.
+/// Counts a call down, and returns whether it is the scheduled one. `left` is the number of calls up to and with the scheduled
+/// one; at 0 no call is scheduled.
 pub(crate) fn count_down(left: &mut u64) -> bool
     ensures due { result ≡ is_due left.old }
     ensures left { left.new ≡ left.old - 1 }

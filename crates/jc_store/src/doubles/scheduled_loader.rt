@@ -6,18 +6,18 @@ use crate::doubles::schedule::count_down;
 use jc_outside::{Answers, CacheLoader};
 use jc_types::{Key, Value};
 
-/// What a loader does at its scheduled call.
+/// The fault of a loader at its scheduled call.
 #[derive(Drop)]
 pub enum LoadFault {
-    /// It fails with this code. The other loader isn't called, and nothing is answered.
+    /// It fails with this code. The wrapped loader isn't called, and nothing is answered.
     Fails(u32),
-    /// The other loader is called. If this is a `load_all`, these answers are given after it returned, in their order: also of keys
-    /// that weren't asked, and of keys that it has answered. A `load` has no place for more answers than its own.
+    /// The wrapped loader is called. If this is a `load_all`, these answers are given after it has returned, in their order, also
+    /// for keys that weren't asked and for keys that it has answered. A `load` has no place for further answers.
     AlsoAnswers(Vec<(Key, Value)>),
 }
 
 impl LoadFault {
-    /// The code with which the call fails, if it does.
+    /// The code with which the call fails, if it fails.
     fn failure(&self, is_due: bool) -> Option<u32>
         ensures { result ≡ load_failure is_due self.now }
     {
@@ -27,7 +27,7 @@ impl LoadFault {
         }
     }
 
-    /// The answers that the call gives beside those of the other loader.
+    /// The answers that the call gives beside those of the wrapped loader.
     fn more(&self, is_due: bool) -> &[(Key, Value)]
         ensures { result.now ≡ more_answers is_due self.now }
     {
@@ -38,9 +38,10 @@ impl LoadFault {
     }
 }
 
-/// A loader that makes each call of another (`inner`), but for one, at which it has a fault.
+/// A loader that forwards each call to another one (`inner`), except one, at which it has a fault.
 ///
-/// Its relations say which call that is: its state is how many calls are left up to the scheduled one, before the other's state.
+/// Its relations state which call that is: its state is the number of calls left up to the scheduled one, followed by the state
+/// of `inner`.
 #[derive(Drop)]
 pub struct ScheduledLoader<L> {
     inner: L,
@@ -49,8 +50,8 @@ pub struct ScheduledLoader<L> {
 }
 
 impl<L> ScheduledLoader<L> {
-    /// This loader, with a fault at the call with this number, counted from 1: `load` and `load_all` count alike. At 0 there is
-    /// none.
+    /// This loader, with a fault at the call with this number, counted from 1: `load` and `load_all` both count. At 0 there is no
+    /// fault.
     pub fn new(inner: L, call: u64, fault: LoadFault) -> Self
         ensures { result ≡ record { inner = inner; left = call; fault = fault } }
     {

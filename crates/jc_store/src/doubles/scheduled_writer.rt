@@ -17,24 +17,25 @@ use jc_outside::CacheWriter;
 use jc_types::{Key, Value};
 use std::alloc::AllocError;
 
-/// What a writer does at its scheduled call.
+/// The fault of a writer at its scheduled call.
 ///
-/// At a `write` or a `delete` it fails with the code, and the other writer isn't called; without a code the other is called, as ever.
-/// At a `write_all` or a `delete_all` it keeps keys back, of which the other writer isn't told, calls the other for the rest, and
-/// adds to the collection. Then it fails with the code; without a code it answers what the other did. If it finds no memory to
-/// begin, it answers [`NO_MEMORY`], leaves all, and doesn't call the other.
+/// At a `write` or a `delete` it fails with the code, and the wrapped writer isn't called; without a code the wrapped writer is
+/// called as usual. At a `write_all` or a `delete_all` it keeps some keys back, calls the wrapped writer for the others, and adds
+/// to the collection. Then it fails with the code; without a code it returns what the wrapped writer did. If an allocation fails
+/// before that, it returns [`NO_MEMORY`], leaves all, and doesn't call the wrapped writer.
 #[derive(Drop)]
 pub struct WriteFault {
-    /// The keys that it keeps back: those of them that are in the collection are left there.
+    /// The keys that it keeps back: if they are in the collection, they are left there.
     pub leaves: Vec<Key>,
-    /// The code with which it fails, if it does.
+    /// The code with which it fails, if it fails.
     pub code: Option<u32>,
-    /// What it adds to the collection: of a `delete_all` the keys alone. A key that is there already stays in its place.
+    /// The entries that it adds to the collection; at a `delete_all`, only their keys. A key that is there already stays in its
+    /// place.
     pub adds: Vec<(Key, Value)>,
 }
 
 impl WriteFault {
-    /// The code with which a call for one key fails, if it does.
+    /// The code with which a call for one key fails, if it fails.
     fn failure(&self, is_due: bool) -> Option<u32>
         ensures { result ≡ write_failure is_due self.now }
     {
@@ -42,9 +43,10 @@ impl WriteFault {
     }
 }
 
-/// A writer that makes each call of another (`inner`), but for one, at which it has a fault.
+/// A writer that forwards each call to another one (`inner`), except one, at which it has a fault.
 ///
-/// Its relations say which call that is: its state is how many calls are left up to the scheduled one, before the other's state.
+/// Its relations state which call that is: its state is the number of calls left up to the scheduled one, followed by the state
+/// of `inner`.
 #[derive(Drop)]
 pub struct ScheduledWriter<W> {
     inner: W,
@@ -53,8 +55,7 @@ pub struct ScheduledWriter<W> {
 }
 
 impl<W> ScheduledWriter<W> {
-    /// This writer, with a fault at the call with this number, counted from 1: all four of its calls count alike. At 0 there is
-    /// none.
+    /// This writer, with a fault at the call with this number, counted from 1: all four methods count. At 0 there is no fault.
     pub fn new(inner: W, call: u64, fault: WriteFault) -> Self
         ensures { result ≡ record { inner = inner; left = call; fault = fault } }
     {
@@ -116,7 +117,7 @@ impl<W: CacheWriter> CacheWriter for ScheduledWriter<W> {
     }
 }
 
-/// What is answered at the scheduled call, by what the other writer answered.
+/// The answer at the scheduled call, by that of the wrapped writer.
 fn part_answer(code: Option<u32>, said: Result<(), u32>) -> Result<(), u32>
     ensures { result ≡ part_answer code said }
 {
@@ -163,7 +164,7 @@ fn other_entries(
     Ok(others)
 }
 
-/// Takes the entries of these keys out.
+/// Removes the entries of these keys.
 fn leave_out_entries(entries: &mut IndexMap<Key, Value>, keys: &[Key])
     ensures { entries.new.entries
         ≡ filter (λ (e : Bytes × Bytes). not (is_among keys.now e.0)) entries.old.entries }
@@ -190,7 +191,7 @@ fn keep_entries(entries: &mut IndexMap<Key, Value>, keys: &[Key], left: &IndexMa
     );
 }
 
-/// Puts entries in, in their order. It takes no memory.
+/// Adds entries, in their order. It takes no memory.
 ///
 /// Condition: there is room.
 fn add_entries(entries: &mut IndexMap<Key, Value>, added: &[(Key, Value)])
@@ -202,7 +203,7 @@ fn add_entries(entries: &mut IndexMap<Key, Value>, added: &[(Key, Value)])
     }
 }
 
-/// Puts an entry in. It takes no memory.
+/// Adds an entry. It takes no memory.
 ///
 /// Condition: there is room.
 fn add_entry(entries: &mut IndexMap<Key, Value>, key: &Key, value: &Value)
@@ -250,7 +251,7 @@ fn other_keys(all: &IndexSet<Key>, keys: &[Key]) -> Result<IndexSet<Key>, AllocE
     Ok(others)
 }
 
-/// Takes these keys out.
+/// Removes these keys.
 fn leave_out_keys(all: &mut IndexSet<Key>, keys: &[Key])
     ensures { all.new.keys ≡ filter (λ (key : Bytes). not (is_among keys.now key)) all.old.keys }
 {
@@ -266,7 +267,7 @@ fn keep_keys(all: &mut IndexSet<Key>, keys: &[Key], left: &IndexSet<Key>)
     all.retain(|key| is_among(keys, key) || left.is_left(key));
 }
 
-/// Puts the keys of entries in, in their order. It takes no memory.
+/// Adds the keys of entries, in their order. It takes no memory.
 ///
 /// Condition: there is room.
 fn add_keys(all: &mut IndexSet<Key>, added: &[(Key, Value)])
@@ -278,7 +279,7 @@ fn add_keys(all: &mut IndexSet<Key>, added: &[(Key, Value)])
     }
 }
 
-/// Puts a key in. It takes no memory.
+/// Adds a key. It takes no memory.
 ///
 /// Condition: there is room.
 fn add_key(all: &mut IndexSet<Key>, key: &Key)

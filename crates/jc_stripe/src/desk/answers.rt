@@ -1,7 +1,7 @@
-//! What a desk answers.
+//! The answers of a desk.
 use jc_types::Refusal;
 
-/// Why a desk was not opened. Nothing is kept of what it was given.
+/// Why a desk was not opened. Nothing of the given contents is kept.
 #[derive(Clone, Copy, Debug, PartialEq, Eq)]
 pub enum OpenFault {
     /// The shape is out of its limits, or there is no stripe with this number.
@@ -12,7 +12,7 @@ pub enum OpenFault {
     Memory,
 }
 
-/// What a first phase at a desk gives.
+/// The outcome of a first phase at a desk.
 #[derive(Clone, Copy, Debug)]
 pub enum FirstAnswer {
     /// The call is done: the place of its step in the present generation.
@@ -29,7 +29,7 @@ pub enum FirstAnswer {
     Misuse,
 }
 
-/// What a last phase at a desk gives.
+/// The outcome of a last phase at a desk.
 #[derive(Clone, Copy, Debug)]
 pub struct CommitDone {
     /// The place of the step in the present generation.
@@ -38,7 +38,7 @@ pub struct CommitDone {
     pub shared: u32,
 }
 
-/// What a joiner is told at a desk.
+/// The answer to a joiner at a desk.
 #[derive(Clone, Copy, Debug)]
 pub enum PickUpAnswer {
     /// The load was committed.

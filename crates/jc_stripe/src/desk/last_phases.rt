@@ -1,4 +1,4 @@
-//! The last phases of calls at a desk. What isn't out is answered with nothing done.
+//! The last phases of calls at a desk. If the named reservation or join isn't out, nothing is done, and the answer says so.
 ghost use Rattle.std.specs.Prelude.{◌≡◌, ◌==◌, position, is_some, not, IfSome, IfNone};
 ghost use Rattle.std.specs.Bool.{OnTrue, OnFalse};
 ghost use Rattle.std.specs.Option.{option_copied};
@@ -22,7 +22,7 @@ fn place_of(tickets: &[Box<Reservation>], number: u64) -> Option<usize>
     tickets.iter().position(|ticket| ticket.number == number)
 }
 
-/// Whether a reservation is there, and asks the loader first.
+/// Whether there is a reservation, and it asks the loader first.
 fn asks_loader(ticket: Option<&Reservation>) -> bool
     ensures { result ≡ asks_first asks_loader (option_copied ticket.entry) }
 {
@@ -32,7 +32,7 @@ fn asks_loader(ticket: Option<&Reservation>) -> bool
     }
 }
 
-/// Whether one is there, and asks the writer first.
+/// Whether there is a reservation, and it asks the writer first.
 fn asks_writer(ticket: Option<&Reservation>) -> bool
     ensures { result ≡ asks_first asks_writer (option_copied ticket.entry) }
 {
@@ -42,7 +42,7 @@ fn asks_writer(ticket: Option<&Reservation>) -> bool
     }
 }
 
-/// Whether one is there, and these answers fit it.
+/// Whether there is a reservation that asks a processor first, and these answers fit it.
 fn fits_ticket(ticket: Option<&Reservation>, load: &LoadAnswer, process: &ProcessAnswer) -> bool
     ensures { result ≡ asks_first (fits_processor load.now process.now) (option_copied ticket.entry) }
 {
@@ -52,7 +52,7 @@ fn fits_ticket(ticket: Option<&Reservation>, load: &LoadAnswer, process: &Proces
     }
 }
 
-/// Whether a processor is asked, which ran, and its loader answered only if it may be asked.
+/// Whether a processor is asked, it ran, and its loader answered only if it may be asked.
 fn fits_processor(first: &First, load: &LoadAnswer, process: &ProcessAnswer) -> bool
     ensures { result ≡ fits_processor load.now process.now first.now }
 {
@@ -85,8 +85,8 @@ fn has_change(load: &LoadAnswer, process: &ProcessAnswer) -> bool
 }
 
 impl Desk {
-    /// The last phase of a call whose loader was asked. Its reply and what came and went are written. None says that no such ticket is
-    /// out, or that it asks somebody else; nothing was done.
+    /// The last phase of a call whose loader was asked. Its reply is written to `reply`, and the values that came and went to
+    /// `moves`. `None` says that no such ticket is out, or that it asks somebody else; then nothing was done.
     pub fn commit_load(
         &mut self,
         number: u64,
@@ -104,8 +104,8 @@ impl Desk {
         Some(self.commit(number, &Out::load_only(answer), reply, moves))
     }
 
-    /// The last phase of a call whose writer was asked. Its reply and what came and went are written. None says that no such ticket is
-    /// out, or that it asks somebody else; nothing was done.
+    /// The last phase of a call whose writer was asked. Its reply is written to `reply`, and the values that came and went to
+    /// `moves`. `None` says that no such ticket is out, or that it asks somebody else; then nothing was done.
     pub fn commit_write(
         &mut self,
         number: u64,
@@ -123,10 +123,12 @@ impl Desk {
         Some(self.commit(number, &Out::write_only(answer), reply, moves))
     }
 
-    /// The last phase of a call whose processor ran: what its loader answered, if it was asked, what it did, and what the writer
-    /// answered. The writer is to be asked exactly if write-through is on and the processor has a change, with neither loader nor
-    /// processor failed. Its reply and what came and went are written. None says that no such ticket is out, that it asks somebody
-    /// else, or that these aren't the ones to be asked; nothing was done.
+    /// The last phase of a call whose processor ran, with the answers of its loader, if it was asked, of the processor, and of
+    /// the writer. Its reply is written to `reply`, and the values that came and went to `moves`.
+    ///
+    /// The writer is to be asked exactly if write-through is on, the processor has a change, and neither loader nor processor
+    /// failed. `None` says that no such ticket is out, that it asks somebody else, or that these aren't the ones to be asked;
+    /// then nothing was done.
     pub fn commit_process(
         &mut self,
         number: u64,
@@ -169,7 +171,7 @@ impl Desk {
         answer.is_given() && asks
     }
 
-    /// The same of the writer.
+    /// Whether a reservation with this number is out that asks the writer, and the writer answered.
     fn takes_write(&self, number: u64, answer: &WriteAnswer) -> bool
         ensures { result ≡ takes_write self.now.stripe number answer.now }
     {
@@ -212,7 +214,7 @@ impl Desk {
         }
     }
 
-    /// Gives a reservation back whose loader, writer or processor was not asked.
+    /// Gives back a reservation whose loader, writer or processor was not asked.
     pub fn withdraw(&mut self, number: u64) -> bool
         ensures out { result ≡ is_some (ticket_of self.old.stripe number) }
         ensures done { OnTrue result (WithdrawsAtDesk self.old number self.new) }

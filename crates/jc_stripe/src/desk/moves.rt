@@ -1,4 +1,4 @@
-//! Which values came into a stripe with a step, and which left it.
+//! The values that came into a stripe with a step, and those that left it.
 ghost use Rattle.std.specs.Prelude.{◌≡◌, Bool, None, Some, is_some, option_map, if◌then◌else◌};
 ghost use Rattle.std.specs.Option.{option_copied};
 ghost use Rattle.std.specs.Map.Iter.{deref_pair};
@@ -18,10 +18,10 @@ use jc_model::{Cause, Op, Out, Reply};
 use jc_types::{Caller, Key, Value};
 use std::marker::Model;
 
-/// Which values came into a stripe with a step, and which left it. A driver that keeps what the values stand for beside the stripe knows
-/// from it what to keep and what to free.
+/// The values that came into a stripe with a step, and those that left it. From them a driver that keeps objects beside the
+/// stripe, for which the values stand, knows which to keep and which to free.
 ///
-/// It keeps its room: only bytes that count are copied.
+/// It can be used for many calls: only the bytes that count are copied.
 #[derive(Drop)]
 pub struct ValueMoves {
     is_kept: bool,
@@ -56,7 +56,7 @@ fn holds_value(entry: &Option<Value>, value: &Value) -> bool
     }
 }
 
-/// Why a step's own key was evicted after it, if it was.
+/// The cause for which a step's own key was evicted after it, if it was.
 fn eviction_cause(step: &Appended) -> Option<Cause>
     ensures { result ≡ option_map (λ e. e.cause) step.now.evicted }
 {
@@ -66,7 +66,7 @@ fn eviction_cause(step: &Appended) -> Option<Cause>
     }
 }
 
-/// Writes who would be evicted if a key that has this entry got a new one, and the value that it has.
+/// Writes the key that would be evicted if a key with this entry got a new value, and the victim's value.
 fn note_victim(
     stripe: &Stripe,
     entry: &Option<Value>,
@@ -102,14 +102,14 @@ impl ValueMoves {
         }
     }
 
-    /// Whether the key's entry has a value now that it hadn't before.
+    /// Whether the key's entry has a value now that it didn't have before.
     pub fn is_kept(&self) -> bool
         ensures { result ≡ self.now.kept }
     {
         self.is_kept
     }
 
-    /// The value that the key's entry had before, and hasn't now.
+    /// The value that the key's entry had before, and doesn't have now.
     pub fn left(&self) -> Option<&Value>
         ensures { option_copied result ≡ self.now.left }
     {
@@ -130,14 +130,14 @@ impl ValueMoves {
         }
     }
 
-    /// Why the step's own key was evicted after it, if it was.
+    /// The cause for which the step's own key was evicted after it, if it was.
     pub fn own(&self) -> Option<Cause>
         ensures { result ≡ self.now.own }
     {
         self.own
     }
 
-    /// A first phase at a stripe. If the call is done, it is noted what came and went.
+    /// A first phase at a stripe. If the call is done, it notes the values that came and went.
     #[inline(always)]
     pub(super) fn note_begin(
         &mut self,
@@ -165,7 +165,7 @@ impl ValueMoves {
         started
     }
 
-    /// A last phase at a stripe, of the reservation in this box: it is noted what came and went.
+    /// A last phase at a stripe, of the reservation in this box: it notes the values that came and went.
     #[inline(always)]
     pub(super) fn note_commit(
         &mut self,
@@ -200,7 +200,7 @@ impl ValueMoves {
         self.own = None;
     }
 
-    /// Notes what came and went with this step.
+    /// Notes the values that came and went with this step.
     fn note_after(&mut self, stripe: &Stripe, key: &Key, step: &Appended)
         ensures kept { self.new.kept ≡ is_new_value self.old.left (entry_at stripe.now.cache key.now) }
         ensures left { self.new.left ≡ value_lost self.old.left (entry_at stripe.now.cache key.now) }

@@ -1,4 +1,4 @@
-//! The first phase of a call: a hit, and what it is otherwise.
+//! The first phase of a call: a hit, a call that is done at once, a reservation or a join.
 ghost use Rattle.std.specs.Prelude.{◌≡◌, ◌↔◌, [], length, true, false, is_some, IsTrue, IfSome, IfNone, None, Some};
 ghost use Rattle.std.specs.Bool.{OnTrue, OnFalse};
 ghost use Rattle.jc_entries.specs.MostRecent.{most_recent};
@@ -32,7 +32,7 @@ pub(super) fn is_get(op: &Op) -> bool
     matches!(op, Op::Get)
 }
 
-/// A step at this place for which nobody is evicted.
+/// A step at this place for which no entry is evicted.
 pub(crate) fn appended_alone(place: u32) -> Appended
     ensures { result ≡ record { place = place; victim = None; evicted = None } }
 {
@@ -43,7 +43,7 @@ pub(crate) fn appended_alone(place: u32) -> Appended
     }
 }
 
-/// Makes a reply this value, in place: of a reply that is a value already, only those bytes are copied that count.
+/// Sets a reply to this value. If the reply is a value already, only the bytes that count are copied.
 #[inline(always)]
 fn set_value(reply: &mut Reply, value: &Value)
     ensures { reply.new ≡ ReplyValue (Some value.now) }
@@ -55,7 +55,7 @@ fn set_value(reply: &mut Reply, value: &Value)
 }
 
 impl Stripe {
-    /// What a first phase gives, and what it leaves, if the call isn't a `get`, or there is no place for one that finds its entry.
+    /// The first phase of a call that isn't a `get`, or for whose hit there is no place.
     pub(super) fn begin_at(
         &mut self,
         caller: Caller,
@@ -71,8 +71,8 @@ impl Stripe {
         self.begin_on(caller, key, op, &entry, reply)
     }
 
-    /// A `get` that finds its entry: the place of its step, and its value in `reply`. None says that the call is none, or that the
-    /// history lacks the place; then nothing is done, and the key's entry is written to `entry`.
+    /// A `get` that finds its entry: it returns the place of its step, and writes its value to `reply`. `None` says that the call
+    /// is no such `get`, or that the history lacks the place. Then nothing is done, and the key's entry is written to `entry`.
     #[inline(always)]
     pub(crate) fn hit_or_entry(
         &mut self,
@@ -100,7 +100,7 @@ impl Stripe {
         Some(place)
     }
 
-    /// What a first phase gives, and what it leaves, if the key has no entry.
+    /// The first phase at a key that has no entry.
     pub(super) fn begin_missing(
         &mut self,
         caller: Caller,
@@ -122,7 +122,7 @@ impl Stripe {
         self.history.len() as u32
     }
 
-    /// What a first phase gives on a key that has this entry, and what it leaves.
+    /// The first phase at a key that has this entry.
     #[inline(never)]
     pub(crate) fn begin_on(
         &mut self,
@@ -149,8 +149,8 @@ impl Stripe {
         self.finish_now(caller, key, op, entry, &found, reply)
     }
 
-    /// A `get` that finds its entry, and says whether it did: the one look-up also makes the entry the most recently used, and the
-    /// step is appended in a free place. If the entry is missing, nothing is done.
+    /// Makes a `get` if it finds its entry, and returns whether it did. One look-up finds the entry and makes it the most
+    /// recently used; the step is appended in a free place. If the entry is missing, nothing is done.
     #[inline(never)]
     pub(super) fn find_and_use(&mut self, caller: Caller, key: &Key) -> bool
         requires room { has_room self.old caller.call HIT_PLACES ≡ true }
@@ -184,7 +184,7 @@ impl Stripe {
         }
     }
 
-    /// Reserves a key that has this entry, and keeps room in the history for its commit.
+    /// Reserves a key that has this entry, and reserves places in the history for its commit.
     #[inline(never)]
     fn reserve(&mut self, caller: Caller, key: &Key, op: &Op, entry: &Option<Value>) -> Ticket
         requires free { first_refusal self.old caller key.now op.now ≡ None }
@@ -209,7 +209,7 @@ impl Stripe {
         Ticket::new(reservation)
     }
 
-    /// Joins a load, and keeps room in the history for the shared step.
+    /// Joins a load, and reserves a place in the history for the shared step.
     #[inline(never)]
     fn join(&mut self, caller: Caller, key: &Key, op: &Op, load: u64) -> Join
         requires free { first_refusal self.old caller key.now op.now ≡ None }
@@ -223,7 +223,8 @@ impl Stripe {
         Join::new(caller, key, load)
     }
 
-    /// Does a call at once that asks nobody. It is out of line: a call that reserves its key shouldn't clear the room of a step.
+    /// Does a call at once that asks nobody. It isn't inlined, so that a call that reserves its key doesn't clear the memory of a
+    /// step.
     #[inline(never)]
     fn finish_now(
         &mut self,

@@ -1,4 +1,4 @@
-//! Tests of a stripe, by which a driver that had let it go sees whether a condition of a phase still holds. They change
+//! Tests of a stripe, by which a driver that had given it back sees whether a condition of a phase still holds. They change
 //! nothing.
 ghost use Rattle.std.specs.Prelude.{◌≡◌, ◌↔◌, IsTrue, find, option_map};
 ghost use Rattle.std.specs.List.{list_all};
@@ -16,7 +16,11 @@ use jc_inflight::Joiner;
 use jc_model::Op;
 use jc_types::{Caller, Key, stripe_of};
 
-/// Whether a reservation is another session's, or the same call's of another key.
+/// Whether a reservation doesn't keep a call from beginning at a key: it is another session's, or this very call's at another
+/// key.
+///
+/// A reservation of another call of the session does, since a session makes one call at a time. So does one of this call at this
+/// key, since a call has one operation at a key.
 fn is_other_call(held: &Reservation, caller: Caller, key: &Key) -> bool
     ensures { result ≡ is_other_call caller key.now held.now }
 {
@@ -24,7 +28,7 @@ fn is_other_call(held: &Reservation, caller: Caller, key: &Key) -> bool
     who.session != caller.session || (who.call == caller.call && held.key != *key)
 }
 
-/// Whether a joiner is another session's, or the same call's of another key.
+/// Whether a joiner doesn't keep a call from beginning at a key: it is another session's, or this very call's at another key.
 fn is_other_join(joiner: &Joiner, caller: Caller, key: &Key) -> bool
     ensures { result ≡ is_other_join caller key.now joiner.now }
 {
@@ -44,21 +48,21 @@ fn are_other_joins(joiners: &[Joiner], caller: Caller, key: &Key) -> bool
     joiners.iter().all(|j| is_other_join(j, caller, key))
 }
 
-/// Whether two operations are one.
+/// Whether two operations are the same.
 fn is_same_op(first: &Op, second: &Op) -> bool
     ensures { IsTrue result ↔ (first.now ≡ second.now) }
 {
     *first == *second
 }
 
-/// Whether two calls ask the same one first.
+/// Whether two calls ask the same first: the same partner, for the same change or entry.
 fn is_same_first(first: &First, second: &First) -> bool
     ensures { IsTrue result ↔ (first.now ≡ second.now) }
 {
     *first == *second
 }
 
-/// Whether two reservations are one.
+/// Whether two reservations are the same.
 fn is_same(first: &Reservation, second: &Reservation) -> bool
     ensures { IsTrue result ↔ (first.now ≡ second.now) }
 {
@@ -102,8 +106,8 @@ fn may_come_all(history: &History, caller: &Caller, key: &Key) -> bool
 }
 
 impl Stripe {
-    /// Whether a call may begin here: the condition of [`begin`](Stripe::begin). It reads the whole history; a driver
-    /// that knows its session's own steps has enough with [`is_clear`](Stripe::is_clear).
+    /// Whether a call may begin here: the condition of [`begin`](Stripe::begin). It reads the whole history. For a driver that
+    /// knows its session's own steps, [`is_clear`](Stripe::is_clear) is enough.
     pub fn admits(&self, caller: Caller, key: &Key) -> bool
         ensures { IsTrue result ↔ MayBegin self.now caller key.now }
     {
@@ -128,7 +132,7 @@ impl Stripe {
     fn is_own(&self, key: &Key) -> bool
         ensures { result ≡ is_of self.now key.now }
     {
-        // Every stripe is reached, so its config has a stripe.
+        // For its contract: every stripe is reached, so its config has at least one stripe.
         let _ = self.events_len();
         stripe_of(key, self.config.stripes) == self.number
     }
@@ -143,8 +147,8 @@ impl Stripe {
         asks_anybody(&self.config, op, &entry)
     }
 
-    /// Whether a ticket is out here: the stripe's reservation of the key is the ticket's, by its caller, operation,
-    /// number and whom it asks.
+    /// Whether a ticket is out here: the stripe's reservation of the key has the ticket's caller, operation and number, and asks
+    /// the same first.
     pub fn holds(&self, reservation: &Reservation) -> bool
         ensures { IsTrue result ↔ IsOut self.now reservation.now }
     {

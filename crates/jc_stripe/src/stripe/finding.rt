@@ -1,4 +1,4 @@
-//! What a first phase finds at its key, and whether it is refused: the conditions in the order in which they count.
+//! The findings of a first phase at its key, and whether it is refused: the conditions in the order in which they are tested.
 ghost use Rattle.std.specs.Prelude.{◌≡◌, length, nat_le};
 ghost use Rattle.std.specs.Option.{option_copied};
 ghost use Rattle.jc_types.specs.declared.limits.TheConstants.{RESERVATIONS_MAX, JOINERS_MAX};
@@ -16,7 +16,7 @@ use jc_model::Op;
 use jc_types::{Caller, JOINERS_MAX, Key, LAST_NUMBER, RESERVATIONS_MAX, Refusal, Value};
 
 impl Stripe {
-    /// What a call finds at its key, which has this entry.
+    /// The findings of a call at its key, which has this entry.
     pub(super) fn find(&self, key: &Key, op: &Op, entry: &Option<Value>) -> Found
         requires entry { entry.now ≡ entry_at self.now.cache key.now }
         ensures { result ≡ found_at self.now key.now op.now }
@@ -67,7 +67,8 @@ impl Stripe {
         }
     }
 
-    /// Whether the needed places of the history are free, and the numbers aren't at their end.
+    /// Whether the needed places of the history are free, and neither the call's number nor the next reservation's is the last
+    /// one.
     pub(super) fn has_room(&self, call: u64, needed: usize) -> bool
         ensures { result ≡ has_room self.now call needed }
     {
@@ -91,7 +92,7 @@ impl Stripe {
         self.joiners.is_full()
     }
 
-    /// Why a call is refused here that lacks room.
+    /// The refusal of a call that lacks room.
     fn full_refusal(&self, call: u64) -> Refusal
         ensures { result ≡ full_refusal self.now call }
     {
@@ -102,7 +103,7 @@ impl Stripe {
         }
     }
 
-    /// The first refusal that a call meets here, if any, by what it finds at its key.
+    /// The first refusal whose condition holds, if any, by the call's findings at its key.
     pub(super) fn refusal(&self, caller: Caller, found: &Found) -> Option<Refusal>
         ensures { (key : Bytes) (op : Op) → found.now ≡ found_at self.now key op → result ≡ first_refusal self.now caller key op }
     {

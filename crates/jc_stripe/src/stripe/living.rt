@@ -1,4 +1,7 @@
 //! A stripe that lives on: when its generation ends, and the next one begins.
+//!
+//! Whether a stripe lives on is in its state, because otherwise no contract could state that a cache made by `new` keeps every
+//! event. A live cache takes a stripe for one phase or for one renewal, never for both.
 ghost use Rattle.std.specs.Prelude.{◌≡◌, ◌++◌, List, true, length, min, IfOk, IfErr};
 ghost use Rattle.std.specs.List.{list_any};
 ghost use Rattle.jc_types.specs.declared.limits.TheConstants.{LAST_NUMBER};
@@ -30,15 +33,16 @@ impl Stripe {
         self.life.count()
     }
 
-    /// From now on a full history of this stripe may end, and the next one begin ([`renew`](Stripe::renew)). Nothing else changes.
+    /// Makes the stripe live on: from now on a full history may end, and the next one begin ([`renew`](Stripe::renew)). Nothing
+    /// else changes.
     pub fn live_on(&mut self)
         ensures { self.new ≡ live_on self.old }
     {
         self.lives = true;
     }
 
-    /// Whether the present generation may end: the stripe lives on, its history isn't empty, and no answer of a load is parked. The
-    /// condition of [`renew`](Stripe::renew).
+    /// Whether the present generation may end: the stripe lives on, its history isn't empty, and no answer of a load is parked.
+    /// This is the condition of [`renew`](Stripe::renew).
     pub fn can_renew(&self) -> bool
         ensures { result ≡ can_renew self.now }
     {
@@ -52,10 +56,10 @@ impl Stripe {
         !self.history.has_room(STEP_PLACES) && self.can_renew()
     }
 
-    /// Ends the present generation, and begins a new one, which opens with what is cached, in its order of use. The history is empty
-    /// then, and all its places are free that are not promised.
+    /// Ends the present generation, and begins a new one, which opens with the cached entries, in their order of use. The history
+    /// is then empty, and all its places are free except the promised ones.
     ///
-    /// What is cached, the order of use, reservations, joiners, promised places and the next reservation's number stay. It takes no
+    /// The entries, the order of use, reservations, joiners, promised places and the next reservation's number stay. It takes no
     /// memory.
     ///
     /// Condition: the generation may end ([`can_renew`](Stripe::can_renew)).
@@ -68,8 +72,8 @@ impl Stripe {
         self.life = life;
     }
 
-    /// Ends the present generation, if it may end ([`can_renew`](Stripe::can_renew)), and appends its events, the oldest first. It says how
-    /// many generations had ended before. None says that it may not end, and changes nothing.
+    /// Ends the present generation, if it may end ([`can_renew`](Stripe::can_renew)), and appends its events, the oldest first.
+    /// It returns how many generations had ended before. `None` says that it may not end, and changes nothing.
     ///
     /// An `Err` says that an allocation failed, and changes nothing.
     pub fn end_generation(&mut self, out: &mut Vec<Event>) -> Result<Option<u64>, AllocError>
@@ -86,8 +90,7 @@ impl Stripe {
         Ok(Some(generation))
     }
 
-    /// What the events of all generations count, the present one included, each with whether its key had an entry before it (JSR 107,
-    /// "Statistics"). It reads no event.
+    /// The counts of the events of all generations, the present one included (JSR 107, "Statistics"). It reads no event.
     pub fn statistics(&self) -> Statistics
         ensures { result ≡ statistics_of (all_occurrences self.now) }
     {
@@ -95,7 +98,7 @@ impl Stripe {
         self.life.statistics().together(&self.history.statistics())
     }
 
-    /// Ends the present generation as [`renew`](Stripe::renew) does, if it is full and may end. Else nothing changes.
+    /// Ends the present generation as [`renew`](Stripe::renew) does, if it is full and may end. Otherwise nothing changes.
     pub fn renew_if_full(&mut self)
         ensures { RenewsIfFull self.old self.new }
     {

@@ -37,7 +37,7 @@ impl Stripe {
         self.reservations.next_number()
     }
 
-    /// Appends the keys that have an entry, each once, in byte order. It takes no memory.
+    /// Appends the keys that have an entry, each once, in byte order. It allocates nothing.
     ///
     /// Condition: the vector has room for as many keys as the stripe may cache.
     pub fn keys(&self, out: &mut Vec<Key>)
@@ -54,7 +54,7 @@ impl Stripe {
         sort_from(out, start);
     }
 
-    /// The key whose entry is evicted if a call inserts an entry now: none if there is room, or if each key is reserved.
+    /// The key whose entry is evicted if a call inserts an entry now. There is none if there is room, or if each key is reserved.
     pub fn next_victim(&self) -> Option<Key>
         ensures { result ≡ next_victim self.now }
     {
@@ -72,10 +72,11 @@ impl Stripe {
         self.joiners.waiting(load)
     }
 
-    /// Whether a key is cached both here and in the other stripe. It takes no memory.
+    /// Whether a key is cached both here and in the other stripe. It allocates nothing, so a repeated key is found before an
+    /// allocation can fail.
     ///
-    /// The answer is known at once of two stripes of as many, with different numbers: no key is of both. Else each key of this one
-    /// is looked up in the other.
+    /// Two stripes with different numbers, of caches with equally many stripes, have no key in common, which is known at once.
+    /// Otherwise each key of this stripe is looked up in the other.
     pub fn shares_key(&self, other: &Stripe) -> bool
         ensures { result ≡ shares_key self.now other.now }
     {

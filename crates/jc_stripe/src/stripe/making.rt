@@ -18,8 +18,8 @@ use jc_types::Config;
 use std::alloc::{AllocError, Global};
 
 impl Stripe {
-    /// An empty stripe, the one with this number of `config.stripes`. Its history and its tables have all the room that they may
-    /// need; an `Err` says that an allocation for it failed.
+    /// An empty stripe, with this number among `config.stripes`. Its history and its tables get all the memory that they may
+    /// need. An `Err` says that an allocation failed.
     ///
     /// Stripes are numbered from 0. A number at or above `config.stripes` gives a stripe that has no keys.
     ///
@@ -36,8 +36,8 @@ impl Stripe {
         Stripe::new_from(alloc, config, number, origin, 0)
     }
 
-    /// An empty stripe as by `new`, whose first reservation has the number `next`. No reservation has the last one, `u64::MAX`: at
-    /// it every first phase is refused (`HistoryFull`).
+    /// An empty stripe as by `new`, whose first reservation has the number `next`. No reservation gets the last number,
+    /// `u64::MAX`: when it is next, every first phase is refused (`HistoryFull`).
     ///
     /// Conditions: `config.check()` is `Ok`.
     pub fn new_from(
@@ -55,10 +55,10 @@ impl Stripe {
         Stripe::make(alloc, config, number, origin, entries, next)
     }
 
-    /// A stripe with nothing in its history, which opens with these entries, in their order of use. It keeps them. An `Err` says
-    /// that an allocation failed.
+    /// A stripe with an empty history, which opens with these entries, in their order of use, and keeps them. An `Err` says that
+    /// an allocation failed.
     ///
-    /// Conditions: `config.check()` is `Ok`; the entries have the room that it gives to a stripe, and are of this stripe's keys.
+    /// Conditions: `config.check()` is `Ok`; the entries have the capacity of the config, and only keys of this stripe.
     pub fn open_with(
         alloc: Global,
         config: &Config,
@@ -90,7 +90,7 @@ impl Stripe {
         ensures made { IfOk result (λ s. s ≡ record (opened_stripe config.now origin number entries.list) { next = next }) }
         ensures reached { IfOk result (λ s. IsReached s) }
     {
-        // For its contract: each key is there once, and there are not too many.
+        // For its contract: each key is there once, and there are at most `capacity` entries.
         let _ = entries.capacity();
         let reservations = StripeReservations::new_from(alloc, next)?;
         let boxes = TicketBoxes::new(alloc)?;
@@ -111,7 +111,7 @@ impl Stripe {
         })
     }
 
-    /// Makes the stripe as [`new`](Stripe::new) makes it with its shape, its number and its origin: it is empty, nothing has happened, it
+    /// Makes the stripe as [`new`](Stripe::new) makes one of its shape, number and origin: it is empty, nothing has happened, it
     /// doesn't live on, and reservations are numbered from 0. It takes no memory.
     ///
     /// Conditions: no key is reserved. A join that is out here can't be picked up any more.

@@ -57,7 +57,7 @@ fn all_end_with_faults(rt: &impl Abort, alloc: Global, parts: &str) {
     }
 }
 
-// Plays a script, and asserts what is said of its fault.
+// Plays a script, and asserts the text of its fault.
 fn is_told(rt: &impl Abort, alloc: Global, script: &[u8], wanted: &str) {
     let mut found = Vec::new(alloc);
     let mut told = Vec::new(alloc);
@@ -71,7 +71,7 @@ fn is_told(rt: &impl Abort, alloc: Global, script: &[u8], wanted: &str) {
     is(rt, wanted, told.trim_end(), wanted);
 }
 
-// Plays the script of each line, behind which ` => ` and what is said of its fault follow.
+// Plays the script of each line. After the script the line has an arrow, ` => `, and the text of the fault.
 fn all_are_told(rt: &impl Abort, alloc: Global, table: &str) {
     for line in table.lines() {
         let (script, wanted) = line.split_once(" => ").expect(rt, "what is said");
@@ -97,7 +97,7 @@ impl io::Read for Torn {
     }
 }
 
-// A writer that takes a byte at a time, as often as it is said, and then fails.
+// A writer that takes a byte at a time, a given number of times, and then fails.
 #[derive(Drop)]
 struct Narrow {
     taken: Vec<u8>,

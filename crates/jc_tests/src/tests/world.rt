@@ -1,5 +1,5 @@
-//! The public face of a world, and what scripts can't say: events that don't fit, a writer's change and its return apart, a
-//! withdrawal whose call isn't over. What scripts can say is in `tests/cases`.
+//! The public functions of a world, and cases that scripts can't express: events that don't fit, a writer's change and its return
+//! apart, a withdrawal whose call isn't over. The other cases are in `tests/cases`.
 //!
 //! Each test ends with `close`, since a world can't be dropped.
 use courses::{event_of, plays};
@@ -43,7 +43,7 @@ fn opened_world(rt: &impl Abort, alloc: Global) -> World {
     world
 }
 
-/// Nothing has happened in the world, and its store is given a=1.
+/// Asserts that nothing has happened in the world, and gives its store a=1.
 fn stores_a(rt: &impl Abort, world: &mut World) {
     let (a, one) = (key_of(rt, "a"), value_of(rt, "1"));
     assert!(rt; world.is_fresh(), "nothing has happened");
@@ -58,13 +58,13 @@ fn key_at(event: &Event) -> Key {
     }
 }
 
-/// These entries are a alone, with this value.
+/// Whether the only entry is a, with this value.
 fn is_a_alone(rt: &impl Abort, entries: &[(Key, Value)], name: &str) -> bool {
     let wanted = [(key_of(rt, "a"), value_of(rt, name))];
     entries == wanted.as_slice()
 }
 
-/// An audit is to show these values of a, that it differs or nothing does, and so many events.
+/// Asserts that an audit shows these values of a, that a differs or no key does, and this number of events.
 fn audits(
     rt: &impl Abort,
     alloc: Global,
@@ -79,7 +79,7 @@ fn audits(
     assert!(rt; audit.events == events && audit.is_legal, "the history");
 }
 
-/// An audit lists these keys, each with a space after it.
+/// Asserts that an audit lists these keys, each with a space after it.
 fn differs(rt: &impl Abort, alloc: Global, world: &World, names: &str) {
     let audit = world.audit(alloc).expect(rt, "memory");
     let mut listed = Vec::new(alloc);
@@ -97,7 +97,7 @@ fn put_key(rt: &impl Abort, names: &mut Vec<u8>, key: &Key) {
 
 // 1. Shapes.
 
-/// A world of this shape is refused, and this is blamed.
+/// Asserts that a world of this shape is refused for this field.
 fn is_refused(rt: &impl Abort, alloc: Global, config: &Config, field: Field) {
     match World::new(alloc, config) {
         Ok(world) => {
@@ -183,7 +183,7 @@ get 202 a: begun; start leave
 start 202 a: stepped; none
 ";
 
-/// Call 101 is under way, and call 102 is over.
+/// Asserts that call 101 is under way, and call 102 is over.
 fn is_under_way(rt: &impl Abort, world: &World) {
     let open = world.open_call(101).expect(rt, "call 101 is under way");
     let caller = open.caller();
@@ -199,7 +199,7 @@ fn is_under_way(rt: &impl Abort, world: &World) {
     assert!(rt; world.open_call(102).is_none(), "call 102 is over");
 }
 
-/// Call 101 does its put at a, which is open in it, and nothing at another key.
+/// Asserts that call 101 has a put at a, which is still open, and no operation at another key.
 fn is_open_at_a_alone(rt: &impl Abort, world: &World) {
     let open = world.open_call(101).expect(rt, "call 101 is under way");
     let put = Op::Put(value_of(rt, "101"));
@@ -210,7 +210,7 @@ fn is_open_at_a_alone(rt: &impl Abort, world: &World) {
     assert!(rt; open.op_at(&key_of(rt, "b")).is_none(), "nothing at b");
 }
 
-/// Call 101 has reserved a, and the writer has changed the store and not returned.
+/// Asserts that call 101 has reserved a, and that the writer has changed the store and not returned.
 fn is_reserved(rt: &impl Abort, world: &World) {
     let a = key_of(rt, "a");
     let part = world.part(101, &a).expect(rt, "a is reserved");
@@ -238,7 +238,7 @@ fn is_of_the_put(rt: &impl Abort, reservation: &Reservation) -> bool {
     *reservation == wanted
 }
 
-/// Session 1 has the last call but one under way.
+/// Asserts that session 1 has the last call but one under way.
 fn is_busy_with_the_put(rt: &impl Abort, world: &World) {
     assert!(rt; world.is_busy(1) && !world.is_busy(2));
     assert!(rt; world.is_new(103) && !world.is_new(102) && !world.is_fresh());
@@ -304,7 +304,7 @@ fn has_a_legal_order_of_a_put(rt: HostRuntime) {
     assert!(rt; !is_legal(&rt, alloc, &events), "a wrong reply");
 }
 
-/// The order has events of these keys, each with a space after it.
+/// Asserts that the order has events of these keys, each with a space after it.
 fn is_in_order(rt: &impl Abort, alloc: Global, world: &World, names: &str) {
     let order = world.order(alloc).expect(rt, "memory");
     let mut found = Vec::new(alloc);
@@ -342,7 +342,7 @@ fn has_one_order_over_its_stripes(rt: HostRuntime) {
 
 // 5. A world that is restarted.
 
-/// The world has no entry, its store neither, and nothing has happened.
+/// Asserts that the world has no entry, nor its store, and that nothing has happened.
 fn is_new(rt: &impl Abort, alloc: Global, world: &World) {
     let audit = world.audit(alloc).expect(rt, "memory");
     assert!(rt;
@@ -357,7 +357,7 @@ fn is_new(rt: &impl Abort, alloc: Global, world: &World) {
     );
 }
 
-/// It is restarted while the writer is out. The same calls go the same way then, though their numbers were used.
+/// A world is restarted while its writer is out. The same calls then have the same outcomes, though their numbers were used.
 #[test]
 fn restarts_as_new(rt: HostRuntime) {
     let alloc = rt.alloc();

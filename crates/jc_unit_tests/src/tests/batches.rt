@@ -1,4 +1,5 @@
-//! How batches split: each subset of three keys left, with and without a fault, with and without a key that the writer added.
+//! The split of batches: each subset of three keys is left, with and without a fault, with and without a key that the writer
+//! added.
 ghost use Rattle.std.specs.Prelude.{◌≡◌, length};
 
 use super::{is, key, value};
@@ -36,7 +37,7 @@ fn text_of(rt: &impl Abort, alloc: Global, keys: &[Key]) -> Vec<u8> {
     text
 }
 
-/// The same of keys that failed, all with this code.
+/// The keys that failed, as a text; asserts that all failed with this code.
 fn text_of_failed(rt: &impl Abort, alloc: Global, failed: &[(Key, u32)], code: u32) -> Vec<u8> {
     let mut text = Vec::new(alloc);
     for (key, found) in failed {

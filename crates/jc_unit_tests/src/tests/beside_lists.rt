@@ -1,4 +1,4 @@
-//! The same long runs of random calls on the entries and on a plain list, and on a history and a plain vector of events.
+//! Long runs of random calls, the same on the entries and on a plain list, and on a history and a plain vector of events.
 ghost use Rattle.std.specs.Prelude.{◌+◌, ◌≤◌};
 ghost use Rattle.jc_history.specs.Values.{IsStorable, values_in_op, values_in_load, values_in_process};
 
@@ -76,7 +76,7 @@ impl PlainList {
         }
     }
 
-    /// The least recently used key but this one.
+    /// The least recently used key except this one.
     fn victim(&self, pinned: &Key) -> Option<Key> {
         match self.list.iter().find(|entry| entry.0 != *pinned) {
             Some(entry) => Some(entry.0),
@@ -101,7 +101,7 @@ impl PlainList {
     }
 }
 
-/// One random call on both, which answer the same.
+/// Makes one random call on both, and asserts that they answer the same.
 fn calls_both(
     rt: &impl Abort,
     numbers: &mut Numbers,
@@ -134,7 +134,7 @@ fn calls_both(
     }
 }
 
-/// Both have the same keys, in the same order.
+/// Asserts that both have the same keys, in the same order.
 fn are_same(rt: &impl Abort, alloc: Global, entries: &Entries, plain: &PlainList) {
     let mut keys = Vec::with_capacity(alloc, entries.capacity()).expect(rt, "memory");
     entries.keys(&mut keys);

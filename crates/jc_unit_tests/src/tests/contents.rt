@@ -4,7 +4,7 @@ use jc_model::Contents;
 use std::alloc::Global;
 use std::process::Abort;
 
-/// Asserts what the contents are, by a text of pairs.
+/// Asserts that the contents are the pairs of a text.
 fn lists(rt: &impl Abort, alloc: Global, contents: &Contents, want: &str) {
     let listed = contents.entries(alloc).expect(rt, "memory");
     is(
@@ -15,7 +15,7 @@ fn lists(rt: &impl Abort, alloc: Global, contents: &Contents, want: &str) {
     );
 }
 
-/// Asserts what the contents are when they are appended to one pair.
+/// Asserts the list that the contents give when they are appended to one pair.
 fn appends(rt: &impl Abort, alloc: Global, contents: &Contents, first: &str, want: &str) {
     let mut listed = pairs(rt, alloc, first);
     contents.append_to(&mut listed).expect(rt, "memory");

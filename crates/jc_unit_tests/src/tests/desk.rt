@@ -1,16 +1,16 @@
 //! The desk, each function once, and each misuse, as lines of text.
 //!
-//! The words are those of [`stripes`](super::stripes), but for these: `SESSION` is a session, and the desk numbers the calls and the
-//! tickets itself, both from 0.
+//! The words are those of [`stripes`](super::stripes), with these differences: `SESSION` is a session, and the desk numbers the
+//! calls and the tickets itself, both from 0.
 //!
-//! - `begin SESSION OP KEY [VALUE]`: what is seen of a stripe's first phase; `full` or `misuse`;
-//! - `load TICKET ANSWER`, `write TICKET ANSWER`, a last phase: `REPLY at PLACE` or `misuse`; `process TICKET [apply] EFFECT`, the same of
-//!   a processor, after which the writer has answered, or has not;
+//! - `begin SESSION OP KEY [VALUE]`: as a stripe's first phase, or `full` or `misuse`;
+//! - `load TICKET ANSWER`, `write TICKET ANSWER`, a last phase: `REPLY at PLACE` or `misuse`; `process TICKET [apply] EFFECT`,
+//!   the last phase of a processor, after which the writer has answered, or has not;
 //! - `drop TICKET`: `dropped` or `misuse`;
 //! - `take SESSION CALL KEY TICKET`, a joiner asks for its answer: as a stripe's, or `misuse`;
 //! - `hit SESSION KEY`: the value and the call's number, as `1 at CALL`, or `no`;
-//! - `moves KEPT LEFT VICTIM VALUE`, what came and went with the last step, with `-` for nothing: `yes` or `no`;
-//! - `shared COUNT`, how many answers the last commit has parked: `yes` or `no`;
+//! - `moves KEPT LEFT VICTIM VALUE`, the values that came and went with the last step, with `-` for nothing: `yes` or `no`;
+//! - `shared COUNT`, the number of answers that the last commit has parked: `yes` or `no`;
 //! - `entry KEY VALUE`, `events COUNT`, `counts ..`, `idle`, `end`: `yes` or `no`.
 //!
 //! A case is a comment with its rule, a line `open HISTORY [read] [write] [keeps]`, and lines.
@@ -24,7 +24,7 @@ use jc_types::{Caller, Config, Key, Value};
 use std::alloc::Global;
 use std::process::Abort;
 
-/// A desk, and what its last phase wrote.
+/// A desk, and the reply and moves of its last phase.
 #[derive(Drop)]
 struct Driver {
     desk: Desk,
@@ -66,7 +66,7 @@ impl Driver {
         }
     }
 
-    /// Whom the newest ticket asks, which has this number.
+    /// The partner that the newest ticket asks. The ticket has this number.
     fn asked(&self, rt: &impl Abort, ticket: u64) -> Seen {
         let newest = self.desk.newest().expect(rt, "a ticket");
         is(rt, "the newest ticket", newest.number, ticket);
@@ -205,7 +205,7 @@ fn last_phase(rt: &impl Abort, driver: &mut Driver, word: &str, text: &str) -> S
     }
 }
 
-/// Does what a line says, and compares what is seen.
+/// Carries out a line, and compares the result.
 fn play(rt: &impl Abort, driver: &mut Driver, line: &str) {
     let (done, wanted) = line.split_once(" = ").expect(rt, line);
     let (word, text) = first_word(done);
@@ -457,7 +457,7 @@ fn lists_what_a_desk_has(rt: HostRuntime) {
     is(&rt, "event", driver.desk.event(0), event);
 }
 
-/// Fills a generation with room for 16 events: behind 14 a step with two evictions may lack room.
+/// Fills a generation with room for 16 events: after 14 a step with two evictions may lack room.
 fn fill(rt: &impl Abort, driver: &mut Driver) {
     for _ in 0..14 {
         play_looking(rt, driver);
@@ -481,7 +481,7 @@ events 0 = yes
 begin s1 put a 1 = ok at 0
 counts 0 0 1 0 0 = yes";
 
-// One that nobody reads ends by itself, and what it counted stays.
+// A generation that nobody reads ends by itself, and its counts stay.
 const RENEWED: &str = "\
 events 14 = yes
 begin s1 put a 1 = ok at 0

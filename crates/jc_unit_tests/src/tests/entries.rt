@@ -25,7 +25,7 @@ fn shown(rt: &impl Abort, alloc: Global, entries: &Entries) -> Vec<u8> {
     text
 }
 
-/// Asserts what the entries' keys are, as a text.
+/// Asserts that the entries' keys are those of a text.
 fn holds(rt: &impl Abort, alloc: Global, entries: &Entries, at: &str, keys: &[u8]) {
     is(rt, at, shown(rt, alloc, entries).as_slice(), keys);
 }
@@ -46,7 +46,7 @@ enum Call {
     Peek,
 }
 
-/// Makes a call, and gives what it finds.
+/// Makes a call, and returns the value that it finds.
 fn made(rt: &impl Abort, entries: &mut Entries, key: &Key, call: Call) -> Option<Value> {
     match call {
         Call::Put(text) => {
@@ -98,7 +98,7 @@ fn plays(rt: &impl Abort, alloc: Global, entries: &mut Entries, uses: &[Use]) {
     }
 }
 
-/// Asserts what the entries are, by a text of pairs.
+/// Asserts that the entries are the pairs of a text.
 fn lists(rt: &impl Abort, alloc: Global, entries: &Entries, want: &str) {
     let mut found = Vec::new(alloc);
     entries.append_to(&mut found).expect(rt, "memory");
@@ -120,7 +120,7 @@ fn keeps_the_order_of_use(rt: HostRuntime) {
 
 // 2. Evictions.
 
-/// Inserts c into entries with room for two, b and then a, where these keys are pinned.
+/// Inserts c into entries with room for two, which are b and then a, while these keys are pinned.
 fn evicts(rt: &impl Abort, alloc: Global, pinned: &str, want: Inserted, left: &[u8]) {
     let mut entries = empty(rt, alloc, 2);
     let x = value(rt, b"x");

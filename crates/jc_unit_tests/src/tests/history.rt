@@ -13,8 +13,8 @@ fn empty(rt: &impl Abort, alloc: Global, limit: usize) -> History {
     History::new(alloc, limit).expect(rt, "memory")
 }
 
-/// What is asked for, a limit, the places promised of it, how many more are asked for, whether they fit, and how many are free
-/// then.
+/// The name of a case, a limit, the places promised of it, the number of further places asked for, whether they fit, and the
+/// number that is free then.
 type Promise = (&'static str, usize, usize, usize, bool, usize);
 
 const PROMISES: &[Promise] = &[
@@ -30,7 +30,7 @@ const PROMISES: &[Promise] = &[
     ("one more than the most", 65536, 65535, 2, false, 1),
 ];
 
-/// Asserts what becomes of a promise beside an earlier one.
+/// Asserts the outcome of a promise beside an earlier one.
 fn promises(rt: &impl Abort, alloc: Global, promise: &Promise) {
     let (at, limit, promised, asked, fits, free) = *promise;
     assert!(rt; free <= HISTORY_MAX);
@@ -104,7 +104,7 @@ fn hit(key: Key, value: Value) -> Event
     }
 }
 
-/// Has `n` places promised, pushes into two of them, and gives the rest back.
+/// Promises `n` places, pushes into two of them, and gives the rest back.
 fn pushes_two_of(rt: &impl Abort, history: &mut History, n: usize, event: &Event)
     requires { IsStorable event.now }
 {
@@ -129,7 +129,7 @@ fn pushes_into_promised_places(rt: HostRuntime) {
     is(&rt, "full", history.has_room(0), true);
 }
 
-/// A step with as many values as an event has, and each field at its longest. It replies what its processor answered.
+/// A step with as many values as an event has, and each field at its longest. Its reply is its processor's answer.
 #[tactic(auto, using(jc_history::proofs::CallerLemmas::same_bytes))]
 fn largest(key: Key, loaded: Value, outcome: Value) -> Event
     ensures { IsStorable result }
@@ -154,14 +154,14 @@ fn largest(key: Key, loaded: Value, outcome: Value) -> Event
     }
 }
 
-/// Asserts which event is at a place, and its reply.
+/// Asserts that this event is at a place, with this reply.
 fn reads(rt: &impl Abort, history: &History, place: usize, event: &Event, reply: Option<Reply>) {
     assert!(rt; place < history.len());
     is(rt, "event", history.event(place), *event);
     is(rt, "reply", history.reply(place), reply);
 }
 
-/// Asserts what is appended of three events: the last two, the first, and none.
+/// Appends parts of three events, and asserts them: the last two, the first, and none.
 fn appends(rt: &impl Abort, alloc: Global, history: &History, want: &[Event]) {
     let mut found = Vec::new(alloc);
     assert!(rt; history.len() == 3);

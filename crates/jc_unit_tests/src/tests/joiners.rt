@@ -29,7 +29,7 @@ fn resolve(rt: &impl Abort, joiners: &mut Joiners, load: u64, step: u32) -> u32 
     joiners.resolve(load, step)
 }
 
-/// Session, call and key of a call that asks for its answer, and what it is given.
+/// Session, call and key of a call that asks for its answer, and the answer.
 type Taken = (u32, u64, &'static str, Option<JoinState>);
 
 fn take(rt: &impl Abort, joiners: &mut Joiners, calls: &[Taken]) {
@@ -127,7 +127,7 @@ fn tells_the_joiners_of_a_withdrawn_load_to_retry(rt: HostRuntime) {
     is(&rt, "empty", joiners.is_empty(), true);
 }
 
-/// Has 64 calls join at the key, the even ones load 0 and the others load 1.
+/// Makes 64 calls join at the key, the even ones load 0 and the others load 1.
 fn join_64(rt: &impl Abort, joiners: &mut Joiners, key: &Key) {
     for call in 0..64 {
         is(rt, "full too early", joiners.is_full(), false);
@@ -140,7 +140,7 @@ fn join_64(rt: &impl Abort, joiners: &mut Joiners, key: &Key) {
     }
 }
 
-// The call that joined late waits, and the one whose place it took is gone.
+// The call that joined late waits, and the joiner whose place it took is gone.
 const LATE: &[Taken] = &[(2, 0, "k", Some(JoinState::Waiting)), (1, 0, "k", None)];
 
 /// No call joins while there are 64 joiners, whether they wait or not. One that is taken leaves a place free.

@@ -41,13 +41,13 @@ set b 1
 1 s1 put a 1, is ok
 illegal";
 
-// Of no stripe: a shape that no cache has.
+// A shape without stripes, which no cache has.
 pub(super) const NO_STRIPE: &str = "\
 nothing
 
 illegal";
 
-// The same of one stripe.
+// The same, in a shape of one stripe.
 pub(super) const ONE_STRIPE: &str = "\
 nothing
 

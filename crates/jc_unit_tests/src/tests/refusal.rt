@@ -2,7 +2,7 @@
 use super::is;
 use jc_types::{Field, Refusal};
 
-// The name of each refusal, and what it says.
+// The name of each refusal, and its text.
 const TEXTS: &str = "\
 HistoryFull: the history has no room for this call
 Busy: another call is at work on this key

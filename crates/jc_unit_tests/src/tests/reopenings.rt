@@ -1,7 +1,7 @@
-//! Stripes that open with entries: what each keeps, and what is dropped.
+//! Stripes that open with entries: those that each keeps, and those that are dropped.
 //!
-//! A row is `STRIPES of CAPACITY: ENTRIES`, a line for each stripe with what it keeps, by the stripes' numbers, and a line
-//! `drops ENTRIES`. No entries are `nothing`.
+//! A row is `STRIPES of CAPACITY: ENTRIES`, a line for each stripe with the entries that it keeps, by the stripes' numbers, and a
+//! line `drops ENTRIES`. `nothing` stands for no entries.
 ghost use Rattle.std.specs.Prelude.{◌≡◌, IsTrue, true};
 ghost use Rattle.jc_model.specs.Listed.{has_distinct_keys};
 
@@ -52,7 +52,7 @@ fn entries_of(rt: &impl Abort, alloc: Global, text: &str) -> Vec<(Key, Value)> {
     pairs(rt, alloc, text)
 }
 
-/// The shape that a text says.
+/// The shape that a text names.
 fn shape(rt: &impl Abort, text: &str) -> Config {
     let (stripes, capacity) = text.split_once(" of ").expect(rt, text);
     Config {
@@ -78,7 +78,7 @@ pub(super) fn is_once(rt: &impl Abort, alloc: Global, entries: &[(Key, Value)]) 
     legal(alloc, &config, entries, &[]).expect(rt, "memory")
 }
 
-/// Asserts what a stripe keeps, and in which order.
+/// Asserts that a stripe keeps these entries, in this order.
 fn keeps(rt: &impl Abort, alloc: Global, stripe: &Stripe, line: &str) {
     let mut kept = Vec::new(alloc);
     stripe.entries(&mut kept).expect(rt, "memory");
@@ -90,7 +90,7 @@ fn keeps(rt: &impl Abort, alloc: Global, stripe: &Stripe, line: &str) {
     );
 }
 
-/// Opens a row's stripes, and compares what they keep and what is dropped.
+/// Opens a row's stripes, and compares the entries that they keep and those that are dropped.
 fn opens(rt: &impl Abort, alloc: Global, row: &str) {
     let (first, lines) = row.split_once('\n').expect(rt, row);
     let (words, text) = first.split_once(": ").expect(rt, first);

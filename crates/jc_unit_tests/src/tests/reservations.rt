@@ -1,4 +1,4 @@
-//! What a table of reservations answers, from an empty one to a full one. No test is given an allocator.
+//! The answers of a table of reservations, from an empty one to a full one. No test is given an allocator.
 use super::{is, key};
 use jc_reserve::{Reservations, Reserved};
 use jc_types::Key;
@@ -22,7 +22,7 @@ impl Reserved for Slot {
     }
 }
 
-/// Reserves a key with this note, and gives the number of its reservation.
+/// Reserves a key with this note, and returns the number of its reservation.
 fn reserve(table: &mut Reservations<Slot>, key: &Key, note: u8) -> Option<u64> {
     let number = table.next_number();
     table.reserve(&Slot {
@@ -40,7 +40,7 @@ fn found(table: &Reservations<Slot>, key: &Key) -> Option<(u64, u8)> {
     }
 }
 
-/// A key that is reserved with a note, with the number that this gives, or with no note is released.
+/// A key that is reserved with this note, and the number that it gets; without a note the key is released.
 type Change = (&'static str, Option<u8>, Option<u64>);
 
 const CHANGES: &[Change] = &[
@@ -87,7 +87,7 @@ fn look_all_up(rt: &impl Abort, table: &Reservations<Slot>, all: &[Found]) {
     }
 }
 
-/// Asks for the reservations as a list: the keys `b` and `c`, by the numbers 2 and 4.
+/// Asserts the reservations as a list: the keys `b` and `c`, by the numbers 2 and 4.
 fn look_at_list(rt: &impl Abort, table: &Reservations<Slot>) {
     let left = [key(rt, b"b"), key(rt, b"c")];
     is(rt, "keys", table.keys(), left.as_slice());

@@ -1,12 +1,12 @@
-//! Histories as texts, and how they are read and judged.
+//! Histories as texts, which are read and judged.
 //!
-//! Histories are in texts, since a check proves a table of rows at a price that grows faster than its length. The words
-//! are those of scripts and transcripts. A row is a name, its lines, and `legal` or `illegal`. Its lines are:
+//! Histories are texts, since the cost to prove a table of rows grows faster than its length. The words are those of scripts and
+//! transcripts. A row is a name, its lines, and `legal` or `illegal`. Its lines are:
 //!
 //! - `set KEY VALUE`, an entry of the opening;
-//! - `CALL SESSION OP KEY [, ANSWER], is REPLY [shared PLACE]`, a step, as `1 s1 get a, read 1, is 1`. Nobody was asked
-//!   if there is no answer. The loader's is `read VALUE`, `read -` or `readfail CODE`, the writer's `apply` or `applyfail CODE`,
-//!   and the processor's, by its net effect, `sets VALUE`, `removes` or `keeps`;
+//! - `CALL SESSION OP KEY [, ANSWER], is REPLY [shared PLACE]`, a step, as `1 s1 get a, read 1, is 1`. Nobody was asked if there
+//!   is no answer. The loader's is `read VALUE`, `read -` or `readfail CODE`, the writer's `apply` or `applyfail CODE`, and the
+//!   processor's, by its net effect, `sets VALUE`, `removes` or `keeps`;
 //! - `evict KEY full` or `evict KEY memory`.
 use super::{callers, evictions, is, openings, shape, shared};
 use jc_model::{
@@ -18,7 +18,7 @@ use std::process::Abort;
 
 // 1. Words. A word that isn't one fails the test.
 
-/// The first word, and what follows it, if anything.
+/// The first word, and the rest after it.
 pub(super) fn first_word(text: &str) -> (&str, &str) {
     text.split_once(' ').unwrap_or((text, ""))
 }
@@ -35,7 +35,7 @@ pub(super) fn value(rt: &impl Abort, word: &str) -> Value {
     Value::new(word.as_bytes()).ok().expect(rt, word)
 }
 
-/// The call with this number, of a session as `s1`.
+/// The call with this number, of a session such as `s1`.
 pub(super) fn caller(rt: &impl Abort, call: &str, session: &str) -> Caller {
     let session = session.strip_prefix('s').expect(rt, session);
     Caller {
@@ -44,7 +44,7 @@ pub(super) fn caller(rt: &impl Abort, call: &str, session: &str) -> Caller {
     }
 }
 
-/// The value that a word says; a dash says none.
+/// The value that a word names; a dash names none.
 pub(super) fn value_or_none(rt: &impl Abort, word: &str) -> Option<Value> {
     if word == "-" {
         return None;
@@ -84,7 +84,7 @@ pub(super) fn op(rt: &impl Abort, name: &str, word: &str) -> Op {
     }
 }
 
-/// What a loader answers: a value, or `-` for none.
+/// The answer of a loader: a value, or `-` for none.
 fn found(rt: &impl Abort, word: &str) -> LoadAnswer {
     match value_or_none(rt, word) {
         Some(value) => LoadAnswer::Found(value),
@@ -131,7 +131,7 @@ pub(super) fn reply(rt: &impl Abort, text: &str) -> Reply {
     }
 }
 
-/// The step of a call, with the outside answer if there was one, which replied so.
+/// The step of a call, with the outside answer if there was one, with this reply.
 fn step(rt: &impl Abort, call: &str, out: Out, replied: &str) -> Event {
     let (count, call) = first_word(call);
     let (session, call) = first_word(call);
@@ -160,7 +160,7 @@ fn eviction(rt: &impl Abort, text: &str) -> Event {
     }
 }
 
-/// The event that a line is.
+/// The event of a line.
 pub(super) fn event(rt: &impl Abort, line: &str) -> Event {
     if let Some(text) = line.strip_prefix("evict ") {
         return eviction(rt, text);
@@ -179,7 +179,7 @@ fn entry(rt: &impl Abort, text: &str) -> (Key, Value) {
 
 // 3. Histories.
 
-/// The opening and the events that the lines are.
+/// The opening and the events of the lines.
 fn history(rt: &impl Abort, alloc: Global, lines: &str) -> (Vec<(Key, Value)>, Vec<Event>) {
     let (mut opening, mut events) = (Vec::new(alloc), Vec::new(alloc));
     for line in lines.lines() {

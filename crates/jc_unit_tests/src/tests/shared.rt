@@ -1,4 +1,4 @@
-//! Loads that several callers share, and what they see of a put.
+//! Loads that several callers share, and a put meanwhile.
 
 // A load answers, and its value is seen while a put is out; the put commits, and then the new value is seen.
 pub(super) const PUT: &str = "\

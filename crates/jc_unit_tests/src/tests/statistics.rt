@@ -1,10 +1,10 @@
-//! What each operation counts, by what it found, what was asked outside and its reply.
+//! The counts of each operation, by the entry that it found, the outside answers and its reply.
 use super::is;
 use super::script::event;
 use jc_model::Statistics;
 use std::process::Abort;
 
-// Whether the key had an entry before, an event in the words of `script`, and what it counts as.
+// Whether the key had an entry before, an event in the words of `script`, and the counts that it adds to.
 const COUNTS: &str = "\
 there: 1 s1 get a, is 1 = hit
 missing: 1 s1 get a, is - = miss
@@ -49,7 +49,7 @@ there: evict a full = eviction
 there: evict a memory = eviction
 ";
 
-/// One of each of these.
+/// Counts with one for each of these words.
 fn counted(rt: &impl Abort, words: &str) -> Statistics {
     let mut counted = Statistics::new();
     for word in words.split(' ') {

@@ -1,21 +1,22 @@
-//! The phases of a stripe, each once, and its limits of 64, as lines of text. What scripts can say, as which entry goes and when a
-//! history is full, is in `tests/cases`, and so is the last phase of an entry processor.
+//! The phases of a stripe, each once, and its limits of 64, as lines of text. What scripts can test, such as which entry is
+//! evicted and when a history is full, is in `tests/cases`, and so is the last phase of an entry processor.
 //!
-//! A line has what is done, ` = `, and what is seen:
+//! A line has an action, ` = `, and the expected result:
 //!
 //! - `begin CALL SESSION OP KEY [VALUE]`, a first phase: `REPLY at PLACE`; `asks loader`, `asks write VALUE`, `asks delete`, or
-//!   `asks process ENTRY [loading]`, with the entry that is seen and `loading` if it may be loaded; `joins CALL`, the one that loads; or
-//!   `refused REFUSAL`;
-//! - `commit CALL read VALUE`, `commit CALL apply` and the like, a last phase with what the loader or the writer answers: `REPLY at PLACE`;
+//!   `asks process ENTRY [loading]`, with the entry that it sees and `loading` if it may be loaded; `joins CALL`, with the call
+//!   that loads; or `refused REFUSAL`;
+//! - `commit CALL read VALUE`, `commit CALL apply` and the like, a last phase with the answer of the loader or the writer: `REPLY
+//!   at PLACE`;
 //! - `drop CALL`, a withdrawal: `dropped`;
 //! - `take CALL`, a joiner asks for its answer: `REPLY at PLACE shared PLACE`, `waits`, or `again`;
-//! - `counts HITS MISSES PUTS REMOVALS EVICTIONS`, what the steps count: `yes` or `no`;
+//! - `counts HITS MISSES PUTS REMOVALS EVICTIONS`, the counts of the steps: `yes` or `no`;
 //! - `restart`, the stripe is made as a new one: `yes` if nothing is out then;
 //! - `idle`, `clear CALL SESSION KEY`, `admits CALL SESSION KEY`, `outside OP KEY [VALUE]`, tests of the stripe: `yes` or `no`.
 //!
-//! `each N: LINE` is N lines, with the numbers from 1 in place of each `#`. A case is a comment with its rule, a line
-//! `open HISTORY [read] [write] [from NUMBER]` for a stripe with room for two entries, whose first reservation has this number or
-//! else 0, and lines. At its end no call is out.
+//! `each N: LINE` is N lines, with the numbers from 1 in place of each `#`. A case is a comment with its rule, a line `open
+//! HISTORY [read] [write] [from NUMBER]` for a stripe with room for two entries, whose first reservation has this number, or 0
+//! without one, and lines. At its end no call is out.
 pub mod desk;
 pub mod words;
 
@@ -30,7 +31,7 @@ use std::alloc::Global;
 use std::process::Abort;
 use words::{Seen, seen_of};
 
-/// A shape as `open` says it.
+/// The shape of an `open` line.
 pub(super) fn shape(rt: &impl Abort, line: &str) -> Config {
     let (history, options) = first_word(line.strip_prefix("open ").expect(rt, line));
     Config {
@@ -42,7 +43,7 @@ pub(super) fn shape(rt: &impl Abort, line: &str) -> Config {
     }
 }
 
-/// The number of the first reservation, as `open` says it.
+/// The number of the first reservation of an `open` line.
 fn first_reservation(rt: &impl Abort, line: &str) -> u64 {
     match line.split_once(" from ") {
         Some((_shape, word)) => word.parse().ok().expect(rt, word),
@@ -89,7 +90,7 @@ fn begin(rt: &impl Abort, desk: &mut Desk, call: &str, text: &str) -> Seen {
     desk.begin(rt, caller, &key(rt, at), &op(rt, name, value))
 }
 
-/// Does what a line says, and compares what is seen.
+/// Carries out a line, and compares the result.
 fn play(rt: &impl Abort, desk: &mut Desk, line: &str) {
     let (done, wanted) = line.split_once(" = ").expect(rt, line);
     let (word, text) = first_word(done);
@@ -106,7 +107,7 @@ fn play(rt: &impl Abort, desk: &mut Desk, line: &str) {
     is(rt, line, found, seen_of(rt, wanted));
 }
 
-/// Plays a line so often, with the numbers from 1.
+/// Plays a line a number of times, with the numbers from 1.
 fn play_each(rt: &impl Abort, alloc: Global, desk: &mut Desk, text: &str) {
     let (count, line) = text.split_once(": ").expect(rt, text);
     for n in 1..=number(rt, count) {
@@ -339,7 +340,7 @@ fn plays_each_phase(rt: HostRuntime) {
     }
 }
 
-/// Its keys in byte order, after what was there.
+/// Asserts the keys in byte order, appended to a list.
 fn lists_keys(rt: &impl Abort, alloc: Global, stripe: &Stripe) {
     let (a, b) = (key(rt, "a"), key(rt, "b"));
     let mut keys = Vec::with_capacity(alloc, 3).expect(rt, "memory");
@@ -349,7 +350,7 @@ fn lists_keys(rt: &impl Abort, alloc: Global, stripe: &Stripe) {
     is(rt, "keys", keys.as_slice(), [b, a, b].as_slice());
 }
 
-/// Its entries, the most recently used first.
+/// Asserts the entries, the most recently used first.
 fn lists_entries(rt: &impl Abort, alloc: Global, stripe: &Stripe) {
     let mut entries = Vec::new(alloc);
     stripe.entries(&mut entries).expect(rt, "memory");
@@ -357,7 +358,7 @@ fn lists_entries(rt: &impl Abort, alloc: Global, stripe: &Stripe) {
     is(rt, "entries", entries.as_slice(), wanted.as_slice());
 }
 
-/// Its last event, of two.
+/// Asserts the last one of two events.
 fn lists_events(rt: &impl Abort, alloc: Global, stripe: &Stripe) {
     let mut events = Vec::new(alloc);
     assert!(rt; stripe.events_len() == 2, "two events");
@@ -379,7 +380,7 @@ fn shows_what_it_has(rt: HostRuntime) {
     desk.close(&rt);
 }
 
-// The least recently used entry of the opening goes for a new key.
+// The least recently used entry of the opening is evicted for a new key.
 const OPENED: &str = "\
 begin 1 s1 get b = 2 at 0
 begin 2 s1 get c = asks loader
@@ -387,7 +388,7 @@ commit 2 read 3 = 3 at 2
 begin 3 s1 contains a = false at 3
 begin 3 s2 get b = 2 at 4";
 
-/// Whether its history is legal from these entries.
+/// Whether the stripe's history is legal from these entries.
 fn is_legal(rt: &impl Abort, alloc: Global, stripe: &Stripe, opening: &[(Key, Value)]) -> bool {
     let mut events = Vec::new(alloc);
     let appended = stripe.append_events(0, stripe.events_len(), &mut events);
@@ -416,7 +417,7 @@ fn opens_with_entries(rt: HostRuntime) {
     desk.close(&rt);
 }
 
-/// Stripes that open with these entries, as many as the shape says.
+/// The stripes of a shape, which open with these entries.
 fn opened(rt: &impl Abort, alloc: Global, config: &Config, text: &str) -> Vec<Stripe> {
     config.check().expect(rt, "a shape");
     let entries = pairs(rt, alloc, text);
@@ -425,8 +426,8 @@ fn opened(rt: &impl Abort, alloc: Global, config: &Config, text: &str) -> Vec<St
     reopened.expect(rt, "memory").stripes
 }
 
-// How many stripes one cache has and what it has, the same of another cache, and whether any two of their stripes share a key. By
-// the sum of its bytes a is of stripe 1 of two, and b of stripe 0.
+// The number of stripes and the entries of one cache, those of another cache, and whether any two of their stripes share a key.
+// By the sum of its bytes a is of stripe 1 of two, and b of stripe 0.
 const SHARED: &[(usize, &str, usize, &str, bool)] = &[
     (1, "a=1 b=2", 1, "b=3", true),
     (1, "a=1 b=2", 1, "c=3", false),

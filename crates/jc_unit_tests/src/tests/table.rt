@@ -1,9 +1,9 @@
-//! What the texts don't run: an operation in the place of another, and the rows of an entry processor.
+//! Cases that the texts don't have: an operation that replaces another, and the rows of an entry processor.
 use super::value;
 use jc_model::{Effect, LentChange, LoaderAsk, Op, ProcessAnswer};
 use std::process::Abort;
 
-// Puts each of these in the place of each.
+// Replaces each of these by each.
 fn take_places(rt: &impl Abort, ops: &[Op]) {
     for old in ops {
         for new in ops {

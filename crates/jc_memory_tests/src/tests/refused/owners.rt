@@ -1,4 +1,4 @@
-//! Calls of owners and clients, of which an allocation is refused. Each is made once, on a cache that lives on.
+//! Calls of owners and clients in which an allocation is refused. Each is made once, on a cache that lives on.
 use super::*;
 use jc_cache::{
     CacheOwner, Client, Closed, ClosedStripe, Event, Outside, Service, serve, work_all,
@@ -7,7 +7,7 @@ use jc_types::Refusal;
 use std::sync::Wait;
 use std::thread::Threads;
 
-/// What two sessions bring.
+/// The parts of two sessions.
 fn pair(rt: &impl Abort, alloc: Global) -> Vec<Outside> {
     let mut outside = Vec::new(alloc);
     for _ in 0..2 {
@@ -24,12 +24,12 @@ fn owner_of(rt: &impl Abort, alloc: Global) -> CacheOwner {
     CacheOwner::living(alloc, &SHAPE).ok().expect(rt, "memory")
 }
 
-/// The cache is ended.
+/// Closes the cache.
 fn ends_well(rt: &impl Abort, alloc: Global, owner: CacheOwner) -> Closed {
     owner.end(alloc).ok().expect(rt, "memory")
 }
 
-/// Sessions are given out. If memory is short, those that were made are dropped, and the cache can be ended.
+/// Makes sessions. If an allocation fails, those that were made are dropped, and the cache can be closed.
 fn enlists(rt: &(impl Abort + Print), alloc: Global) {
     let mut owner = owner_of(rt, alloc);
     let outside = pair(rt, alloc);
@@ -44,7 +44,7 @@ fn enlists(rt: &(impl Abort + Print), alloc: Global) {
     let _closed = ends_well(rt, alloc, owner);
 }
 
-/// Clients of two sessions are made.
+/// Makes clients of two sessions.
 fn makes_clients(rt: &(impl Abort + Print), alloc: Global) {
     let mut owner = owner_of(rt, alloc);
     let sessions = owner
@@ -57,7 +57,7 @@ fn makes_clients(rt: &(impl Abort + Print), alloc: Global) {
     let _closed = ends_well(rt, alloc, owner);
 }
 
-/// Clients are made sessions again.
+/// Makes clients sessions again.
 fn takes_sessions(rt: &(impl Abort + Print), alloc: Global) {
     let mut owner = owner_of(rt, alloc);
     let sessions = owner
@@ -91,7 +91,7 @@ fn put_once(rt: &impl Abort) -> PutOnce {
     }
 }
 
-/// The clients' work is done on threads. If memory is short, some of them may not have worked.
+/// Does the clients' work on threads. If an allocation fails, some of them may not have worked.
 fn works<R: Abort + Wait + Threads + Sync + Print>(rt: &R, alloc: Global) {
     let service = put_once(rt);
     let mut owner = owner_of(rt, alloc);
@@ -110,7 +110,7 @@ fn works<R: Abort + Wait + Threads + Sync + Print>(rt: &R, alloc: Global) {
     }
 }
 
-/// A service is run whole.
+/// Runs a whole service.
 fn serves<R: Abort + Wait + Threads + Sync + Print>(rt: &R, alloc: Global) {
     let service = put_once(rt);
     let outside = pair(rt, alloc);
@@ -132,7 +132,7 @@ fn first_puts<R: Abort + Wait>(rt: &R, client: &mut Client<'_>)
     is(rt, client.put(rt, &put.key, &put.value), Ok(()));
 }
 
-/// A generation of one put is ended. If memory is short, it goes on, and can be ended then.
+/// Ends a generation of one put. If an allocation fails, the generation continues, and can be ended later.
 fn ends_a_generation<R: Abort + Wait + Print>(rt: &R, alloc: Global, client: &mut Client<'_>)
     requires { Unit {0} }
 {
@@ -164,7 +164,7 @@ fn calls<R: Abort + Wait + Print>(rt: &R, alloc: Global, clients: Vec<Client<'_>
     }
 }
 
-/// Its one event is listed. If memory is short, nothing is.
+/// Lists the stripe's only event. If an allocation fails, nothing is listed.
 fn lists_events(rt: &(impl Abort + Print), alloc: Global, stripe: &ClosedStripe) {
     let mut events: Vec<Event> = Vec::new(alloc);
     say(rt, "> append_events");
@@ -174,7 +174,7 @@ fn lists_events(rt: &(impl Abort + Print), alloc: Global, stripe: &ClosedStripe)
     is(rt, events.len(), if is_listed { 1 } else { 0 });
 }
 
-/// The cache is ended. If memory is short, it comes back, and can be ended then.
+/// Closes the cache. If an allocation fails, the owner is returned, and can be closed later.
 fn ends(rt: &(impl Abort + Print), alloc: Global, owner: CacheOwner) -> Closed {
     say(rt, "> end");
     match owner.end(alloc) {

@@ -1,4 +1,4 @@
-//! Calls of what a cache is made of, and of worlds, of which an allocation is refused. Each is made once.
+//! Calls of the parts of a cache, and of worlds, in which an allocation is refused. Each is made once.
 ghost use Rattle.std.specs.Prelude.{◌≡◌, ◌+◌, ◌^◌, ◌<◌, ◌≤◌, ◌++◌, [], ◌∷◌, All, vec_len, vec_capacity};
 ghost use Rattle.jc_pool.specs.Shares.{CanDoAll};
 
@@ -32,7 +32,7 @@ fn world_of_one_put(rt: &impl Abort, alloc: Global) -> World {
     world
 }
 
-/// A world is asked for its order.
+/// Asks a world for its order.
 fn orders(rt: &(impl Abort + Print), alloc: Global) {
     let world = world_of_one_put(rt, alloc);
     say(rt, "> order");
@@ -43,7 +43,7 @@ fn orders(rt: &(impl Abort + Print), alloc: Global) {
     world.close();
 }
 
-/// The history of one put is legal.
+/// Checks the history of one put, which is legal.
 fn checks_a_history(rt: &(impl Abort + Print), alloc: Global) {
     let world = world_of_one_put(rt, alloc);
     let events = world.order(alloc).expect(rt, "memory");
@@ -55,7 +55,7 @@ fn checks_a_history(rt: &(impl Abort + Print), alloc: Global) {
     assert!(rt; found.unwrap_or(true));
 }
 
-/// An empty stripe is made.
+/// Makes an empty stripe.
 fn makes_a_stripe(rt: &(impl Abort + Print), alloc: Global) {
     SHAPE.check().expect(rt, "a shape");
     say(rt, "> Stripe::new");
@@ -64,7 +64,7 @@ fn makes_a_stripe(rt: &(impl Abort + Print), alloc: Global) {
     say_whole(rt, made);
 }
 
-/// A stripe is made of entries, of which there are none.
+/// Opens a stripe with an empty list of entries.
 fn opens_a_stripe(rt: &(impl Abort + Print), alloc: Global) {
     SHAPE.check().expect(rt, "a shape");
     let entries = Entries::new(alloc, SHAPE.capacity).expect(rt, "memory");
@@ -74,7 +74,7 @@ fn opens_a_stripe(rt: &(impl Abort + Print), alloc: Global) {
     say_dropped(rt, made);
 }
 
-/// Stripes are made of one entry.
+/// Opens stripes with one entry.
 fn opens_stripes(rt: &(impl Abort + Print), alloc: Global) {
     SHAPE.check().expect(rt, "a shape");
     let entries = [(key(rt), value(rt))];
@@ -84,7 +84,7 @@ fn opens_stripes(rt: &(impl Abort + Print), alloc: Global) {
     say_whole(rt, made);
 }
 
-/// A lock is put round a stripe.
+/// Puts a lock round a stripe.
 fn locks(rt: &(impl Abort + Print), alloc: Global) {
     SHAPE.check().expect(rt, "a shape");
     let stripe = Stripe::new(alloc, &SHAPE, 0, Origin::Live).expect(rt, "memory");
@@ -95,7 +95,7 @@ fn locks(rt: &(impl Abort + Print), alloc: Global) {
     say_dropped(rt, made);
 }
 
-/// Notes which pieces it was given, and does no more.
+/// Notes the pieces that it was given, and does no more.
 #[derive(Drop)]
 struct Tally {
     done: Vec<usize>,
@@ -125,7 +125,7 @@ fn idle(rt: &impl Abort, alloc: Global, pieces: usize) -> Tally
     }
 }
 
-/// So many workers, each with room for all pieces.
+/// Creates `workers` workers, each with room for all pieces.
 fn team(rt: &impl Abort, alloc: Global, workers: usize, pieces: usize) -> Vec<Tally>
     ensures len { vec_len result ≡ workers }
     ensures able { All (CanDoAll (λ t piece. (vec_len t.done ≤ piece) × (piece < vec_capacity t.done)) pieces) result.items }
@@ -137,7 +137,7 @@ fn team(rt: &impl Abort, alloc: Global, workers: usize, pieces: usize) -> Vec<Ta
     team
 }
 
-/// Workers share pieces. If memory is short, no piece is done.
+/// Lets workers share pieces. If an allocation fails, no piece is done.
 fn share<R: Abort + Threads + Sync + Print>(rt: &R, alloc: Global, workers: usize, pieces: usize)
     requires some { 0 < workers }
     requires fits { pieces + workers < 2 ^ 64 }

@@ -1,4 +1,4 @@
-//! Faults of lines: which comes first, by shape, words and state, and where it is.
+//! Faults of lines: the one that is told first, by shape, words and state, and its place.
 use super::{all_are_told, all_end_with_faults};
 
 const BAD_LINES: &str = "\

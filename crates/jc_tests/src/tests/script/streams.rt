@@ -6,7 +6,7 @@ use std::alloc::Global;
 use std::io;
 use std::process::Abort;
 
-/// A script: each line with what it prints, if anything, after `->`, where `/` is between two lines.
+/// A script: each line with its output, if any, after `->`, with `/` between two lines.
 const RUN: &str = "\
 open 1 2 100 read write -> open
 set a 1
@@ -22,7 +22,7 @@ begin 4 s2 get a -> 4 a is 2 at 0.3
 audit -> cache a=2 / store a=2 / coherent / history 4 legal
 ";
 
-/// How many bytes a stream gives or takes at a time.
+/// The number of bytes that a stream gives or takes at a time.
 const STEP: usize = 7;
 
 fn add_line(rt: &impl Abort, all: &mut Vec<u8>, text: &str) {
@@ -30,7 +30,7 @@ fn add_line(rt: &impl Abort, all: &mut Vec<u8>, text: &str) {
     all.push(b'\n').expect(rt, "memory");
 }
 
-/// A line of the script, and what it prints.
+/// A line of the script, and its output.
 fn parts(line: &str) -> (&str, &str) {
     line.split_once(" -> ").unwrap_or((line, ""))
 }
@@ -50,7 +50,7 @@ fn add_lines(rt: &impl Abort, all: &mut Vec<u8>, printed: &str) {
     }
 }
 
-/// What so many lines of the script print, from the first one on.
+/// The output of the first `lines` lines of the script.
 fn printed(rt: &impl Abort, alloc: Global, lines: usize) -> Vec<u8> {
     let mut all = Vec::new(alloc);
     for line in RUN.lines().take(lines) {
@@ -62,14 +62,14 @@ fn printed(rt: &impl Abort, alloc: Global, lines: usize) -> Vec<u8> {
     all
 }
 
-/// What the whole script prints.
+/// The output of the whole script.
 fn transcript(rt: &impl Abort, alloc: Global) -> Vec<u8> {
     printed(rt, alloc, RUN.lines().count())
 }
 
 // Cuts.
 
-/// Plays a script of so many whole lines, and asserts how it ends and what it prints.
+/// Plays a script of whole lines, and asserts its end and its output.
 fn plays(rt: &impl Abort, alloc: Global, script: &[u8], end: RunEnd, wanted: &[u8]) {
     let mut found = Vec::new(alloc);
     let ended = run(
@@ -107,7 +107,7 @@ fn tells_a_line_that_is_cut_after_each_byte(rt: HostRuntime) {
 
 // Reads.
 
-/// A reader that gives some bytes at a time, and fails at one of its calls: when `left` others were made.
+/// A reader that gives some bytes at a time, and fails at one of its calls, after `left` others.
 #[derive(Drop)]
 struct FailingReader<'a> {
     rest: &'a [u8],
@@ -127,7 +127,7 @@ impl io::Read for FailingReader<'_> {
     }
 }
 
-/// Plays the script from a reader that fails after so many reads.
+/// Plays the script from a reader that fails after a number of reads.
 fn reads(
     rt: &impl Abort,
     alloc: Global,
@@ -165,7 +165,7 @@ fn writes_nothing_if_any_read_fails(rt: HostRuntime) {
 
 // Writes.
 
-/// A writer that takes some bytes at a time, and at one of its calls, when `left` others were made, fails or takes nothing.
+/// A writer that takes some bytes at a time, and at one of its calls, after `left` others, fails or takes nothing.
 #[derive(Drop)]
 struct FailingWriter {
     taken: Vec<u8>,
@@ -193,7 +193,7 @@ impl io::Write for FailingWriter {
     }
 }
 
-/// Plays the script to a writer that fails, or takes nothing, after so many writes.
+/// Plays the script to a writer that fails, or takes nothing, after a number of writes.
 fn writes(
     rt: &impl Abort,
     alloc: Global,
@@ -219,7 +219,7 @@ fn writes(
     is(rt, "write", writer.taken.as_slice(), wanted);
 }
 
-/// At each write in turn.
+/// Fails, or takes nothing, at each write in turn.
 fn writes_up_to_each(rt: &impl Abort, alloc: Global, fails: bool) {
     let all = transcript(rt, alloc);
     let count = all.len().div_ceil(STEP);

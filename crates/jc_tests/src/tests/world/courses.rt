@@ -1,8 +1,8 @@
-//! Courses of calls, event by event: what each event shows, and which events of the call fit then.
+//! Courses of calls, event by event: the outcome that each event shows, and the events of the call that fit then.
 //!
 //! A course is a text with a line for each event. It has the event's name, the number of its call and a key; after a colon a word
-//! for what it shows; and after a semicolon the names of all events with this call and this key that fit then, or `none`. Each
-//! other one is to have the outcome `Unfit`.
+//! for the outcome that it shows; and after a semicolon the names of all events with this call and this key that fit then, or
+//! `none`. Each other event must have the outcome `Unfit`.
 //!
 //! Call N is by session N modulo 100: calls 1 and 101 by session 1, and call 100 by none. A put puts the number of its call.
 use super::{audits, differs, key_of, opened_world, value_of};
@@ -100,14 +100,14 @@ pub fn word_of(outcome: &Outcome) -> &'static str {
     }
 }
 
-/// What one event shows.
+/// Plays one event, and returns what it shows.
 pub fn shown_of(rt: &impl Abort, alloc: Global, world: &mut World, event: WorldEvent) -> Shown {
     let mut seen = Vec::new(alloc);
     world.play(&[event], &mut seen).expect(rt, "memory");
     seen.pop().expect(rt, "what is shown")
 }
 
-/// Plays one event, which is to show this. Gives the call that is over with it, if one is.
+/// Plays one event, and asserts that it shows this. Returns the call that is over with it, if one is.
 pub fn shows(
     rt: &impl Abort,
     alloc: Global,
@@ -121,7 +121,7 @@ pub fn shows(
     shown.over
 }
 
-/// Of the events with this call and this key exactly these fit.
+/// Asserts that of the events with this call and this key exactly these fit.
 fn fit(
     rt: &impl Abort,
     alloc: Global,
@@ -143,7 +143,7 @@ fn fit(
     }
 }
 
-/// Plays a course. Gives the call that is over with its last event, if one is.
+/// Plays a course. Returns the call that is over with its last event, if one is.
 pub fn plays(rt: &impl Abort, alloc: Global, world: &mut World, course: &str) -> Option<Over> {
     let mut over = None;
     for line in course.lines() {

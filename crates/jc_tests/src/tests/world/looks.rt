@@ -18,7 +18,7 @@ fn clears(rt: &impl Abort, alloc: Global, world: &mut World) {
     shows(rt, alloc, world, begin, "begun", "the call");
 }
 
-/// Call 9 looks at a stripe, which is to show this. Gives the call that is over with it, if one is.
+/// Lets call 9 look at a stripe, and asserts that this is shown. Returns the call that is over with it, if one is.
 fn looks(
     rt: &impl Abort,
     alloc: Global,
@@ -38,7 +38,7 @@ fn is_to_look(rt: &impl Abort, world: &World, stripe: usize) -> bool {
         .is_to_look(stripe)
 }
 
-/// The open keys of call 9 are these, in this order, each with a space after it.
+/// Asserts that the open keys of call 9 are these, in this order, each with a space after it.
 fn has_keys(rt: &impl Abort, alloc: Global, world: &World, names: &str) {
     let (mut keys, mut listed) = (Vec::new(alloc), Vec::new(alloc));
     let u = world.open_call(9).expect(rt, "the call is under way");
@@ -49,7 +49,7 @@ fn has_keys(rt: &impl Abort, alloc: Global, world: &World, names: &str) {
     assert!(rt; listed.as_slice() == names.as_bytes(), "its keys");
 }
 
-/// Call 9 is over by its keys, as was shown, and has met nothing.
+/// Asserts that call 9 is over by its keys, as was shown, and has met no fault and no refusal.
 fn is_over(rt: &impl Abort, world: &World, shown: Option<Over>) {
     assert!(rt; !world.is_busy(9), "the call is over");
     let over = Over {
@@ -152,7 +152,7 @@ fn is_over_with_the_last_look_at_nothing(rt: HostRuntime) {
     world.close();
 }
 
-/// A key that another call has reserved is put off, and one that is gone since the look is cleared still.
+/// A key that another call has reserved is put off, and a key without an entry since the look is still cleared.
 const PUT_OFF: &str = "\
 put 10 a: begun; start leave
 start 10 a: asks; change report withdraw

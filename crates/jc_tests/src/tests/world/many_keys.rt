@@ -1,4 +1,4 @@
-//! Calls of many keys, event by event: processors at several keys, whose writes fail in part, and a batch that does.
+//! Calls of many keys, event by event: processors at several keys, whose writes fail in part, and a batch whose writes do.
 use super::courses::{plays, shows};
 use super::{differs, is_in_order, key_of, opened_world, value_of};
 use indexmap::IndexSet;
@@ -12,7 +12,7 @@ use jc_world::world::World;
 use std::alloc::Global;
 use std::process::Abort;
 
-/// Session 1 begins a call at these keys, which is to show this.
+/// Session 1 begins a call at these keys. Asserts that this is shown.
 fn begins(
     rt: &impl Abort,
     alloc: Global,
@@ -29,7 +29,7 @@ fn begins(
     shows(rt, alloc, world, begin, word, "the call");
 }
 
-/// The processor of call 1 makes this call at a key, which is to show this.
+/// The processor of call 1 makes this call at a key. Asserts that this is shown.
 fn processes(
     rt: &impl Abort,
     alloc: Global,
@@ -50,7 +50,7 @@ fn processes(
     shows(rt, alloc, world, process, word, name);
 }
 
-/// The processor of call 1 sets 7 at a key, which is to show this.
+/// The processor of call 1 sets 7 at a key. Asserts that this is shown.
 fn sets(rt: &impl Abort, alloc: Global, world: &mut World, name: &str, word: &str) {
     let seven = EntryCall::SetValue(value_of(rt, "7"));
     processes(rt, alloc, world, name, seven, word);
@@ -109,8 +109,8 @@ fn leaves(rt: &impl Abort, alloc: Global, world: &mut World, name: &str) {
     shows(rt, alloc, world, report, "undone", "the report");
 }
 
-/// An `invokeAll` has the writer asked twice: for its writes, once each processor has run, and then for its deletes. What the first
-/// return leaves has failed, and the failure is that key's alone.
+/// An `invokeAll` asks the writer twice: for its writes, once each processor has run, and then for its deletes. A key that the
+/// first return leaves has failed, and the failure is that key's alone.
 #[test]
 fn asks_for_writes_and_then_for_deletes(rt: HostRuntime) {
     let alloc = rt.alloc();
@@ -147,7 +147,7 @@ commit 1 b: stepped; none
 commit 1 a: stepped; none
 ";
 
-/// The writer returns normally, and its collection still holds a key: that one failed.
+/// The writer returns normally, and its collection still has a key: that key failed.
 #[test]
 fn commits_what_the_writer_did_not_leave(rt: HostRuntime) {
     let alloc = rt.alloc();
@@ -171,7 +171,7 @@ fn commits_what_the_writer_did_not_leave(rt: HostRuntime) {
     world.close();
 }
 
-/// So many keys.
+/// `count` keys.
 fn many_keys(rt: &impl Abort, alloc: Global, count: usize) -> IndexSet<Key> {
     let mut keys = IndexSet::new(alloc);
     for number in 0..count {
@@ -181,7 +181,7 @@ fn many_keys(rt: &impl Abort, alloc: Global, count: usize) -> IndexSet<Key> {
     keys
 }
 
-/// A call of too many keys is over at once, and its number is used. One of the most keys is begun.
+/// A call with too many keys is over at once, and its number is used. A call with the most keys is begun.
 #[test]
 fn refuses_too_many_keys_at_once(rt: HostRuntime) {
     let alloc = rt.alloc();

@@ -112,7 +112,7 @@ impl Rng {
         entries
     }
 
-    /// What a writer's collection still holds: a key, or none.
+    /// The rest of a writer's collection: a key, or none.
     fn left(&mut self, rt: &impl Abort, alloc: Global) -> LeftKeys {
         match self.next(2) {
             0 => LeftKeys::one(alloc, &self.key(rt)).expect(rt, "memory"),
@@ -120,7 +120,7 @@ impl Rng {
         }
     }
 
-    /// Something that a loader or a writer may do, whether it fits or not.
+    /// An event that a loader or a writer may cause, whether it fits or not.
     fn answer(&mut self, rt: &impl Abort, alloc: Global, call: u64, key: Key) -> WorldEvent {
         match self.next(9) {
             0 | 1 => WorldEvent::Read { call, key },
@@ -146,7 +146,7 @@ impl Rng {
         }
     }
 
-    /// Something that may happen to a call, whether it fits or not.
+    /// An event that may happen to a call, whether it fits or not.
     fn event(&mut self, rt: &impl Abort, alloc: Global, call: u64, key: Key) -> WorldEvent {
         match self.next(20) {
             0 | 1 | 2 => WorldEvent::Commit { call, key },
@@ -164,9 +164,9 @@ impl Rng {
     }
 }
 
-// 2. A plain reading of what was appended.
+// 2. A plain reading of the appended events.
 
-/// What a step does to the entry of its key.
+/// The effect of a step on the entry of its key.
 #[derive(Drop)]
 enum Use {
     /// The entry has this value, and is the most recently used.
@@ -177,7 +177,7 @@ enum Use {
     Nothing,
 }
 
-/// What a step with these answers and this reply does to an entry with this value.
+/// The effect of a step with these answers and this reply on an entry with this value.
 fn use_of(op: &Op, out: &Out, reply: &Reply, was: Option<Value>) -> Use {
     let stays = match was {
         Some(value) => Use::Front(value),
@@ -200,7 +200,7 @@ fn use_of(op: &Op, out: &Out, reply: &Reply, was: Option<Value>) -> Use {
     }
 }
 
-/// Entries of all stripes in order of use, the most recently used first, after so many events.
+/// Entries of all stripes in order of use, the most recently used first, after a number of events.
 #[derive(Drop)]
 struct Shelf {
     stripes: usize,
@@ -233,7 +233,7 @@ impl Shelf {
         stripe_of(key, self.stripes)
     }
 
-    /// The least recently used in the stripe of a key, but for these keys.
+    /// The least recently used key in the stripe of a key, except these keys.
     fn oldest(&self, near: &Key, pinned: &[Key]) -> Option<Key> {
         let mut oldest = None;
         for (key, _) in &self.entries {
@@ -291,7 +291,7 @@ impl Shelf {
         }
     }
 
-    /// Reads what one event of the world appended, before which these keys were reserved.
+    /// Reads the events that one event of the world appended. Before it these keys were reserved.
     fn reads_phase(&mut self, rt: &impl Abort, events: &[Event], pinned: &[Key]) {
         for (k, event) in events.iter().skip(self.read).enumerate() {
             if let Event::Evict { key, .. } = event {
@@ -312,7 +312,7 @@ impl Shelf {
 
 // 3. The runs.
 
-/// How many kinds of things are shown, but for those of entry processors and of reopenings, which these runs do not have.
+/// The number of kinds of outcomes, except those of entry processors and of reopenings, which these runs don't have.
 const KINDS: usize = 19;
 
 fn kind(outcome: &Outcome) -> usize {
@@ -348,8 +348,8 @@ fn key_of_single(command: &Command) -> Option<Key> {
     }
 }
 
-/// A run of a world: the last call of each session, with its key if it has but one; the reading; how often each kind was shown; how
-/// often an event of a call fitted; and how many calls of many keys began, were shown to be over, and left.
+/// A run of a world: the last call of each session, with its key if it has only one; the reading; how often each kind was shown;
+/// how often an event of a call fitted; and how many bulk calls began, were shown to be over, and left.
 #[derive(Drop)]
 struct Run {
     rng: Rng,
@@ -382,7 +382,7 @@ impl Run {
             .any(|(call, _key)| world.is_reserved(*call, key))
     }
 
-    /// Plays one event, reads what it appended, and counts what it shows. It gives a word for that.
+    /// Plays one event, reads the events that it appended, and counts its outcome. It returns a word for the outcome.
     fn plays(
         &mut self,
         rt: &impl Abort,
@@ -392,7 +392,7 @@ impl Run {
     ) -> &'static str {
         let keys = self.pinned(rt, alloc, world);
         let shown = shown_of(rt, alloc, world, event);
-        // No other event appends: what one did would be read as part of the next step, and not agree.
+        // No other event of the world appends one: if one did, it would be read as part of the next step, and not agree.
         if matches!(&shown.outcome, Outcome::Stepped(_)) {
             let order = world.order(alloc).expect(rt, "memory");
             self.shelf.reads_phase(rt, &order, &keys);
@@ -401,7 +401,7 @@ impl Run {
         word_of(&shown.outcome)
     }
 
-    /// Counts what was shown.
+    /// Counts an outcome.
     fn counts(&mut self, rt: &impl Abort, world: &World, shown: &Shown) {
         if let Some(count) = self.shown.get_mut(kind(&shown.outcome)) {
             *count = count.saturating_add(1);
@@ -467,7 +467,7 @@ impl Run {
         self.plays(rt, alloc, world, WorldEvent::Start { call, key });
     }
 
-    /// The history of each stripe is legal, and the entries are what is read of the order.
+    /// Asserts that the history of each stripe is legal, and that the entries are those of the reading.
     fn agrees(&mut self, rt: &impl Abort, alloc: Global, world: &World, config: &Config) {
         let order = world.order(alloc).expect(rt, "memory");
         for stripe in 0..config.stripes {
@@ -482,7 +482,7 @@ impl Run {
         );
     }
 
-    /// Each call of many keys is under way, or was shown to be over, or has left.
+    /// Asserts that each bulk call is under way, or was shown to be over, or has left.
     fn has_told_each_end(&self, rt: &impl Abort, world: &World) {
         let under_way = self
             .calls
@@ -494,7 +494,7 @@ impl Run {
         assert!(rt; ended.saturating_add(under_way) == self.begun as usize);
     }
 
-    /// Each kind was shown, and each kind of eviction was met.
+    /// Asserts that each kind was shown, and each kind of eviction was met.
     fn has_met_all(&self, rt: &impl Abort) {
         let shelf = &self.shelf;
         assert!(rt; shelf.victims && shelf.not_kept && shelf.shared);

@@ -1,4 +1,5 @@
-//! Snapshots: interleavings that lead to one essence have one, and what still counts tells others apart.
+//! Snapshots: interleavings that lead to one essence have the same one, and those that differ in what still counts have different
+//! ones.
 use super::courses::{event_of, shown_of};
 use super::{config, key_of, value_of};
 use jc_snapshot::{Seen, Snapshot};
@@ -60,7 +61,7 @@ fn interleavings_meet(rt: HostRuntime) {
     }
 }
 
-// The entries were used in another order. The numbers of the calls differ in none of the two.
+// The entries were used in another order. Both have the same numbers of calls.
 const USES_A_LAST: &str =
     "get 1 a\nstart 1 a\nread 1 a\ncommit 1 a\nput 2 b\nstart 2 b\nchange 2 b\nreport 2 b\ncommit 2 b\nget 3 a\nstart 3 a";
 
@@ -73,7 +74,7 @@ fn the_order_of_use_counts(rt: HostRuntime) {
     assert!(rt; !meet(&rt, alloc, &config(1, 4, 100), USES_A_LAST, USES_B_LAST));
 }
 
-// One event more, and nothing else: the call leaves before or after its step.
+// One more event, and nothing else: the call leaves before or after its step.
 const HAS_STEP: &str = "get 1 c\nstart 1 c\nread 1 c\ncommit 1 c";
 
 const HAS_LEFT: &str = "get 1 c\nstart 1 c\nwithdraw 1 c\nleave 1 c";

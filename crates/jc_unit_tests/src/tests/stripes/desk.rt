@@ -1,4 +1,5 @@
-//! A stripe that is driven phase by phase, and what it has asked and let join meanwhile. What a phase requires is asserted before it.
+//! A stripe that is driven phase by phase, with the tickets and joins that are out. The conditions of a phase are asserted before
+//! it.
 ghost use Rattle.std.specs.Prelude.{◌≡◌, IsTrue};
 ghost use Rattle.jc_outside.specs.declared.done.Origin.TheVariants.{Played};
 
@@ -50,7 +51,7 @@ fn is_played(stripe: &Stripe) -> bool
     matches!(stripe.origin(), Origin::Played)
 }
 
-/// Ends a call whose loader or writer was asked, with what was answered.
+/// Ends a call whose loader or writer was asked, with these answers.
 fn commit(rt: &impl Abort, stripe: &mut Stripe, unasked: Unasked, out: &Out) -> StepDone {
     let Unasked { mut ticket } = unasked;
     assert!(rt; stripe.holds(ticket.reservation()), "out");
@@ -90,7 +91,7 @@ impl Desk {
         }
     }
 
-    /// A stripe of this shape, which has one, and which opens with these entries.
+    /// The only stripe of this shape, which opens with these entries.
     pub fn open_with(
         rt: &impl Abort,
         alloc: Global,
@@ -132,7 +133,7 @@ impl Desk {
         }
     }
 
-    /// Shows whose load a call has joined.
+    /// Keeps a join, and shows the call whose load it has joined.
     fn keep_join(&mut self, rt: &impl Abort, join: Join) -> Seen {
         let load = join.load();
         let place = self
@@ -159,7 +160,7 @@ impl Desk {
         Seen::Step(done.reply, done.place)
     }
 
-    /// Gives a call's reservation back.
+    /// Gives back a call's reservation.
     pub fn withdraw(&mut self, rt: &impl Abort, call: u64) -> Seen {
         let Unasked { ticket } = self.take_ticket(rt, call);
         assert!(rt; self.stripe.holds(ticket.reservation()), "out");

@@ -1,16 +1,16 @@
-//! What the phases of a stripe show, as words.
+//! The outcomes of a stripe's phases, as words.
 use super::super::script::{first_word, number, reply, value, value_or_none};
 use jc_model::{Change, Reply};
 use jc_stripe::First;
 use jc_types::Refusal;
 use std::process::Abort;
 
-/// What a phase shows.
+/// The outcome of a phase.
 #[derive(Clone, Copy, Debug, PartialEq)]
 pub enum Seen {
     /// The step's reply and its place.
     Step(Reply, u32),
-    /// The same, and the place of the load that it shares.
+    /// The step's reply, its place, and the place of the load that it shares.
     Shared(Reply, u32, u32),
     Asks(First),
     /// The call whose load is joined.
@@ -51,7 +51,7 @@ fn refusal(rt: &impl Abort, word: &str) -> Refusal {
     }
 }
 
-/// A reply, its place, and that of the load that it shares, if it does.
+/// A reply, its place, and that of the load that it shares, if it shares one.
 fn step(rt: &impl Abort, text: &str) -> Seen {
     let (replied, place) = text.split_once(" at ").expect(rt, text);
     let replied = reply(rt, replied);
@@ -61,7 +61,7 @@ fn step(rt: &impl Abort, text: &str) -> Seen {
     }
 }
 
-/// What a text says is seen.
+/// The outcome that a text names.
 pub fn seen_of(rt: &impl Abort, text: &str) -> Seen {
     let (word, rest) = first_word(text);
     match word {
